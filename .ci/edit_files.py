@@ -9,6 +9,7 @@ An edit's file has these lines:
     new: TEXT               what stands there instead; more pairs, and more files, may follow
     clause: NAME            the clause of the function that refuses it, or `requires`: its copy ensures that alone (.ci/copies.py)
 """
+import glob
 import os
 import re
 
@@ -122,7 +123,7 @@ class Edit:
     def lemma_file(self):
         """The file of specs/ that declares its lemma: one that it changes, where there are several."""
         declares = re.compile(rf'(?m)^pub {re.escape(self.lemma)} :')
-        files = [f'specs/{it}' for it in sorted(os.listdir(f'{self.folder}/specs')) if it.endswith('.antt')]
+        files = [f'specs/{it}' for it in sorted(glob.glob('**/*.antt', root_dir=f'{self.folder}/specs', recursive=True))]
         found = [it for it in files if declares.search(text_of(f'{self.folder}/{it}'))]
         changed = {file for file, _, _ in self.pairs}
         own = [it for it in found if it in changed] or found

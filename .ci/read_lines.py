@@ -4,10 +4,11 @@
     .ci/read_lines.py            at the top of the repository: status 0 where each row is right
     .ci/read_lines.py --write    writes the right numbers into the page
 
-A row of the first table names files of `specs/` in pieces, with `;` between two: `A`, `B` of `mpd_x`, and of `mpd_model` where no crate is
-named; `state`, which is six files, or that without one; and what another row has: the row before, the one that begins with a word, or the
-one of a function, each without some or whole.
+A row of the first table names files of `specs/`, without their folders, in pieces, with `;` between two: `A`, `B` of `mpd_x`, and of
+`mpd_model` where no crate is named; `state`, which is six files, or that without one; and what another row has: the row before, the one
+that begins with a word, or the one of a function, each without some or whole.
 """
+import glob
 import re
 import sys
 
@@ -52,7 +53,9 @@ class Rows:
 
 
 def lines_of(root, crate, name):
-    with open(f'{root}/crates/{crate}/specs/{name}.antt', encoding='utf-8') as it:
+    """The lines of the one file of `specs/` with this name, in whichever folder there it stands."""
+    [path] = glob.glob(f'{root}/crates/{crate}/specs/**/{name}.antt', recursive=True)
+    with open(path, encoding='utf-8') as it:
         return it.read().count('\n')
 
 

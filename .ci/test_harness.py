@@ -429,6 +429,13 @@ class Edits(WithFolder):
         with self.assertRaises(edit_files.BadEdit):
             self.of('List::len', 'self.items.len()', '7', 'clause: many').original()
 
+    def test_where_a_lemma_is(self):
+        self.write('specs/Lib.antt', 'pub mod rows\n')
+        self.write('specs/rows/Some.antt', 'pub few : 1 ≡ 1\nfew = refl\n')
+        edit = self.edit('few', 'lemma: few', 'file: specs/rows/Some.antt', 'old: 1 ≡ 1', 'new: 1 ≡ 2')
+        self.assertEqual(edit.lemma_file(), 'specs/rows/Some.antt')
+        self.assertTrue(edit.turns_its_lemma())
+
     def test_what_is_copied(self):
         self.assertIsNotNone(self.of('List::len', 'self.items.len()', '7', 'clause: few').original())
         # (one that wants the refusal of a caller, one of a trait's method, and one of what is in no function)
@@ -503,7 +510,7 @@ class ReadLines(WithFolder):
         super().setUp()
         for number, name in enumerate((*read_lines.STATE, 'Words')):
             self.write(f'crates/mpd_model/specs/{name}.antt', '\n' * 2 ** number)
-        self.write('crates/mpd_high/specs/Words.antt', '\n' * 1000)
+        self.write('crates/mpd_high/specs/texts/Words.antt', '\n' * 1000)
 
     def wrong(self, *rows):
         table = '\n'.join(f'| {theorem} | `ok` | {files} | {lines} |' for theorem, files, lines in rows)

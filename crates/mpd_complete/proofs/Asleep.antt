@@ -1,5 +1,6 @@
 -- Matches of receives of any source: a match that a run has taken comes to its front, and its pair stays to the end.
 use Rattle.std.proofs.Common.{◌≡◌, ◌⊎◌, ℕ, suc, Bool, true, false, ◌&&◌, ◌||◌, not, Option, Some, None, is_some, is_none, option_and_then, List, [], ◌∷◌, ◌++◌, length, inl, inr, refl, sym, ap, subst, ◌∙◌}
+use Rattle.std.proofs.lemmas.Bool.{and_parts}
 use Rattle.std.specs.List.{list_any}
 use Rattle.mpd_model.specs.declared.step.CallId.{CallId}
 use Rattle.mpd_model.specs.declared.step.Step.{Step}
@@ -16,12 +17,14 @@ use Rattle.mpd_model.specs.Why.{or_else}
 use Rattle.mpd_complete.specs.Same.{Same}
 use Rattle.mpd_complete.specs.CompleteLaws.{Joins, KeepsBuffers}
 use Rattle.mpd_explore.specs.Sleeping.{same_match, is_asleep, put_to_sleep}
-use Rattle.mpd_laws.proofs.Eligible.{both_of}
 use Rattle.mpd_complete.proofs.Sets.{partner_more, else_none, partner_by}
-use Rattle.mpd_meaning.proofs.Members.{In}
-use Rattle.mpd_complete.proofs.Worlds.{same_refl, same_sym, same_trans, follows_all, joined_from}
+use Rattle.mpd_meaning.proofs.listed.Members.{In}
+use Rattle.mpd_laws.proofs.ordered.CallsInOrder.{joined_from}
+use Rattle.mpd_complete.proofs.Worlds.{same_refl, same_sym, same_trans, follows_all}
 use Rattle.mpd_complete.proofs.Moves.{joining, partner_formed}
-use Rattle.mpd_complete.proofs.Pairs.{clash, id_same, same_id, turned, recv_free, send_is_no_recv, recv_known, same_recv, no_both, is_send, match_again, match_freed, match_paired}
+use Rattle.mpd_laws.proofs.ordered.Eligible.{clash}
+use Rattle.mpd_laws.proofs.ordered.Orderly.{same_id}
+use Rattle.mpd_complete.proofs.Pairs.{id_same, turned, recv_free, send_is_no_recv, recv_known, same_recv, no_both, is_send, match_again, match_freed, match_paired}
 use Rattle.mpd_complete.proofs.Steps.{IsWakeStep, local_step, wake_step, any_step, match_step, release_step}
 use Rattle.mpd_complete.proofs.Invariants.{Sound, keeps, stays_ample}
 use Rattle.mpd_complete.proofs.Diamond.{diamond}
@@ -211,7 +214,7 @@ Clear asleep w = (a : Step) → In asleep a → HasPair w a → ⊥
 
 pub same_step : (a b : Step) → same_match a b ≡ true → b ≡ a
 same_step (Match s r) (Match t q) e =
-    let parts = both_of (id_eq s t) (id_eq r q) e in
+    let parts = and_parts (id_eq s t) (id_eq r q) e in
     let send : s ≡ t = same_id s t parts.0 in
     let recv : r ≡ q = same_id r q parts.1 in
     λ i. Match (sym send i) (sym recv i)

@@ -1,5 +1,7 @@
 -- Worlds of a script without a waitany: no rank has one left, none was issued, and so no step of one is enabled.
 use Rattle.std.proofs.Common.{◌≡◌, ◌⊎◌, ℕ, ℤ, zero, suc, ◌+◌, ◌++◌, Bool, true, false, cond, Option, Some, None, is_some, Result, Ok, Err, List, [], ◌∷◌, replicate, slice_get, slice_set, inl, inr, refl, sym, ap, subst, ◌∙◌}
+use Rattle.mpd_meaning.proofs.listed.Listed.{if_some}
+use Rattle.std.proofs.lemmas.Bool.{and_parts}
 use Rattle.std.proofs.lemmas.Bool.Decides.{eqb_tells}
 use Rattle.std.proofs.lemmas.Option.{slice_get-map}
 use Rattle.std.specs.Option.{option_map}
@@ -23,9 +25,8 @@ use Rattle.mpd_model.specs.Program.{Program, IsTreeOf, IsBlockOf}
 use Rattle.mpd_model.specs.World.{World, RankWorld, start, start_rank, call_id, listed_calls, kind_of, kind_at, last_call}
 use Rattle.mpd_model.specs.Next.{Ran, trapped, printed, assigned, assignment, asserted, issued, chosen, repeated, ran_simple, ran, env_of, local_of, has_buffer, buffered_by, waits, request_handle, held_in, is_complete_some, can_wake_any, woken_any, going_on, next, fold}
 use Rattle.mpd_complete.specs.CompleteLaws.{HasNoWaitany}
-use Rattle.mpd_laws.proofs.Eligible.{both_of}
-use Rattle.mpd_laws.proofs.Splits.{read_written, none_written, same_or_end}
-use Rattle.mpd_complete.proofs.Worlds.{joined_from}
+use Rattle.mpd_laws.proofs.ordered.Splits.{read_written, none_written, same_or_end}
+use Rattle.mpd_laws.proofs.ordered.CallsInOrder.{joined_from}
 use Rattle.mpd_complete.proofs.Moves.{issued_calls, joining, moved, calls_elsewhere}
 use Rattle.mpd_complete.proofs.Steps.{IsWakeStep, local_step, wake_step, any_step, match_step, release_step}
 use Rattle.mpd_complete.proofs.Issues.{is_any, issues_none}
@@ -231,11 +232,7 @@ asks_any (Some (Waitany a)) w p i r none e = absurd (cc)
 asks_any k w p i None none e = absurd (cc)
 asks_any k w p i (Some r) none e = absurd (cc)
 
-if_some : {A : Type 0} (b : Bool) (x : A) → is_some (cond b (Some x) None) ≡ true → b ≡ true
-if_some true x e = refl
-if_some false x e = cc
-
 pub calm_none : (w : World) → Calm w → NoAny w
 calm_none w h (WakeAny p i) on =
-    absurd (asks_any (kind_at w.board (last_call w.board p)) w p i (slice_get w.ranks p) (h.calls (last_call w.board p)) (both_of (waits (slice_get w.ranks p)) _ (if_some (can_wake_any w p i) (woken_any w p i) on)).1)
+    absurd (asks_any (kind_at w.board (last_call w.board p)) w p i (slice_get w.ranks p) (h.calls (last_call w.board p)) (and_parts (waits (slice_get w.ranks p)) _ (if_some (can_wake_any w p i) (woken_any w p i) on)).1)
 calm_none w h a on = refl

@@ -13,9 +13,10 @@ use Rattle.mpd_explore.specs.declared.report.Ending.TheVariants.{Ended, Cut}
 use Rattle.mpd_explore.specs.Walk.{Run, here, stepped, chosen, runs_of, stopped, walk}
 use Rattle.mpd_complete.specs.CompleteLaws.{HasNoWaitany, KeepsBuffers, IsWhole, IsComplete}
 use Rattle.mpd_explore.specs.Sleeping.{is_asleep, awake_runs, put_to_sleep, awake_branches, followed_awake, awake_walk, sleeping_walk}
-use Rattle.mpd_meaning.proofs.Members.{In, in_left, in_right, in_map}
-use Rattle.mpd_complete.proofs.Worlds.{same_sym, joined_from}
-use Rattle.mpd_complete.proofs.Pairs.{clash}
+use Rattle.mpd_meaning.proofs.listed.Members.{In, in_left, in_right, in_map}
+use Rattle.mpd_laws.proofs.ordered.CallsInOrder.{joined_from}
+use Rattle.mpd_complete.proofs.Worlds.{same_sym}
+use Rattle.mpd_laws.proofs.ordered.Eligible.{clash}
 use Rattle.mpd_complete.proofs.Invariants.{stays_ample, fold_ample, fold_sound}
 use Rattle.mpd_complete.proofs.Views.{world_of, Stuck, ForcedView, ChoiceView, LeafView, View, view}
 use Rattle.mpd_complete.proofs.Calm.{Calm, stays_calm, fold_calm, start_calm, calm_none}

@@ -1,5 +1,7 @@
 -- Two steps that are enabled in one world, and are not two matches of one call nor two steps of one waitany, can be taken in either order.
 use Rattle.std.proofs.Common.{◌≡◌, ◌≢◌, ◌⊎◌, ℕ, zero, suc, ◌+◌, ◌<◌, ◌≤◌, ◌==◌, Bool, true, false, ◌&&◌, not, nat_lt, Option, Some, None, length, slice_get, inl, inr, refl, sym, ap, subst, ◌∙◌, arith, eq-eqb}
+use Rattle.mpd_laws.proofs.ordered.Releases.{one_of_all}
+use Rattle.std.proofs.lemmas.Bool.{and_parts, not-true}
 use Rattle.std.proofs.lemmas.Bool.Decides.{eqb_tells}
 use Rattle.std.proofs.lemmas.Option.{slice_get_within}
 use Rattle.std.specs.Option.{option_map}
@@ -11,38 +13,29 @@ use Rattle.mpd_model.specs.declared.call.Call.{Call}
 use Rattle.mpd_model.specs.World.{World, id_eq, eligible, last_call}
 use Rattle.mpd_model.specs.Next.{stepped, waits, can_wake, woken, can_wake_any, woken_any, is_at_barrier, can_release, released, next}
 use Rattle.mpd_complete.specs.CompleteLaws.{apart, Joins, KeepsBuffers}
-use Rattle.mpd_laws.proofs.Eligible.{both_of, denied}
-use Rattle.mpd_complete.proofs.Worlds.{same_sym, chosen, taken}
+use Rattle.mpd_laws.proofs.ordered.CallsInOrder.{chosen}
+use Rattle.mpd_complete.proofs.Worlds.{same_sym, taken}
 use Rattle.mpd_complete.proofs.Moves.{Known, joining, moved, paired, stepped_is, joining_paired, local_again, moved_swapped, moved_paired}
-use Rattle.mpd_complete.proofs.Pairs.{clash, same_id, turned, match_again, match_freed, freed_paired, match_paired, paired_swapped, same_recv, same_send}
+use Rattle.mpd_laws.proofs.ordered.Eligible.{clash}
+use Rattle.mpd_laws.proofs.ordered.Orderly.{same_id}
+use Rattle.mpd_complete.proofs.Pairs.{turned, match_again, match_freed, freed_paired, match_paired, paired_swapped, same_recv, same_send}
 use Rattle.mpd_complete.proofs.Steps.{IsLocalStep, IsWakeStep, local_step, wake_step, any_step, match_step, release_step}
 use Rattle.mpd_complete.proofs.Idle.{never_both}
 use Rattle.mpd_complete.proofs.Invariants.{Sound, IsNamed}
 
 -- ---- steps that exclude one another
 
-one_of_all : (t : ℕ → Bool) (a n p : ℕ) → list_all t (range_with_len a n) ≡ true → a ≤ p → p < a + n → t p ≡ true
-one_of_all t a zero p e le lt = absurd (omega arith)
-one_of_all t a (suc n) p e le lt =
-    let parts = both_of (t a) (list_all t (range_with_len (a + 1) n)) e in
-    elim (eqb_tells p a) [
-      | inl k ↦ ap t k.1 ∙ parts.0
-      | inr k ↦
-          let ne = k.1 in
-          one_of_all t (a + 1) n p parts.1 (omega (arith, ne)) (omega arith)
-    ]
-
 at_barrier : (w : World) (p : ℕ) → can_release w ≡ true → p < length w.ranks → is_at_barrier w p ≡ true
-at_barrier w p e within = one_of_all (is_at_barrier w) 0 (length w.ranks) p (both_of (nat_lt 0 (length w.ranks)) _ e).1 (omega arith) (omega (arith, within))
+at_barrier w p e within = one_of_all (is_at_barrier w) 0 (length w.ranks) p (and_parts (nat_lt 0 (length w.ranks)) _ e).1 (omega arith) (omega (arith, within))
 
 no_local_wake : (w : World) (p : ℕ) (u v : World) (b : Step) → IsLocalStep w p u → IsWakeStep w b p v → ⊥
 no_local_wake w p u v b here there = clash there.blocked here.runs
 
 no_local_release : (w : World) (p : ℕ) (u : World) → IsLocalStep w p u → can_release w ≡ true → ⊥
-no_local_release w p u a e = clash (both_of (waits (slice_get w.ranks p)) _ (at_barrier w p e a.within)).0 a.runs
+no_local_release w p u a e = clash (and_parts (waits (slice_get w.ranks p)) _ (at_barrier w p e a.within)).0 a.runs
 
 no_wake_release : (w : World) (a : Step) (p : ℕ) (u : World) → IsWakeStep w a p u → can_release w ≡ true → ⊥
-no_wake_release w a p u b e = clash (both_of (waits (slice_get w.ranks p)) _ (at_barrier w p e (slice_get_within w.ranks p b.rank b.at))).1 b.no_barrier
+no_wake_release w a p u b e = clash (and_parts (waits (slice_get w.ranks p)) _ (at_barrier w p e (slice_get_within w.ranks p b.rank b.at))).1 b.no_barrier
 
 -- ---- two steps
 
@@ -120,7 +113,7 @@ wake_and_any w h p q i u v e f =
 
 any_and_any : (w : World) → Known w.board → (p i q j : ℕ) (u v : World) → IsWakeStep w (WakeAny p i) p u → IsWakeStep w (WakeAny q j) q v → apart (WakeAny p i) (WakeAny q j) ≡ true
     → Joins u v (WakeAny p i) (WakeAny q j)
-any_and_any w all p i q j u v a b off = two_wakes w all (WakeAny p i) (WakeAny q j) p q u v a b (λ same. clash (eq-eqb p q same) (denied (p == q) off))
+any_and_any w all p i q j u v a b off = two_wakes w all (WakeAny p i) (WakeAny q j) p q u v a b (λ same. clash (eq-eqb p q same) (not-true (p == q) off))
 
 local_and_match : (w : World) → KeepsBuffers w.board.mode → (p : ℕ) (s r : CallId) (u v : World) → IsLocalStep w p u → eligible w.board s r ≡ true → paired w s r ≡ v → Joins u v (Local p) (Match s r)
 local_and_match w ample p s r u v a e is =
@@ -180,8 +173,8 @@ diamond w h ample (Match s r) (Local q) u v e f off = let m = match_step w s r u
 diamond w h ample (Match s r) (Match t q) u v e f off =
     let m = match_step w s r u e in
     let n = match_step w t q v f in
-    let parts = both_of (not (id_eq s t)) _ off in
-    inr (two_matches w s r t q u v m.0 m.1 n.0 n.1 (denied (id_eq s t) parts.0) (denied (id_eq r q) parts.1))
+    let parts = and_parts (not (id_eq s t)) _ off in
+    inr (two_matches w s r t q u v m.0 m.1 n.0 n.1 (not-true (id_eq s t) parts.0) (not-true (id_eq r q) parts.1))
 diamond w h ample (Match s r) (Wake q) u v e f off = let m = match_step w s r u e in inr (flip v u (Wake q) (Match s r) (wake_and_match w (Wake q) q s r v u (wake_step w q v f) m.0 m.1))
 diamond w h ample (Match s r) (WakeAny q j) u v e f off = let m = match_step w s r u e in inr (flip v u (WakeAny q j) (Match s r) (wake_and_match w (WakeAny q j) q s r v u (any_step w q j v f) m.0 m.1))
 diamond w h ample (Match s r) Release u v e f off =

@@ -3,7 +3,7 @@ use Rattle.std.proofs.Common.{◌≡◌, ◌≢◌, ℕ, zero, suc, ◌+◌, ◌
 use Rattle.std.specs.Prelude.{slice_index_or}
 use Rattle.std.specs.Option.{option_map}
 use Rattle.std.specs.List.{list_any}
-use Rattle.std.proofs.lemmas.Bool.{ltb-true}
+use Rattle.std.proofs.lemmas.Bool.{ltb-true, and_parts, not-true, or_parts}
 use Rattle.std.proofs.lemmas.Option.{slice_get-get_or, slice_get-map}
 use Rattle.std.proofs.lemmas.Bool.Decides.{eqb_tells}
 use Rattle.mpd_model.specs.declared.step.CallId.{CallId}
@@ -23,11 +23,10 @@ use Rattle.mpd_model.specs.Program.{Program}
 use Rattle.mpd_model.specs.World.{World, RankWorld, start, start_rank, call_id, listed_calls, calls_of, kind_of, kind_at, has_own_step, last_call}
 use Rattle.mpd_model.specs.Next.{Ran, awaiting, handles_at, issued, ran_simple, ran, env_of, local_of, has_buffer, buffered_by, entered, is_blocked, waits, can_wake, request_handle, held_in, any_call, is_complete_some, can_wake_any, going_on, released}
 use Rattle.mpd_meaning.specs.StepLaws.{HasCalls}
-use Rattle.mpd_laws.proofs.Eligible.{both_of, denied}
-use Rattle.mpd_laws.proofs.LocalActivity.{call_blocks, BlocksOn}
-use Rattle.mpd_laws.proofs.Splits.{others_kept, read_written, end_read}
+use Rattle.mpd_laws.proofs.ordered.LocalActivity.{call_blocks, BlocksOn}
+use Rattle.mpd_laws.proofs.ordered.Splits.{others_kept, read_written, end_read}
 use Rattle.mpd_complete.proofs.Moves.{joining, moved, moved_beside, kind_beside}
-use Rattle.mpd_complete.proofs.Pairs.{clash}
+use Rattle.mpd_laws.proofs.ordered.Eligible.{clash}
 use Rattle.mpd_complete.proofs.Steps.{IsLocalStep}
 use Rattle.mpd_complete.proofs.Issues.{is_any, issues_none}
 
@@ -37,9 +36,9 @@ Idle w = (p i : ℕ) → waits (slice_get w.ranks p) ≡ true → has_own_step (
 pub never_both : (w : World) → Idle w → (p i : ℕ) → can_wake w p ≡ true → can_wake_any w p i ≡ true → ⊥
 never_both w h p i wakes any =
     let kind : Option CallKind = kind_at w.board (last_call w.board p) in
-    let one = both_of (waits (slice_get w.ranks p)) _ wakes in
-    let two = both_of (not (has_own_step kind)) _ one.1 in
-    clash (both_of (waits (slice_get w.ranks p)) _ any).1 (ap (is_complete_some w.board) (h p i one.0 (denied (has_own_step kind) two.0)))
+    let one = and_parts (waits (slice_get w.ranks p)) _ wakes in
+    let two = and_parts (not (has_own_step kind)) _ one.1 in
+    clash (and_parts (waits (slice_get w.ranks p)) _ any).1 (ap (is_complete_some w.board) (h p i one.0 (not-true (has_own_step kind) two.0)))
 
 -- ---- what a local step issues
 
@@ -55,10 +54,6 @@ quiet_by : (r : RankWorld) (o : Option Call) → is_any (kind_of o) ≡ false �
 quiet_by r o e none p i = ap (held_in p (Some r)) (no_handle (kind_of o) i e)
 
 -- where none of some handles holds a call, each holds none
-either_none : (a b : Bool) → (a || b) ≡ false → (a ≡ false) × (b ≡ false)
-either_none true b e = absurd (cc)
-either_none false b e = (refl, e)
-
 holds_none : (o : Option ℕ) → is_some o ≡ false → o ≡ None
 holds_none None e = refl
 holds_none (Some c) e = absurd (cc)
@@ -66,8 +61,8 @@ holds_none (Some c) e = absurd (cc)
 nothing_first : (hs : List (Option ℕ)) (n i : ℕ) → list_any is_some (take n hs) ≡ false → i < n → slice_index_or hs i None ≡ None
 nothing_first [] n i e lt = refl
 nothing_first (h ∷ hs) zero i e lt = absurd (omega (arith, lt))
-nothing_first (h ∷ hs) (suc n) zero e lt = holds_none h (either_none (is_some h) (list_any is_some (take n hs)) e).0
-nothing_first (h ∷ hs) (suc n) (suc i) e lt = nothing_first hs n i (either_none (is_some h) (list_any is_some (take n hs)) e).1 (omega (arith, lt))
+nothing_first (h ∷ hs) (suc n) zero e lt = holds_none h (or_parts (is_some h) (list_any is_some (take n hs)) e).0
+nothing_first (h ∷ hs) (suc n) (suc i) e lt = nothing_first hs n i (or_parts (is_some h) (list_any is_some (take n hs)) e).1 (omega (arith, lt))
 
 nothing_held : (hs : List (Option ℕ)) (a n i : ℕ) → list_any is_some (take n (drop a hs)) ≡ false → i < n → slice_index_or hs (a + i) None ≡ None
 nothing_held hs a n i e lt = sym (get_or-drop a hs i None) ∙ nothing_first (drop a hs) n i e lt

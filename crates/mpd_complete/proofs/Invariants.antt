@@ -17,7 +17,7 @@ use Rattle.mpd_model.specs.Decisions.{any_rank, is_open_match, takes_any}
 use Rattle.mpd_meaning.specs.StepLaws.{HasCalls}
 use Rattle.mpd_complete.specs.CompleteLaws.{KeepsBuffers}
 use Rattle.mpd_complete.proofs.Sets.{partner_more, else_none, partner_by}
-use Rattle.mpd_complete.proofs.Worlds.{joined_from}
+use Rattle.mpd_laws.proofs.ordered.CallsInOrder.{joined_from}
 use Rattle.mpd_complete.proofs.Moves.{Known, issued_calls, joining, moved, paired, kind_kept, partner_formed}
 use Rattle.mpd_complete.proofs.Pairs.{Later, moved_later, paired_later, send_known, recv_known}
 use Rattle.mpd_complete.proofs.Steps.{IsLocalStep, IsWakeStep, local_step, wake_step, any_step, match_step, release_step}

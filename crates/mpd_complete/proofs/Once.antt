@@ -1,5 +1,6 @@
 -- No two runs of a walk that sleeps end in one world: of two branches the first has its own pair in the end, which is asleep in the second.
 use Rattle.std.proofs.Common.{◌≡◌, ℕ, zero, suc, Bool, true, false, ◌||◌, Option, Some, None, is_some, option_and_then, List, [], ◌∷◌, ◌++◌, map, inl, inr, refl, sym, ap, subst, ◌∙◌, arith}
+use Rattle.mpd_meaning.proofs.listed.Listed.{any_in}
 use Rattle.std.specs.Prelude.{slice_index_or}
 use Rattle.std.specs.Cmp.Derive.{both_true}
 use Rattle.std.specs.List.{list_any, AllPairs}
@@ -19,9 +20,10 @@ use Rattle.mpd_explore.specs.Walk.{Run, here, stepped, chosen, runs_of, stopped}
 use Rattle.mpd_complete.specs.CompleteLaws.{HasNoWaitany}
 use Rattle.mpd_explore.specs.Sleeping.{same_match, is_asleep, awake_runs, awake_branches, followed_awake, awake_walk, sleeping_walk}
 use Rattle.mpd_complete.specs.Sleeping.{EndApart}
-use Rattle.mpd_meaning.proofs.Members.{In, in_either, map_from, in_at}
-use Rattle.mpd_complete.proofs.Worlds.{joined_from}
-use Rattle.mpd_complete.proofs.Pairs.{clash, id_same, recv_known}
+use Rattle.mpd_meaning.proofs.listed.Members.{In, in_either, map_from, in_at}
+use Rattle.mpd_laws.proofs.ordered.CallsInOrder.{joined_from}
+use Rattle.mpd_laws.proofs.ordered.Eligible.{clash}
+use Rattle.mpd_complete.proofs.Pairs.{id_same, recv_known}
 use Rattle.mpd_complete.proofs.Steps.{match_step}
 use Rattle.mpd_complete.proofs.Invariants.{Sound, keeps}
 use Rattle.mpd_complete.proofs.Views.{View, view}
@@ -59,15 +61,6 @@ each_map R S f [] go h = tt
 each_map R S f (x ∷ xs) go h = (λ y m. let k = map_from f xs y m in subst (R (f x)) k.2 (go x k.0 (h.0 k.0 k.1)), each_map R S f xs go h.1)
 
 -- ---- what is asleep is not taken
-
-any_in : {A : Type 0} (t : A → Bool) (xs : List A) (x : A) → In xs x → t x ≡ true → list_any t xs ≡ true
-any_in t [] x h e = absurd h
-any_in t (y ∷ ys) x (inl same) e = ap (λ (b : Bool). b || list_any t ys) (ap t same ∙ e)
-any_in t (y ∷ ys) x (inr h) e = or_true (t y) (list_any t ys) (any_in t ys x h e)
-  where
-    or_true : (a b : Bool) → b ≡ true → (a || b) ≡ true
-    or_true true b e = refl
-    or_true false b e = e
 
 -- an awake step is no step that is asleep
 not_asleep : (asleep : List Step) (a : Step) (s r : CallId) → is_asleep asleep a ≡ false → In asleep (Match s r) → a ≡ Match s r → ⊥

@@ -1,6 +1,7 @@
 -- A match beside another step: what was eligible stays so as long as its calls are free, and two matches share no call but an open receive.
 use Rattle.std.proofs.Common.{◌≡◌, ◌⊎◌, ℕ, zero, suc, ◌<◌, ◌==◌, Bool, true, false, ◌||◌, not, Option, Some, None, is_some, is_none, option_and_then, List, [], ◌∷◌, ◌++◌, length, slice_get, inl, inr, refl, sym, ap, ◌∙◌, arith, eq-eqb}
-use Rattle.std.proofs.lemmas.Bool.{cases_order, eqb-true}
+use Rattle.mpd_laws.proofs.ordered.Orderly.{same_id}
+use Rattle.std.proofs.lemmas.Bool.{cases_order, eqb-true, and_parts, or_cases}
 use Rattle.std.specs.Cmp.Derive.{both_true}
 use Rattle.mpd_model.specs.declared.step.CallId.{CallId}
 use Rattle.mpd_model.specs.declared.step.Step.TheVariants.{Match, Wake, WakeAny}
@@ -15,13 +16,10 @@ use Rattle.mpd_model.specs.Next.{waits, can_wake, writes_of, writes_by, own_writ
 use Rattle.mpd_model.specs.Decisions.{takes_any}
 use Rattle.mpd_model.specs.Why.{or_else}
 use Rattle.mpd_complete.specs.Same.{Same}
-use Rattle.mpd_laws.proofs.Eligible.{both_of, free_is_unpaired, known_within, message_known, fitting_send, fitting_recv, agrees, earlier_send_paired, earlier_recv_paired, one_send, eligible_from}
+use Rattle.mpd_laws.proofs.ordered.Eligible.{free_is_unpaired, known_within, message_known, fitting_send, fitting_recv, agrees, earlier_send_paired, earlier_recv_paired, one_send, eligible_from, clash}
 use Rattle.mpd_complete.proofs.Sets.{partner_more, else_none, partner_by, Disjoint, sets_swapped, barrier_disjoint}
 use Rattle.mpd_complete.proofs.Moves.{moved, paired, awake, awake_any, kind_kept, partner_formed, woken_is}
 use Rattle.mpd_complete.proofs.Worlds.{taken}
-
-pub clash : {a : Bool} → a ≡ true → a ≡ false → ⊥
-clash e f = cc
 
 -- ---- a later board
 
@@ -45,10 +43,10 @@ earlier_known : (b : Board) (p i j : ℕ) → i < j → is_some (kind_at b (call
 earlier_known b p i j lt known = kind_some (slice_get (calls_of b p) i) (at_some (calls_of b p) i j lt (known_within (calls_of b p) j known))
 
 pub send_known : (b : Board) (s r : CallId) → eligible b s r ≡ true → is_some (kind_at b s) ≡ true
-send_known b s r e = message_known (kind_at b s) (both_of (is_message_kind (kind_at b s)) _ (agrees b s r e).send_free).0
+send_known b s r e = message_known (kind_at b s) (and_parts (is_message_kind (kind_at b s)) _ (agrees b s r e).send_free).0
 
 pub recv_known : (b : Board) (s r : CallId) → eligible b s r ≡ true → is_some (kind_at b r) ≡ true
-recv_known b s r e = message_known (kind_at b r) (both_of (is_message_kind (kind_at b r)) _ (agrees b s r e).recv_free).0
+recv_known b s r e = message_known (kind_at b r) (and_parts (is_message_kind (kind_at b r)) _ (agrees b s r e).recv_free).0
 
 -- What is eligible stays so as long as both calls are free.
 pub match_stays : (b e : Board) → Later b e → (s r : CallId) → eligible b s r ≡ true → is_none (partner e.sets s) ≡ true → is_none (partner e.sets r) ≡ true → eligible e s r ≡ true
@@ -74,10 +72,10 @@ made_match : (w : World) (s t : CallId) → eligible w.board s t ≡ true → ne
 made_match w s t e = taken (eligible w.board s t) (paired w s t) e
 
 pub send_free : (b : Board) (s r : CallId) → eligible b s r ≡ true → is_none (partner b.sets s) ≡ true
-send_free b s r e = (both_of (is_message_kind (kind_at b s)) _ (agrees b s r e).send_free).1
+send_free b s r e = (and_parts (is_message_kind (kind_at b s)) _ (agrees b s r e).send_free).1
 
 pub recv_free : (b : Board) (s r : CallId) → eligible b s r ≡ true → is_none (partner b.sets r) ≡ true
-recv_free b s r e = (both_of (is_message_kind (kind_at b r)) _ (agrees b s r e).recv_free).1
+recv_free b s r e = (and_parts (is_message_kind (kind_at b r)) _ (agrees b s r e).recv_free).1
 
 pub match_again : (w : World) (p : ℕ) (r : RankWorld) (o : Option Call) (m : Option CallId) (s t : CallId) → eligible w.board s t ≡ true
     → next (moved w p r o m) (Match s t) ≡ Some (paired (moved w p r o m) s t)
@@ -87,9 +85,6 @@ match_again w p r o m s t e =
     (ap (λ (q : Option CallId). is_none q) (partner_formed w.board.sets m t) ∙ recv_free w.board s t e))
 
 -- ---- after a release
-
-abbrev pub freed : World → World
-freed w = released w
 
 pub match_freed : (w : World) (s t : CallId) → eligible w.board s t ≡ true → next (released w) (Match s t) ≡ Some (paired (released w) s t)
 match_freed w s t e =
@@ -104,11 +99,6 @@ freed_paired w s t = record { ranks = refl; mode = refl; calls = refl; sets = se
 
 pub id_same : (c d : CallId) → c ≡ d → id_eq c d ≡ true
 id_same c d e = both_true (eq-eqb c.rank d.rank (ap (λ (x : CallId). x.rank) e)) (eq-eqb c.index d.index (ap (λ (x : CallId). x.index) e))
-
-pub same_id : (c d : CallId) → id_eq c d ≡ true → c ≡ d
-same_id c d e =
-    let parts = both_of (c.rank == d.rank) _ e in
-    λ i. record { rank = eqb-true c.rank d.rank parts.0 i; index = eqb-true c.index d.index parts.1 i }
 
 pub no_both : (k : Option CallKind) (q : ℕ) → sends_to k q ≡ true → receives k ≡ true → ⊥
 no_both (Some (Send s)) q e f = cc
@@ -170,10 +160,6 @@ none_in_both false true false false s r t q h = refl
 none_in_both false true true u s r t q h = absurd (h refl refl)
 none_in_both false true false true s r t q h = absurd (h refl refl)
 
-either : (a b : Bool) → (a || b) ≡ true → (a ≡ true) ⊎ (b ≡ true)
-either true b e = inl refl
-either false b e = inr e
-
 -- one call is no two that are not the same
 never_both : (c d x : CallId) → id_eq c d ≡ false → id_eq c x ≡ true → id_eq d x ≡ true → ⊥
 never_both c d x ne e f = clash (id_same c d (same_id c x e ∙ sym (same_id d x f))) ne
@@ -181,12 +167,12 @@ never_both c d x ne e f = clash (id_same c d (same_id c x e ∙ sym (same_id d x
 pairs_disjoint : (s r t q : CallId) → id_eq s t ≡ false → id_eq s q ≡ false → id_eq r t ≡ false → id_eq r q ≡ false → Disjoint (Pair s r) (Pair t q)
 pairs_disjoint s r t q st sq rt rq c =
     none_in_both (id_eq s c) (id_eq r c) (id_eq t c) (id_eq q c) s r t q
-    (λ e f. elim (either (id_eq s c) (id_eq r c) e) [
-      | inl a ↦ elim (either (id_eq t c) (id_eq q c) f) [
+    (λ e f. elim (or_cases (id_eq s c) (id_eq r c) e) [
+      | inl a ↦ elim (or_cases (id_eq t c) (id_eq q c) f) [
         | inl b ↦ never_both s t c st a b
         | inr b ↦ never_both s q c sq a b
       ]
-      | inr a ↦ elim (either (id_eq t c) (id_eq q c) f) [
+      | inr a ↦ elim (or_cases (id_eq t c) (id_eq q c) f) [
         | inl b ↦ never_both r t c rt a b
         | inr b ↦ never_both r q c rq a b
       ]
@@ -231,8 +217,8 @@ same_recv b s r q e f =
 -- the sender of what a receive takes that names its source
 one_source : (k one other : Option CallKind) (p u q : ℕ) → takes_any k ≡ false → fitting one k p q ≡ true → fitting other k u q ≡ true → p ≡ u
 one_source (Some (Recv r)) (Some (Send s)) (Some (Send t)) p u q named e f =
-    let from_one = both_of (is_any_or r.from p) _ (both_of (s.to == q) _ e).1 in
-    let from_other = both_of (is_any_or r.from u) _ (both_of (t.to == q) _ f).1 in
+    let from_one = and_parts (is_any_or r.from p) _ (and_parts (s.to == q) _ e).1 in
+    let from_other = and_parts (is_any_or r.from u) _ (and_parts (t.to == q) _ f).1 in
     by_source r.from named from_one.0 from_other.0
   where
     by_source : (o : Option ℕ) → is_none o ≡ false → is_any_or o p ≡ true → is_any_or o u ≡ true → p ≡ u
@@ -283,8 +269,8 @@ writes_more b s r (Some c) e =
 pub wake_paired : (w : World) (s r : CallId) (p : ℕ) (z : RankWorld) → slice_get w.ranks p ≡ Some z → can_wake w p ≡ true
     → next (paired w s r) (Wake p) ≡ Some (moved (paired w s r) p (awake w p z) None (Some (last_call w.board p)))
 wake_paired w s r p z at can =
-    let one = both_of (waits (slice_get w.ranks p)) _ can in
-    let two = both_of (not (has_own_step (kind_at w.board (last_call w.board p)))) _ one.1 in
+    let one = and_parts (waits (slice_get w.ranks p)) _ can in
+    let two = and_parts (not (has_own_step (kind_at w.board (last_call w.board p)))) _ one.1 in
     let writes = writes_more w.board s r (awaited w.board (last_call w.board p)) two.1 in
     taken (can_wake (paired w s r) p) (woken (paired w s r) p) (both_true one.0 (both_true two.0 (complete_more w.board s r (awaited w.board (last_call w.board p)) two.1)))
     ∙ ap (λ (v : World). Some v) (woken_is (paired w s r) p (wake_writes (paired w s r).board p) (wake_clears w.board p) z at)
@@ -293,11 +279,11 @@ wake_paired w s r p z at can =
 -- a request that is complete stays so, and brings what it brought
 some_complete_more : (b : Board) (s r : CallId) (o : Option CallId) → is_complete_some b o ≡ true → is_complete_some (record b { sets = b.sets ++ Pair s r ∷ [] }) o ≡ true
 some_complete_more b s r None e = absurd (cc)
-some_complete_more b s r (Some c) e = let parts = both_of (not (has_own_step (kind_at b c))) _ e in both_true parts.0 (complete_more b s r (awaited b c) parts.1)
+some_complete_more b s r (Some c) e = let parts = and_parts (not (has_own_step (kind_at b c))) _ e in both_true parts.0 (complete_more b s r (awaited b c) parts.1)
 
 held_writes_more : (b : Board) (s r : CallId) (o : Option CallId) → is_complete_some b o ≡ true → writes_by (record b { sets = b.sets ++ Pair s r ∷ [] }) o ≡ writes_by b o
 held_writes_more b s r None e = refl
-held_writes_more b s r (Some c) e = by_kind (kind_at b c) refl (both_of (not (has_own_step (kind_at b c))) _ e).1
+held_writes_more b s r (Some c) e = by_kind (kind_at b c) refl (and_parts (not (has_own_step (kind_at b c))) _ e).1
   where
     -- a call that waits for another writes nothing of its own
     nothing : (k : Option CallKind) → kind_at b c ≡ k → ((m : Option Message) → writes_of k m ≡ []) → writes_by (record b { sets = b.sets ++ Pair s r ∷ [] }) (Some c) ≡ writes_by b (Some c)
@@ -315,7 +301,7 @@ held_writes_more b s r (Some c) e = by_kind (kind_at b c) refl (both_of (not (ha
 pub any_paired : (w : World) (s r : CallId) (p i : ℕ) (z : RankWorld) → slice_get w.ranks p ≡ Some z → can_wake_any w p i ≡ true
     → next (paired w s r) (WakeAny p i) ≡ Some (moved (paired w s r) p (awake_any w p i z) None (Some (last_call w.board p)))
 any_paired w s r p i z at can =
-    let parts = both_of (waits (slice_get w.ranks p)) _ can in
+    let parts = and_parts (waits (slice_get w.ranks p)) _ can in
     let writes = held_writes_more w.board s r (any_call w p i) parts.1 in
     taken (can_wake_any (paired w s r) p i) (woken_any (paired w s r) p i) (both_true parts.0 (some_complete_more w.board s r (any_call w p i) parts.1))
     ∙ ap (λ (v : World). Some v) (woken_is (paired w s r) p (any_writes (paired w s r) p i) (any_handle w p i) z at)

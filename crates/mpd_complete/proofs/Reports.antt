@@ -16,7 +16,7 @@ use Rattle.mpd_explore.specs.Report.{shown, left_out}
 use Rattle.mpd_explore.proofs.ListedLemmas.{all_listed}
 use Rattle.mpd_complete.specs.CompleteLaws.{HasNoWaitany, KeepsBuffers, was_cut, IsWhole, IsComplete, GoesOnToAnEnd}
 use Rattle.mpd_complete.specs.Reported.{all_leaves, reported}
-use Rattle.mpd_meaning.proofs.Members.{contains_in, in_contains, in_map}
+use Rattle.mpd_meaning.proofs.listed.Members.{contains_in, in_contains, in_map}
 use Rattle.mpd_complete.proofs.Complete.{complete, sleeping_complete}
 
 cut_shown : (runs : List Run) → list_any (λ l. was_cut l.ending) (map shown runs) ≡ list_any (λ r. was_cut r.ending) runs

@@ -13,7 +13,7 @@ use Rattle.mpd_explore.specs.declared.report.Ending.TheVariants.{Ended}
 use Rattle.mpd_explore.specs.Walk.{Run, here, stepped, chosen, runs_of, walk}
 use Rattle.mpd_complete.specs.CompleteLaws.{IsRun}
 use Rattle.mpd_explore.specs.Sleeping.{is_asleep, awake_runs, put_to_sleep, awake_branches, followed_awake, awake_walk, sleeping_walk}
-use Rattle.mpd_meaning.proofs.Members.{In, in_contains, in_either, map_from}
+use Rattle.mpd_meaning.proofs.listed.Members.{In, in_contains, in_either, map_from}
 use Rattle.mpd_complete.proofs.Invariants.{Sound, keeps, fold_sound, start_sound}
 use Rattle.mpd_complete.proofs.Views.{View, view}
 use Rattle.mpd_complete.proofs.Walks.{run_from_world, run_stopped, run_ended, only}

@@ -1,5 +1,8 @@
 -- What is known where a step is enabled.
 use Rattle.std.proofs.Common.{◌≡◌, ◌≢◌, ℕ, ◌<◌, true, false, not, Option, Some, None, length, slice_get, refl, sym, ap, ◌∙◌}
+use Rattle.mpd_laws.proofs.ordered.OrderSteps.{no_barrier}
+use Rattle.mpd_laws.proofs.ordered.Orderly.{waiting}
+use Rattle.std.proofs.lemmas.Bool.{and_parts, not-true}
 use Rattle.std.proofs.lemmas.Option.{slice_get_within}
 use Rattle.mpd_model.specs.declared.step.CallId.{CallId}
 use Rattle.mpd_model.specs.declared.step.Step.{Step}
@@ -9,9 +12,9 @@ use Rattle.mpd_model.specs.declared.call.CallKind.{CallKind}
 use Rattle.mpd_model.specs.declared.call.CallKind.TheVariants.{Waitany}
 use Rattle.mpd_model.specs.World.{World, Board, RankWorld, calls_of, kind_at, eligible, is_barrier, has_own_step, last_call}
 use Rattle.mpd_model.specs.Next.{Ran, local, local_at, stepped, is_blocked, waits, can_wake, wake_writes, wake_clears, woken, request_handle, held_in, any_handle, is_complete_some, can_wake_any, any_writes, woken_any, can_release, released, next}
-use Rattle.mpd_laws.proofs.Eligible.{both_of, denied}
-use Rattle.mpd_laws.proofs.LocalActivity.{BlocksOn, local_blocks}
-use Rattle.mpd_complete.proofs.Worlds.{chosen, mapped_from, joined_from}
+use Rattle.mpd_laws.proofs.ordered.LocalActivity.{BlocksOn, local_blocks}
+use Rattle.mpd_laws.proofs.ordered.CallsInOrder.{chosen, joined_from}
+use Rattle.mpd_laws.proofs.ordered.Splits.{mapped_from}
 use Rattle.mpd_complete.proofs.Moves.{Known, joining, moved, paired, awake, awake_any, stepped_is, woken_is, wake_again, any_again}
 use Rattle.mpd_complete.proofs.Pairs.{wake_paired, any_paired}
 
@@ -39,10 +42,6 @@ pub record IsWakeStep (w : World) (a : Step) (p : ℕ) (u : World) : Type 0 wher
   pub again : Known w.board → (q : ℕ) (r : RankWorld) (o : Option Call) (m : Option CallId) → p ≢ q → next (moved w q r o m) a ≡ Some (moved (moved w q r o m) p after None (Some (last_call w.board p)))
   pub beside : (s r : CallId) → next (paired w s r) a ≡ Some (moved (paired w s r) p after None (Some (last_call w.board p)))
 
-waiting : (o : Option RankWorld) → waits o ≡ true → (r : RankWorld) × (o ≡ Some r)
-waiting None e = absurd (cc)
-waiting (Some r) e = (r, refl)
-
 pub local_step : (w : World) (p : ℕ) (u : World) → next w (Local p) ≡ Some u → IsLocalStep w p u
 local_step w p u e =
     let ran = mapped_from (stepped w p) (local_at w p) u e in
@@ -62,21 +61,17 @@ local_step w p u e =
 
 -- ---- wakes
 
-no_barrier_by : (k : Option CallKind) → has_own_step k ≡ false → is_barrier k ≡ false
-no_barrier_by (Some (Waitany a)) e = refl
-no_barrier_by k e = e
-
 pub wake_step : (w : World) (p : ℕ) (u : World) → next w (Wake p) ≡ Some u → IsWakeStep w (Wake p) p u
 wake_step w p u e =
     let made = chosen (can_wake w p) (woken w p) u e in
-    let parts = both_of (waits (slice_get w.ranks p)) _ made.0 in
+    let parts = and_parts (waits (slice_get w.ranks p)) _ made.0 in
     let rank = waiting (slice_get w.ranks p) parts.0 in
     let kind : Option CallKind = kind_at w.board (last_call w.board p) in
     record {
       rank = rank.0;
       at = rank.1;
       blocked = parts.0;
-      no_barrier = no_barrier_by kind (denied (has_own_step kind) (both_of (not (has_own_step kind)) _ parts.1).0);
+      no_barrier = no_barrier kind (not-true (has_own_step kind) (and_parts (not (has_own_step kind)) _ parts.1).0);
       after = awake w p rank.0;
       running = refl;
       rest = refl;
@@ -94,7 +89,7 @@ asked_is_no_barrier b p i (Some r) k e = absurd (cc)
 pub any_step : (w : World) (p i : ℕ) (u : World) → next w (WakeAny p i) ≡ Some u → IsWakeStep w (WakeAny p i) p u
 any_step w p i u e =
     let made = chosen (can_wake_any w p i) (woken_any w p i) u e in
-    let parts = both_of (waits (slice_get w.ranks p)) _ made.0 in
+    let parts = and_parts (waits (slice_get w.ranks p)) _ made.0 in
     let rank = waiting (slice_get w.ranks p) parts.0 in
     record {
       rank = rank.0;

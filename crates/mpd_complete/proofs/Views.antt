@@ -13,10 +13,9 @@ use Rattle.mpd_model.specs.Next.{next, is_enabled, steps_of, enabled}
 use Rattle.mpd_model.specs.Decisions.{is_local, is_release, is_wake, any_rank, names_source, takes_any, is_named_match, is_open_match, first_enabled, open_matches, is_of, same_rank, any_choices, or_those, chosen_from, decided, decision}
 use Rattle.mpd_model.specs.Why.{first_in, or_else}
 use Rattle.mpd_model.specs.Outcomes.{ending}
-use Rattle.mpd_laws.proofs.Eligible.{agrees, fitting_recv}
-use Rattle.mpd_meaning.proofs.Members.{In, in_filter, filter_from}
-use Rattle.mpd_meaning.proofs.Listed.{listed}
-use Rattle.mpd_complete.proofs.Pairs.{clash}
+use Rattle.mpd_laws.proofs.ordered.Eligible.{agrees, fitting_recv, clash}
+use Rattle.mpd_meaning.proofs.listed.Members.{In, in_filter, filter_from}
+use Rattle.mpd_meaning.proofs.listed.Listed.{listed}
 use Rattle.mpd_complete.proofs.Steps.{match_step}
 use Rattle.mpd_complete.proofs.Invariants.{Sound, IsNamed}
 

@@ -1,5 +1,6 @@
 -- The step that nobody has to choose is brought to the front of a run. What the runs of any walk have in common.
 use Rattle.std.proofs.Common.{◌≡◌, ◌≢◌, ◌⊎◌, ℕ, zero, suc, ◌+◌, ◌≤◌, Bool, true, false, ◌||◌, Option, Some, None, is_some, option_and_then, List, [], ◌∷◌, ◌++◌, length, length-append, inl, inr, refl, sym, ap, subst, ◌∙◌, arith}
+use Rattle.std.proofs.lemmas.Bool.{or_parts}
 use Rattle.std.specs.List.{list_any}
 use Rattle.mpd_model.specs.declared.step.Step.{Step}
 use Rattle.mpd_model.specs.declared.call.Mode.{Mode}
@@ -14,8 +15,9 @@ use Rattle.mpd_explore.specs.declared.report.Ending.TheVariants.{Ended, Cut}
 use Rattle.mpd_explore.specs.Walk.{Run, here, runs_of, stopped}
 use Rattle.mpd_complete.specs.Same.{Same}
 use Rattle.mpd_complete.specs.CompleteLaws.{Joins, KeepsBuffers, was_cut, IsWhole, IsListed, GoesOnToAnEnd, IsRun, apart}
-use Rattle.mpd_complete.proofs.Worlds.{same_refl, same_sym, same_trans, ending_same, follows, follows_all, joined_from}
-use Rattle.mpd_meaning.proofs.Members.{In, contains_in}
+use Rattle.mpd_laws.proofs.ordered.CallsInOrder.{joined_from}
+use Rattle.mpd_complete.proofs.Worlds.{same_refl, same_sym, same_trans, ending_same, follows, follows_all}
+use Rattle.mpd_meaning.proofs.listed.Members.{In, contains_in}
 use Rattle.mpd_complete.proofs.Invariants.{Sound, IsNamed, keeps, stays_ample, fold_ample, fold_sound, start_sound, stays_named}
 use Rattle.mpd_complete.proofs.Diamond.{diamond, steady}
 use Rattle.mpd_complete.proofs.Views.{world_of, in_enabled, from_enabled, Stuck, LeafView, View}
@@ -83,14 +85,10 @@ pub record Found (runs : List Run) (u w : World) : Type 0 where
   pub leads : fold u run.steps ≡ Some end
   pub same : Same w end
 
-or_false : (a b : Bool) → (a || b) ≡ false → (a ≡ false) × (b ≡ false)
-or_false true b e = absurd (cc)
-or_false false b e = (refl, e)
-
 pub whole_each : (runs : List Run) → IsWhole runs → Whole runs
 whole_each [] e r h = absurd h
-whole_each (x ∷ xs) e r (inl is) = ap (λ (y : Run). was_cut y.ending) (sym is) ∙ (or_false (was_cut x.ending) (list_any (λ y. was_cut y.ending) xs) e).0
-whole_each (x ∷ xs) e r (inr h) = whole_each xs (or_false (was_cut x.ending) (list_any (λ y. was_cut y.ending) xs) e).1 r h
+whole_each (x ∷ xs) e r (inl is) = ap (λ (y : Run). was_cut y.ending) (sym is) ∙ (or_parts (was_cut x.ending) (list_any (λ y. was_cut y.ending) xs) e).0
+whole_each (x ∷ xs) e r (inr h) = whole_each xs (or_parts (was_cut x.ending) (list_any (λ y. was_cut y.ending) xs) e).1 r h
 
 -- a run that goes on from a world behind one step
 pub behind_step : (runs more : List Run) (a : Step) (put : Run → Run) (u x w v : World) → ((r : Run) → In more r → In runs (put r)) → ((r : Run) → (put r).steps ≡ a ∷ r.steps) → ((r : Run) → (put r).ending ≡ r.ending)

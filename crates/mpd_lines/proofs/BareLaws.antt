@@ -1,19 +1,11 @@
 -- A line without what ends it.
 use Rattle.std.proofs.Common.{◌≡◌, ℕ, ◌+◌, ◌<◌, ◌≤◌, Bool, true, false, ◌&&◌, ◌||◌, ◌==◌, if◌then◌else◌, List, [], ◌∷◌, ◌++◌, length, refl, ap, sym, ◌∙◌, append_assoc, arith}
+use Rattle.std.proofs.lemmas.Bool.{and_right, or_from}
 use Rattle.mpd_model.specs.Lines.{bare, is_ending}
-
-or_none : (p q : Bool) → p ≡ false → q ≡ false → (p || q) ≡ false
-or_none false false e f = refl
-or_none true q e f = e
-or_none false true e f = f
-
-and_false : (p q : Bool) → q ≡ false → (p && q) ≡ false
-and_false true q e = e
-and_false false q e = refl
 
 -- two bytes at least follow
 ending_not : (y c d : ℕ) (l : List ℕ) → is_ending y (c ∷ d ∷ l) ≡ false
-ending_not y c d l = or_none (y == 10 && false) (y == 13 && false) (and_false (y == 10) false refl) (and_false (y == 13) false refl)
+ending_not y c d l = or_from (y == 10 && false) (y == 13 && false) (and_right (y == 10) false refl) (and_right (y == 13) false refl)
 
 ending_before_two : (ys : List ℕ) (y b c : ℕ) → is_ending y (ys ++ b ∷ c ∷ []) ≡ false
 ending_before_two [] y b c = ending_not y b c []
@@ -28,7 +20,7 @@ bare_return [] = refl
 bare_return (y ∷ ys) = bare_step y (ys ++ 13 ∷ 10 ∷ []) (ending_before_two ys y 13 10) ∙ ap (λ l. y ∷ l) (bare_return ys)
 
 ending_other : (b : ℕ) → (b == 13) ≡ false → is_ending b (10 ∷ []) ≡ false
-ending_other b e = or_none (b == 10 && false) (b == 13 && true) (and_false (b == 10) false refl) (ap (λ (p : Bool). p && true) e)
+ending_other b e = or_from (b == 10 && false) (b == 13 && true) (and_right (b == 10) false refl) (ap (λ (p : Bool). p && true) e)
 
 bare_other : (ys : List ℕ) (b : ℕ) → (b == 13) ≡ false → bare (ys ++ b ∷ 10 ∷ []) ≡ ys ++ b ∷ []
 bare_other [] b e = bare_step b (10 ∷ []) (ending_other b e)

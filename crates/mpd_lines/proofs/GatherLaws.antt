@@ -47,10 +47,6 @@ gathered_none A below d w out few = (gathers_none A d w.contents out, refl, few)
 
 pub ruleset gathering = (gathered_one, gathered_long, gathered_none)
 
--- before the first byte of a piece
-pub fed_none : {D : Type 0} (A : D → List ℕ → List ℕ → D → Type 0) (below : ℕ) (d : D) (p z : List ℕ) (w : SinkSeen) (out : List ℕ) → length out < below → Fed A below d p z w out w out d p z
-fed_none A below d p z w out few = record { lines = []; ended = refl; part = refl; gathered = gathers_none A d w.contents out; failures = refl; few = few }
-
 -- one byte more was fed
 pub fed_more : {D : Type 0} (A : D → List ℕ → List ℕ → D → Type 0) (below : ℕ) (d m e : D) (p z q r rest left : List ℕ) (b : ℕ) (v0 v1 v2 : SinkSeen) (o0 o1 o2 : List ℕ)
     → Fed A below d p z v0 o0 v1 o1 m q rest → rest ≡ b ∷ left → r ≡ part_from q (b ∷ []) → Gathered A below m (ended_from q (b ∷ [])) v1 o1 v2 o2 e (Ok _)
@@ -79,14 +75,6 @@ fed_breaks A below d m e p z q rest left b v0 v1 v2 o0 o1 o2 fault f is g =
           (breaks_before A below m e (ended_from q (b ∷ [])) more v1.contents v2.contents o1 g.0)),
       g.1 ∙ ap (λ n. n + 1) f.failures,
     )
-
--- all of the piece was fed
-pub fed_all : {D : Type 0} (A : D → List ℕ → List ℕ → D → Type 0) (below : ℕ) (d e : D) (p z q rest : List ℕ) (v w : SinkSeen) (o0 o1 : List ℕ)
-    → Fed A below d p z v o0 w o1 e q rest → rest ≡ [] → Gathered A below d (ended_from p z) v o0 w o1 e (Ok _)
-fed_all {D} A below d e p z q rest v w o0 o1 f none =
-    let lines : f.lines ≡ ended_from p z = sym (append-nil f.lines) ∙ ap (λ x. f.lines ++ ended_from q x) (sym none) ∙ f.ended in
-    let P : List (List ℕ) → Type 0 = λ x. Gathers A d x v.contents o0 w.contents o1 e in
-    (subst P lines f.gathered, f.failures, f.few)
 
 pub drop_next : (xs : List ℕ) (i : ℕ) → i < length xs → drop i xs ≡ get_or xs i 0 ∷ drop (i + 1) xs
 drop_next xs i lt = drop-cons xs i 0 lt ∙ ap (λ n. get_or xs i 0 ∷ drop n xs) (sym (add-one i))

@@ -19,9 +19,6 @@ says_one A d e l t a = (e, t, [], sym (append-nil t), a, (refl, refl))
 pub says_along : {D : Type 0} (A : D → List ℕ → List ℕ → D → Type 0) (d e : D) (ls : List (List ℕ)) (t u : List ℕ) → t ≡ u → SaysInTurn A d ls t e → SaysInTurn A d ls u e
 says_along {D} A d e ls t u is a = let P : List ℕ → Type 0 = λ x. SaysInTurn A d ls x e in subst P is a
 
-pub tells_none : {D : Type 0} (A : D → List ℕ → List ℕ → D → Type 0) (d : D) (w : Option (List ℕ)) → Tells A d [] w w d
-tells_none A d w = ([], appends_none w, (refl, refl))
-
 pub tells_append : {D : Type 0} (A : D → List ℕ → List ℕ → D → Type 0) (d m e : D) (ls ks : List (List ℕ)) (w0 w1 w2 : Option (List ℕ))
     → Tells A d ls w0 w1 m → Tells A m ks w1 w2 e → Tells A d (ls ++ ks) w0 w2 e
 tells_append A d m e ls ks w0 w1 w2 a b = (a.0 ++ b.0, appends_append w0 w1 w2 a.0 b.0 a.1 b.1, says_append A d m e ls ks a.0 b.0 a.2 b.2)

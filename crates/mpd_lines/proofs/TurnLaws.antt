@@ -50,25 +50,9 @@ ends_one : (n before after : ℕ) → after ≡ before + ends_of {E = DeviceFaul
 ends_one zero before after e h = e
 ends_one (suc n) before after e h = absurd (omega (arith, h))
 
-pub turned_more : {D : Type 0} (A : D → List ℕ → List ℕ → D → Type 0) (below : ℕ) (d e : D) (p q piece front : List ℕ) (n : ℕ) (s t : SourceSeen) (v w : SinkSeen)
-    → Consumes s.remaining t.remaining front → piece ≡ front → 0 < length piece → length piece ≤ 4096 → t.ends ≡ s.ends + ends_of {E = DeviceFault} (Ok n) → (n ≡ 0 → ⊥) → q ≡ part_from p piece
-    → Spoken A below d (ended_from p piece) v w e (Ok _) → Turned A below d p s t v w e q (Ok More)
-turned_more A below d e p q piece front n s t v w c is some few ends not part told =
-    (piece, consumes_same s.remaining t.remaining piece front is c, some, ends_some n s.ends t.ends ends not, part, told.0, few)
-
-pub turned_end : {D : Type 0} (A : D → List ℕ → List ℕ → D → Type 0) (below : ℕ) (d e : D) (p q front : List ℕ) (n : ℕ) (s t : SourceSeen) (v w : SinkSeen)
-    → Consumes s.remaining t.remaining front → [] ≡ front → IsAtEnd t.remaining → t.ends ≡ s.ends + ends_of {E = DeviceFault} (Ok n) → n ≡ 0
-    → Spoken A below d (last_line p) v w e (Ok _) → Turned A below d p s t v w e q (Ok End)
-turned_end A below d e p q front n s t v w c is end ends none told =
-    (consumes_same s.remaining t.remaining [] front is c, end, ends_one n s.ends t.ends ends none, told.0)
-
 pub turned_lost : {D : Type 0} (A : D → List ℕ → List ℕ → D → Type 0) (below : ℕ) (d e : D) (p q piece front : List ℕ) (f : DeviceFault) (s t : SourceSeen) (v w : SinkSeen)
     → Consumes s.remaining t.remaining front → piece ≡ front → length piece ≤ 4096 → Spoken A below d (ended_from p piece) v w e (Err f) → Turned A below d p s t v w e q (Err WriteFailed)
 turned_lost A below d e p q piece front f s t v w c is few told = inl (piece, consumes_same s.remaining t.remaining piece front is c, told.0, few)
-
-pub turned_lost_end : {D : Type 0} (A : D → List ℕ → List ℕ → D → Type 0) (below : ℕ) (d e : D) (p q front : List ℕ) (f : DeviceFault) (s t : SourceSeen) (v w : SinkSeen)
-    → Consumes s.remaining t.remaining front → [] ≡ front → IsAtEnd t.remaining → Spoken A below d (last_line p) v w e (Err f) → Turned A below d p s t v w e q (Err WriteFailed)
-turned_lost_end A below d e p q front f s t v w c is end told = inr (consumes_same s.remaining t.remaining [] front is c, end, told.0)
 
 -- ---- many turns
 
@@ -84,22 +68,6 @@ part_more before read q r piece is on =
 -- the lines of an input that has ended
 ended_last : (before read q : List ℕ) → q ≡ part_from [] (before ++ read) → ended_from [] (before ++ read) ++ last_line q ≡ lines_of (before ++ read)
 ended_last before read q is = ap (λ x. ended_from [] (before ++ read) ++ last_line x) is ∙ all_lines (before ++ read)
-
-pub so_far_none : {D : Type 0} (A : D → List ℕ → List ℕ → D → Type 0) (below : ℕ) (d e : D) (before p q : List ℕ) (s : SourceSeen) (v w : SinkSeen)
-    → p ≡ [] → Spoken A below d (ended_from p before) v w e (Ok _) → q ≡ part_from p before → SoFar A d before 0 s s v w e q
-so_far_none {D} A below d e before p q s v w none told part = record {
-  read = [];
-  consumed = consumes_none s.remaining;
-  count = omega arith;
-  most = omega arith;
-  part = part ∙ ap (λ x. part_from x before) none ∙ ap (λ x. part_from [] x) (sym (append-nil before));
-  told = tells_along A d e (ended_from p before) (ended_from [] (before ++ [])) v.contents w.contents
-      (ap (λ x. ended_from x before) none ∙ ap (λ x. ended_from [] x) (sym (append-nil before))) told.0;
-  calls = omega arith;
-  failures = refl;
-  ends = refl;
-  writes = told.1;
-}
 
 pub so_far_more : {D : Type 0} (A : D → List ℕ → List ℕ → D → Type 0) (below : ℕ) (d m e : D) (before p q : List ℕ) (n : ℕ) (s0 s1 s2 : SourceSeen) (v0 v1 v2 : SinkSeen)
     → SoFar A d before n s0 s1 v0 v1 m p → Turned A below m p s1 s2 v1 v2 e q (Ok More) → CountedOnce s1 s2 v1 v2 (Ok More) → SoFar A d before (n + 1) s0 s2 v0 v2 e q
@@ -184,12 +152,3 @@ served_turns A below d e before q n turns s t v w f is = (
   tells_along A d e (ended_from [] (before ++ f.read)) (ended_lines (before ++ f.read)) v.contents w.contents (whole_lines (before ++ f.read)) f.told,
   (let le = f.most in omega (arith, le, is)),
 )
-
--- the calls of so many turns, and of one more
-pub counted_turn : {D : Type 0} (A : D → List ℕ → List ℕ → D → Type 0) (d m : D) (before p : List ℕ) (n turns : ℕ) (s0 s1 s2 : SourceSeen) (v0 v1 v2 : SinkSeen) (r : Result Turn EngineFault)
-    → SoFar A d before n s0 s1 v0 v1 m p → CountedOnce s1 s2 v1 v2 r → n < turns → Counted turns (failed_reads r) (failed_writes r) s0 s2 v0 v2
-counted_turn A d m before p n turns s0 s1 s2 v0 v1 v2 r f c lt = record {
-  calls = (let a = f.calls in let b = c.calls in omega (arith, a, b, lt));
-  reads_failed = (let a = f.failures in let b = c.reads_failed in b ∙ ap (λ k. k + failed_reads r) a);
-  writes_failed = (let a = f.writes in let b = c.writes_failed in b ∙ ap (λ k. k + failed_writes r) a);
-}

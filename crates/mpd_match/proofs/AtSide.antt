@@ -141,6 +141,3 @@ pub ruleset keeping = (room_all, marks_told)
 pub ruleset copying = (marks_told, writes_pushed, marks_none, one_more_like)
 
 -- what holds of a refusal
-pub refused_with : {A E : Type 0} {P : Type 0} (result : Result A E) → P → OnErr result P
-refused_with (Ok x) p = tt
-refused_with (Err x) p = p

@@ -1,6 +1,6 @@
 -- The lines of sides are the lists of a board.
 use Rattle.std.proofs.Common.{◌≡◌, ◌≢◌, ℕ, zero, suc, ◌+◌, ◌-◌, ◌<◌, ◌≤◌, Bool, true, false, ◌&&◌, eqb, is_some, is_none, Option, Some, None, List, [], ◌∷◌, ◌++◌, inl, inr, refl, sym, ap, subst, ◌∙◌, length, set, get_or, take, slice_get, slice_set, replicate, append-nil, length-append, option_to_list, IfSome, IfNone, arith}
-use Rattle.std.proofs.lemmas.Bool.{cases_eq, cases_lt, eq-eqb, ne_eqb, eqb-true}
+use Rattle.std.proofs.lemmas.Bool.{cases_eq, cases_lt, eq-eqb, ne_eqb, eqb-true, and_parts}
 use Rattle.std.proofs.lemmas.Bool.Decides.{eqb_tells}
 use Rattle.std.proofs.lemmas.List.{length-map, length-replicate, set-set, take_at, get_or_past}
 use Rattle.std.specs.List.{range_with_len}
@@ -24,7 +24,7 @@ use Rattle.mpd_match.proofs.Passed.{passed_same}
 use Rattle.mpd_match.proofs.InLines.{get_seam, kind_past, kind_before, with_mark_here, with_mark_there, waiting_same, waiting_but}
 use Rattle.mpd_match.proofs.AtSide.{listed_at, read_side}
 use Rattle.mpd_match.proofs.Partners.{with_partner_there, partner_lone, new_first, new_second, new_past, paired_marks, unpaired_marks, fitting_lines, fitting_differ, paired_kept, paired_more, paired_lone, unpaired_lone, last_paired}
-use Rattle.mpd_match.proofs.Bools.{and_false, both_true, none_only}
+use Rattle.mpd_match.proofs.Bools.{and_false, none_only}
 
 -- ---- a line is a list of the board
 
@@ -104,13 +104,13 @@ side_exists sides c line e =
 -- ---- what eligible calls are
 
 pub free_partner : (b : Board) (c : CallId) → is_free b c ≡ true → partner b.sets c ≡ None
-free_partner b c e = none_only (partner b.sets c) (both_true (is_message_kind (kind_at b c)) (is_none (partner b.sets c)) e).1
+free_partner b c e = none_only (partner b.sets c) (and_parts (is_message_kind (kind_at b c)) (is_none (partner b.sets c)) e).1
 
 pub eligible_tells : (b : Board) (s r : CallId) → eligible b s r ≡ true → (partner b.sets s ≡ None) × (partner b.sets r ≡ None) × (fitting (kind_at b s) (kind_at b r) s.rank r.rank ≡ true)
 eligible_tells b s r e =
-    let first = both_true (is_free b s) _ e in
-    let second = both_true (is_free b r) _ first.1 in
-    let third = both_true (fits b s r) _ second.1 in
+    let first = and_parts (is_free b s) _ e in
+    let second = and_parts (is_free b r) _ first.1 in
+    let third = and_parts (fits b s r) _ second.1 in
     (free_partner b s first.0, free_partner b r second.0, third.0)
 
 -- ---- the invariant
@@ -430,7 +430,7 @@ pub next_pending : (mode : Mode) (sides : List SideView) (sets : List MatchSet) 
     → next ≡ next_of (pending (board_in mode sides sets) id.rank q) id.index
 next_pending mode sides sets id v q next h read is walked =
     let b : Board = board_in mode sides sets in
-    let at : line_of (kind_on sides id) ≡ Some (q + 1) = ap line_of (kind_is mode sides sets id) ∙ pending_line (kind_at b id) q (both_true (sends_to (kind_at b id) q) (is_free b id) is).0 in
+    let at : line_of (kind_on sides id) ≡ Some (q + 1) = ap line_of (kind_is mode sides sets id) ∙ pending_line (kind_at b id) q (and_parts (sends_to (kind_at b id) q) (is_free b id) is).0 in
     let side : side_at sides id.rank ≡ v = read_side sides id.rank v (side_exists sides id (q + 1) at) read in
     walked (q + 1) (ap (λ (u : SideView). line_of (kind_in u.calls id.index)) (sym side) ∙ at)
     ∙ ap (λ (u : SideView). next_of (waiting u.calls (mark_in u.marks) (q + 1)) id.index) (sym side)
@@ -441,7 +441,7 @@ pub next_posted : (mode : Mode) (sides : List SideView) (sets : List MatchSet) (
     → next ≡ next_of (posted (board_in mode sides sets) id.rank) id.index
 next_posted mode sides sets id v next h read is walked =
     let b : Board = board_in mode sides sets in
-    let at : line_of (kind_on sides id) ≡ Some 0 = ap line_of (kind_is mode sides sets id) ∙ posted_line (kind_at b id) (both_true (receives (kind_at b id)) (is_free b id) is).0 in
+    let at : line_of (kind_on sides id) ≡ Some 0 = ap line_of (kind_is mode sides sets id) ∙ posted_line (kind_at b id) (and_parts (receives (kind_at b id)) (is_free b id) is).0 in
     let side : side_at sides id.rank ≡ v = read_side sides id.rank v (side_exists sides id 0 at) read in
     walked 0 (ap (λ (u : SideView). line_of (kind_in u.calls id.index)) (sym side) ∙ at)
     ∙ ap (λ (u : SideView). next_of (waiting u.calls (mark_in u.marks) 0) id.index) (sym side)

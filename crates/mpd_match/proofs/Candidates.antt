@@ -1,7 +1,8 @@
 -- A send and a receive are eligible where each is the first of its line that fits the other; so of the sends of a rank at most one
 -- is eligible with a receive.
 use Rattle.std.proofs.Common.{◌≡◌, ◌≢◌, ℕ, ◌+◌, ◌<◌, ◌≤◌, Bool, true, false, cond, ◌&&◌, ◌||◌, not, nat_lt, Option, Some, None, is_some, List, [], ◌∷◌, inl, inr, refl, sym, ap, ◌∙◌, length, slice_get, arith}
-use Rattle.std.proofs.lemmas.Bool.{cases_lt, lt-ltb, le-ltb}
+use Rattle.mpd_laws.proofs.ordered.Eligible.{clash}
+use Rattle.std.proofs.lemmas.Bool.{cases_lt, lt-ltb, le-ltb, and_parts, cases_Bool, not-true}
 use Rattle.std.proofs.lemmas.Bool.Decides.{eqb_tells}
 use Rattle.std.proofs.lemmas.Option.{slice_get_past}
 use Rattle.std.specs.List.{filter, list_any}
@@ -17,26 +18,19 @@ use Rattle.mpd_queue.proofs.Places.{places_here, places_same, places_there, plac
 use Rattle.mpd_match.specs.Lines.{takes_from, ahead}
 use Rattle.mpd_match.specs.Firsts.{first_send, first_recv}
 use Rattle.mpd_match.specs.Looks.{has_earlier_send, behind_looks, candidate_looks}
-use Rattle.mpd_match.proofs.Bools.{bool_tells, and_false, both_true}
+use Rattle.mpd_match.proofs.Bools.{and_false}
 use Rattle.mpd_match.proofs.Passed.{passed_here, passed_there, places_passed, places_within}
 use Rattle.mpd_match.proofs.Walks.{Rising, rising_passed}
 use Rattle.mpd_match.proofs.Eligible.{eligible_is}
 use Rattle.mpd_match.proofs.Matches.{eligible_pending, eligible_posted, pending_free}
 use Rattle.mpd_match.proofs.Firsts.{any_stands, none_stands, first_passes, first_stands, first_least, first_none, few_ahead}
 
-not_both : (b : Bool) → b ≡ true → b ≡ false → ⊥
-not_both b e f = cc
-
-denied : (b : Bool) → not b ≡ true → b ≡ false
-denied true e = absurd (cc)
-denied false e = refl
-
 -- ---- lists of which one number passes, or none
 
 pub nothing_passes : (t : ℕ → Bool) (xs : List ℕ) → ((i : ℕ) → 0 < places_in xs i → t i ≡ true → ⊥) → filter t xs ≡ []
 nothing_passes t [] none = refl
 nothing_passes t (x ∷ xs) none =
-    elim (bool_tells (t x)) [
+    elim (cases_Bool (t x)) [
       | inl h ↦ absurd (none x (omega (arith, places_here x xs)) h)
       | inr h ↦ passed_there t x xs h ∙ nothing_passes t xs (λ i has hits. none i (omega (arith, places_more i x xs)) hits)
     ]
@@ -51,7 +45,7 @@ one_passes t k (x ∷ xs) hits alone once =
           ∙ ap (λ (zs : List ℕ). x ∷ zs) (nothing_passes t xs (λ i has h. let same : places_in xs i ≡ places_in xs k = ap (places_in xs) (alone i h) in absurd (omega arith)))
           ∙ ap (λ (n : ℕ). n ∷ []) (sym q.1)
       | inr q ↦
-          elim (bool_tells (t x)) [
+          elim (cases_Bool (t x)) [
             | inl h ↦ absurd (q.1 (sym (alone x h)))
             | inr h ↦ passed_there t x xs h ∙ one_passes t k xs hits alone (omega (arith, places_there k x xs q.1))
           ]
@@ -69,14 +63,14 @@ pending_within : (b : Board) (p q i : ℕ) → is_pending b p q i ≡ true → i
 pending_within b p q i e =
     elim (cases_lt i (length (calls_of b p))) [
       | inl lt ↦ lt
-      | inr ge ↦ absurd (not_both (sends_to (kind_at b (call_id p i)) q) (both_true _ _ e).0 (sends_known (slice_get (calls_of b p) i) q (slice_get_past (calls_of b p) i ge)))
+      | inr ge ↦ absurd (clash (and_parts _ _ e).0 (sends_known (slice_get (calls_of b p) i) q (slice_get_past (calls_of b p) i ge)))
     ]
 
 posted_within : (b : Board) (q j : ℕ) → is_posted b q j ≡ true → j < length (calls_of b q)
 posted_within b q j e =
     elim (cases_lt j (length (calls_of b q))) [
       | inl lt ↦ lt
-      | inr ge ↦ absurd (not_both (receives (kind_at b (call_id q j))) (both_true _ _ e).0 (receives_known (slice_get (calls_of b q) j) (slice_get_past (calls_of b q) j ge)))
+      | inr ge ↦ absurd (clash (and_parts _ _ e).0 (receives_known (slice_get (calls_of b q) j) (slice_get_past (calls_of b q) j ge)))
     ]
 
 pub pending_stands : (b : Board) (p q i : ℕ) → is_pending b p q i ≡ true → 0 < places_in (pending b p q) i
@@ -100,14 +94,14 @@ first_is t xs k rising has hits none None e = absurd (first_none t xs k e has hi
 first_is t xs k rising has hits none (Some m) e =
     let le : m ≤ k = first_least t xs m k rising e has hits in
     elim (cases_lt m k) [
-      | inl lt ↦ absurd (not_both _ (any_stands (λ i. nat_lt i k && t i) m xs (first_stands t xs m e) (ap (λ (b : Bool). b && t m) (lt-ltb m k lt) ∙ first_passes t xs m e)) none)
+      | inl lt ↦ absurd (clash (any_stands (λ i. nat_lt i k && t i) m xs (first_stands t xs m e) (ap (λ (b : Bool). b && t m) (lt-ltb m k lt) ∙ first_passes t xs m e)) none)
       | inr ge ↦ ap Some (let same : m ≡ k = omega arith in same)
     ]
 
 none_below : (t : ℕ → Bool) (xs : List ℕ) (k : ℕ) → Rising xs → first_in (filter t xs) ≡ Some k → list_any (λ i. nat_lt i k && t i) xs ≡ false
 none_below t xs k rising e =
     none_stands (λ i. nat_lt i k && t i) xs (λ i has.
-    elim (bool_tells (t i)) [
+    elim (cases_Bool (t i)) [
       | inl h ↦ ap (λ (b : Bool). b && t i) (le-ltb i k (first_least t xs k i rising e has h))
       | inr h ↦ ap (λ (b : Bool). nat_lt i k && b) h ∙ and_false (nat_lt i k)
     ])
@@ -123,11 +117,11 @@ pub record Parts (b : Board) (s r : CallId) : Type 0 where
 
 pub parts_of : (b : Board) (s r : CallId) → eligible b s r ≡ true → Parts b s r
 parts_of b s r e =
-    let one = both_true (is_free b s) _ e in
-    let two = both_true (is_free b r) _ one.1 in
-    let three = both_true (fits b s r) _ two.1 in
-    let four = both_true (not (has_earlier_send b s r)) _ three.1 in
-    record { send_free = one.0; recv_free = two.0; fit = three.0; no_send = denied _ four.0; no_recv = denied _ four.1 }
+    let one = and_parts (is_free b s) _ e in
+    let two = and_parts (is_free b r) _ one.1 in
+    let three = and_parts (fits b s r) _ two.1 in
+    let four = and_parts (not (has_earlier_send b s r)) _ three.1 in
+    record { send_free = one.0; recv_free = two.0; fit = three.0; no_send = not-true _ four.0; no_recv = not-true _ four.1 }
 
 pub is_first_send : (b : Board) (p i : ℕ) (r : CallId) → eligible b (call_id p i) r ≡ true → first_send b p r ≡ Some i
 is_first_send b p i r e =
@@ -169,7 +163,7 @@ candidates_one b p i r e =
 -- ---- the sources that a receive takes from
 
 fitting_takes : (one other : Option CallKind) (p q : ℕ) → fitting one other p q ≡ true → takes_from other p ≡ true
-fitting_takes (Some (Send s)) (Some (Recv r)) p q e = (both_true _ _ (both_true _ _ e).1).0
+fitting_takes (Some (Send s)) (Some (Recv r)) p q e = (and_parts _ _ (and_parts _ _ e).1).0
 fitting_takes one other p q e = absurd (cc)
 
 takes_receives : (k : Option CallKind) (p : ℕ) → takes_from k p ≡ true → receives k ≡ true
@@ -185,10 +179,10 @@ taken_posted b p r takes free = ap (λ (x : Bool). x && is_free b r) (takes_rece
 -- ---- the answers of `candidate`
 
 pub not_taken : (b : Board) (p : ℕ) (r : CallId) → takes_from (kind_at b r) p ≡ false → candidates b p r ≡ []
-not_taken b p r e = candidates_none b p r (λ i f. not_both _ (eligible_takes b (call_id p i) r f) e)
+not_taken b p r e = candidates_none b p r (λ i f. clash (eligible_takes b (call_id p i) r f) e)
 
 pub not_free : (b : Board) (p : ℕ) (r : CallId) → is_free b r ≡ false → candidates b p r ≡ []
-not_free b p r e = candidates_none b p r (λ i f. let parts : Parts b (call_id p i) r = parts_of b (call_id p i) r f in not_both _ parts.recv_free e)
+not_free b p r e = candidates_none b p r (λ i f. let parts : Parts b (call_id p i) r = parts_of b (call_id p i) r f in clash parts.recv_free e)
 
 pub no_send : (b : Board) (p : ℕ) (r : CallId) → first_send b p r ≡ None → candidates b p r ≡ []
 no_send b p r e = candidates_none b p r (λ i f. let is : None ≡ Some i = sym e ∙ is_first_send b p i r f in absurd (cc))
@@ -216,7 +210,7 @@ first_found b p i j r takes free send recv le =
 any_passed : (t : ℕ → Bool) (xs : List ℕ) → list_any t xs ≡ list_any (λ i. true) (filter t xs)
 any_passed t [] = refl
 any_passed t (x ∷ xs) =
-    elim (bool_tells (t x)) [
+    elim (cases_Bool (t x)) [
       | inl h ↦ ap (λ (b : Bool). b || list_any t xs) h ∙ sym (ap (list_any (λ i. true)) (passed_here t x xs h))
       | inr h ↦ ap (λ (b : Bool). b || list_any t xs) h ∙ any_passed t xs ∙ sym (ap (list_any (λ i. true)) (passed_there t x xs h))
     ]
@@ -230,15 +224,6 @@ found_any b p r o e =
     some_listed o ∙ ap (list_any (λ i. true)) (sym e) ∙ sym (any_passed (λ i. eligible b (call_id p i) r) (call_numbers b p))
 
 -- ---- its looks
-
-pub looks_not_taken : (b : Board) (p : ℕ) (r : CallId) → takes_from (kind_at b r) p ≡ false → candidate_looks b p r ≡ 0
-looks_not_taken b p r e =
-    ap (λ (x : Bool). cond (x && is_free b r) (1 + ahead (λ i. fits b (call_id p i) r) (pending b p r.rank) + behind_looks b r p (first_send b p r)) 0) e
-
-pub looks_not_free : (b : Board) (p : ℕ) (r : CallId) → is_free b r ≡ false → candidate_looks b p r ≡ 0
-looks_not_free b p r e =
-    ap (λ (x : Bool). cond (takes_from (kind_at b r) p && x) (1 + ahead (λ i. fits b (call_id p i) r) (pending b p r.rank) + behind_looks b r p (first_send b p r)) 0) e
-    ∙ ap (λ (x : Bool). cond x (1 + ahead (λ i. fits b (call_id p i) r) (pending b p r.rank) + behind_looks b r p (first_send b p r)) 0) (and_false (takes_from (kind_at b r) p))
 
 pub looks_walked : (b : Board) (p : ℕ) (r : CallId) (o : Option ℕ) → takes_from (kind_at b r) p ≡ true → is_free b r ≡ true → first_send b p r ≡ o
     → candidate_looks b p r ≡ 1 + ahead (λ i. fits b (call_id p i) r) (pending b p r.rank) + behind_looks b r p o

@@ -12,7 +12,7 @@ use Rattle.mpd_model.specs.declared.call.MatchSet.TheVariants.{Pair, Woke}
 use Rattle.mpd_model.specs.declared.call.MatchSet.TheVariants as set_kind
 use Rattle.mpd_model.specs.World.{Board, call_id, listed_calls, calls_of, kind_of, kind_at, partner, eligible, fits, is_buffered, holds_slot, last_call, slots_used}
 use Rattle.mpd_model.specs.Next.{with_call, with_set}
-use Rattle.mpd_laws.proofs.Slots.{is_pair, slots_within, slots_with_call, slots_with_lone, slots_with_fitting, slots_with_match}
+use Rattle.mpd_laws.proofs.buffered.Slots.{is_pair, slots_within, slots_with_call, slots_with_lone, slots_with_fitting, slots_with_match}
 use Rattle.mpd_match.specs.Views.{SideView, calls_in, board_in}
 use Rattle.mpd_match.specs.Changes.{issue_writes, unissue_writes, without_last_call, is_lone, last_set}
 use Rattle.mpd_match.specs.Slots.{slots_of, held_in, at_rank, Counted}
@@ -247,11 +247,3 @@ counted_new mode sides sets slots n ec es = record {
   where
     count_in : Board → ℕ → List Call → ℕ
     count_in b q calls = length (filter (λ i. holds_slot b (call_id q i)) (range_with_len 0 (length calls)))
-
--- the same slots of the same board
-pub counted_same : (mode : Mode) (sides others : List SideView) (sets more : List MatchSet) (slots copied : List ℕ) → calls_in others ≡ calls_in sides → more ≡ sets → copied ≡ slots
-    → Counted (board_in mode sides sets) slots → Counted (board_in mode others more) copied
-counted_same mode sides others sets more slots copied ec es ek h = record {
-  ranks = ap length ek ∙ h.ranks ∙ sym (ap length ec);
-  held = λ q. ap (λ (xs : List ℕ). held_in xs q) ek ∙ h.held q ∙ sym (λ i. slots_used (record { mode = mode; calls = ec i; sets = es i }) q);
-}

@@ -1,5 +1,6 @@
 -- The first number of a line that passes a test, and a walk that looks for it.
 use Rattle.std.proofs.Common.{◌≡◌, ℕ, ◌+◌, ◌<◌, ◌≤◌, Bool, true, false, cond, ◌||◌, Option, Some, None, List, [], ◌∷◌, inl, inr, refl, sym, ap, subst, ◌∙◌, length, arith}
+use Rattle.std.proofs.lemmas.Bool.{cases_Bool}
 use Rattle.std.proofs.lemmas.Bool.Decides.{eqb_tells}
 use Rattle.std.specs.List.{filter, list_any}
 use Rattle.mpd_model.specs.Why.{first_in}
@@ -7,7 +8,6 @@ use Rattle.mpd_queue.specs.InOrder.{places_in, first_of, next_of, HasSpot}
 use Rattle.mpd_queue.proofs.Places.{places_here, places_there, places_more}
 use Rattle.mpd_queue.proofs.Spots.{first_spot, next_spot}
 use Rattle.mpd_match.specs.Lines.{ahead}
-use Rattle.mpd_match.proofs.Bools.{bool_tells}
 use Rattle.mpd_match.proofs.Passed.{passed_here, passed_there}
 use Rattle.mpd_match.proofs.Walks.{AllFrom, Rising, rest, rest_none, rest_first, rest_step, walk_falls}
 
@@ -53,7 +53,7 @@ same_some x y o e f = cc
 pub first_passes : (t : ℕ → Bool) (xs : List ℕ) (k : ℕ) → first_in (filter t xs) ≡ Some k → t k ≡ true
 first_passes t [] k e = absurd (cc)
 first_passes t (x ∷ xs) k e =
-    elim (bool_tells (t x)) [
+    elim (cases_Bool (t x)) [
       | inl h ↦ ap t (sym (same_some x k _ (first_here t x xs h) e)) ∙ h
       | inr h ↦ first_passes t xs k (sym (first_there t x xs h) ∙ e)
     ]
@@ -61,7 +61,7 @@ first_passes t (x ∷ xs) k e =
 pub first_stands : (t : ℕ → Bool) (xs : List ℕ) (k : ℕ) → first_in (filter t xs) ≡ Some k → 0 < places_in xs k
 first_stands t [] k e = absurd (cc)
 first_stands t (x ∷ xs) k e =
-    elim (bool_tells (t x)) [
+    elim (cases_Bool (t x)) [
       | inl h ↦ subst (λ (n : ℕ). 0 < places_in (x ∷ xs) n) (same_some x k _ (first_here t x xs h) e) (omega (arith, places_here x xs))
       | inr h ↦ omega (arith, first_stands t xs k (sym (first_there t x xs h) ∙ e), places_more k x xs)
     ]
@@ -69,7 +69,7 @@ first_stands t (x ∷ xs) k e =
 pub first_least : (t : ℕ → Bool) (xs : List ℕ) (k i : ℕ) → Rising xs → first_in (filter t xs) ≡ Some k → 0 < places_in xs i → t i ≡ true → k ≤ i
 first_least t [] k i rising e has hits = absurd (cc)
 first_least t (x ∷ xs) k i rising e has hits =
-    elim (bool_tells (t x)) [
+    elim (cases_Bool (t x)) [
       | inl h ↦
           let same : x ≡ k = same_some x k _ (first_here t x xs h) e in
           elim (eqb_tells i x) [
@@ -86,7 +86,7 @@ first_least t (x ∷ xs) k i rising e has hits =
 pub first_none : (t : ℕ → Bool) (xs : List ℕ) (i : ℕ) → first_in (filter t xs) ≡ None → 0 < places_in xs i → t i ≡ true → ⊥
 first_none t [] i e has hits = absurd (omega arith)
 first_none t (x ∷ xs) i e has hits =
-    elim (bool_tells (t x)) [
+    elim (cases_Bool (t x)) [
       | inl h ↦ absurd (let u : Some x ≡ None = sym (first_here t x xs h) ∙ e in cc)
       | inr h ↦
           elim (eqb_tells i x) [

@@ -1,10 +1,10 @@
 -- Lists that are gathered, of the numbers of a range or along a line of free calls.
 use Rattle.std.proofs.Common.{◌≡◌, ℕ, suc, ◌+◌, ◌-◌, ◌<◌, ◌≤◌, Bool, cond, Option, Some, None, List, [], ◌∷◌, ◌++◌, inl, inr, refl, sym, ap, subst, ◌∙◌, map, length, arith, append_assoc, append-nil, Result, Ok, Err, OnErr}
+use Rattle.std.proofs.lemmas.Bool.{cases_Bool}
 use Rattle.std.proofs.lemmas.List.{length-append}
 use Rattle.std.specs.List.{filter, flat_map, range_with_len}
 use Rattle.mpd_queue.specs.InOrder.{places_in, first_of, next_of, HasSpot}
 use Rattle.mpd_queue.proofs.Spots.{first_spot, next_spot}
-use Rattle.mpd_match.proofs.Bools.{bool_tells}
 use Rattle.mpd_match.proofs.Passed.{passed_here, passed_there}
 use Rattle.mpd_match.proofs.Walks.{rest, rest_none, rest_first, rest_step, walk_falls}
 
@@ -86,7 +86,7 @@ gather_ends f xs old total now here at w =
 pub given_passed : {A : Type 0} (t : ℕ → Bool) (g : ℕ → A) (xs : List ℕ) → flat_map (λ i. cond (t i) (g i ∷ []) []) xs ≡ map g (filter t xs)
 given_passed t g [] = refl
 given_passed t g (x ∷ xs) =
-    elim (bool_tells (t x)) [
+    elim (cases_Bool (t x)) [
       | inl h ↦
           ap (λ (b : Bool). cond b (g x ∷ []) [] ++ flat_map (λ i. cond (t i) (g i ∷ []) []) xs) h
           ∙ ap (λ ys. g x ∷ ys) (given_passed t g xs)

@@ -1,6 +1,6 @@
 -- What holds back the match of a send and a receive: the first call of its line that fits, where that is an earlier one.
 use Rattle.std.proofs.Common.{◌≡◌, ℕ, ◌<◌, ◌≤◌, Bool, true, false, cond, ◌&&◌, nat_lt, Option, Some, None, List, [], ◌∷◌, ◌++◌, inl, inr, sym, ap, subst, ◌∙◌, map, length, arith, append-nil}
-use Rattle.std.proofs.lemmas.Bool.{lt-ltb, le-ltb}
+use Rattle.std.proofs.lemmas.Bool.{lt-ltb, le-ltb, and_parts, cases_Bool}
 use Rattle.std.proofs.lemmas.Option.{slice_get_past}
 use Rattle.std.specs.List.{filter, flat_map, range_with_len}
 use Rattle.std.specs.Option.{option_map}
@@ -12,7 +12,7 @@ use Rattle.mpd_model.specs.Why.{first_in, earlier_send, earlier_recv, holder, wh
 use Rattle.mpd_queue.specs.InOrder.{places_in}
 use Rattle.mpd_match.specs.Firsts.{first_send, first_recv}
 use Rattle.mpd_match.specs.Entries.{partner_entry}
-use Rattle.mpd_match.proofs.Bools.{bool_tells, and_false, both_true}
+use Rattle.mpd_match.proofs.Bools.{and_false}
 use Rattle.mpd_match.proofs.Passed.{passed_here, passed_there}
 use Rattle.mpd_match.proofs.Walks.{Rising}
 use Rattle.mpd_match.proofs.Firsts.{first_least, first_none}
@@ -28,7 +28,7 @@ none_lesser : (t : ℕ → Bool) (k : ℕ) (xs : List ℕ) → ((i : ℕ) → 0 
 none_lesser t k xs none = sym (ap first_in (nothing_passes (lesser t k) xs none))
 
 no_first : (t : ℕ → Bool) (k : ℕ) (xs : List ℕ) → first_in (filter t xs) ≡ None → None ≡ first_in (filter (lesser t k) xs)
-no_first t k xs e = none_lesser t k xs (λ i has hits. first_none t xs i e has (both_true (nat_lt i k) (t i) hits).1)
+no_first t k xs e = none_lesser t k xs (λ i has hits. first_none t xs i e has (and_parts (nat_lt i k) (t i) hits).1)
 
 not_less : (i k : ℕ) → k ≤ i → nat_lt i k ≡ true → ⊥
 not_less i k le e = let f : nat_lt i k ≡ false = le-ltb i k le in cc
@@ -36,7 +36,7 @@ not_less i k le e = let f : nat_lt i k ≡ false = le-ltb i k le in cc
 first_behind : (t : ℕ → Bool) (k i : ℕ) (xs : List ℕ) → Rising xs → first_in (filter t xs) ≡ Some i → k ≤ i → None ≡ first_in (filter (lesser t k) xs)
 first_behind t k i xs rising e le =
     none_lesser t k xs (λ j has hits.
-    let both = both_true (nat_lt j k) (t j) hits in
+    let both = and_parts (nat_lt j k) (t j) hits in
     not_less j k (let least : i ≤ j = first_least t xs i j rising e has both.1 in omega arith) both.0)
 
 same_some : (x y : ℕ) (o : Option ℕ) → o ≡ Some x → o ≡ Some y → x ≡ y
@@ -45,7 +45,7 @@ same_some x y o e f = cc
 first_lesser : (t : ℕ → Bool) (k i : ℕ) (xs : List ℕ) → first_in (filter t xs) ≡ Some i → i < k → first_in (filter (lesser t k) xs) ≡ Some i
 first_lesser t k i [] e lt = e
 first_lesser t k i (x ∷ xs) e lt =
-    elim (bool_tells (t x)) [
+    elim (cases_Bool (t x)) [
       | inl h ↦
           let same : x ≡ i = same_some x i _ (ap first_in (passed_here t x xs h)) e in
           ap first_in (passed_here (lesser t k) x xs (ap (λ (b : Bool). b && t x) (lt-ltb x k (omega (arith, same))) ∙ h)) ∙ ap Some same
@@ -105,6 +105,3 @@ no_rank b s q out le =
     ∙ append-nil out)
 
 -- ---- the call that is asked about
-
-pub of_kind : (b : Board) (c : CallId) (k l : Option CallKind) (out now : List (CallId × Option CallId)) → k ≡ l → now ≡ out ++ why_by b c k → now ≡ out ++ why_by b c l
-of_kind b c k l out now e more = subst (λ (x : Option CallKind). now ≡ out ++ why_by b c x) e more

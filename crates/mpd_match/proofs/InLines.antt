@@ -1,6 +1,6 @@
 -- The lines of one rank's free calls.
 use Rattle.std.proofs.Common.{◌≡◌, ◌≢◌, ℕ, zero, suc, ◌+◌, ◌<◌, ◌≤◌, Bool, true, false, cond, ◌&&◌, is_none, Option, Some, None, List, [], ◌∷◌, ◌++◌, inl, inr, refl, sym, ap, ◌∙◌, length, append-nil, length-append, slice_get, slice_set, get_or-set_same, get_or-set_other, add-one, arith}
-use Rattle.std.proofs.lemmas.Bool.{eq-eqb, ne_eqb, cases_eq, cases_lt}
+use Rattle.std.proofs.lemmas.Bool.{eq-eqb, ne_eqb, cases_eq, cases_lt, cases_Bool}
 use Rattle.std.proofs.lemmas.List.Elements.{filter-append}
 use Rattle.std.proofs.lemmas.Option.{slice_get_past}
 use Rattle.std.specs.List.{filter, range_with_len}
@@ -11,7 +11,7 @@ use Rattle.mpd_model.specs.World.{kind_of}
 use Rattle.mpd_queue.specs.InOrder.{places_in, removed}
 use Rattle.mpd_match.specs.Lines.{line_of, is_line, kind_in, mark_in, with_mark, waits, waiting}
 use Rattle.mpd_match.proofs.Passed.{passed_same, places_passed, places_not_passed, passed_removed, places_within, places_past, one_number_more}
-use Rattle.mpd_match.proofs.Bools.{bool_tells, and_false}
+use Rattle.mpd_match.proofs.Bools.{and_false}
 
 -- ---- one call, and its partner
 
@@ -125,7 +125,7 @@ stands_past calls mark line i le = stands_not calls mark line i (waits_past call
 
 pub stands_at_most_once : (calls : List Call) (mark : ℕ → Option CallId) (line i : ℕ) → places_in (waiting calls mark line) i ≤ 1
 stands_at_most_once calls mark line i =
-    elim (bool_tells (waits calls mark line i)) [
+    elim (cases_Bool (waits calls mark line i)) [
       | inl e ↦ elim (cases_lt i (length calls)) [ inl lt ↦ omega (arith, stands_once calls mark line i e lt) | inr ge ↦ omega (arith, stands_past calls mark line i ge) ]
       | inr e ↦ omega (arith, stands_not calls mark line i e)
     ]

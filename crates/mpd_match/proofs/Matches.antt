@@ -1,7 +1,7 @@
 -- Where a send and a receive are eligible: what the calls of a rank have in common with its lists of free calls.
 use Rattle.std.proofs.Common.{◌≡◌, ℕ, suc, ◌+◌, ◌-◌, ◌<◌, ◌≤◌, Bool, true, false, ◌&&◌, ◌||◌, Option, Some, List, [], ◌∷◌, inl, inr, refl, sym, ap, ◌∙◌, length, slice_get, is_none, arith}
 use Rattle.std.specs.List.{list_any, filter, range_with_len}
-use Rattle.std.proofs.lemmas.Bool.{cases_lt}
+use Rattle.std.proofs.lemmas.Bool.{cases_lt, and_parts, cases_Bool}
 use Rattle.std.proofs.lemmas.Option.{slice_get_past}
 use Rattle.std.proofs.lemmas.Map.Views.{any-filter_same}
 use Rattle.mpd_model.specs.declared.step.CallId.{CallId}
@@ -10,7 +10,6 @@ use Rattle.mpd_model.specs.declared.call.CallKind.{CallKind}
 use Rattle.mpd_model.specs.declared.call.CallKind.TheVariants.{Send, Recv}
 use Rattle.mpd_model.specs.World.{Board, call_id, listed_calls, calls_of, kind_of, kind_at, partner, is_message_kind, call_numbers, rank_numbers, is_free, sends_to, receives, fits, fitting, is_pending, is_posted, pending, posted, eligible}
 use Rattle.mpd_queue.specs.InOrder.{places_in}
-use Rattle.mpd_match.proofs.Bools.{bool_tells, both_true}
 use Rattle.mpd_match.proofs.Passed.{places_passed, places_not_passed, places_within, places_past}
 
 -- ---- a list of free calls
@@ -18,7 +17,7 @@ use Rattle.mpd_match.proofs.Passed.{places_passed, places_not_passed, places_wit
 -- no number stands twice in what is left of the numbers of a rank's calls
 once_passed : (b : Board) (t : ℕ → Bool) (p z : ℕ) → places_in (filter t (call_numbers b p)) z ≤ 1
 once_passed b t p z =
-    elim (bool_tells (t z)) [
+    elim (cases_Bool (t z)) [
       | inl e ↦ elim (cases_lt z (length (calls_of b p))) [
         | inl lt ↦ omega (arith, places_passed t z (call_numbers b p) e, places_within 0 (length (calls_of b p)) z (omega arith) (omega arith))
         | inr ge ↦ omega (arith, places_passed t z (call_numbers b p) e, places_past 0 (length (calls_of b p)) z (omega arith))
@@ -29,7 +28,7 @@ once_passed b t p z =
 -- what stands there passes
 stands_passed : (b : Board) (t : ℕ → Bool) (p z : ℕ) → 0 < places_in (filter t (call_numbers b p)) z → t z ≡ true
 stands_passed b t p z has =
-    elim (bool_tells (t z)) [
+    elim (cases_Bool (t z)) [
       | inl e ↦ e
       | inr e ↦ absurd (omega (arith, places_not_passed t z (call_numbers b p) e))
     ]
@@ -41,20 +40,20 @@ pub pending_tells : (b : Board) (p q z : ℕ) → 0 < places_in (pending b p q) 
 pending_tells b p q z has = stands_passed b (is_pending b p q) p z has
 
 pub pending_free : (b : Board) (p q z : ℕ) → 0 < places_in (pending b p q) z → is_free b (call_id p z) ≡ true
-pending_free b p q z has = (both_true (sends_to (kind_at b (call_id p z)) q) (is_free b (call_id p z)) (pending_tells b p q z has)).1
+pending_free b p q z has = (and_parts (sends_to (kind_at b (call_id p z)) q) (is_free b (call_id p z)) (pending_tells b p q z has)).1
 
 -- ---- what is eligible
 
 fitting_sends : (one other : Option CallKind) (p q : ℕ) → fitting one other p q ≡ true → sends_to one q ≡ true
-fitting_sends (Some (Send s)) (Some (Recv r)) p q e = (both_true _ _ e).0
+fitting_sends (Some (Send s)) (Some (Recv r)) p q e = (and_parts _ _ e).0
 fitting_sends one other p q e = absurd (cc)
 
 pub eligible_pending : (b : Board) (p i : ℕ) (r : CallId) → eligible b (call_id p i) r ≡ true → is_pending b p r.rank i ≡ true
 eligible_pending b p i r e =
     let s : CallId = call_id p i in
-    let first = both_true (is_free b s) _ e in
-    let second = both_true (is_free b r) _ first.1 in
-    let third = both_true (fits b s r) _ second.1 in
+    let first = and_parts (is_free b s) _ e in
+    let second = and_parts (is_free b r) _ first.1 in
+    let third = and_parts (fits b s r) _ second.1 in
     ap (λ (t : Bool). t && is_free b s) (fitting_sends (kind_at b s) (kind_at b r) p r.rank third.0) ∙ first.0
 
 -- a free call is of a rank that is there
@@ -88,7 +87,7 @@ pub ruleset any_number = (any_on, any_now)
 any_tells : (t : ℕ → Bool) (xs : List ℕ) → list_any t xs ≡ true → (x : ℕ) × (t x ≡ true)
 any_tells t [] e = absurd (cc)
 any_tells t (x ∷ xs) e =
-    elim (bool_tells (t x)) [
+    elim (cases_Bool (t x)) [
       | inl h ↦ (x, h)
       | inr h ↦ any_tells t xs (sym (ap (λ (b : Bool). b || list_any t xs) h) ∙ e)
     ]
@@ -100,7 +99,7 @@ pub posted_tells : (b : Board) (q z : ℕ) → 0 < places_in (posted b q) z → 
 posted_tells b q z has = stands_passed b (is_posted b q) q z has
 
 pub posted_free : (b : Board) (q z : ℕ) → 0 < places_in (posted b q) z → is_free b (call_id q z) ≡ true
-posted_free b q z has = (both_true (receives (kind_at b (call_id q z))) (is_free b (call_id q z)) (posted_tells b q z has)).1
+posted_free b q z has = (and_parts (receives (kind_at b (call_id q z))) (is_free b (call_id q z)) (posted_tells b q z has)).1
 
 fitting_receives : (one other : Option CallKind) (p q : ℕ) → fitting one other p q ≡ true → receives other ≡ true
 fitting_receives (Some (Send s)) (Some (Recv r)) p q e = refl
@@ -109,9 +108,9 @@ fitting_receives one other p q e = absurd (cc)
 pub eligible_posted : (b : Board) (s : CallId) (q j : ℕ) → eligible b s (call_id q j) ≡ true → is_posted b q j ≡ true
 eligible_posted b s q j e =
     let r : CallId = call_id q j in
-    let first = both_true (is_free b s) _ e in
-    let second = both_true (is_free b r) _ first.1 in
-    let third = both_true (fits b s r) _ second.1 in
+    let first = and_parts (is_free b s) _ e in
+    let second = and_parts (is_free b r) _ first.1 in
+    let third = and_parts (fits b s r) _ second.1 in
     ap (λ (t : Bool). t && is_free b r) (fitting_receives (kind_at b s) (kind_at b r) s.rank q third.0) ∙ second.0
 
 -- some send is eligible with the receive

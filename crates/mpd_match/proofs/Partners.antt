@@ -1,7 +1,7 @@
 -- The partners that match sets give, and what a set more changes.
 use Rattle.std.proofs.Common.{◌≡◌, ◌≢◌, ℕ, ◌+◌, Bool, true, false, cond, ◌&&◌, eqb, is_some, Option, Some, None, List, [], ◌∷◌, ◌++◌, ◌⊎◌, inl, inr, refl, sym, ap, ◌∙◌, arith}
 use Rattle.std.specs.Prelude.{if◌then◌else◌}
-use Rattle.std.proofs.lemmas.Bool.{eqb-true}
+use Rattle.std.proofs.lemmas.Bool.{eqb-true, and_parts}
 use Rattle.std.proofs.lemmas.Bool.Decides.{eqb_tells}
 use Rattle.mpd_model.specs.declared.step.CallId.{CallId}
 use Rattle.mpd_model.specs.declared.call.CallKind.{CallKind}
@@ -13,7 +13,6 @@ use Rattle.mpd_model.specs.World.{id_eq, is_any_or, partner, fitting}
 use Rattle.mpd_match.specs.Lines.{line_of, with_partner}
 use Rattle.mpd_match.specs.Pairs.{Paired}
 use Rattle.mpd_match.specs.Changes.{is_lone}
-use Rattle.mpd_match.proofs.Bools.{both_true}
 
 -- ---- numbers of calls
 
@@ -152,7 +151,7 @@ unpaired_marks mark mid new sets s r ns nr is first second c =
 -- ---- pairs of calls that fit
 
 pub fitting_lines : (one other : Option CallKind) (p q : ℕ) → fitting one other p q ≡ true → (line_of one ≡ Some (q + 1)) × (line_of other ≡ Some 0)
-fitting_lines (Some (Send s)) (Some (Recv r)) p q e = (ap (λ (n : ℕ). Some (n + 1)) (eqb-true s.to q (both_true (eqb s.to q) (is_any_or r.from p && is_any_or r.tag s.tag) e).0), refl)
+fitting_lines (Some (Send s)) (Some (Recv r)) p q e = (ap (λ (n : ℕ). Some (n + 1)) (eqb-true s.to q (and_parts (eqb s.to q) (is_any_or r.from p && is_any_or r.tag s.tag) e).0), refl)
 fitting_lines one other p q e = absurd (cc)
 
 pub fitting_differ : (kind : CallId → Option CallKind) (s r : CallId) → fitting (kind s) (kind r) s.rank r.rank ≡ true → s ≢ r

@@ -1,13 +1,11 @@
 -- What passes a test, of the numbers of a list: in how many places a number stands, and what one leaves that passes no more.
 use Rattle.std.proofs.Common.{◌≡◌, ◌≢◌, ℕ, zero, suc, ◌+◌, ◌<◌, ◌≤◌, Bool, true, false, cond, List, [], ◌∷◌, ◌++◌, inl, inr, refl, sym, ap, ◌∙◌, arith}
+use Rattle.mpd_laws.proofs.ordered.Eligible.{clash}
+use Rattle.std.proofs.lemmas.Bool.{cases_Bool}
 use Rattle.std.proofs.lemmas.Bool.Decides.{eqb_tells}
 use Rattle.std.specs.List.{filter, range_with_len}
 use Rattle.mpd_queue.specs.InOrder.{places_in, removed}
 use Rattle.mpd_queue.proofs.Places.{places_cons, places_here, places_same, places_there, places_more, removed_here, removed_there}
-use Rattle.mpd_match.proofs.Bools.{bool_tells}
-
-true_is_not_false : (b : Bool) → b ≡ true → b ≡ false → ⊥
-true_is_not_false b e f = cc
 
 pub passed_here : (t : ℕ → Bool) (x : ℕ) (xs : List ℕ) → t x ≡ true → filter t (x ∷ xs) ≡ x ∷ filter t xs
 passed_here t x xs e = ap (λ (b : Bool). cond b (x ∷ filter t xs) (filter t xs)) e
@@ -22,12 +20,12 @@ passed_same t u (x ∷ xs) h =
     ∙ ap (λ (zs : List ℕ). cond (u x) (x ∷ zs) zs) (passed_same t u xs (λ y has. h y (omega (arith, places_more y x xs))))
 
 other_number : (t : ℕ → Bool) (x y : ℕ) → t x ≡ true → t y ≡ false → x ≢ y
-other_number t x y e f same = true_is_not_false (t y) (ap t (sym same) ∙ e) f
+other_number t x y e f same = clash (ap t (sym same) ∙ e) f
 
 pub places_passed : (t : ℕ → Bool) (x : ℕ) (xs : List ℕ) → t x ≡ true → places_in (filter t xs) x ≡ places_in xs x
 places_passed t x [] e = refl
 places_passed t x (y ∷ ys) e =
-    elim (bool_tells (t y)) [
+    elim (cases_Bool (t y)) [
       | inl h ↦
           let f : places_in (filter t (y ∷ ys)) x ≡ places_in (y ∷ filter t ys) x = ap (λ (zs : List ℕ). places_in zs x) (passed_here t y ys h) in
           omega (arith, places_cons x y (filter t ys), places_cons x y ys, places_passed t x ys e)
@@ -39,7 +37,7 @@ places_passed t x (y ∷ ys) e =
 pub places_not_passed : (t : ℕ → Bool) (x : ℕ) (xs : List ℕ) → t x ≡ false → places_in (filter t xs) x ≡ 0
 places_not_passed t x [] e = refl
 places_not_passed t x (y ∷ ys) e =
-    elim (bool_tells (t y)) [
+    elim (cases_Bool (t y)) [
       | inl h ↦
           let f : places_in (filter t (y ∷ ys)) x ≡ places_in (y ∷ filter t ys) x = ap (λ (zs : List ℕ). places_in zs x) (passed_here t y ys h) in
           omega (arith, places_there x y (filter t ys) (λ same. other_number t y x h e (sym same)), places_not_passed t x ys e)
@@ -61,7 +59,7 @@ passed_removed t u x (y ∷ ys) one e f others =
       | inr k ↦
           let rest : removed (filter t ys) x ≡ filter u ys = passed_removed t u x ys (omega (arith, places_there x y ys k.1)) e f others in
           let same : u y ≡ t y = others y (λ e2. k.1 (sym e2)) in
-          elim (bool_tells (t y)) [
+          elim (cases_Bool (t y)) [
             | inl h ↦
                 ap (λ (zs : List ℕ). removed zs x) (passed_here t y ys h)
                 ∙ removed_there x y (filter t ys) k.0

@@ -1,5 +1,7 @@
 -- Tags that are marked along a line of free sends, and receives that none of these fits.
 use Rattle.std.proofs.Common.{◌≡◌, ◌≢◌, ℕ, ◌/◌, ◌%◌, ◌^◌, ◌<◌, ◌≤◌, Bool, true, false, not, ◌&&◌, ◌==◌, eq-eqb, eqb-true, get_or, bit_or, Option, Some, None, List, [], ◌∷◌, ◌++◌, ◌⊎◌, inl, inr, refl, sym, ap, subst, ◌∙◌, map, length, set, arith}
+use Rattle.mpd_laws.proofs.ordered.Eligible.{clash}
+use Rattle.std.proofs.lemmas.Bool.{and_parts, not-true}
 use Rattle.std.proofs.lemmas.List.{get_or-set_same, get_or-set_other, length-set}
 use Rattle.std.proofs.lemmas.Nat.{mod_below}
 use Rattle.std.proofs.lemmas.Nat.Bits.{bit_at_or, bit_at-lt, bit_at-pow_same}
@@ -20,7 +22,6 @@ use Rattle.mpd_queue.proofs.Places.{places_there}
 use Rattle.mpd_match.specs.Matches.{matches_from}
 use Rattle.mpd_match.specs.Picked.{picked_with}
 use Rattle.mpd_match.specs.Tags.{tag_place, word_of, marked, sent_tag, is_marked, is_unseen_by, is_unseen, Covers}
-use Rattle.mpd_match.proofs.Bools.{both_true}
 use Rattle.mpd_match.proofs.Walks.{rest, rest_none, rest_first, rest_step}
 use Rattle.mpd_match.proofs.Matches.{eligible_pending}
 use Rattle.mpd_match.proofs.Candidates.{Parts, parts_of, candidates_none}
@@ -77,15 +78,6 @@ pub record Marking (place : ℕ → ℕ) (xs : List ℕ) (old marks : List ℕ) 
   pub done : (x : ℕ) → 0 < places_in xs x → (0 < places_in (rest here xs) x) ⊎ (is_marked marks (place x) ≡ true)
   pub kept : (n : ℕ) → is_marked old n ≡ true → is_marked marks n ≡ true
 
-pub mark_begins : (place : ℕ → ℕ) (xs : List ℕ) (old : List ℕ) (here : Option ℕ) → here ≡ first_of xs → Marking place xs old old here
-mark_begins place xs old here e =
-    subst (Marking place xs old old) (sym e) (record {
-      stands = first_spot xs;
-      size = refl;
-      done = λ x has. inl (subst (λ (ys : List ℕ). 0 < places_in ys x) (sym (rest_first xs)) has);
-      kept = λ n h. h;
-    })
-
 pub mark_goes_on : (place : ℕ → ℕ) (xs : List ℕ) (old marks : List ℕ) (x k : ℕ) (here : Option ℕ) → ((z : ℕ) → places_in xs z ≤ 1) → 0 < length old → Marking place xs old marks (Some x) → k ≡ place x → here ≡ next_of xs x → Marking place xs old (marked marks k) here
 mark_goes_on place xs old marks x k here once some s is e =
     let inside : 0 < length marks = omega (arith, s.size, some) in
@@ -114,24 +106,17 @@ mark_ends place xs old marks s x has =
 
 -- ---- a receive that no marked send fits
 
-not_both : (x : Bool) → x ≡ true → x ≡ false → ⊥
-not_both x e f = cc
-
-not_false : (x : Bool) → not x ≡ true → x ≡ false
-not_false true e = absurd (cc)
-not_false false e = refl
-
 named_both : (source tag : Option ℕ) (p t : ℕ) (marks : List ℕ) → is_any_or source p ≡ true → is_any_or tag t ≡ true → is_unseen_by source tag marks ≡ true → is_marked marks (tag_place p t) ≡ false
 named_both (Some a) (Some c) p t marks e f unseen =
     subst (λ (n : ℕ). is_marked marks (tag_place n t) ≡ false) (eqb-true a p e)
-    (subst (λ (n : ℕ). is_marked marks (tag_place a n) ≡ false) (eqb-true c t f) (not_false _ unseen))
+    (subst (λ (n : ℕ). is_marked marks (tag_place a n) ≡ false) (eqb-true c t f) (not-true _ unseen))
 named_both (Some a) None p t marks e f unseen = absurd (cc)
 named_both None tag p t marks e f unseen = absurd (cc)
 
 -- a send that fits a receive of a tag has that tag
 same_tag : (one other : Option CallKind) (p q : ℕ) (marks : List ℕ) → fitting one other p q ≡ true → is_unseen other marks ≡ true → is_marked marks (tag_place p (sent_tag one)) ≡ false
 same_tag (Some (Send s)) (Some (Recv r)) p q marks fit unseen =
-    let both = both_true (is_any_or r.from p) (is_any_or r.tag s.tag) (both_true (s.to == q) (is_any_or r.from p && is_any_or r.tag s.tag) fit).1 in
+    let both = and_parts (is_any_or r.from p) (is_any_or r.tag s.tag) (and_parts (s.to == q) (is_any_or r.from p && is_any_or r.tag s.tag) fit).1 in
     named_both r.from r.tag p s.tag marks both.0 both.1 unseen
 same_tag (Some (Send s)) (Some (Send t)) p q marks fit unseen = absurd (cc)
 same_tag (Some (Send s)) (Some (Wait t)) p q marks fit unseen = absurd (cc)
@@ -147,7 +132,7 @@ same_tag None other p q marks fit unseen = absurd (cc)
 unseen_not : (b : Board) (r : CallId) (marks : List ℕ) → Covers b r.rank marks → is_unseen (kind_at b r) marks ≡ true → (p i : ℕ) → eligible b (call_id p i) r ≡ true → ⊥
 unseen_not b r marks covers unseen p i e =
     let parts : Parts b (call_id p i) r = parts_of b (call_id p i) r e in
-    not_both _ (covers p i (eligible_pending b p i r e)) (same_tag (kind_at b (call_id p i)) (kind_at b r) p r.rank marks parts.fit unseen)
+    clash (covers p i (eligible_pending b p i r e)) (same_tag (kind_at b (call_id p i)) (kind_at b r) p r.rank marks parts.fit unseen)
 
 nothing_from : (b : Board) (r : CallId) (marks : List ℕ) → Covers b r.rank marks → is_unseen (kind_at b r) marks ≡ true → (p : ℕ) → matches_from b r p ≡ []
 nothing_from b r marks covers unseen p = ap (map (λ i. Match (call_id p i) r)) (candidates_none b p r (λ i e. unseen_not b r marks covers unseen p i e))

@@ -1,6 +1,6 @@
 -- A walk along a line, whose numbers rise.
 use Rattle.std.proofs.Common.{◌≡◌, ℕ, zero, suc, ◌+◌, ◌<◌, ◌≤◌, Bool, true, false, cond, ◌&&◌, ◌||◌, not, is_none, nat_lt, Option, Some, None, List, [], ◌∷◌, inl, inr, refl, sym, ap, subst, ◌∙◌, length, arith}
-use Rattle.std.proofs.lemmas.Bool.{lt-ltb, le-ltb, eqb-true}
+use Rattle.std.proofs.lemmas.Bool.{lt-ltb, le-ltb, eqb-true, and_parts, cases_Bool}
 use Rattle.std.proofs.lemmas.Bool.Decides.{eqb_tells}
 use Rattle.std.specs.List.{filter, list_any, range_with_len}
 use Rattle.mpd_model.specs.declared.step.CallId.{CallId}
@@ -11,7 +11,7 @@ use Rattle.mpd_queue.proofs.Spots.{first_spot, next_here, next_there, next_spot}
 use Rattle.mpd_match.specs.Lines.{line_of, is_line, kind_in, waits, waiting, passed}
 use Rattle.mpd_match.proofs.Passed.{passed_here, passed_there}
 use Rattle.mpd_match.proofs.InLines.{stands_not}
-use Rattle.mpd_match.proofs.Bools.{bool_tells, and_false, both_true, none_only}
+use Rattle.mpd_match.proofs.Bools.{and_false, none_only}
 
 -- ---- what a call that stands in a line is
 
@@ -21,8 +21,8 @@ line_only (Some own) line e = ap Some (eqb-true own line e)
 
 pub stands_tells : (calls : List Call) (mark : ℕ → Option CallId) (line i : ℕ) → 0 < places_in (waiting calls mark line) i → (mark i ≡ None) × (line_of (kind_in calls i) ≡ Some line)
 stands_tells calls mark line i has =
-    elim (bool_tells (waits calls mark line i)) [
-      | inl e ↦ let both = both_true (is_none (mark i)) (is_line (line_of (kind_in calls i)) line) e in (none_only (mark i) both.0, line_only (line_of (kind_in calls i)) line both.1)
+    elim (cases_Bool (waits calls mark line i)) [
+      | inl e ↦ let both = and_parts (is_none (mark i)) (is_line (line_of (kind_in calls i)) line) e in (none_only (mark i) both.0, line_only (line_of (kind_in calls i)) line both.1)
       | inr e ↦ absurd (omega (arith, stands_not calls mark line i e))
     ]
 
@@ -44,7 +44,7 @@ from_passed : (t : ℕ → Bool) (a n k : ℕ) → k ≤ a → AllFrom k (filter
 from_passed t a zero k le = tt
 from_passed t a (suc n) k le =
     let rest : AllFrom k (filter t (range_with_len (a + 1) n)) = from_passed t (a + 1) n k (omega arith) in
-    elim (bool_tells (t a)) [
+    elim (cases_Bool (t a)) [
       | inl h ↦ subst (AllFrom k) (sym (passed_here t a (range_with_len (a + 1) n) h)) (le, rest)
       | inr h ↦ subst (AllFrom k) (sym (passed_there t a (range_with_len (a + 1) n) h)) rest
     ]
@@ -52,7 +52,7 @@ from_passed t a (suc n) k le =
 pub rising_passed : (t : ℕ → Bool) (a n : ℕ) → Rising (filter t (range_with_len a n))
 rising_passed t a zero = tt
 rising_passed t a (suc n) =
-    elim (bool_tells (t a)) [
+    elim (cases_Bool (t a)) [
       | inl h ↦ subst Rising (sym (passed_here t a (range_with_len (a + 1) n) h)) (from_passed t (a + 1) n (a + 1) (omega arith), rising_passed t (a + 1) n)
       | inr h ↦ subst Rising (sym (passed_there t a (range_with_len (a + 1) n) h)) (rising_passed t (a + 1) n)
     ]

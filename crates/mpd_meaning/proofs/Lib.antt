@@ -1,31 +1,4 @@
-pub mod Members
-pub mod Listed
-mod Twice
-mod Reached
-mod Successes
-mod Budget
-mod Cheap
-mod CheapParts
-mod CheapStatements
-mod Ends
-mod Limits
-mod ReadExactly
-mod TokenLines
-mod Local
-mod LocalGrammar
-mod SameFault
-mod SameTokens
-mod NoScript
-mod Limited
-mod LimitedParts
-mod LimitedStatements
-mod LimitedScript
-mod LimitedLaws
-mod Viable
-mod ViableTerms
-mod ViableParts
-mod ViableTrees
-mod ViableHeader
-mod ViableScript
-mod FirstWrong
-mod NamesDeclared
+mod limited
+pub mod listed
+mod local
+mod viable

@@ -13,7 +13,7 @@ use Rattle.mpd_model.specs.Why.{first_in, or_else}
 use Rattle.mpd_model.specs.Decisions.{is_local, is_release, is_wake, any_rank, is_of, names_source, takes_any, is_named_match, is_open_match, first_enabled, forced_step, open_matches, any_choices, or_those, choices, chosen_from, decided, decision, CanFollow}
 use Rattle.mpd_match.specs.Matches.{matches_with, matches_at, matches_on}
 use Rattle.mpd_match.specs.Picked.{picked_with, picked_at}
-use Rattle.mpd_match.proofs.Bools.{bool_tells}
+use Rattle.std.proofs.lemmas.Bool.{cases_Bool as bool_tells}
 use Rattle.mpd_match.proofs.Listed.{not_posted_none}
 use Rattle.mpd_match.proofs.Picked.{picked_all, named_with, open_with}
 use Rattle.mpd_core.proofs.EnabledLemmas.{releases, wakes, any_wakes_at, any_wakes, any_wakes_joined, enabled_parts}

@@ -1,11 +1,11 @@
 -- How an input is divided, byte by byte.
 use Rattle.std.proofs.Common.{◌≡◌, ◌≢◌, ℕ, ◌+◌, ◌<◌, ◌≤◌, arith, get_or, drop, drop-cons, add-one, Bool, true, false, ◌&&◌, ◌||◌, ◌==◌, not, if◌then◌else◌, List, [], ◌∷◌, ◌++◌, length, refl, ap, sym, subst, ◌∙◌, append_assoc, append-nil}
 use Rattle.mpd_model.specs.Lines.{raw_lines, grow, joined, bare, divided, divided_lines, is_divider, same_bytes, is_ending, is_feed, is_none}
-use Rattle.std.proofs.lemmas.Bool.{eqb-true}
+use Rattle.std.proofs.lemmas.Bool.{eqb-true, and_from}
 use Rattle.mpd_trace.specs.Divided.{Begun, begun, added, is_prefix, may_divide, ends_script, splits, settled_lines, ByteBrings, Measures}
 use Rattle.mpd_trace.specs.declared.divider.Taken.{Taken}
 use Rattle.mpd_trace.specs.declared.divider.Taken.TheVariants.{Open, Here, TooLong}
-use Rattle.mpd_laws.proofs.LineCuts.{is_part, joined_raw_lines, raw_feed, raw_part, bare_part, part_snoc, part_head, part_tail, and_first, and_second, and_both}
+use Rattle.mpd_laws.proofs.cutting.LineCuts.{is_part, joined_raw_lines, raw_feed, raw_part, bare_part, part_snoc, part_head, part_tail, and_first, and_second}
 
 abbrev Halves : Type 0
 Halves = List ℕ × List ℕ
@@ -21,7 +21,7 @@ no_feed_in : (l t : List ℕ) → is_part t ≡ true → is_prefix l t ≡ true 
 no_feed_in [] t e p = refl
 no_feed_in (b ∷ l) [] e p = absurd (let h : false ≡ true = p in cc)
 no_feed_in (b ∷ l) (c ∷ t) e p =
-    and_both (not (b == 10)) (is_part l)
+    and_from (not (b == 10)) (is_part l)
     (let P : ℕ → Type 0 = λ x. not (x == 10) ≡ true in subst P (sym (eqb-true b c (and_first (b == c) (is_prefix l t) p))) (and_first (not (c == 10)) (is_part t) e))
     (no_feed_in l t (part_tail c t e) (and_second (b == c) (is_prefix l t) p))
 
@@ -90,12 +90,12 @@ feed_behind (c ∷ []) (d ∷ w) e f = absurd (let h : false ≡ true = f in cc)
 feed_behind (c ∷ d ∷ l) w e f = absurd (let h : false ≡ true = f in cc)
 
 prefix_return : (b : ℕ) (l t : List ℕ) → l ≡ [] → (b == 13) ≡ true → same_bytes [] t ≡ true → is_prefix (b ∷ l) (t ++ 13 ∷ []) ≡ true
-prefix_return b l [] e r s = ap (λ x. (b == 13) && is_prefix x []) e ∙ and_both (b == 13) true r refl
+prefix_return b l [] e r s = ap (λ x. (b == 13) && is_prefix x []) e ∙ and_from (b == 13) true r refl
 prefix_return b l (c ∷ t) e r s = absurd (let h : false ≡ true = s in cc)
 
 prefix_step : (b : ℕ) (l t u : List ℕ) → same_bytes (b ∷ u) t ≡ true → ((v : List ℕ) → same_bytes u v ≡ true → is_prefix l (v ++ 13 ∷ []) ≡ true) → is_prefix (b ∷ l) (t ++ 13 ∷ []) ≡ true
 prefix_step b l [] u s ih = absurd (let h : false ≡ true = s in cc)
-prefix_step b l (c ∷ t) u s ih = and_both (b == c) (is_prefix l (t ++ 13 ∷ [])) (and_first (b == c) (same_bytes u t) s) (ih t (and_second (b == c) (same_bytes u t) s))
+prefix_step b l (c ∷ t) u s ih = and_from (b == c) (is_prefix l (t ++ 13 ∷ [])) (and_first (b == c) (same_bytes u t) s) (ih t (and_second (b == c) (same_bytes u t) s))
 
 prefix_of_bare : (l w t : List ℕ) → is_part l ≡ true → same_bytes (bare (l ++ w)) t ≡ true → is_prefix l (t ++ 13 ∷ []) ≡ true
 prefix_of_bare [] w t e s = refl

@@ -1,4 +1,4 @@
-use Rattle.mpd_laws.proofs.SendsDone.{synchronous_await}
+use Rattle.mpd_laws.proofs.buffered.SendsDone.{synchronous_await}
 use Rattle.mpd_laws.proofs.buffers.synchronous_sends_await_their_match.Goals as goal
 
 pub returns : goal.returns

@@ -1,4 +1,4 @@
-use Rattle.mpd_laws.proofs.CallsInOrder.{calls_in_order}
+use Rattle.mpd_laws.proofs.ordered.CallsInOrder.{calls_in_order}
 use Rattle.mpd_laws.proofs.ordering.calls_complete_in_order.Goals as goal
 
 pub returns : goal.returns

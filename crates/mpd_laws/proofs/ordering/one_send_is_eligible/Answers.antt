@@ -1,4 +1,4 @@
-use Rattle.mpd_laws.proofs.Eligible.{one_send}
+use Rattle.mpd_laws.proofs.ordered.Eligible.{one_send}
 use Rattle.mpd_laws.proofs.ordering.one_send_is_eligible.Goals as goal
 
 pub returns : goal.returns

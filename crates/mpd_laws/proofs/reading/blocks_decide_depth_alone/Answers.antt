@@ -1,4 +1,4 @@
-use Rattle.mpd_laws.proofs.EnoughBlocks.{body_more}
+use Rattle.mpd_laws.proofs.complete.EnoughBlocks.{body_more}
 use Rattle.mpd_laws.proofs.reading.blocks_decide_depth_alone.Goals as goal
 
 pub returns : goal.returns

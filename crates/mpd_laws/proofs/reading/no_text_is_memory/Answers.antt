@@ -1,4 +1,4 @@
-use Rattle.mpd_laws.proofs.NoMemory.{never_memory}
+use Rattle.mpd_laws.proofs.complete.NoMemory.{never_memory}
 use Rattle.mpd_laws.proofs.reading.no_text_is_memory.Goals as goal
 
 pub returns : goal.returns

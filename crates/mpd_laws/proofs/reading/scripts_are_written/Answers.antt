@@ -1,4 +1,4 @@
-use Rattle.mpd_laws.proofs.SoundScript.{reading_written}
+use Rattle.mpd_laws.proofs.sound.SoundScript.{reading_written}
 use Rattle.mpd_laws.proofs.reading.scripts_are_written.Goals as goal
 
 pub returns : goal.returns

@@ -1,4 +1,4 @@
-use Rattle.mpd_laws.proofs.Turns.{stmts_enough, decls_enough}
+use Rattle.mpd_laws.proofs.complete.Turns.{stmts_enough, decls_enough}
 use Rattle.mpd_laws.proofs.reading.turns_are_enough.Goals as goal
 
 pub returns : goal.returns

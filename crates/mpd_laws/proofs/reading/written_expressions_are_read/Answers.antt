@@ -1,4 +1,4 @@
-use Rattle.mpd_laws.proofs.Complete.{expr_complete}
+use Rattle.mpd_laws.proofs.complete.Complete.{expr_complete}
 use Rattle.mpd_laws.proofs.reading.written_expressions_are_read.Goals as goal
 
 pub returns : goal.returns

@@ -1,4 +1,4 @@
-use Rattle.mpd_laws.proofs.CompleteScript.{reading_complete}
+use Rattle.mpd_laws.proofs.complete.CompleteScript.{reading_complete}
 use Rattle.mpd_laws.proofs.reading.written_scripts_are_read.Goals as goal
 
 pub returns : goal.returns

@@ -1,4 +1,4 @@
-use Rattle.mpd_laws.proofs.CompleteStatements.{tree_complete, block_complete, body_complete}
+use Rattle.mpd_laws.proofs.complete.CompleteStatements.{tree_complete, block_complete, body_complete}
 use Rattle.mpd_laws.proofs.reading.written_statements_are_read.Goals as goal
 
 pub returns : goal.returns

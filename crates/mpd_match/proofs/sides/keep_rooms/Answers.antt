@@ -1,7 +1,8 @@
 use Rattle.std.proofs.Common.{rules, ◌≡◌, ◌<◌, ℕ, List, length, set, ◌∙◌, arith}
 use Rattle.std.proofs.lemmas.List.{length-set}
 use Rattle.mpd_match.specs.Views.{SideView, room_in}
-use Rattle.mpd_match.proofs.AtSide.{same_part, marks_told, room_less, room_more, rest_more, no_room_old, writes_more, refused_with}
+use Rattle.mpd_match.proofs.AtSide.{same_part, marks_told, room_less, room_more, rest_more, no_room_old, writes_more}
+use Rattle.mpd_match.proofs.Gathered.{refused_with}
 use Rattle.mpd_match.proofs.sides.keep_rooms.Goals as goal
 
 pub returns-in_err-keep_room-clause-calls : goal.returns-in_err-keep_room-clause-calls

@@ -1,4 +1,4 @@
-use Rattle.mpd_meaning.proofs.FirstWrong.{first_wrong}
+use Rattle.mpd_meaning.proofs.viable.FirstWrong.{first_wrong}
 use Rattle.mpd_meaning.proofs.reading.a_fault_is_at_the_first_wrong_token.Goals as goal
 
 pub returns : goal.returns

@@ -1,4 +1,4 @@
-use Rattle.mpd_meaning.proofs.NoScript.{no_script}
+use Rattle.mpd_meaning.proofs.local.NoScript.{no_script}
 use Rattle.mpd_meaning.proofs.reading.no_script_begins_with_a_fault.Goals as goal
 
 pub returns : goal.returns

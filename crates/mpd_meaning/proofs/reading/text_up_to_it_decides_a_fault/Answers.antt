@@ -1,4 +1,4 @@
-use Rattle.mpd_meaning.proofs.SameTokens.{same_text_fault}
+use Rattle.mpd_meaning.proofs.local.SameTokens.{same_text_fault}
 use Rattle.mpd_meaning.proofs.reading.text_up_to_it_decides_a_fault.Goals as goal
 
 pub returns : goal.returns

@@ -1,4 +1,4 @@
-use Rattle.mpd_meaning.proofs.Reached.{reached_has}
+use Rattle.mpd_meaning.proofs.listed.Reached.{reached_has}
 use Rattle.mpd_meaning.proofs.steps.reached_worlds_have_calls.Goals as goal
 
 pub returns : goal.returns

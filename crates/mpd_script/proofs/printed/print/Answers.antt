@@ -1,6 +1,6 @@
 use Rattle.std.proofs.Common.{subst}
 use Rattle.mpd_model.specs.Printable.{IsPrintable}
-use Rattle.mpd_laws.proofs.PrintAgain.{read_again}
+use Rattle.mpd_laws.proofs.printed.PrintAgain.{read_again}
 use Rattle.mpd_script.proofs.printed.print.Goals as goal
 
 pub returns-clause-again : goal.returns-clause-again

@@ -1,4 +1,4 @@
-use Rattle.mpd_laws.proofs.CompleteScript.{reading_of}
+use Rattle.mpd_laws.proofs.complete.CompleteScript.{reading_of}
 use Rattle.mpd_script.proofs.script.read.Goals as goal
 
 pub script-requires-clause-printable : goal.script-requires-clause-printable

@@ -1,6 +1,6 @@
 use Rattle.std.proofs.Common.{◌≡◌, length, false, ap, ◌∙◌}
 use Rattle.mpd_model.specs.Tree.{block_of, statements_in}
-use Rattle.mpd_laws.proofs.SoundScript.{lines_counted, script_reads}
+use Rattle.mpd_laws.proofs.sound.SoundScript.{lines_counted, script_reads}
 use Rattle.mpd_script.proofs.script.script.Goals as goal
 
 pub invariant_of-result : goal.invariant_of-result

@@ -1,6 +1,7 @@
 use Rattle.std.proofs.Common.{◌≡◌, ap, arith}
 use Rattle.mpd_match.specs.Views.{BoardView}
-use Rattle.mpd_match.proofs.AtSide.{some_set_room, more_set_room, refused_with}
+use Rattle.mpd_match.proofs.AtSide.{some_set_room, more_set_room}
+use Rattle.mpd_match.proofs.Gathered.{refused_with}
 use Rattle.mpd_match.proofs.board.Board.keep_room.Goals as goal
 
 pub returns-in_err-keep_room-clause-missing : goal.returns-in_err-keep_room-clause-missing

@@ -1,5 +1,5 @@
 use Rattle.mpd_match.specs.Matches.{matches_at}
-use Rattle.mpd_match.proofs.Listed.{given_more, given_some, grows_more, refused_with}
+use Rattle.mpd_match.proofs.Gathered.{given_more, given_some, grows_more, refused_with}
 use Rattle.mpd_match.proofs.board.Board.push_matches.Goals as goal
 
 pub loop-receiver-preserved : goal.loop-receiver-preserved

@@ -2,7 +2,7 @@ use Rattle.std.proofs.Common.{length}
 use Rattle.mpd_model.specs.World.{call_id, posted}
 use Rattle.mpd_match.specs.Matches.{matches_with, matches_at}
 use Rattle.mpd_match.proofs.Walks.{rest}
-use Rattle.mpd_match.proofs.Listed.{Gathering}
+use Rattle.mpd_match.proofs.Gathered.{Gathering}
 use Rattle.mpd_match.proofs.board.Board.push_matches_at.Given as goal
 
 abbrev pub invariant-walk : goal.invariant-walk

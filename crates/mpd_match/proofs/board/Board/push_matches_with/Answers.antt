@@ -1,5 +1,5 @@
 use Rattle.mpd_match.specs.Matches.{matches_from}
-use Rattle.mpd_match.proofs.Listed.{given_more, given_some, grows_more, refused_with}
+use Rattle.mpd_match.proofs.Gathered.{given_more, given_some, grows_more, refused_with}
 use Rattle.mpd_match.proofs.board.Board.push_matches_with.Goals as goal
 
 pub loop-sender-preserved : goal.loop-sender-preserved

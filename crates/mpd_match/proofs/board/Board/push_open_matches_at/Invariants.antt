@@ -3,7 +3,7 @@ use Rattle.mpd_model.specs.World.{call_id, posted}
 use Rattle.mpd_model.specs.Decisions.{is_open_match}
 use Rattle.mpd_match.specs.Picked.{picked_with, picked_at}
 use Rattle.mpd_match.proofs.Walks.{rest}
-use Rattle.mpd_match.proofs.Listed.{Gathering}
+use Rattle.mpd_match.proofs.Gathered.{Gathering}
 use Rattle.mpd_match.proofs.board.Board.push_open_matches_at.Given as goal
 
 abbrev pub invariant-walk : goal.invariant-walk

@@ -5,7 +5,7 @@ use Rattle.std.proofs.lemmas.Str.{IsUtf8-from_ascii}
 use Rattle.std.specs.Prelude.{string_bytes}
 use Rattle.mpd_model.specs.Input.{slot_in}
 use Rattle.mpd_model.specs.Declaration.{Declared, variables_in, handles_in}
-use Rattle.mpd_laws.proofs.Cells.{variables_in-more, handles_in-more}
+use Rattle.mpd_laws.proofs.complete.Cells.{variables_in-more, handles_in-more}
 use Rattle.mpd_script.proofs.Ascii.{ok_where}
 use Rattle.mpd_script.proofs.Slots.{found_put}
 use Rattle.mpd_script.proofs.cursor.Tokens.add.Goals as goal

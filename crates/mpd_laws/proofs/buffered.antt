@@ -1,0 +1,4 @@
+-- Buffers and their slots.
+pub mod SendsDone
+pub mod Slots
+pub mod SlotsHeld

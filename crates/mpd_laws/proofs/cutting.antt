@@ -1,0 +1,8 @@
+-- How texts are cut into tokens and lines.
+pub mod Cuts
+pub mod Ends
+pub mod GoodSpots
+pub mod LineCuts
+pub mod Marks
+pub mod Runs
+pub mod Signs

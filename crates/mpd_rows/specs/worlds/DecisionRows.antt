@@ -1,0 +1,171 @@
+-- Worked rows of decisions, breakpoints and runs. What is wanted was worked out by hand.
+use Rattle.std.specs.Prelude.{◌≡◌, ℕ, Bool, true, false, map, List, [], ◌∷◌, ◌++◌, length, replicate, slice_set, Option, Some, None, codes, refl}
+use Rattle.std.specs.Option.{option_map, option_and_then}
+use Rattle.mpd_model.specs.declared.limits.TheConstants.{STEPS_MAX}
+use Rattle.mpd_model.specs.declared.place.Place.{Place}
+use Rattle.mpd_model.specs.declared.step.Step.{Step}
+use Rattle.mpd_model.specs.declared.step.Step.TheVariants.{Local, Match, Wake, Release}
+use Rattle.mpd_model.specs.declared.call.Mode.TheVariants.{Rendezvous}
+use Rattle.mpd_model.specs.declared.outcome.Outcome.TheVariants as o
+use Rattle.mpd_model.specs.declared.decision.Decision.{Decision}
+use Rattle.mpd_model.specs.declared.decision.Decision.TheVariants.{Forced, Choice, Leaf}
+use Rattle.mpd_model.specs.declared.breakpoint.Break.{Break}
+use Rattle.mpd_model.specs.declared.breakpoint.Break.TheVariants as on
+use Rattle.mpd_model.specs.declared.breakpoint.Cause.TheVariants as for
+use Rattle.mpd_model.specs.declared.breakpoint.Stop.{Stop}
+use Rattle.mpd_model.specs.Declaration.{Declared}
+use Rattle.mpd_model.specs.Term.{own_rank}
+use Rattle.mpd_model.specs.Tree.{no_more, then_more}
+use Rattle.mpd_model.specs.Program.{Program}
+use Rattle.mpd_model.specs.World.{call_id}
+use Rattle.mpd_model.specs.Next.{next}
+use Rattle.mpd_model.specs.Decisions.{decision}
+use Rattle.mpd_model.specs.Breakpoints.{marked, no_breaks, lowest_free}
+use Rattle.mpd_model.specs.Running.{Ran, ran, ran_back}
+use Rattle.mpd_model.specs.Trail.{Trail}
+use Rattle.mpd_rows.specs.worlds.Statements.{print, send, assign, barrier, recv_any, irecv, irecv_any}
+use Rattle.mpd_rows.specs.calls.RequestRows.{n, whole, x, variable, request, script, two_parts, after}
+
+abbrev y : Place
+y = record { declaration = 1; first = 1; cells = 1 }
+
+abbrev two : List Declared
+two = variable (codes "x") ∷ variable (codes "y") ∷ []
+
+-- ---- a race: two sends of which a receive of any source takes either
+
+-- if rank == 0 { recv x from any tag any; recv y from 2 tag any; } else { send rank to 0 tag 0; }
+abbrev racing : Program
+racing = script 3 two
+    (two_parts
+    (then_more (recv_any (whole x) None None None) (then_more (recv_any (whole y) (Some (n 2)) None None) no_more))
+    (then_more (send own_rank (n 0) (n 0)) no_more))
+
+abbrev posted_all : List Step
+posted_all = Local 0 ∷ Local 0 ∷ Local 1 ∷ Local 1 ∷ Local 2 ∷ Local 2 ∷ []
+
+abbrev of_one : List Step
+of_one = posted_all ++ Match (call_id 1 0) (call_id 0 0) ∷ []
+
+abbrev of_two : List Step
+of_two = posted_all ++ Match (call_id 2 0) (call_id 0 0) ∷ []
+
+abbrev decided_behind : Program → List Step → Option Decision
+decided_behind s steps = option_map decision (after s steps)
+
+-- the lowest rank first; a local step before a wake, a wake before a match; the match of a receive that names its source by itself
+pub row_race : map {B = Option Decision} (decided_behind racing)
+    ([] ∷ (Local 0 ∷ []) ∷ (Local 0 ∷ Local 0 ∷ []) ∷ (Local 2 ∷ Local 1 ∷ []) ∷ posted_all ∷ of_one ∷ (of_one ++ Wake 0 ∷ []) ∷ (of_one ++ Wake 1 ∷ []) ∷ (of_one ++ Wake 0 ∷ Local 0 ∷ [])
+    ∷ (of_one ++ Wake 0 ∷ Local 0 ∷ Wake 1 ∷ []) ∷ (of_two ++ Wake 0 ∷ Local 0 ∷ []) ∷ (of_two ++ Wake 0 ∷ Local 0 ∷ Wake 2 ∷ []) ∷ [])
+    ≡ Some (Forced (Local 0)) ∷ Some (Forced (Local 0)) ∷ Some (Forced (Local 1)) ∷ Some (Forced (Local 0))
+    ∷ Some (Choice (Match (call_id 1 0) (call_id 0 0) ∷ Match (call_id 2 0) (call_id 0 0) ∷ [])) ∷ Some (Forced (Wake 0)) ∷ Some (Forced (Local 0)) ∷ Some (Forced (Wake 0)) ∷ Some (Forced (Wake 1))
+    ∷ Some (Forced (Match (call_id 2 0) (call_id 0 1))) ∷ Some (Forced (Wake 2)) ∷ Some (Leaf (o.Deadlock (call_id 0 1 ∷ call_id 1 0 ∷ []))) ∷ []
+unfolding decision
+row_race = refl
+
+-- if rank == 0 { irecv h x from 2 tag 0; irecv h y from any tag any; } else { send rank to 0 tag 0; }
+abbrev handle : Place
+handle = record { declaration = 2; first = 0; cells = 1 }
+
+abbrev naming : Program
+naming = script 3 (two ++ request (codes "h") None ∷ [])
+    (two_parts
+    (then_more (irecv (whole handle) (whole x) (n 2) (n 0)) (then_more (irecv_any (whole handle) (whole y) None None None) no_more))
+    (then_more (send own_rank (n 0) (n 0)) no_more))
+
+abbrev all_there : List Step
+all_there = Local 0 ∷ Local 0 ∷ Local 0 ∷ Local 1 ∷ Local 1 ∷ Local 2 ∷ Local 2 ∷ []
+
+-- a receive that names its source comes before one of any, whichever was issued first; one candidate is a choice, too
+pub row_naming : map {B = Option Decision} (decided_behind naming)
+    (all_there ∷ (all_there ++ Match (call_id 2 0) (call_id 0 0) ∷ []) ∷ (all_there ++ Match (call_id 2 0) (call_id 0 0) ∷ Wake 2 ∷ []) ∷ (all_there ++ Match (call_id 1 0) (call_id 0 1) ∷ Wake 1 ∷ []) ∷ [])
+    ≡ Some (Forced (Match (call_id 2 0) (call_id 0 0))) ∷ Some (Forced (Wake 2)) ∷ Some (Choice (Match (call_id 1 0) (call_id 0 1) ∷ [])) ∷ Some (Forced (Match (call_id 2 0) (call_id 0 0))) ∷ []
+unfolding decision
+row_naming = refl
+
+-- barrier; print 1;
+abbrev meeting : Program
+meeting = record (script 2 [] (barrier ∷ print (n 1) ∷ [])) { lines = 2 ∷ 3 ∷ [] }
+
+pub row_meeting : map {B = Option Decision} (decided_behind meeting)
+    ((Local 0 ∷ []) ∷ (Local 0 ∷ Local 1 ∷ []) ∷ (Local 0 ∷ Local 1 ∷ Release ∷ []) ∷ (Local 0 ∷ Local 1 ∷ Release ∷ Local 1 ∷ Local 0 ∷ []) ∷ [])
+    ≡ Some (Forced (Local 1)) ∷ Some (Forced Release) ∷ Some (Forced (Local 0)) ∷ Some (Leaf o.Done) ∷ []
+unfolding decision
+row_meeting = refl
+
+-- ---- what is marked
+
+abbrev marks : Program → Break → List Step → Step → Option Bool
+marks s b steps a = option_and_then (λ w. option_map (marked s b w a) (next w a)) (after s steps)
+
+-- x = 9; if rank == 0 { send 7 to 1 tag 3; } else { recv x from any tag any status x x; }
+abbrev telling : Program
+telling = record (script 2 (variable (codes "x") ∷ [])
+    (assign (whole x) (n 9) ∷ two_parts
+    (then_more (send (n 7) (n 1) (n 3)) no_more)
+    (then_more (recv_any (whole x) None None (Some (whole x, whole x))) no_more))) { lines = 2 ∷ 3 ∷ 3 ∷ 4 ∷ [] }
+
+abbrev both_there : List Step
+both_there = Local 0 ∷ Local 0 ∷ Local 0 ∷ Local 1 ∷ Local 1 ∷ Local 1 ∷ []
+
+abbrev paired : Step
+paired = Match (call_id 0 0) (call_id 1 0)
+
+-- a rank that comes to a line, also where it was there before; one that blocks comes to none; no match comes to a line
+pub row_lines : map {B = Option Bool} (λ (r : Break × List Step × Step). marks telling r.0 r.1 r.2)
+    ((on.Line 3, [], Local 0) ∷ (on.Line 2, [], Local 0) ∷ (on.Line 3, Local 0 ∷ [], Local 0) ∷ (on.Line 3, Local 0 ∷ Local 0 ∷ [], Local 0) ∷ (on.Line 4, Local 1 ∷ [], Local 1) ∷ (on.Line 3, both_there, paired) ∷ [])
+    ≡ Some true ∷ Some false ∷ Some true ∷ Some false ∷ Some true ∷ Some false ∷ []
+row_lines = refl
+
+-- a release comes to the line of any rank, a wake to that of its rank
+pub row_released : map {B = Option Bool} (λ b. marks meeting b (Local 0 ∷ Local 1 ∷ []) Release) (on.Line 3 ∷ on.Line 2 ∷ on.Match 2 ∷ on.Change 0 0 ∷ []) ≡ Some true ∷ Some false ∷ Some false ∷ Some false ∷ []
+row_released = refl
+
+-- a match of a call that was issued on a line: of its send, or of its receive
+pub row_matches : map {B = Option Bool} (λ b. marks telling b both_there paired) (on.Match 3 ∷ on.Match 4 ∷ on.Match 2 ∷ on.Change 1 0 ∷ []) ≡ Some true ∷ Some true ∷ Some false ∷ Some false ∷ []
+row_matches = refl
+
+-- a cell that holds another value than before: 0 and then 9, and 9 and then the tag, 3
+pub row_changes : map {B = Option Bool} (λ (r : Break × List Step × Step). marks telling r.0 r.1 r.2)
+    ((on.Change 1 0, [], Local 1) ∷ (on.Change 1 0, [], Local 0) ∷ (on.Change 0 0, [], Local 1) ∷ (on.Change 1 0, both_there ++ paired ∷ [], Wake 1) ∷ (on.Change 1 0, both_there ++ paired ∷ [], Wake 0) ∷ (on.Change 1 1, [], Local 1) ∷ (on.Change 2 0, [], Local 1) ∷ [])
+    ≡ Some true ∷ Some false ∷ Some false ∷ Some true ∷ Some false ∷ Some false ∷ Some false ∷ []
+row_changes = refl
+
+-- ---- places
+
+pub row_places : map {B = Option ℕ} lowest_free
+    (no_breaks ∷ slice_set no_breaks 0 (Some (on.Line 2)) ∷ slice_set no_breaks 1 (Some (on.Line 2)) ∷ slice_set (replicate 64 (Some (on.Match 4))) 63 None ∷ replicate 64 (Some (on.Match 4)) ∷ [])
+    ≡ Some 0 ∷ Some 1 ∷ Some 0 ∷ Some 63 ∷ None ∷ []
+row_places = refl
+
+-- ---- runs
+
+abbrev watching : List (Option Break)
+watching = slice_set no_breaks 0 (Some (on.Change 1 0))
+
+abbrev runs : List (Option Break) → ℕ → List Step → Option Ran
+runs places max steps = option_map (ran telling places max (length steps)) (after telling steps)
+
+pub row_runs : map {B = Option Ran} (λ (r : List (Option Break) × ℕ × List Step). runs r.0 r.1 r.2)
+    ((watching, 10, []) ∷ (watching, 4, []) ∷ (watching, 3, []) ∷ (watching, 0, []) ∷ (watching, 10, Local 0 ∷ Local 0 ∷ Local 0 ∷ Local 1 ∷ []) ∷ (watching, 0, both_there)
+    ∷ (watching, 10, both_there ++ paired ∷ []) ∷ (no_breaks, 10, both_there ++ paired ∷ []) ∷ (no_breaks, 2, both_there ++ paired ∷ []) ∷ [])
+    ≡ Some (record { steps = Local 0 ∷ Local 0 ∷ Local 0 ∷ Local 1 ∷ []; cause = for.Break 0 }) ∷ Some (record { steps = Local 0 ∷ Local 0 ∷ Local 0 ∷ Local 1 ∷ []; cause = for.Break 0 })
+    ∷ Some (record { steps = Local 0 ∷ Local 0 ∷ Local 0 ∷ []; cause = for.Max }) ∷ Some (record { steps = []; cause = for.Max }) ∷ Some (record { steps = Local 1 ∷ Local 1 ∷ []; cause = for.Choice })
+    ∷ Some (record { steps = []; cause = for.Choice }) ∷ Some (record { steps = Wake 0 ∷ Wake 1 ∷ []; cause = for.Break 0 }) ∷ Some (record { steps = Wake 0 ∷ Wake 1 ∷ []; cause = for.Leaf })
+    ∷ Some (record { steps = Wake 0 ∷ Wake 1 ∷ []; cause = for.Leaf }) ∷ []
+unfolding decision
+row_runs = refl
+
+-- with 1,000,000 steps not undone: a leaf and a choice come first
+pub row_full : map {B = Option Ran} (λ steps. option_map (ran telling no_breaks 5 STEPS_MAX) (after telling steps)) ([] ∷ both_there ∷ (both_there ++ paired ∷ Wake 0 ∷ Wake 1 ∷ []) ∷ [])
+    ≡ Some (record { steps = []; cause = for.Full }) ∷ Some (record { steps = []; cause = for.Choice }) ∷ Some (record { steps = []; cause = for.Leaf }) ∷ []
+unfolding decision
+row_full = refl
+
+-- back: the marked step is undone, too
+abbrev whole_trail : Trail
+whole_trail = record { program = telling; mode = Rendezvous; steps = both_there ++ paired ∷ Wake 0 ∷ Wake 1 ∷ []; depth = 9 }
+
+pub row_back : map {B = Stop} (ran_back watching whole_trail) (9 ∷ 8 ∷ 3 ∷ 4 ∷ 0 ∷ [])
+    ≡ record { steps = 1; cause = for.Break 0 } ∷ record { steps = 5; cause = for.Break 0 } ∷ record { steps = 3; cause = for.Start } ∷ record { steps = 1; cause = for.Break 0 } ∷ record { steps = 0; cause = for.Start } ∷ []
+row_back = refl
