@@ -1,5 +1,5 @@
 -- Worlds of a script without a waitany: no rank has one left, none was issued, and so no step of one is enabled.
-use Rattle.std.proofs.Common.{◌≡◌, ◌⊎◌, ℕ, ℤ, zero, suc, ◌+◌, ◌++◌, Bool, true, false, cond, Option, Some, None, is_some, Result, Ok, Err, List, [], ◌∷◌, replicate, slice_get, slice_set, inl, inr, refl, sym, ap, subst, ◌∙◌}
+use Rattle.std.proofs.Common.{◌≡◌, ◌⊎◌, ℕ, ℤ, zero, suc, ◌+◌, ◌++◌, Bool, true, false, cond, Option, Some, None, Result, Ok, Err, List, [], ◌∷◌, replicate, slice_get, slice_set, inl, inr, refl, sym, ap, subst, ◌∙◌}
 use Rattle.mpd_meaning.proofs.listed.Listed.{if_some}
 use Rattle.std.proofs.lemmas.Bool.{and_parts}
 use Rattle.std.proofs.lemmas.Bool.Decides.{eqb_tells}

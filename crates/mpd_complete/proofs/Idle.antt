@@ -1,5 +1,5 @@
 -- A waitany that was issued for nothing has no request as long as its rank waits, so that rank never has two kinds of steps to go on by.
-use Rattle.std.proofs.Common.{◌≡◌, ◌≢◌, ℕ, zero, suc, ◌+◌, ◌-◌, ◌<◌, nat_lt, Bool, true, false, cond, ◌||◌, not, Option, Some, None, is_some, Result, Ok, Err, List, [], ◌∷◌, ◌++◌, length, length-append, take, drop, replicate, slice_get, inl, inr, refl, sym, ap, subst, ◌∙◌, arith, get_or-drop}
+use Rattle.std.proofs.Common.{◌≡◌, ◌≢◌, ℕ, zero, suc, ◌+◌, ◌-◌, ◌<◌, nat_lt, Bool, true, false, cond, not, Option, Some, None, is_some, Result, Ok, Err, List, [], ◌∷◌, ◌++◌, length, length-append, take, drop, replicate, slice_get, inl, inr, refl, sym, ap, subst, ◌∙◌, arith, get_or-drop}
 use Rattle.std.specs.Prelude.{slice_index_or}
 use Rattle.std.specs.Option.{option_map}
 use Rattle.std.specs.List.{list_any}

@@ -1,5 +1,5 @@
 -- A match beside another step: what was eligible stays so as long as its calls are free, and two matches share no call but an open receive.
-use Rattle.std.proofs.Common.{◌≡◌, ◌⊎◌, ℕ, zero, suc, ◌<◌, ◌==◌, Bool, true, false, ◌||◌, not, Option, Some, None, is_some, is_none, option_and_then, List, [], ◌∷◌, ◌++◌, length, slice_get, inl, inr, refl, sym, ap, ◌∙◌, arith, eq-eqb}
+use Rattle.std.proofs.Common.{◌≡◌, ℕ, zero, suc, ◌<◌, ◌==◌, Bool, true, false, ◌||◌, not, Option, Some, None, is_some, is_none, option_and_then, List, [], ◌∷◌, ◌++◌, length, slice_get, inl, inr, refl, sym, ap, ◌∙◌, arith, eq-eqb}
 use Rattle.mpd_laws.proofs.ordered.Orderly.{same_id}
 use Rattle.std.proofs.lemmas.Bool.{cases_order, eqb-true, and_parts, or_cases}
 use Rattle.std.specs.Cmp.Derive.{both_true}

@@ -1,5 +1,5 @@
 -- One of several sides is changed.
-use Rattle.std.proofs.Common.{◌≡◌, ℕ, zero, suc, ◌+◌, ◌<◌, ◌≤◌, min, Option, Some, None, Result, Ok, Err, OnErr, List, [], ◌∷◌, ◌++◌, refl, sym, ap, ◌∙◌, length, map, get_or, set, take, drop, slice_get, replicate, arith}
+use Rattle.std.proofs.Common.{◌≡◌, ℕ, zero, suc, ◌+◌, ◌<◌, ◌≤◌, min, Option, Some, None, List, [], ◌∷◌, ◌++◌, refl, sym, ap, ◌∙◌, length, map, get_or, set, take, drop, slice_get, replicate, arith}
 use Rattle.std.proofs.lemmas.List.{map-set, map-append, get_or-map, get_or-replicate, replicate-append-replicate, take_more_set, take_all, drop_more, drop-set-lt}
 use Rattle.std.proofs.lemmas.List.Sums.{sum_by-set, sum_by-append, sum_by-cons}
 use Rattle.mpd_model.specs.declared.step.CallId.{CallId}

@@ -1,5 +1,5 @@
 -- Small facts on tests.
-use Rattle.std.proofs.Common.{◌≡◌, Bool, true, false, ◌&&◌, is_none, Option, Some, None, ◌⊎◌, inl, inr, refl}
+use Rattle.std.proofs.Common.{◌≡◌, Bool, true, false, ◌&&◌, is_none, Option, Some, None, refl}
 
 pub and_false : (b : Bool) → (b && false) ≡ false
 and_false true = refl

@@ -1,14 +1,13 @@
 -- What holds back the match of a send and a receive: the first call of its line that fits, where that is an earlier one.
-use Rattle.std.proofs.Common.{◌≡◌, ℕ, ◌<◌, ◌≤◌, Bool, true, false, cond, ◌&&◌, nat_lt, Option, Some, None, List, [], ◌∷◌, ◌++◌, inl, inr, sym, ap, subst, ◌∙◌, map, length, arith, append-nil}
+use Rattle.std.proofs.Common.{◌≡◌, ℕ, ◌<◌, ◌≤◌, Bool, true, false, cond, ◌&&◌, nat_lt, Option, Some, None, List, [], ◌∷◌, ◌++◌, inl, inr, sym, ap, ◌∙◌, map, length, arith, append-nil}
 use Rattle.std.proofs.lemmas.Bool.{lt-ltb, le-ltb, and_parts, cases_Bool}
 use Rattle.std.proofs.lemmas.Option.{slice_get_past}
 use Rattle.std.specs.List.{filter, flat_map, range_with_len}
 use Rattle.std.specs.Option.{option_map}
 use Rattle.mpd_model.specs.declared.step.CallId.{CallId}
 use Rattle.mpd_model.specs.declared.call.Call.{Call}
-use Rattle.mpd_model.specs.declared.call.CallKind.{CallKind}
 use Rattle.mpd_model.specs.World.{Board, call_id, listed_calls, fits, is_posted, pending, posted}
-use Rattle.mpd_model.specs.Why.{first_in, earlier_send, earlier_recv, holder, why_send, why_from, why_by}
+use Rattle.mpd_model.specs.Why.{first_in, earlier_send, earlier_recv, holder, why_send, why_from}
 use Rattle.mpd_queue.specs.InOrder.{places_in}
 use Rattle.mpd_match.specs.Firsts.{first_send, first_recv}
 use Rattle.mpd_match.specs.Entries.{partner_entry}

@@ -1,19 +1,15 @@
 -- Lists that are gathered: of the numbers of a range, and along a line of free calls.
-use Rattle.std.proofs.Common.{◌≡◌, ℕ, suc, ◌+◌, ◌-◌, ◌<◌, ◌≤◌, Bool, true, false, Option, Some, None, List, [], ◌∷◌, ◌++◌, inl, inr, refl, sym, ap, subst, ◌∙◌, map, length, arith, append_assoc, append-nil, Result, Ok, Err, OnErr}
+use Rattle.std.proofs.Common.{◌≡◌, ℕ, ◌<◌, Bool, true, false, Option, Some, None, List, [], ◌∷◌, ◌++◌, inl, inr, refl, sym, ap, ◌∙◌, map, length, arith, append-nil}
 use Rattle.std.proofs.lemmas.Bool.{cases_Bool}
-use Rattle.std.proofs.lemmas.List.{length-append}
-use Rattle.std.specs.List.{filter, flat_map, range_with_len}
+use Rattle.std.specs.List.{filter, flat_map}
 use Rattle.std.specs.Option.{option_to_list}
 use Rattle.mpd_model.specs.declared.step.CallId.{CallId}
 use Rattle.mpd_model.specs.declared.step.Step.{Step}
 use Rattle.mpd_model.specs.declared.step.Step.TheVariants.{Match}
 use Rattle.mpd_model.specs.World.{Board, call_id, call_numbers, rank_numbers, is_posted, posted, eligible}
-use Rattle.mpd_queue.specs.InOrder.{places_in, first_of, next_of, HasSpot}
-use Rattle.mpd_queue.proofs.Spots.{first_spot, next_spot}
 use Rattle.mpd_match.specs.Matches.{matches_from, matches_with, matches_at}
 use Rattle.mpd_match.proofs.Passed.{passed_here, passed_there}
 use Rattle.mpd_match.proofs.Matches.{eligible_posted}
-use Rattle.mpd_match.proofs.Walks.{rest, rest_none, rest_first, rest_step, walk_falls}
 
 -- ---- the match with a send of one rank
 

@@ -1,5 +1,5 @@
 -- Tags that are marked along a line of free sends, and receives that none of these fits.
-use Rattle.std.proofs.Common.{◌≡◌, ◌≢◌, ℕ, ◌/◌, ◌%◌, ◌^◌, ◌<◌, ◌≤◌, Bool, true, false, not, ◌&&◌, ◌==◌, eq-eqb, eqb-true, get_or, bit_or, Option, Some, None, List, [], ◌∷◌, ◌++◌, ◌⊎◌, inl, inr, refl, sym, ap, subst, ◌∙◌, map, length, set, arith}
+use Rattle.std.proofs.Common.{◌≡◌, ◌≢◌, ℕ, ◌/◌, ◌%◌, ◌^◌, ◌<◌, ◌≤◌, Bool, true, false, ◌&&◌, ◌==◌, eq-eqb, eqb-true, get_or, bit_or, Option, Some, None, List, [], ◌∷◌, ◌++◌, ◌⊎◌, inl, inr, refl, sym, ap, subst, ◌∙◌, map, length, set, arith}
 use Rattle.mpd_laws.proofs.ordered.Eligible.{clash}
 use Rattle.std.proofs.lemmas.Bool.{and_parts, not-true}
 use Rattle.std.proofs.lemmas.List.{get_or-set_same, get_or-set_other, length-set}
@@ -16,13 +16,13 @@ use Rattle.mpd_model.specs.declared.call.CallKind.TheVariants.{Send, Recv, Wait,
 use Rattle.mpd_model.specs.World.{Board, call_id, kind_at, rank_numbers, is_any_or, fitting, eligible}
 use Rattle.mpd_model.specs.Why.{first_in}
 use Rattle.mpd_model.specs.Decisions.{is_named_match}
-use Rattle.mpd_queue.specs.InOrder.{places_in, first_of, next_of, HasSpot}
-use Rattle.mpd_queue.proofs.Spots.{first_spot, next_spot}
+use Rattle.mpd_queue.specs.InOrder.{places_in, next_of, HasSpot}
+use Rattle.mpd_queue.proofs.Spots.{next_spot}
 use Rattle.mpd_queue.proofs.Places.{places_there}
 use Rattle.mpd_match.specs.Matches.{matches_from}
 use Rattle.mpd_match.specs.Picked.{picked_with}
 use Rattle.mpd_match.specs.Tags.{tag_place, word_of, marked, sent_tag, is_marked, is_unseen_by, is_unseen, Covers}
-use Rattle.mpd_match.proofs.Walks.{rest, rest_none, rest_first, rest_step}
+use Rattle.mpd_match.proofs.Walks.{rest, rest_none, rest_step}
 use Rattle.mpd_match.proofs.Matches.{eligible_pending}
 use Rattle.mpd_match.proofs.Candidates.{Parts, parts_of, candidates_none}
 
