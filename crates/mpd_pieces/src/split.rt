@@ -16,7 +16,8 @@ use mpd_model::limits::STEPS_MAX;
 use mpd_policy::decide::{decide, decisions_can_be_followed};
 use mpd_trail::debugger::Debugger;
 use std::alloc::{AllocError, Global};
-use thiserror::Error;
+use std::error::Error;
+use std::fmt;
 
 /// How many pieces the runs of a script are cut into at most.
 pub const PIECES_MAX: usize = 1_024;
@@ -29,13 +30,11 @@ pub struct Piece {
 }
 
 /// Why the runs of a script are not cut into pieces.
-#[derive(Clone, Copy, PartialEq, Eq, Debug, Error)]
+#[derive(Clone, Copy, PartialEq, Eq, Debug)]
 pub enum SplitFault {
     /// There are more than 1,024.
-    #[error("too-many-pieces")]
     TooManyPieces,
     /// A growth was refused.
-    #[error("memory")]
     Memory,
 }
 
@@ -60,6 +59,18 @@ impl SplitFault {
         }
     }
 }
+
+impl fmt::Display for SplitFault {
+    ghost use Rattle.std.specs.Prelude.{Some};
+
+    ghost output = { λ fault. Some (split_fault_name fault) };
+
+    fn fmt<W: fmt::Write>(&self, f: &mut fmt::Formatter<W>) -> fmt::Result {
+        f.write_str(self.name())
+    }
+}
+
+impl Error for SplitFault {}
 
 impl From<AllocError> for SplitFault {
     ghost use Rattle.mpd_pieces.specs.declared.split.SplitFault.TheVariants.{Memory};
