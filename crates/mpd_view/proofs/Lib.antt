@@ -1,2 +1,3 @@
 pub mod ShownLemmas
 pub mod PastLemmas
+pub mod LostLemmas

@@ -3,3 +3,5 @@ pub mod Standing
 pub mod Shown
 pub mod Whys
 pub mod Past
+pub mod Lost
+pub mod LostRows

@@ -21,13 +21,17 @@ call_line_of s b c = issue_line s.lines (call_at b c)
 abbrev pub at_line : Step → ℕ → List ℕ
 at_line a number = step_text a ++ codes ": line " ++ decimal number
 
+-- `rank 1, line 5`
+abbrev pub issuer : Program → Board → CallId → List ℕ
+issuer s b c = codes "rank " ++ decimal c.rank ++ codes ", line " ++ decimal (call_line_of s b c)
+
 -- ` of rank 1, line 5`
 abbrev pub issued : Program → Board → CallId → List ℕ
-issued s b c = codes " of rank " ++ decimal c.rank ++ codes ", line " ++ decimal (call_line_of s b c)
+issued s b c = codes " of " ++ issuer s b c
 
--- `match 0.0 1.0: the send of rank 0, line 4, to the receive of rank 1, line 7`
+-- `match 0.0 1.0: rank 0, line 4, to rank 1, line 7`
 abbrev pub match_words : Program → Board → CallId → CallId → List ℕ
-match_words s b c d = step_text (Match c d) ++ codes ": the send" ++ issued s b c ++ codes ", to the receive" ++ issued s b d
+match_words s b c d = step_text (Match c d) ++ codes ": " ++ issuer s b c ++ codes ", to " ++ issuer s b d
 
 -- `, by line 4, 0.1 irecv from any tag any`, the request that a rank goes on by, where it has a call
 abbrev pub by_words : Program → Board → Option CallId → List ℕ

@@ -17,13 +17,21 @@ fn push_at_line(out: &mut String, step: Step, line: usize) -> Result<(), AllocEr
     write!(out, "{step}: line {line}")
 }
 
+/// Adds the rank of a call, and its line.
+fn push_issuer(core: &Core<'_>, out: &mut String, call: CallId) -> Result<(), AllocError>
+    ensures { OnOk result (string_bytes out.new ≡ string_bytes out.old ++ words.issuer core.now.program core.now.world.board call) }
+{
+    let rank = call.rank;
+    let line = issue_line(core, call);
+    write!(out, "rank {rank}, line {line}")
+}
+
 /// Adds whose call it is, and its line.
 pub(crate) fn push_issued(core: &Core<'_>, out: &mut String, call: CallId) -> Result<(), AllocError>
     ensures { OnOk result (string_bytes out.new ≡ string_bytes out.old ++ words.issued core.now.program core.now.world.board call) }
 {
-    let rank = call.rank;
-    let line = issue_line(core, call);
-    write!(out, " of rank {rank}, line {line}")
+    out.push_str(" of ")?;
+    push_issuer(core, out, call)
 }
 
 /// Adds a match in words.
@@ -36,10 +44,10 @@ fn push_match(
     ensures { OnOk result (string_bytes out.new ≡ string_bytes out.old ++ words.match_words core.now.program core.now.world.board send recv) }
 {
     let step = Step::Match(send, recv);
-    write!(out, "{step}: the send")?;
-    push_issued(core, out, send)?;
-    out.push_str(", to the receive")?;
-    push_issued(core, out, recv)
+    write!(out, "{step}: ")?;
+    push_issuer(core, out, send)?;
+    out.push_str(", to ")?;
+    push_issuer(core, out, recv)
 }
 
 /// The handle of the request of an index, where it is one of so many handles.

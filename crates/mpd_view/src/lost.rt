@@ -1,0 +1,203 @@
+//! Requests that are lost: nobody can wait for them any more (docs/CONSOLE.md, "Answers").
+
+ghost use Rattle.std.specs.Prelude.{◌≡◌, ◌<◌, ◌++◌, ◌||◌, ℕ, false, if◌then◌else◌, [], IfOk, OnOk, get_or, length, slice_get, string_bytes};
+ghost use Rattle.std.specs.List.{list_any};
+ghost use Rattle.mpd_model.specs.World.{call_id, calls_of};
+ghost use Rattle.mpd_model.specs.Breakpoints.{is_number};
+ghost use Rattle.mpd_view.specs.Lost as lost;
+
+use mpd_core::state::Core;
+use mpd_explain::told::push_placed;
+use mpd_model::call::{Call, CallKind};
+use mpd_model::kind::blocks;
+use mpd_model::step::CallId;
+use std::alloc::{AllocError, Global};
+
+/// Whether its rank doesn't wait for a call of this kind as it issues it.
+fn is_request(kind: Option<CallKind>) -> bool
+    ensures { result ≡ lost.is_request kind }
+{
+    match kind {
+        None => false,
+        Some(kind) => !blocks(kind),
+    }
+}
+
+/// The number of the call that a wait is for.
+fn target_of(kind: CallKind) -> Option<usize>
+    ensures { result ≡ lost.target_of kind }
+{
+    match kind {
+        CallKind::Wait(wait) => wait.target,
+        _ => None,
+    }
+}
+
+/// Whether it is a waitany.
+fn is_waitany(kind: CallKind) -> bool
+    ensures { result ≡ lost.is_waitany kind }
+{
+    match kind {
+        CallKind::Waitany(_) => true,
+        _ => false,
+    }
+}
+
+/// Whether one of these calls is a waitany.
+fn has_waitany(calls: &[Call]) -> bool
+    ensures { result ≡ lost.has_waitany calls.now }
+{
+    for call in calls {
+        if is_waitany(call.kind) {
+            return true;
+        }
+    }
+    false
+}
+
+/// Whether one of these calls is a request.
+fn has_request(calls: &[Call]) -> bool
+    ensures { result ≡ list_any (λ c. lost.is_request (Some c.kind)) calls.now }
+{
+    for call in calls {
+        if is_request(Some(call.kind)) {
+            return true;
+        }
+    }
+    false
+}
+
+/// Marks the call of a number, where there is one.
+#[tactic(auto, using(crate::proofs::LostLemmas::marking))]
+fn mark(marks: &mut [bool], number: Option<usize>)
+    ensures count { length marks.new ≡ length marks.old }
+    ensures marked { (i : ℕ) → i < length marks.old → get_or marks.new i false ≡ (get_or marks.old i false || is_number number i) }
+{
+    let Some(number) = number else {
+        return;
+    };
+    if number < marks.len() {
+        marks[number] = true;
+    }
+}
+
+/// Marks the calls that handles hold.
+fn mark_held(marks: &mut [bool], handles: &[Option<usize>])
+    ensures count { length marks.new ≡ length marks.old }
+    ensures marked { (i : ℕ) → i < length marks.old → get_or marks.new i false ≡ (get_or marks.old i false || list_any (λ h. is_number h i) handles.now) }
+{
+    for handle in handles {
+        mark(marks, *handle);
+    }
+}
+
+/// Marks the calls that waits are for.
+fn mark_waited(marks: &mut [bool], calls: &[Call])
+    ensures count { length marks.new ≡ length marks.old }
+    ensures marked { (i : ℕ) → i < length marks.old → get_or marks.new i false ≡ (get_or marks.old i false || lost.is_waited calls.now i) }
+{
+    for call in calls {
+        mark(marks, target_of(call.kind));
+    }
+}
+
+/// A mark for each call of a rank: whether a handle holds it, or a wait is for it.
+fn kept_calls(alloc: Global, core: &Core<'_>, rank: usize) -> Result<Vec<bool>, AllocError>
+    requires rank { rank < length core.now.world.ranks }
+    requires calls { rank < length core.now.world.board.calls }
+    ensures count { IfOk result (λ marks. length marks.items ≡ length (calls_of core.now.world.board rank)) }
+    ensures marked { IfOk result (λ marks. (i : ℕ) → i < length (calls_of core.now.world.board rank) → get_or marks.items i false ≡ lost.is_kept core.now.world (call_id rank i)) }
+{
+    let calls = core.board().calls(rank);
+    let mut marks = vec![in alloc; false; calls.len()]?;
+    mark_held(&mut marks, core.rank(rank).handles());
+    mark_waited(&mut marks, calls);
+    Ok(marks)
+}
+
+/// Whether a request of a rank is lost, where it is known whether it is kept and whether the rank has issued a waitany.
+fn is_lost(core: &Core<'_>, call: CallId, is_kept: bool, has_waitany: bool) -> bool
+    requires kept { is_kept ≡ lost.is_kept core.now.world call }
+    requires waitany { has_waitany ≡ lost.has_waitany (calls_of core.now.world.board call.rank) }
+    ensures { result ≡ lost.is_lost core.now.world call }
+{
+    is_request(core.board().kind(call))
+        && !is_kept
+        && !(has_waitany && core.board().is_complete(call))
+}
+
+/// Adds the line of a request that is lost.
+fn push_lost_line(core: &Core<'_>, out: &mut String, call: CallId) -> Result<(), AllocError>
+    ensures { OnOk result (string_bytes out.new ≡ string_bytes out.old ++ lost.lost_line core.now.program core.now.world.board call.rank call.index) }
+{
+    let rank = call.rank;
+    write!(out, "rank {rank} has lost a request: ")?;
+    push_placed(core, out, call)?;
+    out.push('\n')
+}
+
+/// Adds that line for a call that is lost.
+fn push_if_lost(
+    core: &Core<'_>,
+    out: &mut String,
+    call: CallId,
+    is_kept: bool,
+    has_waitany: bool,
+) -> Result<(), AllocError>
+    requires kept { is_kept ≡ lost.is_kept core.now.world call }
+    requires waitany { has_waitany ≡ lost.has_waitany (calls_of core.now.world.board call.rank) }
+    ensures { OnOk result (string_bytes out.new ≡ string_bytes out.old ++ (if lost.is_lost core.now.world call then lost.lost_line core.now.program core.now.world.board call.rank call.index else [])) }
+{
+    if is_lost(core, call, is_kept, has_waitany) {
+        push_lost_line(core, out, call)
+    } else {
+        Ok(())
+    }
+}
+
+/// Adds the lines of the calls of a rank that are lost.
+fn push_lost_of(
+    core: &Core<'_>,
+    out: &mut String,
+    rank: usize,
+    kept: &[bool],
+    has_waitany: bool,
+) -> Result<(), AllocError>
+    requires count { length kept.now ≡ length (calls_of core.now.world.board rank) }
+    requires kept { (i : ℕ) → i < length (calls_of core.now.world.board rank) → get_or kept.now i false ≡ lost.is_kept core.now.world (call_id rank i) }
+    requires waitany { has_waitany ≡ lost.has_waitany (calls_of core.now.world.board rank) }
+    ensures { OnOk result (string_bytes out.new ≡ string_bytes out.old ++ lost.lost_text core.now.program core.now.world rank) }
+{
+    let count = kept.len();
+    for index in 0..count {
+        push_if_lost(core, out, CallId { rank, index }, kept[index], has_waitany)?;
+    }
+    Ok(())
+}
+
+/// Adds the requests of a rank that are lost. Of a rank that isn't there it adds nothing. An `Err` is want of memory.
+#[tactic(auto, using(crate::proofs::LostLemmas::losing))]
+pub fn push_lost(core: &Core<'_>, out: &mut String, rank: usize) -> Result<(), AllocError>
+    ensures { OnOk result (string_bytes out.new ≡ string_bytes out.old ++ lost.lost_text core.now.program core.now.world rank) }
+{
+    if rank >= core.rank_count() {
+        return Ok(());
+    }
+    let calls = core.board().calls(rank);
+    if !has_request(calls) {
+        return Ok(());
+    }
+    let kept = kept_calls(*out.allocator(), core, rank)?;
+    push_lost_of(core, out, rank, &kept, has_waitany(calls))
+}
+
+/// Adds those of all ranks. An `Err` is want of memory.
+pub fn push_all_lost(core: &Core<'_>, out: &mut String) -> Result<(), AllocError>
+    ensures { OnOk result (string_bytes out.new ≡ string_bytes out.old ++ lost.lost_lines core.now.program core.now.world) }
+{
+    let count = core.rank_count();
+    for rank in 0..count {
+        push_lost(core, out, rank)?;
+    }
+    Ok(())
+}
