@@ -1,4 +1,5 @@
 pub mod StepKinds
+pub mod SingleLemmas
 pub mod Followed
 pub mod NumberLemmas
 pub mod PlaceLemmas

@@ -1,0 +1,22 @@
+-- The step that comes next where a single candidate is no choice.
+use Rattle.std.specs.Prelude.{List, [], ◌∷◌, Option, Some, None}
+use Rattle.mpd_model.specs.declared.step.Step.{Step}
+use Rattle.mpd_model.specs.declared.decision.Decision.{Decision}
+use Rattle.mpd_model.specs.declared.decision.Decision.TheVariants.{Forced, Choice, Leaf}
+use Rattle.mpd_model.specs.World.{World}
+use Rattle.mpd_model.specs.Decisions.{decision}
+
+-- the step of a list of one
+abbrev pub sole : List Step → Option Step
+sole [] = None
+sole (a ∷ []) = Some a
+sole (a ∷ b ∷ steps) = None
+
+-- the step that nobody has to choose, or the single candidate of a choice
+abbrev pub single : Decision → Option Step
+single (Forced a) = Some a
+single (Choice steps) = sole steps
+single (Leaf o) = None
+
+abbrev pub only_step : World → Option Step
+only_step w = single (decision w)
