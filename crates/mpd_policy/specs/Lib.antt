@@ -1,4 +1,4 @@
 pub mod Entries
 pub mod Places
-pub mod Ahead
 pub mod Single
+pub mod Ahead
