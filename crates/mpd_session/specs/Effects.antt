@@ -18,6 +18,7 @@ use Rattle.mpd_model.specs.Trail.{Trail, applied, gone_back}
 use Rattle.mpd_model.specs.Breakpoints.{break_at, cell_at, lowest_free}
 use Rattle.mpd_model.specs.Running.{Ran, ran, stop_of, all_applied, ran_back}
 use Rattle.mpd_model.specs.Texts.{id_text, step_text, rank_text, set_text, call_text, outcome_text}
+use Rattle.mpd_policy.specs.Single.{ran_on}
 use Rattle.mpd_explore.specs.declared.report.Leaf.{Leaf as RunLeaf}
 use Rattle.mpd_explore.specs.Walk.{walk}
 use Rattle.mpd_explore.specs.Report.{shown}
@@ -62,8 +63,15 @@ next_effect t w (Some i) (Choice steps) = picked_effect t w (slice_get steps i)
 abbrev pub ran_effect : Trail → Ran → OnTrail
 ran_effect t r = (Changed (answer.Ran (t.depth + length r.steps) (stop_of r)), all_applied t r.steps)
 
+-- a run of at most so many steps
+abbrev pub going_effect : Trail → ℕ → Ran → OnTrail
+going_effect t max r = if is_within 1 STEPS_MAX max then ran_effect t r else (Refused BadNumber, t)
+
 abbrev pub run_effect : Trail → List (Option Break) → World → ℕ → OnTrail
-run_effect t places w max = if is_within 1 STEPS_MAX max then ran_effect t (ran t.program places max t.depth w) else (Refused BadNumber, t)
+run_effect t places w max = going_effect t max (ran t.program places max t.depth w)
+
+abbrev pub run_on_effect : Trail → List (Option Break) → World → ℕ → OnTrail
+run_on_effect t places w max = going_effect t max (ran_on t.program places max t.depth w)
 
 abbrev pub run_back_by : Trail → Stop → OnTrail
 run_back_by t stop = (Changed (answer.Ran (t.depth - stop.steps) stop), gone_back t (t.depth - stop.steps))
