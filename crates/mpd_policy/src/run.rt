@@ -206,7 +206,7 @@ fn run_by(
     ensures err_world { OnErr result (debugger.new.world ≡ debugger.old.world) }
     ensures memory { OnErr result ((debugger.old.trail.depth < length debugger.old.trail.steps) ⊎ Wants taking (length (ran_along (comes taking) debugger.old.trail.program breaks.now max debugger.old.trail.depth debugger.old.world).steps) debugger.old.world) }
 {
-    let _ = debugger.core();
+    debugger.state_is_reached();
     let depth = debugger.depth();
     let saved = set_aside(alloc, debugger)?;
     match go(alloc, debugger, breaks, max, taking) {
