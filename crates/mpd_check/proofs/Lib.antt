@@ -1,3 +1,3 @@
-mod StatusLemmas
+mod VerdictLemmas
 mod CheckLemmas
 pub mod ListingLemmas

@@ -1,5 +1,5 @@
--- What a report tells of a script, counted, and the status of its check.
-use Rattle.std.specs.Prelude.{◌≡◌, ℕ, ◌&&◌, ◌||◌, ◌==◌, nat_lt, not, if◌then◌else◌, Bool, true, false, List, length, count_by}
+-- What a report tells of a script, counted, and the verdict of its check.
+use Rattle.std.specs.Prelude.{◌≡◌, ◌&&◌, ◌||◌, ◌==◌, nat_lt, not, if◌then◌else◌, Bool, true, false, List, length, count_by}
 use Rattle.mpd_model.specs.declared.call.Mode.{Mode}
 use Rattle.mpd_model.specs.declared.outcome.Outcome.TheVariants as outcome
 use Rattle.mpd_model.specs.World.{is_limited}
@@ -9,6 +9,8 @@ use Rattle.mpd_explore.specs.declared.report.Ending.{Ending}
 use Rattle.mpd_explore.specs.declared.report.Ending.TheVariants.{Ended}
 use Rattle.mpd_explore.specs.declared.report.Ending.TheVariants as ends
 use Rattle.mpd_explore.specs.declared.report.Leaf.{Leaf}
+use Rattle.mpd_lines.specs.declared.verdict.Verdict.{Verdict}
+use Rattle.mpd_lines.specs.declared.verdict.Verdict.TheVariants.{Good, Bad, NotWhole}
 use Rattle.mpd_check.specs.declared.counts.Kind.{Kind}
 use Rattle.mpd_check.specs.declared.counts.Kind.TheVariants.{Deadlock, Trap, Cut}
 use Rattle.mpd_check.specs.declared.counts.Tally.{Tally}
@@ -44,6 +46,6 @@ is_whole t = not t.more && t.cut == 0
 abbrev pub TellsAll : Program → Mode → Tally → Type 0
 TellsAll s mode t = (is_whole t ≡ true) × (IsBlockOf 1 (block_of s.body) × (is_limited mode ≡ false))
 
--- 1 where something bad is listed; else 4 where the report must tell all and doesn't; else 0
-abbrev pub status_of : Bool → Bool → Tally → ℕ
-status_of complete tells_all t = if is_bad t then 1 else (if complete && not tells_all then 4 else 0)
+-- bad where something bad is listed; else not whole where the report must tell all and doesn't; else good
+abbrev pub verdict_of : Bool → Bool → Tally → Verdict
+verdict_of complete tells_all t = if is_bad t then Bad else (if complete && not tells_all then NotWhole else Good)

@@ -3,18 +3,13 @@
 ghost use Rattle.std.specs.Prelude.{◌≡◌, ◌<◌, Bool, length, count_by};
 ghost use Rattle.std.specs.Bool.{Decides};
 ghost use Rattle.mpd_model.specs.World.{is_limited as limited};
-ghost use Rattle.mpd_check.specs.Tally.{tally_of, is_of, is_bad, is_whole, TellsAll, status_of};
+ghost use Rattle.mpd_check.specs.Tally.{tally_of, is_of, is_bad, is_whole, TellsAll, verdict_of};
 
 use mpd_code::code::Code;
 use mpd_explore::report::{Ending, Leaf, Report};
+use mpd_lines::verdict::Verdict;
 use mpd_model::call::Mode;
 use mpd_model::outcome::Outcome;
-
-/// The status of a check that has listed a deadlock or a trap.
-pub const FOUND: u8 = 1;
-
-/// The status of a check that must tell every way in which its script can end, and doesn't.
-pub const NOT_WHOLE: u8 = 4;
 
 /// How a run ends, as far as it is counted.
 #[derive(Clone, Copy)]
@@ -63,19 +58,19 @@ impl Tally {
         self.is_whole() && (code.has_no_waitany() && !is_limited(mode))
     }
 
-    /// The status that a check of this script in a mode ends with: 1 where a deadlock or a trap is listed; else 4 where the report must tell every
-    /// way in which the script can end, and doesn't; else 0.
-    #[tactic(auto, using(crate::proofs::StatusLemmas::telling))]
-    pub fn status(self, complete: bool, mode: Mode, code: &Code) -> u8
-        ensures { (all : Bool) → Decides all (TellsAll code.now.program mode self) → result ≡ status_of complete all self }
+    /// The verdict of a check of this script in a mode: bad where a deadlock or a trap is listed; else not whole where the report must tell
+    /// every way in which the script can end, and doesn't; else good.
+    #[tactic(auto, using(crate::proofs::VerdictLemmas::telling))]
+    pub fn verdict(self, complete: bool, mode: Mode, code: &Code) -> Verdict
+        ensures { (all : Bool) → Decides all (TellsAll code.now.program mode self) → result ≡ verdict_of complete all self }
     {
         if self.is_bad() {
-            return FOUND;
+            return Verdict::Bad;
         }
         if complete && !self.tells_all(mode, code) {
-            return NOT_WHOLE;
+            return Verdict::NotWhole;
         }
-        0
+        Verdict::Good
     }
 }
 

@@ -5,13 +5,14 @@ ghost use Rattle.mpd_check.specs.Checked.{pieces_of, leaves_of, more_of, AreFew,
 ghost use Rattle.mpd_check.specs.ModeText.{mode_word, yes_or_no, counts_text, mode_line, least_line, tried_more};
 ghost use Rattle.mpd_check.specs.Tally.{tally_of};
 
-use crate::counts::{FOUND, Tally, tally_of};
+use crate::counts::{Tally, tally_of};
 use crate::fault::CheckFault;
 use crate::{Told, is_crew, put, refused};
 use mpd_code::code::Code;
 use mpd_device::device::Sink;
 use mpd_lines::engine::EngineFault;
 use mpd_lines::outbox::write_all;
+use mpd_lines::verdict::Verdict;
 use mpd_model::call::Mode;
 use mpd_model::limits::STEPS_MAX;
 use mpd_pieces::split::PIECES_MAX;
@@ -58,11 +59,15 @@ impl Tried {
         }
     }
 
-    /// The status that a check of these modes ends with: 1 where a deadlock or a trap is listed in one of them, else 0.
-    pub fn status(self) -> u8
-        ensures { result ≡ if self.is_bad then FOUND else 0 }
+    /// The verdict of a check of these modes: bad where a deadlock or a trap is listed in one of them, else good.
+    pub fn verdict(self) -> Verdict
+        ensures { result ≡ if self.is_bad then Verdict.Bad else Verdict.Good }
     {
-        if self.is_bad { FOUND } else { 0 }
+        if self.is_bad {
+            Verdict::Bad
+        } else {
+            Verdict::Good
+        }
     }
 }
 

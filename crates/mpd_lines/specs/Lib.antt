@@ -6,3 +6,4 @@ pub mod Served
 pub mod Turned
 pub mod Shown
 pub mod UpTo
+pub mod Verdicts

@@ -9,3 +9,4 @@ pub mod line;
 pub mod outbox;
 mod seen;
 pub mod up_to;
+pub mod verdict;

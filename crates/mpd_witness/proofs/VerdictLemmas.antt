@@ -1,5 +1,5 @@
 -- What is answered to a witness.
-use Rattle.std.proofs.Common.{◌≡◌, ◌≢◌, ℕ, ◌+◌, ◌≤◌, Bool, true, false, List, [], ◌++◌, length, ◌∷◌, Some, Ok, Err, codes, sym, ap, subst, ◌∙◌, append_assoc, arith}
+use Rattle.std.proofs.Common.{◌≡◌, ◌≢◌, ℕ, ◌+◌, ◌≤◌, List, [], ◌++◌, length, ◌∷◌, Some, Ok, Err, codes, sym, ap, subst, ◌∙◌, append_assoc, arith}
 use Rattle.std.specs.Io.KnownBytes.{Appends}
 use Rattle.mpd_model.specs.declared.call.Mode.{Mode}
 use Rattle.mpd_model.specs.declared.outcome.Outcome.TheVariants.{Deadlock}
@@ -15,6 +15,8 @@ use Rattle.mpd_explore.specs.declared.verify.WitnessFault.TheVariants.{NoSuchSte
 use Rattle.mpd_explore.specs.Witness.{IsWitnessFrom, HasFault}
 use Rattle.mpd_explore.specs.Faults.{witness_fault_name}
 use Rattle.mpd_lines.specs.declared.engine.EngineFault.TheVariants.{WriteFailed}
+use Rattle.mpd_lines.specs.declared.verdict.Verdict.{Verdict}
+use Rattle.mpd_lines.specs.declared.verdict.Verdict.TheVariants.{Good, Bad}
 use Rattle.mpd_lines.specs.Telling.{AppendsPart}
 use Rattle.mpd_witness.specs.Verdict.{accepted_line, refused_line, IsVerdict, IsVerdictFrom, Judged}
 
@@ -35,10 +37,11 @@ line_joined old new a b c d e number name part h i j k l m = rw (m, l, k, j, i, 
 
 -- ---- the verdict where the verifier has accepted, and where it has found this fault
 
-pub is_accepted : (w last : World) (x : Witness) (old new : List ℕ) (accepted : Bool) → (fold w x.steps ≡ Some last) × (outcome last ≡ Some (Deadlock x.blocked)) → old ≡ [] → new ≡ old ++ accepted_line → accepted ≡ true
-    → IsVerdictFrom w x new accepted
-is_accepted w last x old new true h e t is = (record { last = last; leads = h.0; stuck = h.1 }, t ∙ ap (λ (zs : List ℕ). zs ++ accepted_line) e)
-is_accepted w last x old new false h e t is = absurd (let h : ⊥ = cc in h)
+pub is_accepted : (w last : World) (x : Witness) (old new : List ℕ) (verdict : Verdict) → (fold w x.steps ≡ Some last) × (outcome last ≡ Some (Deadlock x.blocked)) → old ≡ [] → new ≡ old ++ accepted_line → verdict ≡ Good
+    → IsVerdictFrom w x new verdict
+is_accepted w last x old new verdict h e t is =
+    let P : Verdict → Type 0 = λ v. IsVerdictFrom w x new v in
+    subst P (sym is) (record { last = last; leads = h.0; stuck = h.1 }, t ∙ ap (λ (zs : List ℕ). zs ++ accepted_line) e)
 
 -- a fault of the witness itself
 abbrev pub IsOfWitness : WitnessFault → Type 0
@@ -53,26 +56,26 @@ no_memory NotStuck i h = let x : ⊥ = cc in x
 no_memory WrongBlocked i h = let x : ⊥ = cc in x
 no_memory Memory i h = i
 
-pub is_refused : (w : World) (x : Witness) (f e : WitnessFault) (old new : List ℕ) (accepted : Bool) → f ≡ e → IsOfWitness e → (f ≢ Memory → HasFault w 0 x.steps x.blocked f) → (IsWitnessFrom w x → f ≡ Memory)
-    → old ≡ [] → new ≡ old ++ refused_line e → accepted ≡ false → IsVerdictFrom w x new accepted
-is_refused w x f e old new true is i h n b t k = absurd (let h : ⊥ = cc in h)
-is_refused w x f e old new false is i h n b t k =
+pub is_refused : (w : World) (x : Witness) (f e : WitnessFault) (old new : List ℕ) (verdict : Verdict) → f ≡ e → IsOfWitness e → (f ≢ Memory → HasFault w 0 x.steps x.blocked f) → (IsWitnessFrom w x → f ≡ Memory)
+    → old ≡ [] → new ≡ old ++ refused_line e → verdict ≡ Bad → IsVerdictFrom w x new verdict
+is_refused w x f e old new verdict is i h n b t k =
     let not : f ≢ Memory = λ m. no_memory e i (sym is ∙ m) in
     let P : WitnessFault → Type 0 = λ y. HasFault w 0 x.steps x.blocked y in
-    (e, subst P is (h not), (λ z. not (n z)), t ∙ ap (λ (zs : List ℕ). zs ++ refused_line e) b)
+    let Q : Verdict → Type 0 = λ v. IsVerdictFrom w x new v in
+    subst Q (sym k) (e, subst P is (h not), (λ z. not (n z)), t ∙ ap (λ (zs : List ℕ). zs ++ refused_line e) b)
 
 -- ---- what is written
 
-pub was_told : (s : Program) (mode : Mode) (x : Witness) (old new : SinkSeen) (text bytes : List ℕ) (accepted : Bool) → IsVerdict s mode x text accepted → bytes ≡ text
-    → Appends old.contents new.contents bytes → new.failures ≡ old.failures → Judged s mode x old new (Ok accepted)
-was_told s mode x old new text bytes accepted v b a f =
+pub was_told : (s : Program) (mode : Mode) (x : Witness) (old new : SinkSeen) (text bytes : List ℕ) (verdict : Verdict) → IsVerdict s mode x text verdict → bytes ≡ text
+    → Appends old.contents new.contents bytes → new.failures ≡ old.failures → Judged s mode x old new (Ok verdict)
+was_told s mode x old new text bytes verdict v b a f =
     let P : List ℕ → Type 0 = λ t. Appends old.contents new.contents t in
     (text, v, subst P b a, f)
 
-pub was_cut : (s : Program) (mode : Mode) (x : Witness) (old new : SinkSeen) (text bytes : List ℕ) (accepted : Bool) → IsVerdict s mode x text accepted → bytes ≡ text
+pub was_cut : (s : Program) (mode : Mode) (x : Witness) (old new : SinkSeen) (text bytes : List ℕ) (verdict : Verdict) → IsVerdict s mode x text verdict → bytes ≡ text
     → AppendsPart old.contents new.contents bytes → new.failures ≡ old.failures + 1 → Judged s mode x old new (Err WriteFailed)
-was_cut s mode x old new text bytes accepted v b a f =
+was_cut s mode x old new text bytes verdict v b a f =
     let P : List ℕ → Type 0 = λ t. AppendsPart old.contents new.contents t in
-    (text, accepted, v, subst P b a, f)
+    (text, verdict, v, subst P b a, f)
 
 pub ruleset judging = (is_accepted, is_refused, was_told, was_cut)

@@ -1,5 +1,5 @@
 -- What is answered to a witness.
-use Rattle.std.specs.Prelude.{◌≡◌, ℕ, ◌+◌, Bool, true, false, List, [], ◌∷◌, ◌++◌, Result, Ok, Err, codes}
+use Rattle.std.specs.Prelude.{◌≡◌, ℕ, ◌+◌, List, [], ◌∷◌, ◌++◌, Result, Ok, Err, codes}
 use Rattle.std.specs.Fmt.{decimal}
 use Rattle.std.specs.Io.KnownBytes.{Appends}
 use Rattle.mpd_model.specs.declared.call.Mode.{Mode}
@@ -14,6 +14,8 @@ use Rattle.mpd_explore.specs.Faults.{witness_fault_number, witness_fault_name}
 use Rattle.mpd_explore.specs.Witness.{IsWitnessFrom, HasFault}
 use Rattle.mpd_lines.specs.declared.engine.EngineFault.{EngineFault}
 use Rattle.mpd_lines.specs.declared.engine.EngineFault.TheVariants.{ReadFailed, WriteFailed, TooManyTurns, Memory}
+use Rattle.mpd_lines.specs.declared.verdict.Verdict.{Verdict}
+use Rattle.mpd_lines.specs.declared.verdict.Verdict.TheVariants.{Good, Bad, NotWhole}
 use Rattle.mpd_lines.specs.Telling.{AppendsPart}
 
 abbrev pub accepted_line : List ℕ
@@ -31,20 +33,21 @@ abbrev pub refused_line : WitnessFault → List ℕ
 refused_line e = line (codes "refused " ++ decimal (witness_fault_number e) ++ 32 ∷ witness_fault_name e ++ place_part e)
 
 -- a witness that is one from here is accepted, and one that is none is refused for its first fault
-abbrev pub IsVerdictFrom : World → Witness → List ℕ → Bool → Type 0
-IsVerdictFrom w x text true = IsWitnessFrom w x × (text ≡ accepted_line)
-IsVerdictFrom w x text false = (e : WitnessFault) × HasFault w 0 x.steps x.blocked e × (IsWitnessFrom w x → ⊥) × (text ≡ refused_line e)
+abbrev pub IsVerdictFrom : World → Witness → List ℕ → Verdict → Type 0
+IsVerdictFrom w x text Good = IsWitnessFrom w x × (text ≡ accepted_line)
+IsVerdictFrom w x text Bad = (e : WitnessFault) × HasFault w 0 x.steps x.blocked e × (IsWitnessFrom w x → ⊥) × (text ≡ refused_line e)
+IsVerdictFrom w x text NotWhole = ⊥
 
 -- the same from the start of a script
-abbrev pub IsVerdict : Program → Mode → Witness → List ℕ → Bool → Type 0
-IsVerdict s mode x text accepted = IsVerdictFrom (start s mode) x text accepted
+abbrev pub IsVerdict : Program → Mode → Witness → List ℕ → Verdict → Type 0
+IsVerdict s mode x text verdict = IsVerdictFrom (start s mode) x text verdict
 
 -- The whole line was written; or a part of it until a write failed; or nothing, for want of memory.
-abbrev pub Judged : Program → Mode → Witness → SinkSeen → SinkSeen → Result Bool EngineFault → Type 0
-Judged s mode x old new (Ok accepted) =
-    (text : List ℕ) × IsVerdict s mode x text accepted × Appends old.contents new.contents text × (new.failures ≡ old.failures)
+abbrev pub Judged : Program → Mode → Witness → SinkSeen → SinkSeen → Result Verdict EngineFault → Type 0
+Judged s mode x old new (Ok verdict) =
+    (text : List ℕ) × IsVerdict s mode x text verdict × Appends old.contents new.contents text × (new.failures ≡ old.failures)
 Judged s mode x old new (Err WriteFailed) =
-    (text : List ℕ) × (accepted : Bool) × IsVerdict s mode x text accepted × AppendsPart old.contents new.contents text × (new.failures ≡ old.failures + 1)
+    (text : List ℕ) × (verdict : Verdict) × IsVerdict s mode x text verdict × AppendsPart old.contents new.contents text × (new.failures ≡ old.failures + 1)
 Judged s mode x old new (Err Memory) = new ≡ old
 Judged s mode x old new (Err ReadFailed) = ⊥
 Judged s mode x old new (Err TooManyTurns) = ⊥

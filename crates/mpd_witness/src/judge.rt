@@ -1,6 +1,6 @@
 //! The verdict on a witness, in one line (docs/FORMATS.md, "Witnesses").
 
-ghost use Rattle.std.specs.Prelude.{◌≡◌, ◌+◌, ◌≤◌, ◌++◌, [], true, false, IfOk, OnErr, vec_len, vec_capacity};
+ghost use Rattle.std.specs.Prelude.{◌≡◌, ◌+◌, ◌≤◌, ◌++◌, [], IfOk, OnErr, vec_len, vec_capacity};
 ghost use Rattle.mpd_explore.specs.Stops.{WantsMemory};
 ghost use Rattle.mpd_witness.specs.Verdict.{accepted_line, place_part, refused_line, IsVerdict, IsVerdictFrom, Judged};
 
@@ -13,6 +13,7 @@ use mpd_explore::verify::{WitnessFault, verify_from};
 use mpd_lines::engine::EngineFault;
 use mpd_lines::kept::push_all;
 use mpd_lines::outbox::write_all;
+use mpd_lines::verdict::Verdict;
 use mpd_model::call::Mode;
 use std::alloc::{AllocError, Global};
 
@@ -36,12 +37,12 @@ fn push_place(line: &mut Vec<u8>, fault: WitnessFault)
     }
 }
 
-/// Refuses a witness for this fault: adds the line, and answers that it isn't accepted.
+/// Refuses a witness for this fault: adds the line.
 #[tactic(auto, using(crate::proofs::VerdictLemmas::naming))]
-fn refuse(line: &mut Vec<u8>, fault: WitnessFault) -> bool
+fn refuse(line: &mut Vec<u8>, fault: WitnessFault) -> Verdict
     requires { vec_len line.old + LINE_ROOM ≤ vec_capacity line.old }
     ensures text { line.new.items ≡ line.old.items ++ refused_line fault }
-    ensures accepted { result ≡ false }
+    ensures verdict { result ≡ Verdict.Bad }
 {
     let mut digits = Buffer::new();
     push_all(line, b"refused ");
@@ -50,31 +51,30 @@ fn refuse(line: &mut Vec<u8>, fault: WitnessFault) -> bool
     push_all(line, fault.name().as_bytes());
     push_place(line, fault);
     push_all(line, b"\n");
-    false
+    Verdict::Bad
 }
 
-/// Accepts a witness: adds the line, and answers that it is accepted.
-fn accept(line: &mut Vec<u8>) -> bool
+/// Accepts a witness: adds the line.
+fn accept(line: &mut Vec<u8>) -> Verdict
     requires { vec_len line.old + LINE_ROOM ≤ vec_capacity line.old }
     ensures text { line.new.items ≡ line.old.items ++ accepted_line }
-    ensures accepted { result ≡ true }
+    ensures verdict { result ≡ Verdict.Good }
 {
     push_all(line, b"accepted\n");
-    true
+    Verdict::Good
 }
 
-/// Verifies a witness from where a core stands, and writes the verdict into an empty line, which has room for it. It answers whether
-/// the witness is accepted. An `Err` is want of memory, and comes only where `verify_from` wants some.
+/// Verifies a witness from where a core stands, and writes the verdict into an empty line, which has room for it. An `Err` is want of memory, and comes only where `verify_from` wants some.
 #[tactic(auto, using(crate::proofs::VerdictLemmas::judging))]
 fn verdict_from(
     alloc: Global,
     core: &mut Core<'_>,
     witness: &Witness,
     line: &mut Vec<u8>,
-) -> Result<bool, AllocError>
+) -> Result<Verdict, AllocError>
     requires empty { line.old.items ≡ [] }
     requires room { vec_len line.old + LINE_ROOM ≤ vec_capacity line.old }
-    ensures verdict { IfOk result (λ accepted. IsVerdictFrom core.old.world witness.now line.new.items accepted) }
+    ensures verdict { IfOk result (λ verdict. IsVerdictFrom core.old.world witness.now line.new.items verdict) }
     ensures memory { OnErr result (WantsMemory core.old.world witness.now.steps core.new.world) }
 {
     match verify_from(alloc, core, witness) {
@@ -87,16 +87,16 @@ fn verdict_from(
 }
 
 /// The same from the script's start, for which it wants memory too.
-fn verdict(
+fn verdict_at_start(
     alloc: Global,
     code: &Code,
     mode: Mode,
     witness: &Witness,
     line: &mut Vec<u8>,
-) -> Result<bool, AllocError>
+) -> Result<Verdict, AllocError>
     requires empty { line.old.items ≡ [] }
     requires room { vec_len line.old + LINE_ROOM ≤ vec_capacity line.old }
-    ensures { IfOk result (λ accepted. IsVerdict code.now.program mode witness.now line.new.items accepted) }
+    ensures { IfOk result (λ verdict. IsVerdict code.now.program mode witness.now line.new.items verdict) }
 {
     let mut core = Core::start(alloc, code, mode)?;
     verdict_from(alloc, &mut core, witness, line)
@@ -104,7 +104,7 @@ fn verdict(
 
 /// Takes the steps of a witness from the script's start, and writes the verdict to a sink: `accepted`, or `refused` with the number
 /// and the name of the first fault, and the place of the step, from 0, where that is what is wrong (docs/FORMATS.md, "Witnesses").
-/// It answers whether the witness is accepted. `Memory` comes only before anything is written, and `WriteFailed` (46) only where a
+/// `Good` is that the witness is accepted, `Bad` that it is refused. `Memory` comes only before anything is written, and `WriteFailed` (46) only where a
 /// write failed.
 #[tactic(auto, using(crate::proofs::VerdictLemmas::judging))]
 pub fn judge<W: Sink>(
@@ -113,17 +113,17 @@ pub fn judge<W: Sink>(
     mode: Mode,
     witness: &Witness,
     sink: &mut W,
-) -> Result<bool, EngineFault>
+) -> Result<Verdict, EngineFault>
     ensures { Judged code.now.program mode witness.now (W.seen sink.old) (W.seen sink.new) result }
 {
     let Ok(mut line) = Vec::with_capacity(alloc, LINE_ROOM) else {
         return Err(EngineFault::Memory);
     };
-    let Ok(accepted) = verdict(alloc, code, mode, witness, &mut line) else {
+    let Ok(verdict) = verdict_at_start(alloc, code, mode, witness, &mut line) else {
         return Err(EngineFault::Memory);
     };
     if write_all(sink, &line).is_err() {
         return Err(EngineFault::WriteFailed);
     }
-    Ok(accepted)
+    Ok(verdict)
 }

@@ -14,6 +14,7 @@ use mpd_check::{check, is_crew};
 use mpd_code::code::Code;
 use mpd_device::device::Sink;
 use mpd_explore::report::Limits;
+use mpd_lines::verdict::Verdict;
 use mpd_model::call::Mode;
 use mpd_model::limits::STEPS_MAX;
 use mpd_options::options::CheckOptions;
@@ -330,14 +331,14 @@ fn fault_of<'a>(fault: CheckFault) -> Fault<'a> {
     }
 }
 
-/// Looks for deadlocks in a script, and answers the status of the program.
-fn status_of<R: Clock + Eprint + Threads + Wait + Sync + AllocGlobal, W: Sink>(
+/// Looks for deadlocks and traps in a script.
+fn verdict_of<R: Clock + Eprint + Threads + Wait + Sync + AllocGlobal, W: Sink>(
     rt: &R,
     script: &(Mode, Code),
     options: CheckOptions,
     sink: &mut W,
     is_terminal: bool,
-) -> Result<u8, CheckFault>
+) -> Result<Verdict, CheckFault>
     requires { options.fuel ≤ STEPS_MAX }
 {
     if !is_crew(options.workers) {
@@ -347,7 +348,7 @@ fn status_of<R: Clock + Eprint + Threads + Wait + Sync + AllocGlobal, W: Sink>(
         Part::Modes(most) => {
             let (_, code) = script;
             let tried = check_modes(rt, code, most, options, sink, is_terminal)?;
-            return Ok(tried.status());
+            return Ok(tried.verdict());
         }
         Part::Sample(runs) => check_drawn(rt, script, options, runs, sink, is_terminal)?,
         Part::Whole => check_all(rt, script, options, sink, is_terminal)?,
@@ -355,25 +356,25 @@ fn status_of<R: Clock + Eprint + Threads + Wait + Sync + AllocGlobal, W: Sink>(
         Part::Count => {
             let (mode, code) = script;
             count_pieces(rt.alloc(), code, *mode, plan_of(options), sink)?;
-            return Ok(0);
+            return Ok(Verdict::Good);
         }
     };
     let (mode, code) = script;
-    Ok(tally.status(options.complete, *mode, code))
+    Ok(tally.verdict(options.complete, *mode, code))
 }
 
-/// Looks for deadlocks in a script, and answers the status of the program. The number of workers is tested first.
+/// Looks for deadlocks and traps in a script. The number of workers is tested first.
 pub(crate) fn check_script<'a, R: Clock + Eprint + Threads + Wait + Sync + AllocGlobal, W: Sink>(
     rt: &R,
     script: &(Mode, Code),
     options: CheckOptions,
     sink: &mut W,
     is_terminal: bool,
-) -> Result<u8, Fault<'a>>
+) -> Result<Verdict, Fault<'a>>
     requires { options.fuel ≤ STEPS_MAX }
 {
-    match status_of(rt, script, options, sink, is_terminal) {
-        Ok(status) => Ok(status),
+    match verdict_of(rt, script, options, sink, is_terminal) {
+        Ok(verdict) => Ok(verdict),
         Err(fault) => Err(fault_of(fault)),
     }
 }
