@@ -5,16 +5,15 @@ ghost use Rattle.mpd_core.specs.declared.fault.StepFault.TheVariants.{Memory};
 ghost use Rattle.mpd_core.specs.Faults.{step_fault_number, step_fault_name};
 
 use std::alloc::{AllocError, AllocFailed};
-use thiserror::Error;
+use std::error::Error;
+use std::fmt;
 
 /// Why a step is refused. The state is as before.
-#[derive(Clone, Copy, PartialEq, Eq, Debug, Error)]
+#[derive(Clone, Copy, PartialEq, Eq, Debug)]
 pub enum StepFault {
     /// The relation of steps has no step there.
-    #[error("not-enabled")]
     NotEnabled,
     /// A growth was refused.
-    #[error("memory")]
     Memory,
 }
 
@@ -39,6 +38,18 @@ impl StepFault {
         }
     }
 }
+
+impl fmt::Display for StepFault {
+    ghost use Rattle.std.specs.Prelude.{Some};
+
+    ghost output = { λ fault. Some (step_fault_name fault) };
+
+    fn fmt<W: fmt::Write>(&self, f: &mut fmt::Formatter<W>) -> fmt::Result {
+        f.write_str(self.name())
+    }
+}
+
+impl Error for StepFault {}
 
 impl<T: Drop> From<AllocFailed<T>> for StepFault {
     ghost from_gives = { λ _ e. e ≡ Memory };

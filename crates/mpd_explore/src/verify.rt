@@ -17,22 +17,19 @@ use mpd_model::call::Mode;
 use mpd_model::outcome::Outcome;
 use mpd_model::step::{CallId, Step};
 use std::alloc::{AllocError, Global};
-use thiserror::Error;
+use std::error::Error;
+use std::fmt;
 
 /// What is wrong with a witness.
-#[derive(Clone, Copy, PartialEq, Eq, Debug, Error)]
+#[derive(Clone, Copy, PartialEq, Eq, Debug)]
 pub enum WitnessFault {
     /// The step at this place, from 0, is not enabled there.
-    #[error("no-such-step")]
     NoSuchStep(usize),
     /// The steps don't lead to a deadlock.
-    #[error("not-stuck")]
     NotStuck,
     /// Other calls are blocked in that deadlock.
-    #[error("wrong-blocked")]
     WrongBlocked,
     /// A growth was refused.
-    #[error("memory")]
     Memory,
 }
 
@@ -61,6 +58,18 @@ impl WitnessFault {
         }
     }
 }
+
+impl fmt::Display for WitnessFault {
+    ghost use Rattle.std.specs.Prelude.{Some};
+
+    ghost output = { λ fault. Some (witness_fault_name fault) };
+
+    fn fmt<W: fmt::Write>(&self, f: &mut fmt::Formatter<W>) -> fmt::Result {
+        f.write_str(self.name())
+    }
+}
+
+impl Error for WitnessFault {}
 
 /// Whether two lists of calls are one.
 fn is_same(a: &[CallId], b: &[CallId]) -> bool
