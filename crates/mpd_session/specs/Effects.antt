@@ -1,5 +1,5 @@
 -- What each command comes to: a refusal, an answer that changes nothing, or one that changes something, with what is changed.
-use Rattle.std.specs.Prelude.{ℕ, ◌+◌, ◌-◌, Bool, ◌&&◌, nat_le, nat_lt, if◌then◌else◌, List, [], ◌∷◌, ◌++◌, map, length, take, slice_get, slice_set, Option, Some, None, option_map, is_some, codes}
+use Rattle.std.specs.Prelude.{ℕ, ◌+◌, ◌-◌, Bool, false, ◌&&◌, nat_le, nat_lt, if◌then◌else◌, List, [], ◌∷◌, ◌++◌, map, length, take, slice_get, slice_set, Option, Some, None, option_map, is_some, codes}
 use Rattle.std.specs.Fmt.{decimal}
 use Rattle.std.specs.List.{flat_map, range_with_len}
 use Rattle.mpd_model.specs.declared.limits.TheConstants.{STEPS_MAX, BREAKS_MAX}
@@ -103,10 +103,15 @@ goto_effect t n = if nat_lt t.depth n then (Refused NotBefore, t) else at_depth 
 abbrev pub OnBreaks : Type 0
 OnBreaks = Effect × List (Option Break)
 
+abbrev pub has_handle : Option RankWorld → ℕ → Bool
+has_handle None h = false
+has_handle (Some r) h = nat_lt h (length r.handles)
+
 -- The lines of a script are 1 to LINES_MAX.
 abbrev pub is_there : World → Break → Bool
 is_there w (on.Line n) = is_within 1 LINES_MAX n
 is_there w (on.Change p c) = is_some (cell_at w p c)
+is_there w (on.Handle p h) = has_handle (slice_get w.ranks p) h
 is_there w (on.Match n) = is_within 1 LINES_MAX n
 
 abbrev pub added_effect : List (Option Break) → Break → Option ℕ → OnBreaks
@@ -152,6 +157,7 @@ why_effect w c = if is_some (call_at w.board c) then Told (answer.Partners (map 
 abbrev pub break_text : Break → List ℕ
 break_text (on.Line n) = codes " line " ++ decimal n
 break_text (on.Change p c) = codes " change " ++ decimal p ++ 32 ∷ decimal c
+break_text (on.Handle p h) = codes " handle " ++ decimal p ++ 32 ∷ decimal h
 break_text (on.Match n) = codes " match " ++ decimal n
 
 abbrev pub place_texts : ℕ → Option Break → List (List ℕ)

@@ -260,7 +260,7 @@ pub(crate) fn purpose_of(topic: Topic) -> &'static str
         Topic::Local | Topic::Match | Topic::Wake | Topic::WakeAny | Topic::Release =>
             "takes this step",
         Topic::Break =>
-            "sets a breakpoint: behind a step by which a rank comes to that line, behind a match of a call of that line, behind a change of that variable of rank P",
+            "sets a breakpoint: behind a step by which a rank comes to that line, behind a match of a call of that line, behind a change of that variable or request of rank P",
         Topic::Delete => "removes a breakpoint",
         Topic::Breaks => "lists the breakpoints",
         Topic::List => "shows the script, and at each line which ranks stand there",

@@ -75,6 +75,7 @@ pub(crate) enum Shape {
     BreakLine,
     BreakMatch,
     BreakChange,
+    BreakHandle,
     Unbreak,
     Breaks,
     Explore,
