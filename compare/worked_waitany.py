@@ -162,7 +162,18 @@ ANY_BEHIND = ('mpd 2; ranks 2; var x; var y; var i; req r[2];\n'
               'else { isend r[0] 5 to 0 tag 0; isend r[1] 6 to 0 tag 1; }')
 ON_LINES = ('mpd 2; ranks 2; var x; var i; req r[2];\nif rank == 0 {\nirecv r[0] x from 1 tag 0;\nwaitany r to i;\nprint i; } else {\n'
             'send 7 to 0 tag 0; }')
-RUNS = (
+BESIDE_ANOTHER = ('mpd 2; ranks 1; var x; var i; req r[2]; req h;\nisend r[1] 5 to 0 tag 0;\nirecv h x from 0 tag any;\nwaitany r to i;')
+RUNS_ON = (
+    # past a single request that is complete; at two of them it stops
+    RunRow(BESIDE_ANOTHER, RENDEZVOUS, 'run 99: stop choice steps 4 depth 4; decide: choice wakeany 0 1; run-on 99: stop leaf steps 1 depth 5; '
+           'decide: leaf done; goto 0: ok 0; run-on 4: stop max steps 4 depth 4; run-on 1: stop leaf steps 1 depth 5'),
+    RunRow(TWO_CAME, RENDEZVOUS, 'run-on 99: stop choice steps 11 depth 11; decide: choice wakeany 0 0, wakeany 0 1'),
+    # a handle that is cleared by the step of a wait for any, and the others not
+    RunRow(BESIDE_ANOTHER, RENDEZVOUS, 'break handle 0 1: break 0; run-on 99: stop break 0 steps 1 depth 1; run-on 99: stop break 0 steps 4 depth 5; '
+           'run-on 99: stop leaf steps 0 depth 5; run-back: stop break 0 steps 1 depth 4; run-back: stop break 0 steps 4 depth 0'),
+    RunRow(BESIDE_ANOTHER, RENDEZVOUS, 'break handle 0 0: break 0; break handle 0 2: break 1; run-on 99: stop break 1 steps 2 depth 2; '
+           'run-on 99: stop leaf steps 3 depth 5; run-back: stop break 1 steps 4 depth 1'))
+RUNS = RUNS_ON + (
     # one candidate is still a choice
     RunRow(ALONE, RENDEZVOUS, 'run 100: stop choice steps 5 depth 5; decide: choice wakeany 0 0; run 0: stop choice steps 0 depth 5; '
            'wakeany 0 0: ok 6; decide: forced local 0; run 9: stop leaf steps 1 depth 7; decide: leaf done'),
