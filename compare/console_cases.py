@@ -140,7 +140,7 @@ class Talk:
     # ---- each word with what follows it
 
     def next(self):
-        decided = policy.decision(self.world)
+        decided = self.console.decided
         if isinstance(decided, Choice):
             count = len(decided.steps)
             return ['next', *([str(self.random.randint(1, count))] if self.chance(0.7) else self.maybe(lambda: self.edge(0, count, count + 1), 0.5))]
@@ -277,7 +277,7 @@ class Talk:
         if asked is None or len(line) > debugger.LONGEST_LINE:
             return False
         number = asked.given[0] if asked.given else None
-        if asked.word == 'run' or asked.word == 'next' and number is not None and isinstance(policy.decision(self.world), Forced):
+        if asked.word == 'run' or asked.word == 'next' and number is not None and isinstance(self.console.decided, Forced):
             is_within = number is not None and (number <= LONGEST_RUN or number > debugger.MOST_STEPS)
             return not is_within and not is_short(self.walked, self.console.session.breaks)
         if asked.word == 'check' and (number is None or 1 <= number <= explorer.MOST_RUNS):
@@ -334,13 +334,27 @@ class Talk:
     def note_choices(self, asked):
         """Counts where a choice is undone, and what goes so many steps or tells of all that wait."""
         worlds = self.walked.worlds[:-1]
-        is_undone = asked.word == 'undo-choice' and any(isinstance(policy.decision(world), Choice) for world in worlds)
-        is_left = is_undone and isinstance(policy.decision(worlds[-1]), Forced)
+        is_undone = asked.word == 'undo-choice' and any(isinstance(policy.settled(policy.decision(world)), Choice) for world in worlds)
+        is_left = is_undone and isinstance(policy.settled(policy.decision(worlds[-1])), Forced)
         self.met['a choice undone, and forced steps'] += is_left
         self.met['a choice undone, and steps that were undone'] += is_undone and bool(self.console.ahead)
-        self.met['so many steps by next'] += asked.word == 'next' and asked.given > (1,) and isinstance(policy.decision(self.world), Forced)
+        self.met['so many steps by next'] += asked.word == 'next' and asked.given > (1,) and isinstance(self.console.decided, Forced)
+        self.note_single(asked)
         self.met['why of several ranks'] += asked == Asked('why') and sum(rank.mode == 'blocked' for rank in self.world.ranks) > 1
         self.met['a run laid ahead in the place of others'] += asked.word in ('follow', *SOUGHT) and bool(self.console.ahead)
+
+
+    def note_single(self, asked):
+        """Counts what is done where a single candidate comes next, and breakpoints of requests."""
+        is_single = isinstance(policy.decision(self.world), Choice) and isinstance(self.console.decided, Forced)
+        self.met['a single candidate by next'] += is_single and asked == Asked('next')
+        self.met['a single candidate by next and a number'] += is_single and asked.word == 'next' and asked.given > (0,)
+        self.met['a single candidate by run'] += is_single and asked.word == 'run' and asked.given != (0,)
+        self.met['a single candidate, and steps ahead'] += is_single and asked.word in ('run', 'next') and bool(self.console.ahead)
+        singles = [isinstance(policy.decision(world), Choice) and isinstance(policy.settled(policy.decision(world)), Forced)
+                   for world in self.walked.worlds[:-1]]
+        self.met['a single candidate that undo-choice goes past'] += asked.word == 'undo-choice' and singles[-1:] == [True]
+        self.met['a breakpoint of a request'] += asked.word == 'break' and asked.given[0] == 'change' and asked.given[2].declared.kind == 'req'
 
 
 # ---- scripts and witnesses

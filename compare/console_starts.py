@@ -52,6 +52,8 @@ def refused(text):
 STARTS = (
     Start('a witness', BOTH_RECEIVE, b'deadlock 0.0 1.0\nlocal 0, local 1\n', RECEIVED),
     Start('a witness in a report', BOTH_RECEIVE, b'leaf 0 [] deadlock 0.0 1.0\nwitness 0: local 0, local 1\nleaves 1 more no\n', RECEIVED),
+    Start('a witness, and a long line', BOTH_RECEIVE.replace(';\n', f'; # {"a" * 60}\n').replace(f' # {"a" * 60}', '', 1),
+          b'deadlock 0.0 1.0\nlocal 0, local 1\n', ahead(f'recv x from 1 - rank tag 0; #\n        {"a" * 60}')),
     Start('a step that is not enabled', BOTH_RECEIVE, b'deadlock 0.0 1.0\nlocal 0, local 0\n', refused('witness refused 32 no-such-step at 1')),
     Start('a step of a rank that is not there', BOTH_RECEIVE, b'deadlock 0.0 1.0\nlocal 2\n', refused('witness refused 32 no-such-step at 0')),
     Start('steps that lead to no end', BOTH_RECEIVE, b'deadlock 0.0 1.0\nlocal 0\n', refused('witness refused 33 not-stuck')),

@@ -16,14 +16,16 @@ import explorer
 from console_starts import STARTS, start_problem
 from console_words import TABLE, full_name
 from examples import EXAMPLES
+from worked_console_along import ALONG
 from worked_console_choices import ALL_RUNS, CHOICES, MANY_RUNS
 from worked_console_looks import LOOKS
 from worked_console_moves import FIRST_RUNS, MOVES
 from worked_console_scripts import LOOP, Dialogue
 from worked_console_texts import TEXTS
+from worked_console_told import TOLD
 
 PAGE = os.path.join(os.path.dirname(EXAMPLES), 'docs', 'CONSOLE.md')
-DIALOGUES = MOVES + LOOKS + TEXTS + CHOICES
+DIALOGUES = MOVES + ALONG + LOOKS + TOLD + TEXTS + CHOICES
 SLOW = ALL_RUNS + FIRST_RUNS
 # What takes the model long: runs of 100,000 steps, and of one more.
 CUT = (

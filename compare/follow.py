@@ -29,7 +29,7 @@ from language import read_script
 from order import CHOSEN, LATER, all_calls, all_walks, steps_due
 from policy import (BREAK, CHOICE, FULL, LEAF, MAX, START, Breaks, ChangeBreak, Choice, Forced, HandleBreak, Leaf, LineBreak, MatchBreak,
                     Stop)
-from policy_faults import breakages, late_breakages
+from policy_faults import breakages, late_breakages, late_breakages_of_2
 from policy_words import decision_text, stop_text
 from walks import USUAL, trace_lines
 from worked_runs import RUNS
@@ -361,7 +361,7 @@ def missed(met):
 def check_broken(seed, count):
     """How many broken models are not noticed."""
     unnoticed = 0
-    for breakage in [*breakages(), *late_breakages(), *waitany_faults.decision_faults(), *waitany_faults.mark_faults()]:
+    for breakage in [*breakages(), *late_breakages(), *late_breakages_of_2(), *waitany_faults.decision_faults(), *waitany_faults.mark_faults()]:
         with mock.patch.object(breakage.owner, breakage.attribute, breakage.replacement):
             _, wrong = check(seed, count, to_end=False)
         unnoticed += not wrong

@@ -463,7 +463,6 @@ def run_on_faults():
         ('a run on that takes the first of two', by(first_of_all)),
         ('a run on that takes the first of those of one call', by(first_of_one_call)),
         ('a run on that stops at a single match', single_of('match')),
-        ('a run on that stops at a single wake by a handle', single_of('wakeany')),
         ('a run on that passes a breakpoint on a single candidate', past_breaks),
         ('a run on that does not count single candidates', uncounted),
         ('a run on that stops behind a single candidate', stops_behind),
@@ -478,8 +477,6 @@ def handle_faults():
     tests = (
         ('a handle that is cleared left out', lambda was, now, *_: was != now and now is not None),
         ('a handle that is cleared by a wake left out', lambda was, now, world, after, step, stop: was != now and step.kind != 'wake'),
-        ('a handle that is cleared by a wake by a handle left out', lambda was, now, world, after, step, stop: (
-            was != now and step.kind != 'wakeany')),
         ('a handle that is set left out', lambda was, now, *_: was != now and was is not None),
         ('a second call of a handle left out', lambda was, now, *_: was != now and None in (was, now)),
         ('a handle that is cleared alone', lambda was, now, *_: was != now and now is None),
@@ -496,6 +493,13 @@ def handle_faults():
 def late_breakages():
     """Those of runs past single candidates, and of handles."""
     return [*run_on_faults(), *handle_faults()]
+
+
+def late_breakages_of_2():
+    """Those of them that a script with waits for any alone shows."""
+    return [Breakage('a run on that stops at a single wake by a handle', policy, 'run_on', single_of('wakeany')),
+            Breakage('a handle that is cleared by a wake by a handle left out', policy, 'marked', of_handles(
+                lambda was, now, world, after, step, stop: was != now and step.kind != 'wakeany'))]
 
 
 def breakages():

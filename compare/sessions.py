@@ -24,6 +24,7 @@ from functools import cache
 from typing import NamedTuple, Optional
 from unittest import mock
 
+import policy_faults
 import session
 import slots_faults
 import waitany_faults
@@ -272,7 +273,7 @@ def breakages(chosen):
 
 def breakages_of_2():
     """Those of waits for any."""
-    return [*waitany_faults.decision_faults(), *waitany_faults.mark_faults()]
+    return [*waitany_faults.decision_faults(), *waitany_faults.mark_faults(), *policy_faults.late_breakages_of_2()]
 
 
 @cache

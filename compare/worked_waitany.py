@@ -12,7 +12,8 @@ from explorer import Asked
 from language import read_script
 from worked_explorer import CheckRow, PlaceRow, ToldRow, WitnessRow
 from worked_runs import RunRow
-from worked_sessions import ENABLED, NEXT, RUN, STATE, Dialogue, deep, needs_choice, no, ran, step, stepped
+from worked_sessions import (ENABLED, NEXT, RUN, RUN_BACK, RUN_ON, STATE, Dialogue, deep, handle_break, needs_choice, no, ran, set_break, step,
+                             stepped)
 from worked_texts import Input, trap_input
 from worked_traces import Row
 
@@ -298,7 +299,19 @@ TOLD = (
 
 CALLED = '"irecv from 1 tag 1 with 1.0 value 5","irecv from 1 tag 2 with 1.1 value 6","waitany 0 2"'
 SETS = '"pair 1.0 0.0","woke 1.0","pair 1.1 0.1","woke 1.1"'
+ONE_ENDS = ('mpd 2; ranks 2; var i; req r[1];\nif rank == 0 {\nisend r[0] 1 to 0 tag 0;\nwaitany r to i; } else {\nprint 1; }')
+
 DIALOGUES = (
+    Dialogue('a run past a single request that is complete, whose handle is a breakpoint', BESIDE_ANOTHER, (
+        (RUN, ran(4, 4, 'choice', 1)), (RUN_ON, ran(5, 1, 'leaf', 2)), ('{"cmd":"goto","depth":0}', deep(0, 3)), (RUN_ON, ran(5, 5, 'leaf', 4)),
+        (handle_break(0, 1), set_break(0, 5)), (RUN_BACK, ran(4, 1, 'break', 6, 0)), (RUN_BACK, ran(0, 4, 'break', 7, 0)),
+        (RUN_ON, ran(1, 1, 'break', 8, 0)), (RUN_ON, ran(5, 4, 'break', 9, 0)))),
+    Dialogue('a run up to a choice of two requests', TWO_CAME, (
+        (RUN_ON, ran(11, 11, 'choice', 1)), (NEXT, needs_choice(2)))),
+    # the step of a wait for any moves one rank, whatever line the other one is at
+    Dialogue('a line that another rank is at', ONE_ENDS, (
+        *((step(f'local {rank}'), deep(depth, depth)) for depth, rank in enumerate((0, 0, 0, 1), 1)), (step('wakeany 0 0'), deep(5, 5)),
+        ('{"cmd":"break","kind":"line","line":5}', set_break(0, 6)), (RUN_BACK, ran(3, 2, 'break', 7, 0))), BUFFERED),
     Dialogue('a run up to two requests that are complete, and the second of them', TWO_CAME, (
         (RUN, ran(11, 11, 'choice', 1)), ('{"choice":1,"cmd":"next"}', stepped(12, 'wakeany 0 1', 2)))),
     Dialogue('a choice of a request, and what is told of it', TWO_CAME, (
