@@ -301,6 +301,15 @@ depth 20
 5 ahead: match 3.0 0.2: rank 3, line 4, to rank 0, line 3
     4  }} else {{ send 1 to 0 tag 0; }}
 {TAKES_THREE}
+>
+22 match 3.0 0.2: rank 3, line 4, to rank 0, line 3
+4 ahead: wake 0: line 3
+{TAKES_THREE}
+> goto 21
+depth 21
+5 ahead: match 3.0 0.2: rank 3, line 4, to rank 0, line 3
+    4  }} else {{ send 1 to 0 tag 0; }}
+{TAKES_THREE}
 > next 3
 3 steps, depth 24
 stopped: as many steps as were asked for
