@@ -27,7 +27,7 @@ TOLD_BY = {
     **{f'a breakpoint {kind}': rf'breakpoint \d+: {kind} .*' for kind in ('line', 'match', 'change')},
     'names in short': r'rank \d+: \w+ = .*, \w+ = .*', 'an array in short': r'rank \d+: .*= \[-?\d+, .*', 'requests in short': r'rank \d+: .*= \[(-|\d+\.\d+), .*',
     'a call in short': r'rank \d+: .*= \d+\.\d+(, .*)?', 'more cells than are shown': r'rank \d+: .*, \.\.\](, .*)?', 'no cell in short': r'rank \d+: .*= \[\].*',
-    'nothing declared': r'rank \d+ has no variable', 'a request that is lost': rf'rank \d+ has lost a request: {CALL}.*',
+    'a request that is lost': rf'rank \d+ has lost a request: {CALL}.*',
     'a breakpoint of a cell of an array': r'breakpoint \d+: change \d+ \w+\[\d+\]', 'no breakpoint': r'no breakpoint', 'deleted': r'deleted \d+',
     'a line with ranks': r' +\d+  .*  <- rank \d+.*', 'a line with several ranks': r' +\d+  .*  <- rank \d+.*, rank .*',
     'a line with one that is blocked': r' +\d+  .*  <- .*rank \d+ blocked.*',
@@ -71,7 +71,7 @@ OF_DIALOGUES = ('slots', 'buffered', 'rendezvous', 'no mode', 'version 2', 'a wi
 # What is met in lines as they are written, of which those that go on stand behind eight blanks.
 OF_LINES = {'a line that goes on': r'\n {8}\S', 'a line that goes on twice': r'\n {8}\S.*\n {8}\S', 'a line of 80 bytes': r'\n[^\n]{80}\n',
             'a line of the script': r'\nnext: .*\n +\d+  ',
-            'two lines of the script': r'\nnext: match.*\n +\d+  .*\n +\d+  ', 'one line of the script for a match': r'\nnext: match.*\n +\d+  .*\n[^ ]',
+            'two lines of the script': r'\nnext: match.*\n +\d+  .*\n +\d+  ',
             'lines of the script below what is ahead': r'\n\d+ ahead: match.*\n +\d+  .*\n', 'a line of the script at a choice': r'\nstopped at .*line \d+:\n +\d+  ',
             'lost at an end': r'\nended: .*\n(  .*\n)*rank \d+ has lost'}
 MUST_MEET = (*TOLD_BY, *OF_EXPLANATIONS, *OF_ERRORS, *OF_DIALOGUES, *OF_LINES)

@@ -16,7 +16,8 @@ LONG_TEXTS = (
     'print 5; # ' + 'g' * 63 + ' h',
     'x=' + '+'.join('1' * 40) + ';',
     'print 6; # ' + 'i' * 62 + ' ',
-    'print 7; # ' + 'j' * 61 + ' k ' + 'l' * 70 + ' ' + 'm' * 73 + ' n')
+    'print 7; # ' + 'j' * 61 + ' k ' + 'l' * 70 + ' ' + 'm' * 73 + ' n',
+    'print 8; # ' + 'o' * 62 + '  ' + 'p' * 73 + ' q')
 LONG_LINES = '\n'.join(['mpd 1; ranks 1; var x; var a[24];', *LONG_TEXTS, ''])
 # Arrays of no cell, of one, of as many as are shown, and of one more.
 ARRAYS = '''mpd 1; ranks 1; var none[0]; var one[1]; var some[16]; var more[17]; req p[17]; req q[1];
@@ -104,6 +105,12 @@ next: local 0: line 9
         k {'l' * 70}
         {'m' * 73}
         n
+>
+8 local 0: line 9
+next: local 0: line 10
+   10  print 8; # {'o' * 62}
+         {'p' * 73}
+        q
 > list
 {LISTED}  <- rank 0
 >
@@ -128,11 +135,11 @@ unknown word
 > run 0
 refused: no such number
 > run
-1 step, depth 8
+1 step, depth 9
 ended: done
 > vars
 rank 0: x = 40, a = [0, 0, 0, 0, 0, 0, 0, 0, 0, 0, 0, 0, 0, 0, 0, 0, ..]
-rank 0 has printed 1 2 3 4 5 6 7
+rank 0 has printed 1 2 3 4 5 6 7 8
 '''),
     Dialogue('a state and trace words, as they are', 'mpd 1; ranks 1; var a[39];\na[0] = 1;', f'''
 > run
@@ -441,6 +448,15 @@ ended: leftovers 0.0
 > vars
 rank 0: r = 0.0, none = []
 rank 0 has printed -1
+'''),
+    Dialogue('where nothing but a request is', 'mpd 1; ranks 1; req r;\nisend r 1 to 0 tag 0;', '''
+> vars
+rank 0: r = -
+> run
+1 step, depth 1
+ended: leftovers 0.0
+> vars
+rank 0: r = 0.0
 '''))
 
 TOLD = LINES + LOST + SHORT
