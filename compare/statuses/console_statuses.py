@@ -18,7 +18,7 @@ from model.console import GREETING
 from model.debugger import MOST_READS, Result
 from model.files import held
 from model.modes import KNOWN
-from rows.console_starts import AHEAD, BOTH_RECEIVE, STARTS, TYPED
+from rows.console_starts import BOTH_RECEIVE, RECEIVED, STARTS, TYPED
 from rows.console_worked import DIALOGUES, ENDINGS, SLOW
 from rows.worked_console_scripts import LOOP
 from started.devices import SECONDS, Files, at_terminal, broken_off, device, file_of_any_size, full, refused, soft_limit, unread_pipe
@@ -128,7 +128,7 @@ def witness_rows(folder):
     yield 'a witness that is refused, errors full', folder.run(receives, '--witness', stuck, errors=full()), Result(b'', b'', 2)
     yield 'a witness that is refused, a terminal', at_terminal(folder.program, 'debug', receives, '--witness', stuck), not_stuck
     good = folder.file('good', b'deadlock 0.0 1.0\nlocal 0, local 1\n')
-    told = b''.join(AHEAD.output.splitlines(keepends=True)[:2])
+    told = b''.join(RECEIVED.output.splitlines(keepends=True)[:3])
     yield 'a witness, no words', folder.run(receives, '--witness', good, data=b''), Result(told, b'', 0)
     yield 'a witness, input closed', Files(None).run(folder.program, 'debug', receives, '--witness', good), device(told)
     yield 'a witness, output full', folder.run(receives, '--witness', good, data=b'', output=full()), device()
