@@ -57,10 +57,10 @@ def shares(usual=2, **named):
     return {word: named.get(word.replace('-', '_'), usual) for word in words}
 
 
-MOVING = Habits(shares(1, next=16, run=12, back=5, run_back=4, undo_choice=6, goto=4, redo=8, local=10, deadlock=3, trap=3, follow=4, history=2),
+MOVING = Habits(shares(1, next=16, run=12, back=5, run_back=4, undo_choice=6, goto=6, redo=8, local=10, deadlock=3, trap=3, follow=4, history=2),
                 (25, 40, 60))
 STOPPING = Habits(shares(1, next=8, run=16, back=4, run_back=12, redo=5, goto=2, **{'break': 12}, delete=4, breaks=4), (30, 50))
-LOOKING = Habits(shares(3, next=12, run=12, why=16, print=8, vars=4, list=4, calls=4, queues=4, ranks=4, enabled=4, check=6), (30, 45))
+LOOKING = Habits(shares(3, next=12, run=12, why=16, print=16, vars=6, list=4, calls=4, queues=4, ranks=4, enabled=4, check=6), (30, 45))
 ENDING = Habits(shares(1, next=10, run=22, back=3, undo_choice=8, redo=10, deadlock=8, trap=6, follow=8, check=8, why=6, history=3, goto=4), (25, 40))
 FILLING = Habits(shares(0, **{'break': 60}, delete=3, breaks=1, run=2, run_back=2), (90, 110), spoiled=0.01)
 SPOILED = Habits(shares(3, next=8, run=4), (40, 60), spoiled=0.6, empty=0.15)
@@ -137,7 +137,7 @@ class Talk:
     # ---- each word with what follows it
 
     def next(self):
-        decided = policy.decision(self.world)
+        decided = self.console.decided
         if isinstance(decided, Choice):
             count = len(decided.steps)
             return ['next', *([str(self.random.randint(1, count))] if self.chance(0.7) else self.maybe(lambda: self.edge(0, count, count + 1), 0.5))]
@@ -152,6 +152,9 @@ class Talk:
 
     def goto(self):
         depth, kept = self.walked.depth, len(self.walked.steps)
+        singles = self.singles()
+        if singles and self.chance(0.4):
+            return ['goto', str(self.random.choice(singles))]
         return ['goto', self.edge(0, depth, kept, self.random.randint(0, depth), self.random.randint(depth, kept))]
 
     def redo(self):
@@ -274,7 +277,7 @@ class Talk:
         if asked is None or len(line) > debugger.LONGEST_LINE:
             return False
         number = asked.given[0] if asked.given else None
-        if asked.word == 'run' or asked.word == 'next' and number is not None and isinstance(policy.decision(self.world), Forced):
+        if asked.word == 'run' or asked.word == 'next' and number is not None and isinstance(self.console.decided, Forced):
             is_within = number is not None and (number <= LONGEST_RUN or number > debugger.MOST_STEPS)
             return not is_within and not is_short(self.walked, self.console.session.breaks)
         if asked.word == 'check' and (number is None or 1 <= number <= explorer.MOST_RUNS):
@@ -331,13 +334,31 @@ class Talk:
     def note_choices(self, asked):
         """Counts where a choice is undone, and what goes so many steps or tells of all that wait."""
         worlds = self.walked.worlds[:-1]
-        is_undone = asked.word == 'undo-choice' and any(isinstance(policy.decision(world), Choice) for world in worlds)
-        is_left = is_undone and isinstance(policy.decision(worlds[-1]), Forced)
+        is_undone = asked.word == 'undo-choice' and any(isinstance(policy.settled(policy.decision(world)), Choice) for world in worlds)
+        is_left = is_undone and isinstance(policy.settled(policy.decision(worlds[-1])), Forced)
         self.met['a choice undone, and forced steps'] += is_left
         self.met['a choice undone, and steps that were undone'] += is_undone and bool(self.console.ahead)
-        self.met['so many steps by next'] += asked.word == 'next' and asked.given > (1,) and isinstance(policy.decision(self.world), Forced)
+        self.met['so many steps by next'] += asked.word == 'next' and asked.given > (1,) and isinstance(self.console.decided, Forced)
+        self.note_single(asked)
         self.met['why of several ranks'] += asked == Asked('why') and sum(rank.mode == 'blocked' for rank in self.world.ranks) > 1
         self.met['a run laid ahead in the place of others'] += asked.word in ('follow', *SOUGHT) and bool(self.console.ahead)
+
+
+    def singles(self):
+        """The depths up to this one where there is a single candidate."""
+        return [depth for depth, world in enumerate(self.walked.worlds)
+                if isinstance(policy.decision(world), Choice) and isinstance(policy.settled(policy.decision(world)), Forced)]
+
+    def note_single(self, asked):
+        """Counts what is done where a single candidate comes next, and breakpoints of requests."""
+        is_single = isinstance(policy.decision(self.world), Choice) and isinstance(self.console.decided, Forced)
+        self.met['a single candidate by next'] += is_single and asked == Asked('next')
+        self.met['a single candidate by next and a number'] += is_single and asked.word == 'next' and asked.given > (0,)
+        self.met['a single candidate by run'] += is_single and asked.word == 'run' and asked.given != (0,)
+        self.met['a single candidate, and steps ahead'] += is_single and asked.word in ('run', 'next') and bool(self.console.ahead)
+        is_past = asked.word == 'undo-choice' and any(depth < self.walked.depth for depth in self.singles())
+        self.met['a single candidate that undo-choice goes past'] += is_past
+        self.met['a breakpoint of a request'] += asked.word == 'break' and asked.given[0] == 'change' and asked.given[2].declared.kind == 'req'
 
 
 # ---- scripts and witnesses

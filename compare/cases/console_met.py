@@ -25,6 +25,9 @@ TOLD_BY = {
     'runs that end in several ways': r'\d+ runs, and .*\(.*, .*\)',
     'a run with choices': r'\d+ choices \d+( \d+)*: .*', 'a run without a choice': r'1 no choice: .*',
     **{f'a breakpoint {kind}': rf'breakpoint \d+: {kind} .*' for kind in ('line', 'match', 'change')},
+    'names in short': r'rank \d+: \w+ = .*, \w+ = .*', 'an array in short': r'rank \d+: .*= \[-?\d+, .*', 'requests in short': r'rank \d+: .*= \[(-|\d+\.\d+), .*',
+    'a call in short': r'rank \d+: .*= \d+\.\d+(, .*)?', 'more cells than are shown': r'rank \d+: .*, \.\.\](, .*)?', 'no cell in short': r'rank \d+: .*= \[\].*',
+    'a request that is lost': rf'rank \d+ has lost a request: {CALL}.*',
     'a breakpoint of a cell of an array': r'breakpoint \d+: change \d+ \w+\[\d+\]', 'no breakpoint': r'no breakpoint', 'deleted': r'deleted \d+',
     'a line with ranks': r' +\d+  .*  <- rank \d+.*', 'a line with several ranks': r' +\d+  .*  <- rank \d+.*, rank .*',
     'a line with one that is blocked': r' +\d+  .*  <- .*rank \d+ blocked.*',
@@ -44,8 +47,7 @@ TOLD_BY = {
     'help of one word': r'.*: (takes|goes|sets|removes|lists|shows|says|tries|looks|lays|ends).*',
     'an unknown word, with one that is near': r"unknown word '.*': perhaps .*", 'an unknown word': r"unknown word '.*': help lists all",
     'an unknown word with other bytes': r"unknown word '.*\?.*': .*", 'an unknown name': r"no variable or request is called '\w+'",
-    'no variable': r"no variable is called '\w+'", 'a name that is none': r"no variable or request is called '.*[^\w'].*'",
-    'no variable by a name that is none': r"no variable is called '.*[^\w'].*'",
+    'a name that is none': r"no variable or request is called '.*[^\w'].*'",
     **{f'refused: {why}': f'refused: {why}' for why in (
         'this step is not enabled', 'there is no such candidate', 'there is no such run', 'no choice was made',
         'fewer steps are taken', 'fewer steps are ahead', 'no such number',
@@ -63,13 +65,23 @@ OF_DIALOGUES = ('slots', 'buffered', 'rendezvous', 'no mode', 'version 2', 'a wi
                 'a short name', 'a run that chooses again', 'a run that chooses again by an empty line',
                 'all that are ahead, and more were asked for', 'a depth that is ahead', 'a breakpoint of the word line',
                 'a choice undone, and forced steps', 'a choice undone, and steps that were undone', 'so many steps by next', 'why of several ranks',
-                'a run laid ahead in the place of others')
-MUST_MEET = (*TOLD_BY, *OF_EXPLANATIONS, *OF_ERRORS, *OF_DIALOGUES)
+                'a run laid ahead in the place of others', 'a single candidate by next', 'a single candidate by next and a number',
+                'a single candidate by run', 'a single candidate, and steps ahead', 'a single candidate that undo-choice goes past',
+                'a breakpoint of a request')
+# What is met in lines as they are written, of which those that go on stand behind eight blanks.
+OF_LINES = {'a line that goes on': r'\n {8}\S', 'a line that goes on twice': r'\n {8}\S.*\n {8}\S', 'a line of 80 bytes': r'\n[^\n]{80}\n',
+            'a line of the script': r'\nnext: .*\n +\d+  ',
+            'two lines of the script': r'\nnext: match.*\n +\d+  .*\n +\d+  ',
+            'lines of the script below what is ahead': r'\n\d+ ahead: match.*\n +\d+  .*\n', 'a line of the script at a choice': r'\nstopped at .*line \d+:\n +\d+  ',
+            'lost at an end': r'\nended: .*\n(  .*\n)*rank \d+ has lost'}
+MUST_MEET = (*TOLD_BY, *OF_EXPLANATIONS, *OF_ERRORS, *OF_DIALOGUES, *OF_LINES)
 
 
 def met_in(case, wanted):
     """What a program may answer wrongly."""
-    lines = set(wanted.output.decode().split('\n'))
+    text = wanted.output.decode()
+    lines = set(text.replace('\n        ', ' ').split('\n'))
+    yield from [name for name, form in OF_LINES.items() if re.search(form, f'\n{text}')]
     yield from [name for name, form in TOLD_BY.items() if any(map(form.fullmatch, lines))]
     yield from [name for name in OF_EXPLANATIONS if any(map(EXPLAINED[name].match, lines))]
     yield from [name for name, form in OF_ERRORS.items() if re.match(form, wanted.errors)]

@@ -36,14 +36,14 @@ class Habits(NamedTuple):
 
 def commands(**shares):
     """A share for each command, 2 where none is named."""
-    names = ('step', 'next', 'run', 'back', 'redo', 'goto', 'run_back', 'enabled', 'state', 'vars', 'calls', 'why', 'set', 'unset', 'breaks', 'explore')
+    names = ('step', 'next', 'run', 'run_on', 'back', 'redo', 'goto', 'run_back', 'enabled', 'state', 'vars', 'calls', 'why', 'set', 'unset', 'breaks', 'explore')
     return {name: shares.get(name, 2) for name in names}
 
 
-USUAL = Habits(commands(step=14, next=8, run=6, back=4, redo=4, run_back=3, set=4, state=4), (20, 40, 60, 90))
+USUAL = Habits(commands(step=14, next=8, run=6, run_on=3, back=4, redo=4, run_back=3, set=4, state=4), (20, 40, 60, 90))
 FORWARD = Habits(commands(step=20, next=20, run=6, explore=3), (30, 60, 120), any_step=0.03)
 ALONG = Habits(commands(step=12, next=6, run=6, back=12, redo=12, goto=6, run_back=4, set=3), (40, 80, 120))
-MARKING = Habits(commands(step=6, next=6, run=16, run_back=12, set=12, unset=5, breaks=4, back=4, goto=4, redo=4), (40, 80, 120))
+MARKING = Habits(commands(step=6, next=6, run=10, run_on=10, run_back=12, set=12, unset=5, breaks=4, back=4, goto=4, redo=4), (40, 80, 120))
 ASKING = Habits(commands(step=10, next=8, run=8, vars=8, calls=8, why=16, state=8, enabled=8, explore=10), (30, 60))
 FILLING = Habits(commands(set=120, unset=6, run=6, run_back=4), (110, 140))
 SPOILED = Habits(commands(step=10, next=6, run=6, set=6, goto=3, vars=3), (60, 120), at=0.3, spoiled=0.75)
@@ -59,10 +59,10 @@ def near(random, number, most=None):
 
 
 def is_short(walked, breaks):
-    """Whether a run from here stops by itself within some steps."""
+    """Whether a run from here stops by itself within some steps, past choices of a single candidate too."""
     ran = Debugger.__new__(Debugger)
     ran.worlds, ran.steps = list(walked.worlds), list(walked.steps)
-    return policy.run(ran, breaks, LONGEST_RUN).cause != policy.MAX
+    return policy.run_on(ran, breaks, LONGEST_RUN).cause != policy.MAX
 
 
 def is_small(walked):
@@ -112,13 +112,16 @@ class Talk:
         self.met['a choice that is not looked at'] += isinstance(decided, Forced) and choice is not None
         return {'cmd': 'next', **({} if choice is None else {'choice': choice})}
 
-    def run(self):
+    def run(self, command='run'):
         most = self.random.choice([1, 2, 3, 5, 10, 30, 100, 100])
         if self.chance(0.2):
             most = self.random.choice([*EDGES, 1_000_000])
             if 100 < most <= 1_000_000 and not is_short(self.walked, self.session.breaks):
                 most = 100
-        return {'cmd': 'run', 'max': most}
+        return {'cmd': command, 'max': most}
+
+    def run_on(self):
+        return self.run('run-on')
 
     def back(self):
         depth = self.walked.depth
@@ -168,7 +171,9 @@ class Talk:
         return {'cmd': 'why', 'rank': rank, 'call': call}
 
     def set(self):
-        kind = self.random.choice(['line', 'match', 'change'])
+        kind = self.random.choice(['line', 'match', 'change', 'handle'])
+        if kind == 'handle':
+            return {'cmd': 'break', 'kind': kind, 'rank': self.rank(), 'handle': self.some(len(self.walked.world.ranks[0].handles))}
         if kind != 'change':
             line = self.random.choice(EDGES) if self.chance(0.1) else self.random.randint(1, self.source_lines)
             return {'cmd': 'break', 'kind': kind, 'line': line}
@@ -222,7 +227,7 @@ class Talk:
             request = parse(line)
         except Refused:
             return False
-        if request.command == 'run':
+        if request.command in ('run', 'run-on'):
             return request.fields['max'] > LONGEST_RUN and not is_short(self.walked, self.session.breaks)
         return request.command == 'explore' and max(request.fields.values()) > MOST_FUEL and not is_small(self.walked)
 
@@ -231,14 +236,19 @@ class Talk:
         for _ in range(count):
             data = self.line() + self.random.choice(ENDS)
             for line in lines_of(data):
-                self.note_stop(answer_line(self.session, line))
+                before = self.walked.depth
+                self.note_stop(answer_line(self.session, line), line, before)
             yield data
 
-    def note_stop(self, reply):
-        """Counts by which kind of breakpoint a run stopped, forward or back."""
+    def note_stop(self, reply, line, before):
+        """Counts by which kind of breakpoint a run stopped, forward or back, and what a run went past, by the depth before it."""
         if reply and reply.get('stop') == policy.BREAK:
             kind = type(self.session.breaks.get(reply['break'])).__name__.removesuffix('Break').lower()
             self.met[f'a stop by {kind}'] += 1
+        if reply and reply['ok'] and 'stop' in reply and parse(line).command == 'run-on':
+            singles = [isinstance(policy.decision(world), Choice) for world in self.walked.worlds[before:self.walked.depth]]
+            self.met['a run on past a single candidate'] += any(singles)
+            self.met['a run on that stops behind a single candidate'] += singles[-1:] == [True] and reply['stop'] == policy.BREAK
 
 
 def on_lines(random, script):

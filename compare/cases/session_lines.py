@@ -30,16 +30,16 @@ OTHER_VALUES = ('null', 'true', 'false', '[]', '{}', '[0]', '{"cmd":"state"}', '
 OTHER_TEXTS = ('null', 'true', '0', '[]', '{}', '["state"]', '""', '1.5')
 NO_COMMANDS = ('State', 'STATE', 'states', 'stat', ' state', 'state ', 'run_back', 'runback', 'Run-Back', 'show', 'undo', 'continue', 'quit', 'exit',
                'help', 'check', 'trace', 'wakeany', 'goto 0', 'cmd', '', '\x00', 'st\u00e4te', '\U0001f600', 'state\n', 'enabled\x00', 'unbreaks',
-               'breakpoint', 'walk', 'at', 'Next', 'back ', 'vars\t', 'call', 'explores')
+               'breakpoint', 'walk', 'at', 'Next', 'back ', 'vars\t', 'call', 'explores', 'run_on', 'runon', 'run on', 'Run-On', 'run-', 'run-ons')
 UNKNOWN_FIELDS = ('x', '', 'At', 'CMD', 'at ', ' cmd', 'id', 'count', 'max', 'depth', 'rank', 'line', 'choice', 'kind', 'cell', 'step', 'split',
                   'version', 'ok', 'cm\u0501', '\U0001f600', '$serde_json::private::Number', '$serde_json::private::RawValue', '__proto__')
-OTHERS_FIELDS = ('line', 'line', 'rank', 'cell', 'choice', 'choice', 'max', 'count', 'depth', 'kind', 'break', 'runs', 'fuel', 'call', 'step')
+OTHERS_FIELDS = ('line', 'line', 'rank', 'cell', 'handle', 'choice', 'choice', 'max', 'count', 'depth', 'kind', 'break', 'runs', 'fuel', 'call', 'step')
 ODD_STEPS = ('Local 0', 'LOCAL 0', 'local 0\n', '\nlocal 0', 'local\n0', 'local\r0', 'local 0\r', 'release\n', 'local\t0', '\tlocal 0', ' local 0', 'local 0 ',
              'local  0', 'local 00', 'local 000000000', 'local 0000000000', 'wake 1234567890', 'local', 'local 0 0', 'local x', 'local -1', 'local +0', 'local 0.0',
              'local\u00a00', 'local \u0660', 'local 0\x00', 'match 0.0', 'match 0.0 1.0 2.0', 'match 0 1', 'match 0.0,1.0', 'match .0 1.', 'match 0.0.0 1.0',
              'match 0.0\t\t1.0', 'match 00.0 01.0', 'match 999999999.0 0.999999999', 'release 0', 'Release', 'release', 'back', 'redo', 'show', 'enabled', 'goto 0',
              'wakeany 0 0', 'wake', 'wake 0', 'wakes 0', '', ' ', '\t', 'local 0, local 1', 'local 0;', '"local 0"', 'step', 'local\x0b0', 'match 0.0 1.0\n')
-ODD_KINDS = ('Line', 'LINE', 'lines', 'line ', ' line', '', 'match\n', 'changes', 'Change', 'watch', 'call', 'rank', 'line\x00', 'l\u0131ne', 'matc', 'break')
+ODD_KINDS = ('Line', 'LINE', 'lines', 'line ', ' line', '', 'match\n', 'changes', 'Change', 'watch', 'call', 'rank', 'line\x00', 'l\u0131ne', 'matc', 'break', 'handles', 'Handle', 'request')
 CHARACTERS = ('\x7f', '\x80', '\u00e4', '\u2028', '\u2029', '\ufeff', '\ufffd', '\uffff', '\U0001f600', '\U0010ffff', '/', "'", '\u00a0')
 # What stands before, behind or in a text, and is no blank of JSON.
 NO_BLANKS = ('\x0b', '\x0c', '\u00a0', '\u2028', '\ufeff', '\x00', '\x1f', '\u3000', '\x85', '\x7f', '\u200b', '\x1a')

@@ -150,10 +150,64 @@ def all_ahead(self):
 
 def next_too(self):
     """What tells the next step where steps are ahead, too."""
-    decided = policy.decision(self.world)
+    decided = self.decided
     is_ahead = self.debugger.depth < len(self.debugger.steps)
     told = [f'next: {console_lines.step_words(self.at, decided.step)}'] if isinstance(decided, Forced) and is_ahead else []
     return SOUND['where'](self) + told
+
+
+def below_candidates(self):
+    """What tells lines of the script below each candidate, too."""
+    lines, decided = SOUND['where'](self), self.decided
+    if not isinstance(decided, policy.Choice):
+        return lines
+    head = lines[:len(lines) - len(decided.steps)]
+    return head + [line for text, step in zip(lines[len(head):], decided.steps)
+                   for line in (text, *console_lines.source(self.text, console_lines.lines_about(self.at, step)))]
+
+
+def source_last(self):
+    """What tells the line of a choice behind its candidates."""
+    lines, decided = SOUND['where'](self), self.decided
+    if not isinstance(decided, policy.Choice) or not lines[-len(decided.steps) - 1].startswith('   '):
+        return lines
+    count = len(decided.steps)
+    return [*lines[:-count - 1], *lines[-count:], lines[-count - 1]]
+
+
+def lost_everywhere(self):
+    """What tells requests that are lost wherever it stands."""
+    lines = SOUND['where'](self)
+    return lines if isinstance(self.decided, policy.Leaf) else lines + self.lost(self.at)
+
+
+def lost_first(self):
+    """What tells them before it explains an end."""
+    lines, lost = SOUND['where'](self), self.lost(self.at)
+    return lines if not isinstance(self.decided, policy.Leaf) or not lost else [lines[0], *lost, *lines[1:-len(lost)]]
+
+
+def without_source(word):
+    """What leaves out lines of the script below a step that is ahead, or comes next."""
+    return lambda self, at, head, step: SOUND['with_source'](self, at, head, step)[:1 if word in head else None]
+
+
+def source_of_next(self, at, head, step):
+    """What tells the line at which the rank stands behind the step."""
+    behind = debugger.next_world(at.world, step)
+    rank = behind.ranks[step.first] if step.kind == 'local' else None
+    if rank is None or not debugger.can_run(rank):
+        return SOUND['with_source'](self, at, head, step)
+    return [SOUND['with_source'](self, at, head, step)[0], *console_lines.source(self.text, [rank.rest[0].line])]
+
+
+def source_once(self, at, head, step):
+    """What tells the first of the lines alone."""
+    return SOUND['with_source'](self, at, head, step)[:2]
+
+
+def ended_alone(self, at):
+    return [line for number, rank in enumerate(self.world.ranks) if console_lines.has_ended(rank) for line in console_lines.lost_lines(at, number)]
 
 
 def where_faults():
@@ -166,7 +220,20 @@ def where_faults():
             'what is ahead comes last': changed('where', lambda lines, self: sorted(lines, key=lambda line: ' ahead: ' in line)),
             'no next step': changed('where', without('next: ')),
             'no candidates': changed('where', lambda lines, self: [line for line in lines if not line.startswith('  ')]),
-            'no end': changed('where', without('ended: '))}),
+            'no end': changed('where', without('ended: ')),
+            'a line of the script below each candidate': below_candidates,
+            'lines of the script behind the candidates': source_last,
+            'requests that are lost, everywhere': lost_everywhere,
+            'requests that are lost before what is told of the end': lost_first}),
+        *named('with_source', {
+            'no line of the script below what is ahead': without_source('ahead'),
+            'no line of the script below what comes next': without_source('next'),
+            'the lines of the step behind it': source_of_next,
+            'one line of two': source_once}),
+        *named('lost', {
+            'no requests': lambda self, at: [],
+            'the last rank first': lambda self, at: SOUND['lost'](self, at)[::-1],
+            'those of a rank that has ended alone': ended_alone}),
         *named('explanation', {
             'none': lambda self, ended: (),
             'none of a trap': lambda self, ended: () if ended.startswith('trap') else SOUND['explanation'](self, ended),
@@ -186,24 +253,24 @@ def told_behind(self, step):
 
 def number_looked_at(self, number=None):
     """What looks at the number where there is nothing to choose."""
-    if number not in (None, 1) and isinstance(policy.decision(self.world), Forced):
+    if number not in (None, 1) and isinstance(self.decided, Forced):
         return [console.NO_CANDIDATE, *self.where()]
     return SOUND['next'](self, number)
 
 
 def one_whatever(self, number=None):
     """What takes one step where there is nothing to choose, whatever the number is."""
-    return SOUND['next'](self, None if isinstance(policy.decision(self.world), Forced) else number)
+    return SOUND['next'](self, None if isinstance(self.decided, Forced) else number)
 
 
 def one_as_taken(self, number=None):
     """What tells a step as it is taken, where one is asked for, and not as a run."""
-    return SOUND['next'](self, None if number == 1 and isinstance(policy.decision(self.world), Forced) else number)
+    return SOUND['next'](self, None if number == 1 and isinstance(self.decided, Forced) else number)
 
 
 def number_at_end(self, number=None):
     """What refuses a number at an end as a run does."""
-    is_end = number is not None and isinstance(policy.decision(self.world), policy.Leaf)
+    is_end = number is not None and isinstance(self.decided, policy.Leaf)
     return self.run(number) if is_end else SOUND['next'](self, number)
 
 
@@ -213,18 +280,18 @@ def next_is_redo(self, number=None):
 
 
 def refused_at_end(self, number=None):
-    return [console.REFUSALS[session.NOT_ENABLED]] if isinstance(policy.decision(self.world), policy.Leaf) else SOUND['next'](self, number)
+    return [console.REFUSALS[session.NOT_ENABLED]] if isinstance(self.decided, policy.Leaf) else SOUND['next'](self, number)
 
 
 def through_choices(self, most=session.MOST_COUNT):
     """What runs through choices that it comes to, where the step ahead is a candidate."""
     if self.can_choose_again:
         return SOUND['run'](self, most)
-    stop = policy.run(self.debugger, self.session.breaks, most) if 1 <= most <= session.MOST_COUNT else None
+    stop = policy.run_on(self.debugger, self.session.breaks, most) if 1 <= most <= session.MOST_COUNT else None
     made = 0 if stop is None else stop.steps
     while stop is not None and stop.cause == policy.CHOICE and self.debugger.depth < len(self.debugger.steps):
         self.debugger.redo()
-        stop = policy.run(self.debugger, self.session.breaks, session.MOST_COUNT)
+        stop = policy.run_on(self.debugger, self.session.breaks, session.MOST_COUNT)
         made += 1 + stop.steps
     return SOUND['run'](self, most) if stop is None else self.stopped(stop._replace(steps=made), '')
 
@@ -252,7 +319,7 @@ def choosing_again(change):
 
 def stays(self, *_):
     """What stays at the choice."""
-    return self.stopped(policy.run(self.debugger, self.session.breaks, 1), '')
+    return self.stopped(policy.run_on(self.debugger, self.session.breaks, 1), '')
 
 
 def drops(self, *_):
@@ -265,7 +332,7 @@ def drops(self, *_):
 def runs_on(self, *_):
     """What runs on behind the choice."""
     told = self.redo()
-    return [told[0], *self.stopped(policy.run(self.debugger, self.session.breaks, 100), '')[1:]]
+    return [told[0], *self.stopped(policy.run_on(self.debugger, self.session.breaks, 100), '')[1:]]
 
 
 def refused_at_choice(self, *given):
@@ -374,9 +441,9 @@ def move_faults():
             'what is ahead is dropped at a choice': choosing_again(drops),
             'a choice told as a run': choosing_again(lambda self, *_: [f'1 step, depth {self.debugger.depth + 1}', *self.redo()[1:]]),
             'on behind a choice': choosing_again(runs_on),
-            'the first candidate': choosing_again(lambda self, *_: self.take(policy.decision(self.world).steps[0])),
+            'the first candidate': choosing_again(lambda self, *_: self.take(self.decided.steps[0])),
             'the step ahead where it is a candidate': choosing_again(
-                lambda self, *_: self.redo() if self.ahead[0] in policy.decision(self.world).steps else stays(self)),
+                lambda self, *_: self.redo() if self.ahead[0] in self.decided.steps else stays(self)),
             'at a choice without a number alone': choosing_again(lambda self, *given: stays(self) if given else self.redo()),
             'so many steps behind a choice': choosing_again(lambda self, most=1: self.redo(most)),
             'a number of steps at a choice that is looked at': choosing_again(refused_at_choice),
@@ -448,46 +515,57 @@ def full_first(self, *given):
     return SOUND['set_break'](self, *given)
 
 
-def first_cell(self, word):
-    """What takes the first cell of an array where no index is said."""
-    declared = self.script.names.get(word.decode('latin-1'))
-    is_array = declared is not None and declared.kind == 'var' and declared.size
-    return declared.first if is_array else SOUND['cell'](self, word)
+def first_place(self, word):
+    """What takes the first place of an array where no index is said."""
+    meant = self.meant(word)
+    return meant._replace(places=meant.places[:1]) if len(meant.places) > 1 else SOUND['one'](self, word)
 
 
 def array_of_none(self, word):
-    """What takes no array without an index, one of one cell neither."""
+    """What takes no array without an index, one of one place neither."""
     declared = self.script.names.get(word.decode('latin-1'))
-    if declared is not None and declared.kind == 'var' and declared.size is not None:
+    if declared is not None and declared.size is not None:
         raise NotAsked(NO_SUCH_NUMBER)
-    return SOUND['cell'](self, word)
+    return SOUND['one'](self, word)
 
 
-def kind_first(self, word):
-    """What tells that a request is no variable before its index is looked at."""
-    declared = self.script.names.get(word.partition(b'[')[0].decode('latin-1'))
-    if declared is not None and declared.kind == 'req':
-        raise NotAsked(console.none_called('variable', word))
-    return SOUND['cell'](self, word)
+def variables_alone(self, word):
+    """What says that a request is no variable."""
+    if self.meant(word).declared.kind == 'req':
+        raise NotAsked(f"no variable is called '{console.shown(word)}'")
+    return SOUND['one'](self, word)
 
 
-def handle_as_cell(self, word):
-    """What takes a request for the variable whose cell has its number."""
-    meant = self.meant(word, 'variable')
-    if meant.declared.kind == 'req' and len(meant.places) == 1 and meant.declared.first + meant.places[0] < self.script.cells:
-        return meant.declared.first + meant.places[0]
-    return SOUND['cell'](self, word)
+def request_without_index(self, word):
+    """What takes the first of an array of requests where no index is said, and of one of cells none."""
+    meant = self.meant(word)
+    return meant._replace(places=meant.places[:1]) if meant.declared.kind == 'req' and meant.places else SOUND['one'](self, word)
 
 
-def ends_anyhow(self, word, kind):
+def handle_as_cell(self, *given):
+    """What sets a breakpoint of a request on the cell that has its number."""
+    if given[0] == 'change' and given[2].declared.kind == 'req':
+        cell = given[2].declared.first + given[2].places[0]
+        return [self.break_line(self.session.set_break('change', rank=given[1], cell=cell)['break'])]
+    return SOUND['set_break'](self, *given)
+
+
+def other_handle(self, *given):
+    """What sets it on the handle of the place in its array, and not among all."""
+    if given[0] == 'change' and given[2].declared.kind == 'req':
+        return SOUND['set_break'](self, *given[:2], given[2]._replace(declared=given[2].declared._replace(first=0)))
+    return SOUND['set_break'](self, *given)
+
+
+def ends_anyhow(self, word):
     """What doesn't want a bracket behind an index."""
-    return SOUND['meant'](self, word + b']' if b'[' in word and not word.endswith(b']') else word, kind)
+    return SOUND['meant'](self, word + b']' if b'[' in word and not word.endswith(b']') else word)
 
 
-def trimmed(self, word, kind):
+def trimmed(self, word):
     """What passes over what stands behind an index."""
     head, bracket, _ = word.partition(b']')
-    return SOUND['meant'](self, head + bracket, kind)
+    return SOUND['meant'](self, head + bracket)
 
 
 def index_of_any(self, declared, digits):
@@ -517,18 +595,26 @@ def with_cell(self, stop):
     return f'change {stop.rank} {stop.cell}' if isinstance(stop, policy.ChangeBreak) else SOUND['break_text'](self, stop)
 
 
+def with_handle(self, stop):
+    """What names the number of a handle, by the word that a session has for it."""
+    return f'handle {stop.rank} {stop.handle}' if isinstance(stop, policy.HandleBreak) else SOUND['break_text'](self, stop)
+
+
 def break_faults():
     return [
         *named('break_text', {
             'no index': lambda self, stop: SOUND['break_text'](self, stop).partition('[')[0],
             'a match as a line': lambda self, stop: SOUND['break_text'](self, stop).replace('match', 'line'),
-            'the number of the cell': with_cell}),
+            'the number of the cell': with_cell,
+            'a request by its number': with_handle}),
         *named('break_line', {
             'numbers from 1': lambda self, number: SOUND['break_line'](self, number).replace(f'breakpoint {number}', f'breakpoint {number + 1}')}),
         *named('understood', {
             'the rank before the name': rank_first}),
         *named('set_break', {
             'places before numbers': full_first,
+            'a request is the cell of its number': handle_as_cell,
+            'a request is the handle of its place': other_handle,
             'the word line is match': lambda self, kind, *given: SOUND['set_break'](self, 'match' if kind == 'line' else kind, *given)}),
         *named('delete', {
             'no number': lambda self, number: [SOUND['delete'](self, number)[0].partition(' ')[0]],
@@ -537,18 +623,18 @@ def break_faults():
             'nothing where there is none': changed('breaks', without('no breakpoint')),
             'the last one first': changed('breaks', lambda lines, self: lines[::-1])}),
         *named('none_called', {
-            'other quotes': lambda kind, word: SOUND_NONE_CALLED(kind, word).replace("'", '"'),
-            'always a variable': lambda kind, word: SOUND_NONE_CALLED('variable', word),
-            'the name alone': lambda kind, word: SOUND_NONE_CALLED(kind, word.partition(b'[')[0]),
-            'all bytes': lambda kind, word: f"no {kind} is called '{word.decode('latin-1')}'"}, owner=console),
+            'other quotes': lambda word: SOUND_NONE_CALLED(word).replace("'", '"'),
+            'always a variable': lambda word: SOUND_NONE_CALLED(word).replace(' or request', ''),
+            'the name alone': lambda word: SOUND_NONE_CALLED(word.partition(b'[')[0]),
+            'all bytes': lambda word: f"no variable or request is called '{word.decode('latin-1')}'"}, owner=console),
         *named('meant', {
             'no bracket at the end': ends_anyhow,
             'more behind an index': trimmed}),
-        *named('cell', {
-            'the first where no index is said': first_cell,
+        *named('one', {
+            'the first where no index is said': first_place,
+            'the first request where no index is said': request_without_index,
             'none of an array of one': array_of_none,
-            'a request before its index': kind_first,
-            'requests are variables': handle_as_cell}),
+            'a request is no variable': variables_alone}),
         *named('place', {
             'an index of what is no array': index_of_any,
             'all where there is no such index': all_where_none,

@@ -1,4 +1,5 @@
-"""Faults of the lines of the console's model: steps in words, calls, the script, variables, and why a call isn't matched (console_faults.py)."""
+"""Faults of the lines of the console's model: how long ones are cut, steps in words, calls, the script, variables, requests that are lost, and why
+a call isn't matched (console_faults.py)."""
 
 import re
 from inspect import isfunction
@@ -23,6 +24,82 @@ def changed(name, change):
     """What gives something else, by what the sound function gives, and what it is given."""
     return lambda *given: change(SOUND[name](*given), *given)
 
+
+# ---- long lines
+
+def cut_at_first(line, room):
+    """What cuts at the first blank that has something before it."""
+    place = SOUND['cut'](line, room)
+    return place if place is None else line.index(' ', len(line) - len(line.lstrip(' ')))
+
+
+def cut_anyhow(line, room):
+    """What cuts where there is no room, blank or not, where no blank stands before that."""
+    place = SOUND['cut'](line, room)
+    return room if len(line) > room and (place is None or place > room) else place
+
+
+def never_behind(line, room):
+    """What leaves a line that has no blank in its room."""
+    place = SOUND['cut'](line, room)
+    return None if place is not None and place > room else place
+
+
+def cut_at_any(line, room):
+    """What cuts at blanks that have nothing but blanks before them, too."""
+    place = line.rfind(' ', 0, room + 1) if len(line) > room else -1
+    return SOUND['cut'](line, room) if place < 0 else place
+
+
+def within(more, of_further=None):
+    """What has more room, or less, in a first line and in further ones."""
+    by_room = {console_lines.WIDTH: more, console_lines.WIDTH - console_lines.INDENT: more if of_further is None else of_further}
+    return lambda line, room: SOUND['cut'](line, room + by_room.get(room, 0))
+
+
+def one_byte_later(line, room):
+    """What wants one byte less before a blank."""
+    return SOUND['cut'](line, room) if len(line) <= room else SOUND['cut'](line, room - 1)
+
+
+def folded_once(line):
+    """What cuts a line once."""
+    first, *others = SOUND['folded'](line)
+    return [first] if not others else [first, f'        {line[len(first) + 1:]}']
+
+
+def with_blanks(change):
+    """What writes other blanks before what goes on."""
+    return changed('folded', lambda lines, _: [*lines[:1], *(change(line) for line in lines[1:])])
+
+
+def fold_faults():
+    return [
+        *named('cut', {
+            'at the first blank': cut_at_first,
+            'where no blank is, too': cut_anyhow,
+            'at no blank that is behind the room': never_behind,
+            'at blanks in front': cut_at_any,
+            'one byte more': within(1),
+            'one byte less': within(-1),
+            'as much room in further lines': within(0, console_lines.INDENT),
+            'one byte more in further lines': within(0, 1),
+            'one byte less in further lines': within(0, -1),
+            'one byte less before a blank': one_byte_later}),
+        *named('folded', {
+            'not at all': lambda line: [line],
+            'once': folded_once,
+            'seven blanks': with_blanks(lambda line: line[1:]),
+            'ten blanks': with_blanks(lambda line: f'  {line}'),
+            'no blanks': with_blanks(lambda line: line[8:]),
+            'no line of blanks alone': changed('folded', lambda lines, _: [line for line in lines if line.strip(' ') or line == lines[0]])}),
+        Breakage('folded: a list, too', console, 'UNFOLDED', console.UNFOLDED - {'list'}),
+        Breakage('folded: a state, too', console, 'UNFOLDED', console.UNFOLDED - {'show'}),
+        *[Breakage(f'folded: all but {word}', console, 'UNFOLDED', console.UNFOLDED | {word})
+          for word in ('help', 'print', 'vars', 'why', 'run', 'next', 'back')]]
+
+
+# ---- steps
 
 def told_otherwise(kind, change):
     """What tells the steps of a kind otherwise, by the sound words, the world and the step."""
@@ -109,8 +186,56 @@ def step_faults():
             'candidates from 0': changed('choice_lines', candidates_from_0),
             'no spaces in front': changed('choice_lines', lambda lines, *_: [line.strip() for line in lines]),
             'no rank': changed('choice_lines', lambda lines, *_: ['stopped at a choice:', *lines[1:]]),
-            'always a rank': lambda at, steps: [*SOUND['choice_lines'](at, steps[:1])[:1], *SOUND['choice_lines'](at, steps)[1:]],
-            'no colon': changed('choice_lines', lambda lines, *_: [lines[0].rstrip(':'), *lines[1:]])})]
+            'always a rank': lambda at, text, steps: [*SOUND['choice_lines'](at, text, steps[:1])[:1], *SOUND['choice_lines'](at, text, steps)[1:]],
+            'no colon': changed('choice_lines', lambda lines, *_: [lines[0].rstrip(':'), *lines[1:]]),
+            'no line of the script': changed('choice_lines', lambda lines, at, text, steps: [lines[0], *lines[-len(steps):]]),
+            'a line of the script for each of several': lines_of_all}),
+        *named('lines_about', {
+            'the send of a match alone': changed('lines_about', lambda lines, *_: lines[:1]),
+            'the receive of a match alone': changed('lines_about', lambda lines, *_: lines[-1:]),
+            'the receive of a match first': changed('lines_about', lambda lines, *_: lines[::-1]),
+            'by their numbers': changed('lines_about', lambda lines, *_: sorted(lines)),
+            'one line twice': both_lines,
+            'the line of the request of a wait for any, too': with_request,
+            'a wake where its rank goes on': goes_on_at,
+            'all ranks at a barrier': barrier_lines_too}),
+        *named('source', {
+            'without numbers': changed('source', lambda lines, *_: [line[7:] for line in lines]),
+            'by two spaces': changed('source', lambda lines, *_: [f'  {line.lstrip(" ")}' for line in lines]),
+            'without blanks in front': changed('source', lambda lines, *_: [f'{line[:7]}{line[7:].lstrip(" ")}' for line in lines]),
+            'from line 0': lambda text, numbers: SOUND['source'](text, [number + 1 for number in numbers]),
+            'carriage returns': lambda text, numbers: [SOUND['numbered'](number, text.decode().split('\n')[number - 1]) for number in numbers]})]
+
+
+def lines_of_all(at, text, steps):
+    """What tells a line of the script for each of several calls."""
+    lines = SOUND['choice_lines'](at, text, steps)
+    calls = dict.fromkeys(console_lines.chosen_for(at, step) for step in steps)
+    numbers = dict.fromkeys(console_lines.line_of(at, call_id) for call_id in calls)
+    return lines if len(calls) == 1 else [lines[0], *console_lines.source(text, numbers), *lines[1:]]
+
+
+def both_lines(at, step):
+    """What tells both lines of a match where they are one."""
+    lines = SOUND['lines_about'](at, step)
+    return lines * 2 if step.kind == 'match' and len(lines) == 1 else lines
+
+
+def with_request(at, step):
+    lines = SOUND['lines_about'](at, step)
+    return [*lines, console_lines.line_of(at, SOUND['request_of'](at.world, step))] if step.kind == 'wakeany' else lines
+
+
+def goes_on_at(at, step):
+    """What tells the line behind a wake."""
+    rank = at.world.ranks[step.first] if step.kind.startswith('wake') else None
+    return SOUND['lines_about'](at, step) if rank is None or rank.rest is None else [rank.rest[0].line]
+
+
+def barrier_lines_too(at, step):
+    """What tells the lines of the barriers that a release is of."""
+    numbers = [console_lines.line_of(at, last_call(at.world, number)) for number in range(len(at.world.ranks))]
+    return list(dict.fromkeys(numbers)) if step.kind == 'release' else SOUND['lines_about'](at, step)
 
 
 # ---- the script
@@ -196,6 +321,108 @@ def always_printed(at, names, number):
     return lines if at.world.ranks[number].printed else [*lines, f'rank {number} has printed']
 
 
+def lost_before_printed(at, names, number):
+    lines = SOUND['variable_lines'](at, names, number)
+    return [*lines[:1], *sorted(lines[1:], key=lambda line: ' has printed ' in line)]
+
+
+def name_by_name(at, names, number):
+    """What has a line for each name."""
+    lines = [SOUND['names_line'](at, {name: declared}, number) for name, declared in names.items()]
+    return [*(lines or [SOUND['names_line'](at, names, number)]), *SOUND['variable_lines'](at, names, number)[1:]]
+
+
+def in_words(at, number, declared, place):
+    """What tells a request in words."""
+    held = declared.kind == 'req' and at.world.ranks[number].handles[declared.first + place] is not None
+    return SOUND['request_text'](at, number, declared.first + place) if held else SOUND['short_text'](at, number, declared, place)
+
+
+def number_alone(at, number, declared, place):
+    """What tells a request by the number of its call."""
+    return SOUND['short_text'](at, number, declared, place).rpartition('.')[2]
+
+
+def short_faults():
+    return [
+        *named('short_text', {
+            'a request in words': in_words,
+            'the number of a call alone': number_alone,
+            'none for no request': changed('short_text', lambda text, *_: 'none' if text == '-' else text)}),
+        Breakage('short_value: 15 cells', console_lines, 'SHOWN', console_lines.SHOWN - 1),
+        Breakage('short_value: 17 cells', console_lines, 'SHOWN', console_lines.SHOWN + 1),
+        *named('short_value', {
+            'no sign of more': changed('short_value', lambda text, *_: text.replace(', ..', '')),
+            'a sign of more behind the bracket': changed('short_value', lambda text, *_: text.replace(', ..]', '], ..')),
+            'a sign of more where there are 16': lambda at, number, declared: (
+                f'{SOUND["short_value"](at, number, declared)[:-1]}, ..]' if declared.size == 16 else SOUND['short_value'](at, number, declared)),
+            'no cell': changed('short_value', lambda text, *_: 'no cell' if text == '[]' else text),
+            'no brackets': changed('short_value', lambda text, *_: text.strip('[]') or text),
+            'no blank behind a comma': changed('short_value', lambda text, *_: text.replace(', ', ',')),
+            'one cell as it is': lambda at, number, declared: (
+                SOUND['short_text'](at, number, declared, 0) if declared.size == 1 else SOUND['short_value'](at, number, declared))}),
+        *named('names_line', {
+            'no line where nothing is declared': lambda at, names, number: SOUND['names_line'](at, names, number) if names else f'rank {number}:',
+            'no variable where requests are alone': lambda at, names, number: (
+                SOUND['names_line'](at, names if any(declared.kind == 'var' for declared in names.values()) else {}, number)),
+            'no array of no cells': lambda at, names, number: SOUND['names_line'](
+                at, {name: declared for name, declared in names.items() if declared.size != 0}, number)})]
+
+
+# ---- requests that are lost
+
+def lost_where(is_lost):
+    """What takes other calls as lost: by the world, the rank, the call and its name."""
+    return lambda world, call_id: is_lost(world, world.ranks[call_id.rank], find_call(world, call_id), call_id)
+
+
+def is_request(call):
+    return call.kind in console_lines.MESSAGES and not call.blocks
+
+
+def sound_lost(world, call_id):
+    return SOUND['is_told_lost'](world, call_id)
+
+
+def has_issued_any(rank):
+    return any(call.kind == 'waitany' for call in rank.calls)
+
+
+def held_or_any(world, rank, call, call_id):
+    """Whether a call is lost, be it complete or not, beside waits for any, too."""
+    return is_request(call) and not SOUND['may_be_waited_for'](rank, call_id.number)
+
+
+def lost_faults():
+    return [
+        *named('is_told_lost', {
+            'complete ones beside a wait for any': lost_where(held_or_any),
+            'none that is complete': lost_where(lambda world, rank, call, call_id: sound_lost(world, call_id) and not debugger.is_done(world, call_id)),
+            'none beside a wait for any': lost_where(lambda world, rank, call, call_id: sound_lost(world, call_id) and not has_issued_any(rank)),
+            'a wait for any of another rank': lost_where(lambda world, rank, call, call_id: sound_lost(world, call_id) and not (
+                debugger.is_done(world, call_id) and any(map(has_issued_any, world.ranks)))),
+            'beside a wait for any that is over': lost_where(lambda world, rank, call, call_id: held_or_any(world, rank, call, call_id) and not (
+                debugger.is_done(world, call_id) and rank.calls[-1].kind == 'waitany' and rank.mode == 'blocked')),
+            'receives alone': lost_where(lambda world, rank, call, call_id: sound_lost(world, call_id) and call.kind == 'recv'),
+            'sends alone': lost_where(lambda world, rank, call, call_id: sound_lost(world, call_id) and call.kind == 'send'),
+            'synchronous sends left out': lost_where(lambda world, rank, call, call_id: sound_lost(world, call_id) and not call.synchronous),
+            'blocking calls, too': lost_where(lambda world, rank, call, call_id: sound_lost(world, call_id) or (
+                call.kind in console_lines.MESSAGES and call.blocks)),
+            'free ones alone are none': lost_where(lambda world, rank, call, call_id: sound_lost(world, call_id) or (
+                is_request(call) and call_id.number in rank.free and rank.mode == 'running' and rank.rest is None)),
+            'of a rank that has ended alone': lost_where(lambda world, rank, call, call_id: sound_lost(world, call_id) and (
+                console_lines.has_ended(rank)))}),
+        *named('may_be_waited_for', {
+            'handles alone': lambda rank, number: number in rank.handles,
+            'waits alone': lambda rank, number: any(call.kind == 'wait' and call.target == number for call in rank.calls),
+            'the last wait alone': lambda rank, number: number in rank.handles or any(
+                call.kind == 'wait' and call.target == number for call in rank.calls[-1:])}),
+        *named('lost_lines', {
+            'the last one first': changed('lost_lines', lambda lines, *_: lines[::-1]),
+            'the first one alone': changed('lost_lines', lambda lines, *_: lines[:1]),
+            'no line': changed('lost_lines', lambda lines, *_: [re.sub(r'line \d+, ', '', line) for line in lines])})]
+
+
 def marked_request(at, number, handle):
     held = at.world.ranks[number].handles[handle]
     return SOUND['request_text'](at, number, handle) if held is None else SOUND['marked_text'](at, CallId(number, held))
@@ -217,7 +444,10 @@ def variable_faults():
             'variables before requests': variables_first,
             'no requests': requests_left_out,
             'output first': printed_first,
-            'output that is none': always_printed}),
+            'output that is none': always_printed,
+            'requests that are lost before output': lost_before_printed,
+            'no requests that are lost': changed('variable_lines', lambda lines, *_: [line for line in lines if ' has lost ' not in line]),
+            'a line for each name': name_by_name}),
         *named('rank_line', {
             'no name of a trap': changed('rank_line', lambda text, *_: text.partition(': ')[0] if 'trapped' in text else text),
             'no call': changed('rank_line', lambda text, *_: text.partition(',')[0]),
@@ -320,4 +550,4 @@ def why_faults():
 
 
 def line_faults():
-    return [*step_faults(), *list_faults(), *variable_faults(), *queue_faults(), *why_faults()]
+    return [*fold_faults(), *step_faults(), *list_faults(), *short_faults(), *lost_faults(), *variable_faults(), *queue_faults(), *why_faults()]

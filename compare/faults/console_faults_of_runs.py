@@ -240,6 +240,11 @@ def last_where(is_there):
 
 
 def is_choice(world):
+    return isinstance(policy.settled(policy.decision(world)), Choice)
+
+
+def is_any_choice(world):
+    """Whether a check would have to choose, be it for a single candidate."""
     return isinstance(policy.decision(world), Choice)
 
 
@@ -282,7 +287,8 @@ def choice_faults():
             'where several steps were enabled': last_where(lambda world, step: len(enabled_steps(world)) > 1),
             'a match, forced or not': last_where(lambda world, step: step.kind in ('match', 'wakeany')),
             'where a candidate was taken': last_where(is_candidate),
-            'where there were several candidates': last_where(lambda world, step: is_choice(world) and len(policy.decision(world).steps) > 1),
+            'where there was a single candidate, too': last_where(lambda world, step: is_any_choice(world)),
+            'where a single candidate was': last_where(lambda world, step: is_any_choice(world) and not is_choice(world)),
             'the first choice': first_choice,
             'it stays at a choice': stays_at_choice,
             'the start where there was none': to_start,
@@ -291,5 +297,72 @@ def choice_faults():
         Breakage('undo_choice: fewer steps are taken', console, 'NO_CHOICE', console.REFUSALS[session.AT_START])]
 
 
+# ---- choices of a single candidate
+
+def single(self):
+    """The single candidate of where it stands; None where there is none."""
+    decided = policy.decision(self.world)
+    return decided.steps[0] if isinstance(decided, Choice) and len(decided.steps) == 1 else None
+
+
+def first_candidate(self):
+    """What takes the first candidate for what comes next."""
+    decided = policy.decision(self.world)
+    return policy.Forced(decided.steps[0]) if isinstance(decided, Choice) else decided
+
+
+def single_match(self):
+    """What takes a single match for what comes next, and a single request of a wait for any for a choice."""
+    step = single(self)
+    return policy.decision(self.world) if step is not None and step.kind == 'wakeany' else policy.settled(policy.decision(self.world))
+
+
+def single_wake(self):
+    """The other way round."""
+    step = single(self)
+    return policy.decision(self.world) if step is not None and step.kind == 'match' else policy.settled(policy.decision(self.world))
+
+
+def numbered_single(self, number=None):
+    """What takes a single candidate by its number."""
+    step = single(self)
+    if step is None or number is None:
+        return SOUND['next'](self, number)
+    return self.take(step) if number == 1 else [console.NO_CANDIDATE, *self.where()]
+
+
+def listed_single(self, number=None):
+    """What doesn't take a single candidate where no number is said."""
+    return self.where() if single(self) is not None and number is None else SOUND['next'](self, number)
+
+
+def stops_at_single(self, most=session.MOST_COUNT):
+    """What runs up to a single candidate."""
+    if self.can_choose_again:
+        return SOUND['run'](self, most)
+    must_be(1 <= most <= session.MOST_COUNT, session.BAD_NUMBER)
+    return self.stopped(policy.run(self.debugger, self.session.breaks, most), '')
+
+
+def again_at_single(self, most=session.MOST_COUNT):
+    """What takes the step ahead where a single candidate is, too."""
+    return self.redo() if most and self.ahead and single(self) is not None else SOUND['run'](self, most)
+
+
+def single_faults():
+    return [
+        *named('decided', {
+            'a single candidate is a choice': property(lambda self: policy.decision(self.world)),
+            'the first of several comes next': property(first_candidate),
+            'a single request is a choice': property(single_match),
+            'a single match is a choice': property(single_wake)}),
+        *named('next', {
+            'a single candidate by its number': numbered_single,
+            'a single candidate is not taken': listed_single}),
+        *named('run', {
+            'up to a single candidate': stops_at_single,
+            'the step ahead at a single candidate': again_at_single})]
+
+
 def run_faults():
-    return [*number_faults(), *seek_faults(), *choice_faults()]
+    return [*number_faults(), *seek_faults(), *choice_faults(), *single_faults()]

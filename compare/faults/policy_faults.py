@@ -204,6 +204,16 @@ def of_changes(test):
     return marked
 
 
+def of_handles(test):
+    """What marks by another test of a handle: of what it holds before and behind the step, the worlds, the step and the breakpoint."""
+    def marked(stop, world, step):
+        if not isinstance(stop, policy.HandleBreak):
+            return SOUND.marked(stop, world, step)
+        after = next_world(world, step)
+        return test(*(policy.handle_in(there, stop.rank, stop.handle) for there in (world, after)), world, after, step, stop)
+    return marked
+
+
 def of_matches(test):
     def marked(stop, world, step):
         if not isinstance(stop, policy.MatchBreak) or step.kind != 'match':
@@ -365,6 +375,132 @@ def break_faults():
     ]
 
 
+# ---- runs past choices of a single candidate, and breakpoints of handles: no word of policy_probe.py's copy has them
+
+def by(decide):
+    """What runs on by other decisions: of a world, and of what is decided there."""
+    return lambda walked, breaks, most: policy.follow(walked, breaks, most, lambda world: decide(world, policy.decision(world)))
+
+
+def is_single(decided):
+    return isinstance(decided, Choice) and len(decided.steps) == 1
+
+
+def single_of(kind):
+    """What goes past a choice of a single candidate where that is no step of a kind."""
+    return by(lambda world, decided: decided if is_single(decided) and decided.steps[0].kind == kind else policy.settled(decided))
+
+
+def first_of_all(world, decided):
+    """What takes the first candidate of each choice."""
+    return Forced(decided.steps[0]) if isinstance(decided, Choice) else decided
+
+
+def first_of_one_call(world, decided):
+    """What takes the first of the candidates of one receive or rank as if it were forced."""
+    calls = {step.second if step.kind == 'match' else step.first for step in decided.steps} if isinstance(decided, Choice) else ()
+    return Forced(decided.steps[0]) if len(calls) == 1 else decided
+
+
+def past_breaks(walked, breaks, most):
+    """What passes a breakpoint on a single candidate."""
+    made = 0
+    while True:
+        stop = policy.run(walked, breaks, max(0, most - made))
+        made += stop.steps
+        decided = policy.decision(walked.world)
+        if stop.cause != CHOICE or not is_single(decided) or made >= most or walked.depth >= debugger.MOST_STEPS:
+            return stop._replace(steps=made, cause=past(stop, decided, walked, made, most))
+        walked.take(decided.steps[0])
+        made += 1
+
+
+def past(stop, decided, walked, made, most):
+    """Why such a run stopped."""
+    if stop.cause != CHOICE or not is_single(decided):
+        return stop.cause
+    return FULL if walked.depth >= debugger.MOST_STEPS else MAX
+
+
+def uncounted(walked, breaks, most):
+    """What doesn't count the single candidates among its steps."""
+    before = walked.depth
+    stop = SOUND_RUN_ON(walked, breaks, most)
+    singles = sum(is_single(policy.decision(world)) for world in walked.worlds[before:walked.depth])
+    return stop._replace(steps=stop.steps - singles)
+
+
+def stops_behind(walked, breaks, most):
+    """What stops behind a single candidate, as at a choice."""
+    stop = policy.run(walked, breaks, most)
+    decided = policy.decision(walked.world)
+    if stop.cause != CHOICE or not is_single(decided) or stop.steps == most or walked.depth == debugger.MOST_STEPS:
+        return stop if stop.cause != CHOICE or not is_single(decided) else SOUND_RUN_ON(walked, breaks, most - stop.steps)._replace(steps=stop.steps)
+    walked.take(decided.steps[0])
+    return Stop(stop.steps + 1, CHOICE)
+
+
+def anew_behind(walked, breaks, most):
+    """What counts its steps anew behind a single candidate."""
+    before = walked.depth
+    stop = policy.run(walked, breaks, most)
+    while stop.cause == CHOICE and is_single(policy.decision(walked.world)) and walked.depth < debugger.MOST_STEPS and stop.steps < most:
+        stop = SOUND_RUN_ON(walked, breaks, 1)
+        stop = stop if stop.cause == BREAK else policy.run(walked, breaks, most)
+    if stop.cause == CHOICE and is_single(policy.decision(walked.world)):
+        stop = SOUND_RUN_ON(walked, breaks, 0)
+    return stop._replace(steps=walked.depth - before)
+
+
+SOUND_RUN_ON = policy.run_on
+
+
+def run_on_faults():
+    run_on = policy.run_on
+    names = (
+        ('a run on that stops at a single candidate', policy.run),
+        ('a run on that takes the first of two', by(first_of_all)),
+        ('a run on that takes the first of those of one call', by(first_of_one_call)),
+        ('a run on that stops at a single match', single_of('match')),
+        ('a run on that passes a breakpoint on a single candidate', past_breaks),
+        ('a run on that does not count single candidates', uncounted),
+        ('a run on that stops behind a single candidate', stops_behind),
+        ('a run on that counts anew behind a single candidate', anew_behind),
+        ('a run on that drops undone steps', forgetful(run_on)),
+        ('a run on that keeps undone steps', keeping_rest(run_on)),
+        ('a leaf or a choice before a breakpoint of a run on', past_leaf(run_on)))
+    return [Breakage('a run past single candidates', policy, 'run', run_on), *(Breakage(name, policy, 'run_on', ran) for name, ran in names)]
+
+
+def handle_faults():
+    tests = (
+        ('a handle that is cleared left out', lambda was, now, *_: was != now and now is not None),
+        ('a handle that is cleared by a wake left out', lambda was, now, world, after, step, stop: was != now and step.kind != 'wake'),
+        ('a handle that is set left out', lambda was, now, *_: was != now and was is not None),
+        ('a second call of a handle left out', lambda was, now, *_: was != now and None in (was, now)),
+        ('a handle that is cleared alone', lambda was, now, *_: was != now and now is None),
+        ('a call into any handle of the rank', lambda was, now, world, after, step, stop: stop.rank < len(world.ranks)
+            and stop.handle < len(world.ranks[stop.rank].handles) and world.ranks[stop.rank].handles != after.ranks[stop.rank].handles),
+        ('a handle of any rank', lambda was, now, world, after, step, stop: any(
+            policy.handle_in(world, rank, stop.handle) != policy.handle_in(after, rank, stop.handle) for rank in range(len(world.ranks)))),
+        ('the next handle', lambda was, now, world, after, step, stop: SOUND.marked(stop._replace(handle=stop.handle + 1), world, step)),
+        ('the cell of the number of a handle', lambda was, now, world, after, step, stop: (
+            policy.cell_in(world, stop.rank, stop.handle) != policy.cell_in(after, stop.rank, stop.handle))))
+    return [Breakage(name, policy, 'marked', of_handles(test)) for name, test in tests]
+
+
+def late_breakages():
+    """Those of runs past single candidates, and of handles."""
+    return [*run_on_faults(), *handle_faults()]
+
+
+def late_breakages_of_2():
+    """Those of them that a script with waits for any alone shows."""
+    return [Breakage('a run on that stops at a single wake by a handle', policy, 'run_on', single_of('wakeany')),
+            Breakage('a handle that is cleared by a wake by a handle left out', policy, 'marked', of_handles(
+                lambda was, now, world, after, step, stop: was != now and step.kind != 'wakeany'))]
+
+
 def breakages():
-    """All of them."""
+    """All of them but those."""
     return [*decision_faults(), *stop_faults(), *mark_faults(), *break_faults()]

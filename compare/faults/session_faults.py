@@ -585,4 +585,4 @@ def break_faults():
 def breakages():
     """All of them, and those of decisions, breakpoints and runs, but for how a leaf ends: no reply has that of a decision."""
     of_runs = [fault for fault in policy_faults.breakages() if fault.name != 'an outcome that is always done']
-    return [*version_faults(), *command_faults(), *of_runs]
+    return [*version_faults(), *command_faults(), *of_runs, *policy_faults.late_breakages()]

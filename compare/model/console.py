@@ -18,7 +18,7 @@ from model.debugger import (BAD_FILE, BAD_MODE, LONGEST_LINE, RENDEZVOUS, Result
                             step_text)
 from model.language import Declared, Fault, read_script
 from model.modes import is_mode
-from model.policy import BREAK, FULL, MAX, START, ChangeBreak, Choice, Forced, LineBreak
+from model.policy import BREAK, FULL, MAX, START, ChangeBreak, Choice, Forced, HandleBreak, LineBreak
 from model.session import Refused, Session, must_be
 from model.witness import BAD_REPORT, REFUSAL_NAMES, BadWitness, witness_of
 from model.worlds import Step
@@ -43,6 +43,8 @@ INDEX = re.compile(rb'([0-9]+)\]')
 # What a terminal is told first, on standard error.
 GREETING = 'help lists the words, quit ends; docs/CONSOLE.md'
 LONG_WITNESS = Result(b'', b'mpdbg: witness of more than 1000000 steps\n', 2)
+# Words whose answers have lines of any length.
+UNFOLDED = frozenset(['list', 'show', 'words', 'picture'])
 # In the place of the text of a witness: its file can't be read.
 NO_FILE = 'no file'
 
@@ -85,9 +87,9 @@ class Meant(NamedTuple):
     places: tuple
 
 
-def none_called(kind, word):
-    """What is told of a word that no variable, or no variable or request, is called by."""
-    return f"no {kind} is called '{shown(word)}'"
+def none_called(word):
+    """What is told of a word that no variable or request is called by."""
+    return f"no variable or request is called '{shown(word)}'"
 
 
 def leaf_of(witness):
@@ -103,7 +105,7 @@ class Console:
         self.script = read_script(text)
         self.session = Session(self.script, mode)
         self.last, self.is_over = None, False
-        self.first = '' if witness is None else text_of(self.found(leaf_of(witness)))
+        self.first = '' if witness is None else text_of(console_lines.all_folded(self.found(leaf_of(witness))))
 
     @property
     def debugger(self):
@@ -124,9 +126,14 @@ class Console:
         return self.debugger.steps[self.debugger.depth:]
 
     @property
+    def decided(self):
+        """What comes next: a choice is one of two candidates or more."""
+        return policy.settled(policy.decision(self.world))
+
+    @property
     def can_choose_again(self):
         """Whether it stands at a choice, and a step is undone."""
-        return bool(self.ahead) and isinstance(policy.decision(self.world), Choice)
+        return bool(self.ahead) and isinstance(self.decided, Choice)
 
     def prompt(self):
         return f'({self.debugger.depth}) '
@@ -141,11 +148,12 @@ class Console:
         try:
             asked = self.asked(line)
         except NotAsked as not_asked:
-            return [not_asked.told]
+            return console_lines.folded(not_asked.told)
         if asked is None:
             return []
         self.last = asked
-        return self.told(asked)
+        told = self.told(asked)
+        return told if asked.word in UNFOLDED else console_lines.all_folded(told)
 
     def asked(self, line):
         """What a line asks for: an empty one what was asked last, and a comment nothing."""
@@ -157,10 +165,10 @@ class Console:
         """What is asked, with what its name means."""
         if asked.word == 'print':
             name, *rank = asked.given
-            return Asked(asked.word, (self.meant(name, 'variable or request'), *rank))
+            return Asked(asked.word, (self.meant(name), *rank))
         if asked.word == 'break' and asked.given[0] == 'change':
             kind, rank, name = asked.given
-            return Asked(asked.word, (kind, rank, self.cell(name)))
+            return Asked(asked.word, (kind, rank, self.one(name)))
         return asked
 
     def told(self, asked):
@@ -180,14 +188,21 @@ class Console:
 
     def where(self):
         """Where it stands, behind each word that moves."""
-        at, decided = self.at, policy.decision(self.world)
-        ahead = self.ahead
-        lines = [f'{len(ahead)} ahead: {step_words(at, ahead[0])}'] if ahead else []
+        at, decided, ahead = self.at, self.decided, self.ahead
+        lines = self.with_source(at, f'{len(ahead)} ahead', ahead[0]) if ahead else []
         if isinstance(decided, Choice):
-            return lines + console_lines.choice_lines(at, decided.steps)
+            return lines + console_lines.choice_lines(at, self.text, decided.steps)
         if isinstance(decided, Forced):
-            return lines or [f'next: {step_words(at, decided.step)}']
-        return lines + [f'ended: {decided.outcome}', *self.explanation(decided.outcome)]
+            return lines or self.with_source(at, 'next', decided.step)
+        return lines + [f'ended: {decided.outcome}', *self.explanation(decided.outcome), *self.lost(at)]
+
+    def with_source(self, at, head, step):
+        """A step behind what it is, and the lines of the script that it is about."""
+        return [f'{head}: {step_words(at, step)}', *console_lines.source(self.text, console_lines.lines_about(at, step))]
+
+    def lost(self, at):
+        """The requests of all ranks that are lost."""
+        return [line for number in range(len(self.world.ranks)) for line in console_lines.lost_lines(at, number)]
 
     def explanation(self, ended):
         """What is told of a deadlock or a trap."""
@@ -203,7 +218,7 @@ class Console:
         return [f'{self.debugger.depth} {told}', *self.where()]
 
     def next(self, number=None):
-        decided = policy.decision(self.world)
+        decided = self.decided
         if isinstance(decided, Forced):
             return self.take(decided.step) if number is None else self.run(number)
         if isinstance(decided, policy.Leaf) or number is None:
@@ -213,11 +228,11 @@ class Console:
         return self.take(decided.steps[number - 1])
 
     def run(self, most=session.MOST_COUNT):
-        """Runs on; at a choice that was made before, and undone, it is made again, whatever the number is but 0."""
+        """Runs on past choices of a single candidate; at one that was made before, and undone, it is made again, whatever the number is but 0."""
         if most and self.can_choose_again:
             return self.redo()
         must_be(1 <= most <= session.MOST_COUNT, session.BAD_NUMBER)
-        return self.stopped(policy.run(self.debugger, self.session.breaks, most), '')
+        return self.stopped(policy.run_on(self.debugger, self.session.breaks, most), '')
 
     def stopped(self, stop, back):
         """What is told behind a run."""
@@ -243,7 +258,7 @@ class Console:
     def undo_choice(self):
         """Goes back to the last state before this one in which a choice is open."""
         for depth in reversed(range(self.debugger.depth)):
-            if isinstance(policy.decision(self.debugger.worlds[depth]), Choice):
+            if isinstance(policy.settled(policy.decision(self.debugger.worlds[depth])), Choice):
                 self.session.goto(depth)
                 return self.depth_lines()
         return [NO_CHOICE]
@@ -270,22 +285,26 @@ class Console:
     def break_text(self, stop):
         """A breakpoint as it was set."""
         if isinstance(stop, ChangeBreak):
-            return f'change {stop.rank} {self.cell_name(stop.cell)}'
+            return f'change {stop.rank} {self.cell_name("var", stop.cell)}'
+        if isinstance(stop, HandleBreak):
+            return f'change {stop.rank} {self.cell_name("req", stop.handle)}'
         return f'{"line" if isinstance(stop, LineBreak) else "match"} {stop.line}'
 
-    def cell_name(self, cell):
+    def cell_name(self, kind, cell):
+        """The name of a cell of variables, or of a handle."""
         names = {declared.first + place: console_lines.place_name(name, declared, place)
-                 for name, declared in self.script.names.items() if declared.kind == 'var' for place in console_lines.all_places(declared)}
+                 for name, declared in self.script.names.items() if declared.kind == kind for place in console_lines.all_places(declared)}
         return names[cell]
 
     def break_line(self, number):
         return f'breakpoint {number}: {self.break_text(self.session.breaks.get(number))}'
 
     def set_break(self, *given):
-        """A breakpoint of a line, of `match` and a line, or of `change`, a rank and a cell."""
+        """A breakpoint of a line, of `match` and a line, or of `change`, a rank and a variable or a request."""
         if given[0] == 'change':
-            _, rank, cell = given
-            there = self.session.set_break('change', rank=rank, cell=cell)
+            _, rank, (_, declared, (place,)) = given
+            kind, where = ('change', 'cell') if declared.kind == 'var' else ('handle', 'handle')
+            there = self.session.set_break(kind, rank=rank, **{where: declared.first + place})
         else:
             there = self.session.set_break('match' if given[0] == 'match' else 'line', line=given[-1])
         return [self.break_line(there['break'])]
@@ -300,12 +319,12 @@ class Console:
 
     # ---- names
 
-    def meant(self, word, kind):
-        """What a word means, of which what stands before its first `[` is the name; where that is none, no such kind of thing is called so."""
+    def meant(self, word):
+        """What a word means, of which what stands before its first `[` is the name."""
         name, bracket, index = word.partition(b'[')
         declared = self.script.names.get(name.decode('latin-1'))
         if declared is None or bracket and not INDEX.fullmatch(index):
-            raise NotAsked(none_called(kind, word))
+            raise NotAsked(none_called(word))
         places = self.place(declared, index.removesuffix(b']')) if bracket else console_lines.all_places(declared)
         return Meant(name.decode(), declared, tuple(places))
 
@@ -316,14 +335,12 @@ class Console:
             raise NotAsked(REFUSALS[session.BAD_NUMBER])
         return [index]
 
-    def cell(self, word):
-        """The one cell that a word means; an array of several, or of none, has none without an index."""
-        meant = self.meant(word, 'variable')
-        if meant.declared.kind != 'var':
-            raise NotAsked(none_called('variable', word))
+    def one(self, word):
+        """What a word means that is one variable or request; an array of several, or of none, isn't one without an index."""
+        meant = self.meant(word)
         if len(meant.places) != 1:
             raise NotAsked(REFUSALS[session.BAD_NUMBER])
-        return meant.declared.first + meant.places[0]
+        return meant
 
     def ranks_of(self, number=None):
         """All ranks, or the one of a number."""

@@ -1,15 +1,44 @@
-"""The lines of the console, in the model: steps in words, calls, lists of the script, variables, and why a call isn't matched.
+"""The lines of the console, in the model: how long ones are cut, steps in words, calls, lists of the script, variables, requests that are lost,
+and why a call isn't matched.
 
 What they are told of is `at`: a world, and the line of each call that was issued up to it (explaining.py).
 """
 
 from model import explaining, order
-from model.debugger import call_line, find_call, last_call, partner, pending, posted, step_text
+from model.debugger import call_line, find_call, is_done, last_call, partner, pending, posted, step_text
 from model.explaining import Reached, call_text, next_line, wish
 from model.worlds import CallId
 
 ABOUT = 4
+# How long a line of an answer is at most where it can be cut, and how many blanks stand before what goes on.
+WIDTH, INDENT = 80, 8
+# So many cells of an array are shown in short.
+SHOWN = 16
 MESSAGES = 'send', 'recv'
+
+
+def cut(line, room):
+    """Where a line is cut that has so much room: at the last blank that leaves no more before it, else at the first one, of those that have
+    something before them; None where there is none, or the line has room."""
+    if len(line) <= room:
+        return None
+    begin = len(line) - len(line.lstrip(' '))
+    place = line.rfind(' ', begin, room + 1)
+    place = line.find(' ', begin) if place < 0 else place
+    return None if place < 0 else place
+
+
+def folded(line):
+    """A line of an answer, in as many as it takes."""
+    found, rest, room, indent = [], line, WIDTH, ''
+    while (place := cut(rest, room)) is not None:
+        found.append(indent + rest[:place])
+        rest, room, indent = rest[place + 1:], WIDTH - INDENT, ' ' * INDENT
+    return [*found, indent + rest]
+
+
+def all_folded(lines):
+    return [part for line in lines for part in folded(line)]
 
 
 def reached(walked):
@@ -39,8 +68,7 @@ def step_words(at, step):
         return f'{text}: all ranks leave the barrier'
     if step.kind == 'match':
         send, receive = step.first, step.second
-        return (f'{text}: the send of rank {send.rank}, line {line_of(at, send)}, to the receive of rank {receive.rank}, '
-                f'line {line_of(at, receive)}')
+        return f'{text}: rank {send.rank}, line {line_of(at, send)}, to rank {receive.rank}, line {line_of(at, receive)}'
     if step.kind == 'local':
         return f'{text}: line {next_line(at.world.ranks[step.first])}'
     waiting = f'{text}: line {line_of(at, last_call(at.world, step.first))}'
@@ -53,16 +81,29 @@ def request_of(world, step):
     return CallId(step.first, world.ranks[step.first].handles[wait.first + step.second])
 
 
+def lines_about(at, step):
+    """The numbers of the lines that a step is about, each once."""
+    if step.kind == 'release':
+        return []
+    if step.kind == 'match':
+        return list(dict.fromkeys([line_of(at, step.first), line_of(at, step.second)]))
+    return [next_line(at.world.ranks[step.first]) if step.kind == 'local' else line_of(at, last_call(at.world, step.first))]
+
+
 def chosen_for(at, step):
     """The call that a candidate is of: the receive of a match, or the wait for any of a wake."""
     return step.second if step.kind == 'match' else last_call(at.world, step.first)
 
 
-def choice_lines(at, steps):
-    """What is told of a choice."""
+def choice_lines(at, text, steps):
+    """What is told of a choice, with the line of the script where it is one of a single call."""
     calls = {chosen_for(at, step) for step in steps}
-    where = [f' of rank {call_id.rank}, line {line_of(at, call_id)}' for call_id in calls] if len(calls) == 1 else ['']
-    return [f'stopped at a choice{where[0]}:', *(f'  {number} {step_words(at, step)}' for number, step in enumerate(steps, 1))]
+    candidates = [f'  {number} {step_words(at, step)}' for number, step in enumerate(steps, 1)]
+    if len(calls) > 1:
+        return ['stopped at a choice:', *candidates]
+    call_id, = calls
+    line = line_of(at, call_id)
+    return [f'stopped at a choice of rank {call_id.rank}, line {line}:', *source(text, [line]), *candidates]
 
 
 # ---- the script
@@ -71,6 +112,17 @@ def source_lines(text):
     """The lines of a script, each without its end."""
     lines = text.decode().split('\n')
     return [line.removesuffix('\r') for line in (lines[:-1] if lines[-1] == '' else lines)]
+
+
+def numbered(number, line):
+    """A line of the script as it is listed."""
+    return f'{number:5}  {line}'
+
+
+def source(text, numbers):
+    """The lines of a script of some numbers, in this order; those that it doesn't have are left out."""
+    lines = source_lines(text)
+    return [numbered(number, lines[number - 1]) for number in numbers if 0 < number <= len(lines)]
 
 
 def has_ended(rank):
@@ -96,7 +148,7 @@ def listed(at, text, lines):
     for number, line in enumerate(source_lines(text), 1):
         ranks = [standing(at, rank) for rank in range(len(at.world.ranks)) if stands_at(at, rank) == number]
         if number in lines:
-            yield f'{number:5}  {line}' + (f'  <- {", ".join(ranks)}' if ranks else '')
+            yield numbered(number, line) + (f'  <- {", ".join(ranks)}' if ranks else '')
 
 
 def whole_list(at, text):
@@ -139,11 +191,54 @@ def all_places(declared):
     return range(1 if declared.size is None else declared.size)
 
 
+def short_text(at, number, declared, place):
+    """What stands at a place of what was declared, of a request its call alone."""
+    rank, cell = at.world.ranks[number], declared.first + place
+    if declared.kind == 'var':
+        return str(rank.cells[cell])
+    return '-' if rank.handles[cell] is None else str(CallId(number, rank.handles[cell]))
+
+
+def short_value(at, number, declared):
+    """What was declared, in short: an array in brackets, of which the first cells are shown."""
+    if declared.size is None:
+        return short_text(at, number, declared, 0)
+    values = [short_text(at, number, declared, place) for place in range(min(declared.size, SHOWN))]
+    return f'[{", ".join(values + [".."] * (declared.size > SHOWN))}]'
+
+
+def names_line(at, names, number):
+    """All names of a rank in a line."""
+    values = [f'{name} = {short_value(at, number, declared)}' for name, declared in names.items()]
+    return f'rank {number}: {", ".join(values)}' if values else f'rank {number} has no variable'
+
+
 def variable_lines(at, names, number):
-    """All names of a rank, and what it has printed."""
-    lines = [value_line(at, number, name, declared, all_places(declared)) for name, declared in names.items()]
+    """All names of a rank, what it has printed, and its requests that are lost."""
     printed = at.world.ranks[number].printed
-    return lines + ([f'rank {number} has printed {" ".join(map(str, printed))}'] if printed else [])
+    told = [f'rank {number} has printed {" ".join(map(str, printed))}'] if printed else []
+    return [names_line(at, names, number), *told, *lost_lines(at, number)]
+
+
+# ---- requests that are lost
+
+def may_be_waited_for(rank, number):
+    """Whether a handle of a rank holds a call, or a wait of it is for that."""
+    return number in rank.handles or any(call.kind == 'wait' and call.target == number for call in rank.calls)
+
+
+def is_told_lost(world, call_id):
+    """Whether nobody can wait for a call any more, and no wait for any may have done so."""
+    rank, call = world.ranks[call_id.rank], find_call(world, call_id)
+    if call.kind not in MESSAGES or call.blocks or may_be_waited_for(rank, call_id.number):
+        return False
+    return not (is_done(world, call_id) and any(other.kind == 'waitany' for other in rank.calls))
+
+
+def lost_lines(at, number):
+    """The requests of a rank that are lost."""
+    calls = [CallId(number, place) for place in range(len(at.world.ranks[number].calls))]
+    return [f'rank {number} has lost a request: {call_text(at, call_id)}' for call_id in calls if is_told_lost(at.world, call_id)]
 
 
 # ---- ranks and calls

@@ -56,6 +56,11 @@ def decision(world):
     return Choice(tuple(steps)) if steps else Leaf(outcome(world))
 
 
+def settled(decided):
+    """A decision where a choice of a single candidate is that step, as a forced one is."""
+    return Forced(decided.steps[0]) if isinstance(decided, Choice) and len(decided.steps) == 1 else decided
+
+
 class LineBreak(NamedTuple):
     """A rank comes to a statement of a line, or all ranks leave a barrier and one of them does."""
     line: int
@@ -65,6 +70,12 @@ class ChangeBreak(NamedTuple):
     """A cell of a rank gets another value."""
     rank: int
     cell: int
+
+
+class HandleBreak(NamedTuple):
+    """A handle of a rank gets another call, or gets one, or has none any more."""
+    rank: int
+    handle: int
 
 
 class MatchBreak(NamedTuple):
@@ -92,6 +103,13 @@ def cell_in(world, number, cell):
     return world.ranks[number].cells[cell]
 
 
+def handle_in(world, number, handle):
+    """What a handle holds; None where it holds nothing, or isn't there."""
+    if number >= len(world.ranks) or handle >= len(world.ranks[number].handles):
+        return None
+    return world.ranks[number].handles[handle]
+
+
 def matches_line(world, step, line):
     """Whether a step is a match of a call that a statement of a line made."""
     return step.kind == 'match' and line in (find_call(world, step.first).line, find_call(world, step.second).line)
@@ -104,6 +122,8 @@ def marked(stop, world, step):
         return comes_to_line(after, step, stop.line)
     if isinstance(stop, ChangeBreak):
         return cell_in(world, stop.rank, stop.cell) != cell_in(after, stop.rank, stop.cell)
+    if isinstance(stop, HandleBreak):
+        return handle_in(world, stop.rank, stop.handle) != handle_in(after, stop.rank, stop.handle)
     return matches_line(world, step, stop.line)
 
 
@@ -158,9 +178,19 @@ def standstill(walked, decided, made, most):
 
 def run(walked, breaks, most):
     """Follows forced steps up to a breakpoint, a leaf, a choice, the last depth, or so many steps."""
+    return follow(walked, breaks, most, decision)
+
+
+def run_on(walked, breaks, most):
+    """The same, but for choices of a single candidate, which it takes as if it were forced."""
+    return follow(walked, breaks, most, lambda world: settled(decision(world)))
+
+
+def follow(walked, breaks, most, decide):
+    """Follows what is forced, by what decides in a world."""
     made = 0
     while True:
-        decided = decision(walked.world)
+        decided = decide(walked.world)
         cause = standstill(walked, decided, made, most)
         if cause is not None:
             return Stop(made, cause)

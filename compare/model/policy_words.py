@@ -7,19 +7,21 @@ the crates. All other words are trace words.
 |---|---|
 | `decide` | `forced STEP`, `choice STEP, ..` or `leaf OUTCOME` |
 | `run N` | `stop CAUSE steps K depth D`; where it is a breakpoint, the cause has its number: `stop break 0 steps 4 depth 4` |
-| `run-back` | the same |
-| `break line L`, `break match L`, `break change P C` | `break N`, or `refused breaks-full` |
+| `run-on N`, `run-back` | the same |
+| `break line L`, `break match L`, `break change P C`, `break handle P H` | `break N`, or `refused breaks-full` |
 | `unbreak N` | `removed` or `refused no-such-break` |
 | `breaks` | `breaks`, and each breakpoint with its number: `breaks 0 line 3, 2 change 1 0` |
 | `forget` | forgets the undone steps: `ok D` |
 | `copy` | goes on with a copy: `ok D` |
+
+The copy of the program has no words for `run-on` and for handles: these are compared by sessions (compare/runs/sessions.py).
 """
 
 from model import debugger, policy
 from model.debugger import REFUSED_BAD_WORD, Debugger, number_of, step_text
-from model.policy import BREAK, Breaks, ChangeBreak, Choice, Forced, LineBreak, MatchBreak
+from model.policy import BREAK, Breaks, ChangeBreak, Choice, Forced, HandleBreak, LineBreak, MatchBreak
 
-KINDS_OF_BREAKS = {b'line': LineBreak, b'match': MatchBreak, b'change': ChangeBreak}
+KINDS_OF_BREAKS = {b'line': LineBreak, b'match': MatchBreak, b'change': ChangeBreak, b'handle': HandleBreak}
 
 
 def decision_text(decided):
@@ -80,9 +82,9 @@ class Driven(Debugger):
 
     def drive(self, words):
         """The answer to what goes along the steps by itself; None where the words are none of it."""
-        most = number_of(words[1]) if len(words) == 2 and words[0] == b'run' else None
+        most = number_of(words[1]) if len(words) == 2 and words[0] in (b'run', b'run-on') else None
         if most is not None:
-            stop = policy.run(self, self.breaks, most)
+            stop = (policy.run if words[0] == b'run' else policy.run_on)(self, self.breaks, most)
             return stop_text(stop, self.depth)
         if words == [b'run-back']:
             stop = policy.run_back(self, self.breaks)

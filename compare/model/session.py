@@ -13,7 +13,7 @@ from model.debugger import (BAD_FILE, BAD_MODE, MOST_READS, RENDEZVOUS, CallId, 
 from model.json_text import LARGEST_UNSIGNED, NoJson, read_json
 from model.language import Fault, read_script
 from model.modes import is_mode
-from model.policy import BREAK, Breaks, ChangeBreak, Choice, Forced, LineBreak, MatchBreak
+from model.policy import BREAK, Breaks, ChangeBreak, Choice, Forced, HandleBreak, LineBreak, MatchBreak
 
 LONGEST_LINE = 4096
 HIGHEST_LINE = 65537
@@ -74,12 +74,13 @@ def text_in(value):
 NUMBER, STEP, TEXT = number_in, step_in, text_in
 # The fields that each command has, but for those of a breakpoint.
 FIELDS = {
-    'step': {'step': STEP}, 'next': {}, 'run': {'max': NUMBER}, 'back': {'count': NUMBER}, 'redo': {'count': NUMBER},
-    'goto': {'depth': NUMBER}, 'run-back': {}, 'enabled': {}, 'state': {}, 'vars': {'rank': NUMBER}, 'calls': {'rank': NUMBER},
+    'step': {'step': STEP}, 'next': {}, 'run': {'max': NUMBER}, 'run-on': {'max': NUMBER}, 'back': {'count': NUMBER},
+    'redo': {'count': NUMBER}, 'goto': {'depth': NUMBER}, 'run-back': {}, 'enabled': {}, 'state': {}, 'vars': {'rank': NUMBER}, 'calls': {'rank': NUMBER},
     'why': {'rank': NUMBER, 'call': NUMBER}, 'break': {'kind': TEXT}, 'unbreak': {'break': NUMBER}, 'breaks': {},
     'explore': {'runs': NUMBER, 'fuel': NUMBER}}
 MAY_HAVE = {'next': {'choice': NUMBER}}
-FIELDS_OF_KINDS = {'line': {'line': NUMBER}, 'match': {'line': NUMBER}, 'change': {'rank': NUMBER, 'cell': NUMBER}}
+FIELDS_OF_KINDS = {'line': {'line': NUMBER}, 'match': {'line': NUMBER}, 'change': {'rank': NUMBER, 'cell': NUMBER},
+                   'handle': {'rank': NUMBER, 'handle': NUMBER}}
 
 
 def fields_of(command, entries):
@@ -131,6 +132,8 @@ def must_be(is_good, number):
 def break_text(number, stop):
     if isinstance(stop, ChangeBreak):
         return f'{number} change {stop.rank} {stop.cell}'
+    if isinstance(stop, HandleBreak):
+        return f'{number} handle {stop.rank} {stop.handle}'
     return f'{number} {"line" if isinstance(stop, LineBreak) else "match"} {stop.line}'
 
 
@@ -218,6 +221,10 @@ class Session:
         must_be(1 <= most <= MOST_COUNT, BAD_NUMBER)
         return self.stopped(policy.run(self.debugger, self.breaks, most))
 
+    def run_on(self, most):
+        must_be(1 <= most <= MOST_COUNT, BAD_NUMBER)
+        return self.stopped(policy.run_on(self.debugger, self.breaks, most))
+
     def run_back(self):
         return self.stopped(policy.run_back(self.debugger, self.breaks))
 
@@ -268,10 +275,13 @@ class Session:
         must_be(find_call(self.world, call_id) is not None, BAD_NUMBER)
         return {'partners': list(map(partner_text, order.why(self.world, call_id)))}
 
-    def set_break(self, kind, line=None, rank=None, cell=None):
+    def set_break(self, kind, line=None, rank=None, cell=None, handle=None):
         if kind == 'change':
             must_be(cell < len(self.rank(rank).cells), BAD_NUMBER)
             stop = ChangeBreak(rank, cell)
+        elif kind == 'handle':
+            must_be(handle < len(self.rank(rank).handles), BAD_NUMBER)
+            stop = HandleBreak(rank, handle)
         else:
             must_be(1 <= line <= HIGHEST_LINE, BAD_NUMBER)
             stop = LineBreak(line) if kind == 'line' else MatchBreak(line)
@@ -295,11 +305,11 @@ class Session:
 # A field whose name is no name of Python's.
 KEYWORDS = {'break': 'number', 'max': 'most'}
 ANSWERS = {
-    'step': Session.step, 'next': Session.next, 'run': Session.run, 'back': Session.back, 'redo': Session.redo, 'goto': Session.goto,
+    'step': Session.step, 'next': Session.next, 'run': Session.run, 'run-on': Session.run_on, 'back': Session.back, 'redo': Session.redo, 'goto': Session.goto,
     'run-back': Session.run_back, 'enabled': Session.enabled, 'state': Session.state, 'vars': Session.variables,
     'calls': Session.calls, 'why': Session.why, 'break': Session.set_break, 'unbreak': Session.unset_break,
     'breaks': Session.list_breaks, 'explore': Session.explore}
-CHANGING = frozenset(['step', 'next', 'run', 'back', 'redo', 'goto', 'run-back', 'break', 'unbreak'])
+CHANGING = frozenset(['step', 'next', 'run', 'run-on', 'back', 'redo', 'goto', 'run-back', 'break', 'unbreak'])
 
 
 def copied(session):

@@ -356,7 +356,7 @@ def forced(row):
 def breaks_of(row):
     """The breakpoints with the one that the argument names, if it names one."""
     breaks = policy.Breaks()
-    kinds = {'line': policy.LineBreak, 'match': policy.MatchBreak, 'change': policy.ChangeBreak}
+    kinds = {'line': policy.LineBreak, 'match': policy.MatchBreak, 'change': policy.ChangeBreak, 'handle': policy.HandleBreak}
     words = row.argument.split()
     if len(words) > 1:
         breaks.add(kinds[words[1]](*map(int, words[2:])))

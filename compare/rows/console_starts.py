@@ -27,12 +27,21 @@ TYPED = b'history\nredo\n'
 # Each rank waits for the other one, at once, or behind a send that none needs to wait for.
 BOTH_RECEIVE = 'mpd 1; ranks 2; var x;\nrecv x from 1 - rank tag 0;\n'
 BOTH_SEND = 'mpd 1; ranks 2; var x;\nsend 1 to 1 - rank tag 0;\nrecv x from 1 - rank tag 1;\n'
-AHEAD = Result(b'''deadlock 0.0 1.0 is 2 steps ahead
+
+
+def ahead(line):
+    """What is told where two local steps of a line lie ahead, by the text of that line."""
+    return Result(f'''deadlock 0.0 1.0 is 2 steps ahead
 2 ahead: local 0: line 2
+    2  {line}
 no step is taken
 1 local 0: line 2
 1 ahead: local 1: line 2
-''', b'', 0)
+    2  {line}
+'''.encode(), b'', 0)
+
+
+RECEIVED, SENT = ahead('recv x from 1 - rank tag 0;'), ahead('send 1 to 1 - rank tag 0;')
 
 
 def refused(text):
@@ -41,14 +50,16 @@ def refused(text):
 
 
 STARTS = (
-    Start('a witness', BOTH_RECEIVE, b'deadlock 0.0 1.0\nlocal 0, local 1\n', AHEAD),
-    Start('a witness in a report', BOTH_RECEIVE, b'leaf 0 [] deadlock 0.0 1.0\nwitness 0: local 0, local 1\nleaves 1 more no\n', AHEAD),
+    Start('a witness', BOTH_RECEIVE, b'deadlock 0.0 1.0\nlocal 0, local 1\n', RECEIVED),
+    Start('a witness in a report', BOTH_RECEIVE, b'leaf 0 [] deadlock 0.0 1.0\nwitness 0: local 0, local 1\nleaves 1 more no\n', RECEIVED),
+    Start('a witness, and a long line', BOTH_RECEIVE.replace(';\n', f'; # {"a" * 60}\n').replace(f' # {"a" * 60}', '', 1),
+          b'deadlock 0.0 1.0\nlocal 0, local 1\n', ahead(f'recv x from 1 - rank tag 0; #\n        {"a" * 60}')),
     Start('a step that is not enabled', BOTH_RECEIVE, b'deadlock 0.0 1.0\nlocal 0, local 0\n', refused('witness refused 32 no-such-step at 1')),
     Start('a step of a rank that is not there', BOTH_RECEIVE, b'deadlock 0.0 1.0\nlocal 2\n', refused('witness refused 32 no-such-step at 0')),
     Start('steps that lead to no end', BOTH_RECEIVE, b'deadlock 0.0 1.0\nlocal 0\n', refused('witness refused 33 not-stuck')),
     Start('another call than those that are blocked', BOTH_RECEIVE, b'deadlock 0.0\nlocal 0, local 1\n', refused('witness refused 34 wrong-blocked')),
     Start('calls in another order', BOTH_RECEIVE, b'deadlock 1.0 0.0\nlocal 0, local 1\n', refused('witness refused 34 wrong-blocked')),
-    Start('a deadlock of this mode alone', BOTH_SEND, b'deadlock 0.0 1.0\nlocal 0, local 1\n', AHEAD),
+    Start('a deadlock of this mode alone', BOTH_SEND, b'deadlock 0.0 1.0\nlocal 0, local 1\n', SENT),
     Start('the same where sends are buffered', BOTH_SEND, b'deadlock 0.0 1.0\nlocal 0, local 1\n', refused('witness refused 33 not-stuck'), BUFFERED),
     Start('no word deadlock', BOTH_RECEIVE, b'deadlok 0.0\nlocal 0\n', refused('bad witness line 1')),
     Start('no second line', BOTH_RECEIVE, b'deadlock 0.0\n', refused('bad witness line 2')),

@@ -14,14 +14,16 @@ from model import console, debugger, explorer
 from model.console_words import TABLE, full_name
 from rows.console_starts import STARTS, start_problem
 from rows.examples import EXAMPLES
+from rows.worked_console_along import ALONG
 from rows.worked_console_choices import ALL_RUNS, CHOICES, MANY_RUNS
 from rows.worked_console_looks import LOOKS
 from rows.worked_console_moves import FIRST_RUNS, MOVES
 from rows.worked_console_scripts import LOOP, Dialogue
 from rows.worked_console_texts import TEXTS
+from rows.worked_console_told import TOLD
 
 PAGE = os.path.join(os.path.dirname(EXAMPLES), 'docs', 'CONSOLE.md')
-DIALOGUES = MOVES + LOOKS + TEXTS + CHOICES
+DIALOGUES = MOVES + ALONG + LOOKS + TOLD + TEXTS + CHOICES
 SLOW = ALL_RUNS + FIRST_RUNS
 # What takes the model long: runs of 100,000 steps, and of one more.
 CUT = (
@@ -33,22 +35,27 @@ CUT = (
 > next
 1 local 0: line 2
 next: local 0: line 2
+    2  while x < 49999 { x = x + 1; }
 > deadlock
 no deadlock: 1 run, and no more (1 done)
 > follow 1
 run 1, done, is 100000 steps ahead
 100000 ahead: local 0: line 2
+    2  while x < 49999 { x = x + 1; }
 > back
 depth 0
 100001 ahead: local 0: line 2
+    2  while x < 49999 { x = x + 1; }
 > trap
 no trap: 1 run, and no more (1 cut)
 > follow 1
 run 1, cut, is 100000 steps ahead
 100000 ahead: local 0: line 2
+    2  while x < 49999 { x = x + 1; }
 > goto 100000
 depth 100000
 next: local 0: line 4
+    4  print 2;
 > undo-choice
 refused: no choice was made
 '''),)
@@ -59,6 +66,7 @@ LONG = MANY_RUNS + (
 1000000 steps, depth 1000000
 stopped: no more than 1000000 steps are kept
 next: local 0: line 2
+    2  while 1 { }
 > next
 refused: no more than 1000000 steps are kept
 > local 0
@@ -69,29 +77,36 @@ refused: no more than 1000000 steps are kept
 > follow 1
 run 1, cut, is 0 steps ahead
 next: local 0: line 2
+    2  while 1 { }
 > undo-choice
 refused: no choice was made
 > back 1000000
 depth 0
 1000000 ahead: local 0: line 2
+    2  while 1 { }
 > redo 1000000
 depth 1000000
 next: local 0: line 2
+    2  while 1 { }
 > run-back
 1000000 steps back, depth 0
 at the start
 1000000 ahead: local 0: line 2
+    2  while 1 { }
 > goto 1000001
 refused: fewer steps are taken
 > goto 1000000
 depth 1000000
 next: local 0: line 2
+    2  while 1 { }
 > back 999999
 depth 1
 999999 ahead: local 0: line 2
+    2  while 1 { }
 > redo 1000001
 depth 1000000
 next: local 0: line 2
+    2  while 1 { }
 '''),)
 
 
@@ -102,12 +117,13 @@ class Ending(NamedTuple):
     wanted: str
 
 
-FIRST_STEP = '1 local 0: line 2\nnext: local 0: line 2\n'
+SOURCE = '    2  while 1 { }\n'
+FIRST_STEP = f'1 local 0: line 2\nnext: local 0: line 2\n{SOURCE}'
 TOO_LONG = 'refused: this line is too long\n'
 ENDINGS = (
     Ending('nothing', b'', ''),
     Ending('a last line without a line feed', b'next', FIRST_STEP),
-    Ending('carriage returns before line feeds', b'next\r\n\r\n', FIRST_STEP + '2 local 0: line 2\nnext: local 0: line 2\n'),
+    Ending('carriage returns before line feeds', b'next\r\n\r\n', FIRST_STEP + f'2 local 0: line 2\nnext: local 0: line 2\n{SOURCE}'),
     Ending('a carriage return at the end of the input', b'next\r', "unknown word 'next?': perhaps next\n"),
     Ending('two carriage returns', b'next\r\r\n', "unknown word 'next?': perhaps next\n"),
     Ending('a carriage return alone', b'next\n\r\r\n', FIRST_STEP + "unknown word '?': help lists all\n"),
@@ -116,12 +132,12 @@ ENDINGS = (
     Ending('one byte more, at the end', b'next' + b' ' * 4092 + b'\r', TOO_LONG),
     Ending('a comment that is too long', b'#' * 4097 + b'\n#' + b'#' * 4095, TOO_LONG),
     Ending('blanks that are too long, and what was last', b'next\n' + b' ' * 4097 + b'\n\n',
-           f'{FIRST_STEP}{TOO_LONG}2 local 0: line 2\nnext: local 0: line 2\n'),
-    Ending('a long word', b'n' * 4096, f"unknown word '{'n' * 4096}': perhaps next\n"),
+           f'{FIRST_STEP}{TOO_LONG}2 local 0: line 2\nnext: local 0: line 2\n{SOURCE}'),
+    Ending('a long word', b'n' * 4096, f"unknown word\n        '{'n' * 4096}':\n        perhaps next\n"),
     Ending('bytes that are no UTF-8', b'\xff\xfe next\nn\xc3\nn\xc3\xa9\n', "unknown word '??': help lists all\nunknown word 'n?': perhaps next\n"
            "unknown word 'n??': perhaps next\n"),
     Ending('bytes that are no text behind a word', b'next \xff\nprint \x00\nbreak change 0 \xc3\n',
-           "usage: next [N]\nno variable or request is called '?'\nno variable is called '?'\n"),
+           "usage: next [N]\nno variable or request is called '?'\nno variable or request is called '?'\n"),
     Ending('an empty line first', b'\n\n', ''),
     Ending('what stands behind the end', b'quit\nnext\n', ''),
     Ending('the end with blanks', b' \t q\t \r\nnext\n', ''),

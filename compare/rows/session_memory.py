@@ -54,10 +54,10 @@ def stop(kind, **fields):
     return {'cmd': 'break', 'kind': kind, **fields}
 
 
-RUN, RUN_BACK, NEXT = {'cmd': 'run', 'max': 100}, {'cmd': 'run-back'}, {'cmd': 'next'}
+RUN, RUN_ON, RUN_BACK, NEXT = {'cmd': 'run', 'max': 100}, {'cmd': 'run-on', 'max': 100}, {'cmd': 'run-back'}, {'cmd': 'next'}
 TOLD = ({'cmd': 'enabled'}, *({'cmd': command, 'rank': 0} for command in ('vars', 'calls')), {'cmd': 'why', 'rank': 0, 'call': 0})
 EXPLORE = {'cmd': 'explore', 'runs': 10, 'fuel': 100}
-RUNS = (stop('line', line=17), stop('match', line=9), stop('change', rank=0, cell=0), RUN, RUN, *TOLD, NEXT, {'cmd': 'next', 'choice': 1}, RUN,
+RUNS = (stop('line', line=17), stop('match', line=9), stop('change', rank=0, cell=0), stop('handle', rank=0, handle=1), RUN, RUN_ON, *TOLD, NEXT, {'cmd': 'next', 'choice': 1}, RUN,
         RUN_BACK, {'cmd': 'redo', 'count': 1}, EXPLORE, {'cmd': 'unbreak', 'break': 1}, {'cmd': 'unbreak', 'break': 1}, RUN, NEXT, RUN,
         {'cmd': 'goto', 'depth': 0}, {'cmd': 'redo', 'count': 100})
 LINES = (b'', b' ', b'x', b'{', b'{"cmd":"fly"}', b'{"cmd":"state","at":9}', b'{"cmd":"state","x":[[],{"a":null}]}', b'x' * 4097, b'"\\ud83d\\ude00"',

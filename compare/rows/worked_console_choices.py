@@ -1,22 +1,26 @@
 """Worked dialogues of the console about runs and choices: runs by number, deadlocks and traps that are sought, choices that are undone, all
 ranks that wait, and so many steps at once (console_worked.py)."""
 
-from rows.worked_console_scripts import (ANY_OF_ONE, AT_A_BARRIER, BESIDE_ANY, BOTH_RACES, HANG_THEN_TRAP, LOOP, MANY_ENDS, ONE_RACE, RARE, RARE_TRAP, RARER,
+from rows.worked_console_scripts import (AT_A_BARRIER, BESIDE_ANY, BOTH_RACES, HANG_THEN_TRAP, LOOP, MANY_ENDS, RARE, RARE_TRAP, RARER,
                                          STOLEN_CHOICE, THIRD_TRAPS, TRAP_THEN_HANG, TWO_RACES, WAITS, Dialogue)
 
 # The choice of TRAP_THEN_HANG, its trap, its deadlock, and the choice of HANG_THEN_TRAP, whose lines are the same.
 TRAP_CHOICE = '''stopped at a choice of rank 0, line 3:
-  1 match 1.0 0.0: the send of rank 1, line 6, to the receive of rank 0, line 3
-  2 match 2.0 0.0: the send of rank 2, line 6, to the receive of rank 0, line 3'''
+    3    recv x from any tag 0;
+  1 match 1.0 0.0: rank 1, line 6, to rank 0, line 3
+  2 match 2.0 0.0: rank 2, line 6, to rank 0, line 3'''
 TRAP_END = '''ended: trap 0 zero-divisor
   rank 0, line 4: trap zero-divisor'''
 HANG_END = '''ended: deadlock 0.1 1.0
   rank 0 waits at line 5, 0.1 recv from 2 tag 0: for a send of rank 2 with tag 0
     nearest miss: line 6, 1.0 send to 0 tag 0 value 1: another source
-    the last that fits is taken: line 6, 2.0 send to 0 tag 0 value 2, by line 3, 0.0 recv from any tag 0
-  rank 1 waits at line 6, 1.0 send to 0 tag 0 value 1: for a receive of rank 0 from rank 1 with tag 0
+    the last that fits is taken: line 6, 2.0 send to 0 tag 0 value 2, by line 3,
+        0.0 recv from any tag 0
+  rank 1 waits at line 6, 1.0 send to 0 tag 0 value 1: for a receive of rank 0
+        from rank 1 with tag 0
     nearest miss: line 5, 0.1 recv from 2 tag 0: another source
-    the last that fits is taken: line 3, 0.0 recv from any tag 0, by line 6, 2.0 send to 0 tag 0 value 2
+    the last that fits is taken: line 3, 0.0 recv from any tag 0, by line 6, 2.0
+        send to 0 tag 0 value 2
   rank 0 waits for rank 2 (ended)
   rank 1 waits for rank 0'''
 
@@ -29,12 +33,16 @@ CHOICES = (
 > deadlock
 deadlock 0.1 1.0 is 11 steps ahead
 11 ahead: local 0: line 2
+    2  if rank == 0 {{
 > trap
 trap 0 zero-divisor is 10 steps ahead
 10 ahead: local 0: line 2
+    2  if rank == 0 {{
 > run
 6 steps, depth 6
-4 ahead: match 1.0 0.0: the send of rank 1, line 6, to the receive of rank 0, line 3
+4 ahead: match 1.0 0.0: rank 1, line 6, to rank 0, line 3
+    6  }} else {{ send rank to 0 tag 0; }}
+    3    recv x from any tag 0;
 {TRAP_CHOICE}
 > words
 local 0
@@ -51,8 +59,9 @@ local 1
 local 2
 local 2
 > run
-7 match 1.0 0.0: the send of rank 1, line 6, to the receive of rank 0, line 3
+7 match 1.0 0.0: rank 1, line 6, to rank 0, line 3
 3 ahead: wake 0: line 3
+    3    recv x from any tag 0;
 >
 3 steps, depth 10
 {TRAP_END}
@@ -68,11 +77,15 @@ run 1, trap 0 zero-divisor, is 0 steps ahead
 refused: there is no such run
 > undo-choice
 depth 6
-4 ahead: match 1.0 0.0: the send of rank 1, line 6, to the receive of rank 0, line 3
+4 ahead: match 1.0 0.0: rank 1, line 6, to rank 0, line 3
+    6  }} else {{ send rank to 0 tag 0; }}
+    3    recv x from any tag 0;
 {TRAP_CHOICE}
 > follow 2
 run 2, deadlock 0.1 1.0, is 5 steps ahead
-5 ahead: match 2.0 0.0: the send of rank 2, line 6, to the receive of rank 0, line 3
+5 ahead: match 2.0 0.0: rank 2, line 6, to rank 0, line 3
+    6  }} else {{ send rank to 0 tag 0; }}
+    3    recv x from any tag 0;
 {TRAP_CHOICE}
 > follow 3
 refused: there is no such run
@@ -85,19 +98,23 @@ depth 11
 line 5, 0.1 recv from 2 tag 0 free
   has no partner yet: for a send of rank 2 with tag 0
     nearest miss: line 6, 1.0 send to 0 tag 0 value 1: another source
-    the last that fits is taken: line 6, 2.0 send to 0 tag 0 value 2, by line 3, 0.0 recv from any tag 0
+    the last that fits is taken: line 6, 2.0 send to 0 tag 0 value 2, by line 3,
+        0.0 recv from any tag 0
 line 6, 1.0 send to 0 tag 0 value 1 free
   has no partner yet: for a receive of rank 0 from rank 1 with tag 0
     nearest miss: line 5, 0.1 recv from 2 tag 0: another source
-    the last that fits is taken: line 3, 0.0 recv from any tag 0, by line 6, 2.0 send to 0 tag 0 value 2
+    the last that fits is taken: line 3, 0.0 recv from any tag 0, by line 6, 2.0
+        send to 0 tag 0 value 2
 > trap
 no trap: 1 run, and no more (1 deadlock)
 > goto 10
 depth 10
 1 ahead: wake 2: line 6
+    6  }} else {{ send rank to 0 tag 0; }}
 > f 1
 run 1, deadlock 0.1 1.0, is 1 step ahead
 1 ahead: wake 2: line 6
+    6  }} else {{ send rank to 0 tag 0; }}
 > trap
 no trap: 1 run, and no more (1 deadlock)
 > f 000000002
@@ -113,22 +130,30 @@ refused: there is no such run
 > trap
 trap 0 zero-divisor is 10 steps ahead
 10 ahead: local 0: line 2
+    2  if rank == 0 {{
 > run
 6 steps, depth 6
-4 ahead: match 2.0 0.0: the send of rank 2, line 6, to the receive of rank 0, line 3
+4 ahead: match 2.0 0.0: rank 2, line 6, to rank 0, line 3
+    6  }} else {{ send rank to 0 tag 0; }}
+    3    recv x from any tag 0;
 {TRAP_CHOICE}
 > next 1
-7 match 1.0 0.0: the send of rank 1, line 6, to the receive of rank 0, line 3
+7 match 1.0 0.0: rank 1, line 6, to rank 0, line 3
 next: wake 0: line 3
+    3    recv x from any tag 0;
 > trap
 no trap: 1 run, and no more (1 deadlock)
 > u
 depth 6
-1 ahead: match 1.0 0.0: the send of rank 1, line 6, to the receive of rank 0, line 3
+1 ahead: match 1.0 0.0: rank 1, line 6, to rank 0, line 3
+    6  }} else {{ send rank to 0 tag 0; }}
+    3    recv x from any tag 0;
 {TRAP_CHOICE}
 > trap
 trap 0 zero-divisor is 4 steps ahead
-4 ahead: match 2.0 0.0: the send of rank 2, line 6, to the receive of rank 0, line 3
+4 ahead: match 2.0 0.0: rank 2, line 6, to rank 0, line 3
+    6  }} else {{ send rank to 0 tag 0; }}
+    3    recv x from any tag 0;
 {TRAP_CHOICE}
 > quit
 '''),
@@ -147,20 +172,27 @@ no deadlock: 3 runs, and no more (1 done, 2 trap)
 > trap
 trap 0 assert is 12 steps ahead
 12 ahead: local 0: line 2
+    2  if rank == 0 { recv x from any tag 0; assert x == 1; recv x from 2 tag 0;
+        recv x from 3 tag 0; }
 '''),
     Dialogue('as many runs as are looked at, and no more', TRAP_THEN_HANG, '''
 > deadlock
 deadlock 0.1 1.0 is 11 steps ahead
 11 ahead: local 0: line 2
+    2  if rank == 0 {
 > goto 6
 depth 6
-5 ahead: match 2.0 0.0: the send of rank 2, line 6, to the receive of rank 0, line 3
+5 ahead: match 2.0 0.0: rank 2, line 6, to rank 0, line 3
+    6  } else { send rank to 0 tag 0; }
+    3    recv x from any tag 0;
 stopped at a choice of rank 0, line 3:
-  1 match 1.0 0.0: the send of rank 1, line 6, to the receive of rank 0, line 3
-  2 match 2.0 0.0: the send of rank 2, line 6, to the receive of rank 0, line 3
+    3    recv x from any tag 0;
+  1 match 1.0 0.0: rank 1, line 6, to rank 0, line 3
+  2 match 2.0 0.0: rank 2, line 6, to rank 0, line 3
 > next 1
-7 match 1.0 0.0: the send of rank 1, line 6, to the receive of rank 0, line 3
+7 match 1.0 0.0: rank 1, line 6, to rank 0, line 3
 next: wake 0: line 3
+    3    recv x from any tag 0;
 > deadlock
 no deadlock: 1 run, and no more (1 trap)
 ''', runs=2),
@@ -168,43 +200,53 @@ no deadlock: 1 run, and no more (1 trap)
 > follow 1
 run 1, cut, is 10 steps ahead
 10 ahead: local 0: line 2
+    2  while x < 4 { x = x + 1; }
 > redo 10
 depth 10
 next: local 0: line 4
+    4  print 2;
 > follow 2
 refused: there is no such run
 > follow 1
 run 1, done, is 1 step ahead
 1 ahead: local 0: line 4
+    4  print 2;
 > trap
 no trap: 1 run, and no more (1 done)
 > goto 0
 depth 0
 11 ahead: local 0: line 2
+    2  while x < 4 { x = x + 1; }
 > trap
 no trap: 1 run, and no more (1 cut)
 > follow 1
 run 1, cut, is 10 steps ahead
 10 ahead: local 0: line 2
+    2  while x < 4 { x = x + 1; }
 ''', fuel=10),
     Dialogue('a run of as many steps as are kept, laid ahead', LOOP, '''
 > next
 1 local 0: line 2
 next: local 0: line 2
+    2  while 1 { }
 > follow 1
 run 1, cut, is 2 steps ahead
 2 ahead: local 0: line 2
+    2  while 1 { }
 > next 5
 2 steps, depth 3
 stopped: no more than 1000000 steps are kept
 next: local 0: line 2
+    2  while 1 { }
 > next 1
 0 steps, depth 3
 stopped: no more than 1000000 steps are kept
 next: local 0: line 2
+    2  while 1 { }
 > follow 1
 run 1, cut, is 0 steps ahead
 next: local 0: line 2
+    2  while 1 { }
 > trap
 no trap: 1 run, and no more (1 cut)
 > u
@@ -219,97 +261,128 @@ refused: no choice was made
 > undo-choice
 refused: no choice was made
 > next 2
-9 match 3.0 1.0: the send of rank 3, line 5, to the receive of rank 1, line 3
+9 match 3.0 1.0: rank 3, line 5, to rank 1, line 3
 next: wake 1: line 3
+    3    recv x from any tag 0;
 > wake 3
 10 wake 3: line 5
 next: wake 1: line 3
+    3    recv x from any tag 0;
 > undo-choice
 depth 8
-2 ahead: match 3.0 1.0: the send of rank 3, line 5, to the receive of rank 1, line 3
+2 ahead: match 3.0 1.0: rank 3, line 5, to rank 1, line 3
+    5    send 7 to rank - 2 tag 0;
+    3    recv x from any tag 0;
 {BOTH_RACES}
 >
 refused: no choice was made
 > redo 2
 depth 10
 next: wake 1: line 3
+    3    recv x from any tag 0;
 > run
-1 step, depth 11
-{ONE_RACE}
+4 steps, depth 14
+ended: done
 > undo-choice
 depth 8
-3 ahead: match 3.0 1.0: the send of rank 3, line 5, to the receive of rank 1, line 3
+6 ahead: match 3.0 1.0: rank 3, line 5, to rank 1, line 3
+    5    send 7 to rank - 2 tag 0;
+    3    recv x from any tag 0;
 {BOTH_RACES}
 > run
-9 match 3.0 1.0: the send of rank 3, line 5, to the receive of rank 1, line 3
-2 ahead: wake 3: line 5
+9 match 3.0 1.0: rank 3, line 5, to rank 1, line 3
+5 ahead: wake 3: line 5
+    5    send 7 to rank - 2 tag 0;
 > u
 depth 8
-3 ahead: match 3.0 1.0: the send of rank 3, line 5, to the receive of rank 1, line 3
+6 ahead: match 3.0 1.0: rank 3, line 5, to rank 1, line 3
+    5    send 7 to rank - 2 tag 0;
+    3    recv x from any tag 0;
 {BOTH_RACES}
 > goto 11
 depth 11
-{ONE_RACE}
+3 ahead: match 2.0 0.0: rank 2, line 5, to rank 0, line 3
+    5    send 7 to rank - 2 tag 0;
+    3    recv x from any tag 0;
 > next 1
-12 match 2.0 0.0: the send of rank 2, line 5, to the receive of rank 0, line 3
-next: wake 0: line 3
+1 step, depth 12
+stopped: as many steps as were asked for
+2 ahead: wake 0: line 3
+    3    recv x from any tag 0;
 > back
 depth 11
-1 ahead: match 2.0 0.0: the send of rank 2, line 5, to the receive of rank 0, line 3
-{ONE_RACE}
+3 ahead: match 2.0 0.0: rank 2, line 5, to rank 0, line 3
+    5    send 7 to rank - 2 tag 0;
+    3    recv x from any tag 0;
 > undo-choice
 depth 8
-4 ahead: match 3.0 1.0: the send of rank 3, line 5, to the receive of rank 1, line 3
+6 ahead: match 3.0 1.0: rank 3, line 5, to rank 1, line 3
+    5    send 7 to rank - 2 tag 0;
+    3    recv x from any tag 0;
 {BOTH_RACES}
 > goto 12
 depth 12
-next: wake 0: line 3
+2 ahead: wake 0: line 3
+    3    recv x from any tag 0;
 > run
 2 steps, depth 14
 ended: done
 > undo-choice
-depth 11
-3 ahead: match 2.0 0.0: the send of rank 2, line 5, to the receive of rank 0, line 3
-{ONE_RACE}
->
 depth 8
-6 ahead: match 3.0 1.0: the send of rank 3, line 5, to the receive of rank 1, line 3
+6 ahead: match 3.0 1.0: rank 3, line 5, to rank 1, line 3
+    5    send 7 to rank - 2 tag 0;
+    3    recv x from any tag 0;
 {BOTH_RACES}
+>
+refused: no choice was made
 > next 1
-9 match 2.0 0.0: the send of rank 2, line 5, to the receive of rank 0, line 3
+9 match 2.0 0.0: rank 2, line 5, to rank 0, line 3
 next: wake 0: line 3
+    3    recv x from any tag 0;
 > quit
 '''),
-    Dialogue('a step by hand where a choice was open, and none of its candidates', BESIDE_ANY, f'''
-> run
+    Dialogue('a step by hand where there was one candidate, which is no choice', BESIDE_ANY, '''
+> run 8
 8 steps, depth 8
-{ANY_OF_ONE}
+stopped: as many steps as were asked for
+next: wakeany 0 0: line 6, by line 4, 0.0 irecv from 1 tag 1
+    6    waitany r to i;
 > match 1.1 0.1
-9 match 1.1 0.1: the send of rank 1, line 9, to the receive of rank 0, line 5
-{ANY_OF_ONE}
+9 match 1.1 0.1: rank 1, line 9, to rank 0, line 5
+next: wakeany 0 0: line 6, by line 4, 0.0 irecv from 1 tag 1
+    6    waitany r to i;
 > undo-choice
+refused: no choice was made
+> back
 depth 8
-1 ahead: match 1.1 0.1: the send of rank 1, line 9, to the receive of rank 0, line 5
-{ANY_OF_ONE}
-> next 1
+1 ahead: match 1.1 0.1: rank 1, line 9, to rank 0, line 5
+    9    isend r[1] 6 to 0 tag 2;
+    5    irecv h y from any tag 2;
+> next
 9 wakeany 0 0: line 6, by line 4, 0.0 irecv from 1 tag 1
-stopped at a choice of rank 0, line 5:
-  1 match 1.1 0.1: the send of rank 1, line 9, to the receive of rank 0, line 5
+next: match 1.1 0.1: rank 1, line 9, to rank 0, line 5
+    9    isend r[1] 6 to 0 tag 2;
+    5    irecv h y from any tag 2;
 > history 1
 9 wakeany 0 0: line 6, by line 4, 0.0 irecv from 1 tag 1
 > back
 depth 8
 1 ahead: wakeany 0 0: line 6, by line 4, 0.0 irecv from 1 tag 1
-{ANY_OF_ONE}
+    6    waitany r to i;
+> next 2
+2 steps, depth 10
+ended: done
 '''),
     Dialogue('a match by hand where no choice was open', 'stolen_message.mpd', '''
 > run 6
 6 steps, depth 6
 stopped: as many steps as were asked for
 next: local 2: line 7
+    7  if rank == 0 {
 > match 1.0 0.0
-7 match 1.0 0.0: the send of rank 1, line 13, to the receive of rank 0, line 8
+7 match 1.0 0.0: rank 1, line 13, to rank 0, line 8
 next: local 2: line 7
+    7  if rank == 0 {
 > undo-choice
 refused: no choice was made
 '''),
@@ -320,6 +393,7 @@ no rank waits for a call
 3 steps, depth 3
 stopped: as many steps as were asked for
 next: local 1: line 3
+    3  if rank == 0 {
 > why
 line 5, 0.1 wait 0
 line 4, 0.0 irecv from 1 tag 3 free
@@ -331,7 +405,8 @@ ended: deadlock 0.1 1.1
     line 4, 0.0 irecv from 1 tag 3: for a send of rank 1 with tag 3
     nearest miss: line 7, 1.0 isend to 0 tag 4 value 7: another tag
   rank 1 waits at line 8, 1.1 wait 0: for this request
-    line 7, 1.0 isend to 0 tag 4 value 7: for a receive of rank 0 from rank 1 with tag 4
+    line 7, 1.0 isend to 0 tag 4 value 7: for a receive of rank 0 from rank 1
+        with tag 4
     nearest miss: line 4, 0.0 irecv from 1 tag 3: another tag
   rank 0 waits for rank 1
   rank 1 waits for rank 0
@@ -353,7 +428,8 @@ ended: deadlock 0.0 1.0
   rank 0 waits at line 2, 0.0 barrier: for all ranks at a barrier
     rank 1 is not there: it is at another call
     rank 2 is not there: it has ended
-  rank 1 waits at line 4, 1.0 ssend to 2 tag 0 value 1: for a receive of rank 2 from rank 1 with tag 0
+  rank 1 waits at line 4, 1.0 ssend to 2 tag 0 value 1: for a receive of rank 2
+        from rank 1 with tag 0
   rank 0 waits for rank 1, rank 2 (ended)
   rank 1 waits for rank 2 (ended)
 > why
@@ -367,6 +443,7 @@ line 4, 1.0 ssend to 2 tag 0 value 1 free
 > trap
 trap 1 zero-divisor is 9 steps ahead
 9 ahead: local 0: line 5
+    5  if rank == 0 {
 > deadlock
 no deadlock: 1 run, and no more (1 trap)
 > redo 9
@@ -383,10 +460,12 @@ refused: no choice was made
 3 steps, depth 3
 stopped: as many steps as were asked for
 next: local 1: line 8
+    8    recv x from 0 tag 0;
 >
 3 steps, depth 6
 stopped: as many steps as were asked for
 next: wake 1: line 8
+    8    recv x from 0 tag 0;
 > next 0
 refused: no such number
 > next 1000001
@@ -394,16 +473,20 @@ refused: no such number
 > back 3
 depth 3
 3 ahead: local 1: line 8
+    8    recv x from 0 tag 0;
 > next 1
 1 step, depth 4
 stopped: as many steps as were asked for
-2 ahead: match 0.0 1.0: the send of rank 0, line 6, to the receive of rank 1, line 8
+2 ahead: match 0.0 1.0: rank 0, line 6, to rank 1, line 8
+    6    send 7 to 1 tag 0;
+    8    recv x from 0 tag 0;
 > break match 8
 breakpoint 0: match 8
 > n 9
 1 step, depth 5
 breakpoint 0: match 8
 1 ahead: wake 0: line 6
+    6    send 7 to 1 tag 0;
 > n 1000000
 3 steps, depth 8
 ended: done
@@ -414,7 +497,9 @@ ended: done
 > run-back
 4 steps back, depth 4
 before breakpoint 0: match 8
-4 ahead: match 0.0 1.0: the send of rank 0, line 6, to the receive of rank 1, line 8
+4 ahead: match 0.0 1.0: rank 0, line 6, to rank 1, line 8
+    6    send 7 to 1 tag 0;
+    8    recv x from 0 tag 0;
 '''),
     Dialogue('so many steps up to a choice, and then a candidate', 'stolen_message.mpd', f'''
 > next 100
@@ -427,15 +512,19 @@ refused: there is no such candidate
 refused: there is no such candidate
 {STOLEN_CHOICE}
 > next 000000002
-10 match 2.0 0.0: the send of rank 2, line 13, to the receive of rank 0, line 8
+10 match 2.0 0.0: rank 2, line 13, to rank 0, line 8
 next: wake 2: line 13
+   13    if rank == 1 {{ send 42 to 0 tag 7; }} else {{ send 5 to 0 tag 1; }}
 > next 2
 2 steps, depth 12
 stopped: as many steps as were asked for
 next: wake 0: line 9
+    9    recv result from 1 tag 7;
 > undo-choice
 depth 9
-3 ahead: match 2.0 0.0: the send of rank 2, line 13, to the receive of rank 0, line 8
+3 ahead: match 2.0 0.0: rank 2, line 13, to rank 0, line 8
+   13    if rank == 1 {{ send 42 to 0 tag 7; }} else {{ send 5 to 0 tag 1; }}
+    8    irecv r note from any tag any;
 {STOLEN_CHOICE}
 > quit
 '''),
@@ -452,12 +541,15 @@ depth 9
 > follow 2
 run 2, done, is 68 steps ahead
 68 ahead: local 0: line 2
+    2  if rank < 3 {
 > follow 7
 run 7, deadlock 0.1 1.0, is 65 steps ahead
 65 ahead: local 0: line 2
+    2  if rank < 3 {
 > deadlock
 deadlock 0.1 1.0 is 65 steps ahead
 65 ahead: local 0: line 2
+    2  if rank < 3 {
 '''),
     Dialogue('a deadlock that the second look alone meets', RARE, '''
 > trap
@@ -469,22 +561,27 @@ refused: no such number
 > follow 6
 run 6, done, is 68 steps ahead
 68 ahead: local 0: line 2
+    2  if rank < 3 {
 > deadlock
 deadlock 0.1 1.0 is 65 steps ahead
 65 ahead: local 0: line 2
+    2  if rank < 3 {
 > run 25
 25 steps, depth 25
-40 ahead: match 2.0 0.0: the send of rank 2, line 3, to the receive of rank 0, line 3
+40 ahead: match 2.0 0.0: rank 2, line 3, to rank 0, line 3
+    3    if rank == 0 { recv x from any tag 0; recv x from 2 tag 0; } else {
+        send rank to 0 tag 0; }
 stopped at a choice:
-  1 match 1.0 0.0: the send of rank 1, line 3, to the receive of rank 0, line 3
-  2 match 2.0 0.0: the send of rank 2, line 3, to the receive of rank 0, line 3
-  3 match 5.0 3.0: the send of rank 5, line 6, to the receive of rank 3, line 6
-  4 match 6.0 4.0: the send of rank 6, line 6, to the receive of rank 4, line 6
+  1 match 1.0 0.0: rank 1, line 3, to rank 0, line 3
+  2 match 2.0 0.0: rank 2, line 3, to rank 0, line 3
+  3 match 5.0 3.0: rank 5, line 6, to rank 3, line 6
+  4 match 6.0 4.0: rank 6, line 6, to rank 4, line 6
 ''', runs=6),
     Dialogue('a trap that the second look alone meets', RARE_TRAP, '''
 > trap
 trap 0 zero-divisor is 65 steps ahead
 65 ahead: local 0: line 2
+    2  if rank < 3 {
 > deadlock
 no deadlock: 2 runs, and no more (1 done, 1 trap)
 ''', runs=6),
@@ -502,6 +599,7 @@ no trap: 60 runs, and no more (30 done, 30 deadlock)
 > follow 60
 run 60, deadlock 0.1 1.0, is 65 steps ahead
 65 ahead: local 0: line 2
+    2  if rank < 3 {
 > follow 61
 refused: there is no such run
 '''),)
@@ -511,11 +609,13 @@ MANY_RUNS = (
 > deadlock
 deadlock 0.1 1.0 is 143 steps ahead
 143 ahead: local 0: line 2
+    2  if rank < 3 {
 > trap
 no trap: 2 runs, and no more (1 done, 1 deadlock)
 > follow 65536
 run 65536, done, is 146 steps ahead
 146 ahead: local 0: line 2
+    2  if rank < 3 {
 > follow 65537
 refused: no such number
 '''),
@@ -527,4 +627,5 @@ no trap: 65536 runs, and there are more (65536 done)
 > follow 65536
 run 65536, done, is 74 steps ahead
 74 ahead: local 0: line 2
+    2  if rank == 0 {
 '''))

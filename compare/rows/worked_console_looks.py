@@ -12,7 +12,8 @@ ended: deadlock 0.1 1.1
     line 4, 0.0 irecv from 1 tag 3: for a send of rank 1 with tag 3
     nearest miss: line 7, 1.0 isend to 0 tag 4 value 7: another tag
   rank 1 waits at line 8, 1.1 wait 0: for this request
-    line 7, 1.0 isend to 0 tag 4 value 7: for a receive of rank 0 from rank 1 with tag 4
+    line 7, 1.0 isend to 0 tag 4 value 7: for a receive of rank 0 from rank 1
+        with tag 4
     nearest miss: line 4, 0.0 irecv from 1 tag 3: another tag
   rank 0 waits for rank 1
   rank 1 waits for rank 0
@@ -50,13 +51,15 @@ refused: no such number
 ended: deadlock 1.1
   rank 1 waits at line 7, 1.1 recv from 0 tag 1: for a send of rank 0 with tag 1
     nearest miss: line 4, 0.1 isend to 1 tag 2 value 6: another tag
-    the last that fits is taken: line 3, 0.0 send to 1 tag 1 value 5, by line 6, 1.0 recv from 0 tag any
+    the last that fits is taken: line 3, 0.0 send to 1 tag 1 value 5, by line 6,
+        1.0 recv from 0 tag any
   rank 1 waits for rank 0 (ended)
 > why 1
 line 7, 1.1 recv from 0 tag 1 free
   has no partner yet: for a send of rank 0 with tag 1
     nearest miss: line 4, 0.1 isend to 1 tag 2 value 6: another tag
-    the last that fits is taken: line 3, 0.0 send to 1 tag 1 value 5, by line 6, 1.0 recv from 0 tag any
+    the last that fits is taken: line 3, 0.0 send to 1 tag 1 value 5, by line 6,
+        1.0 recv from 0 tag any
 > why 0
 rank 0 waits for no call
 '''),
@@ -64,7 +67,8 @@ rank 0 waits for no call
 > run 6
 6 steps, depth 6
 stopped: as many steps as were asked for
-next: match 1.0 0.0: the send of rank 1, line 2, to the receive of rank 0, line 2
+next: match 1.0 0.0: rank 1, line 2, to rank 0, line 2
+    2  if rank == 0 { recv x from 1 tag 7; } else { send rank to 0 tag 7; }
 > why 0
 line 2, 0.0 recv from 1 tag 7 free
   can be matched with line 2, 1.0 send to 0 tag 7 value 1
@@ -78,7 +82,8 @@ line 2, 2.0 send to 0 tag 7 value 2 free
 9 steps, depth 9
 ended: deadlock 0.2 1.0
   rank 0 waits at line 6, 0.2 waitany 0 3: for one of these requests
-    line 5, 0.1 issend to 2 tag 0 value 5: for a receive of rank 2 from rank 0 with tag 0
+    line 5, 0.1 issend to 2 tag 0 value 5: for a receive of rank 2 from rank 0
+        with tag 0
     nearest miss: line 8, 1.0 recv from 0 tag 0: another destination
     line 4, 0.0 irecv from 1 tag 1: for a send of rank 1 with tag 1
   rank 1 waits at line 8, 1.0 recv from 0 tag 0: for a send of rank 0 with tag 0
@@ -103,10 +108,13 @@ rank 0: r[2] = line 4, 0.0 irecv from 1 tag 1
 > run 9
 9 steps, depth 9
 stopped: as many steps as were asked for
-next: match 1.0 0.0: the send of rank 1, line 17, to the receive of rank 0, line 9
+next: match 1.0 0.0: rank 1, line 17, to rank 0, line 9
+   17    send rank * 10 to 0 tag 0;
+    9    irecv r[0] answers[0] from 1 tag 0;
 > run
 4 steps, depth 13
 stopped at a choice of rank 0, line 12:
+   12      waitany r to which;
   1 wakeany 0 0: line 12, by line 9, 0.0 irecv from 1 tag 0
   2 wakeany 0 1: line 12, by line 10, 0.1 irecv from 2 tag 0
 > enabled
@@ -123,28 +131,31 @@ line 10, 0.1 irecv from 2 tag 0 with 2.0 value 20
 > back
 depth 12
 1 ahead: wake 2: line 17
+   17    send rank * 10 to 0 tag 0;
 > wakeany 0 0
 13 wakeany 0 0: line 12, by line 9, 0.0 irecv from 1 tag 0
 next: local 0: line 13
+   13      print answers[which];
 > why 0.2
 line 12, 0.2 waitany 0 2
 > wakeany 0 1
 refused: this step is not enabled
-> run
+> run 5
 5 steps, depth 18
-stopped at a choice of rank 0, line 12:
-  1 wakeany 0 1: line 12, by line 10, 0.1 irecv from 2 tag 0
-> next 1
+stopped: as many steps as were asked for
+next: wakeany 0 1: line 12, by line 10, 0.1 irecv from 2 tag 0
+   12      waitany r to which;
+> enabled
+wakeany 0 1: line 12, by line 10, 0.1 irecv from 2 tag 0
+> next
 19 wakeany 0 1: line 12, by line 10, 0.1 irecv from 2 tag 0
 next: local 0: line 13
+   13      print answers[which];
 > run
 3 steps, depth 22
 ended: done
 > vars 0
-rank 0: answers[0] = 10, answers[1] = 20
-rank 0: which = 1
-rank 0: taken = 2
-rank 0: r[0] = no request, r[1] = no request
+rank 0: answers = [10, 20], which = 1, taken = 2, r = [-, -]
 rank 0 has printed 10 20
 '''),
     Dialogue('a barrier that two ranks are not at, and what is done by hand', AT_A_BARRIER, '''
@@ -156,7 +167,8 @@ ended: deadlock 0.0 1.0
   rank 0 waits at line 2, 0.0 barrier: for all ranks at a barrier
     rank 1 is not there: it is at another call
     rank 2 is not there: it has ended
-  rank 1 waits at line 4, 1.0 ssend to 2 tag 0 value 1: for a receive of rank 2 from rank 1 with tag 0
+  rank 1 waits at line 4, 1.0 ssend to 2 tag 0 value 1: for a receive of rank 2
+        from rank 1 with tag 0
   rank 0 waits for rank 1, rank 2 (ended)
   rank 1 waits for rank 2 (ended)
 > why 0
@@ -224,21 +236,18 @@ end
 > goto 0
 depth 0
 9 ahead: local 0: line 5
+    5  if rank == 0 {
 > deadlock
 no deadlock: 1 run, and no more (1 trap)
 '''),
     Dialogue('arrays and requests, those of no cell among them', CELLS, '''
 > vars 0
-rank 0: a[0] = 0, a[1] = 0, a[2] = 0
-rank 0: none has no cell
-rank 0: h = no request
-rank 0: b = 0
-rank 0: g[0] = no request, g[1] = no request
-rank 0: empty has no cell
+rank 0: a = [0, 0, 0], none = [], h = -, b = 0, g = [-, -], empty = []
 > run 3
 3 steps, depth 3
 stopped: as many steps as were asked for
 next: local 0: line 6
+    6  barrier;
 > print a
 rank 0: a[0] = 0, a[1] = -5, a[2] = 0
 rank 1: a[0] = 0, a[1] = 0, a[2] = 0
@@ -255,19 +264,9 @@ rank 1: empty has no cell
 rank 0: none has no cell
 rank 1: none has no cell
 > vars
-rank 0: a[0] = 0, a[1] = -5, a[2] = 0
-rank 0: none has no cell
-rank 0: h = no request
-rank 0: b = 0
-rank 0: g[0] = no request, g[1] = line 4, 0.0 isend to 0 tag 9 value -5
-rank 0: empty has no cell
+rank 0: a = [0, -5, 0], none = [], h = -, b = 0, g = [-, 0.0], empty = []
 rank 0 has printed 0
-rank 1: a[0] = 0, a[1] = 0, a[2] = 0
-rank 1: none has no cell
-rank 1: h = no request
-rank 1: b = 0
-rank 1: g[0] = no request, g[1] = no request
-rank 1: empty has no cell
+rank 1: a = [0, 0, 0], none = [], h = -, b = 0, g = [-, -], empty = []
 > print a[3]
 refused: no such number
 > print a[0000000001] 0
@@ -307,17 +306,19 @@ refused: no such number
 > break change 2 b
 refused: no such number
 > break change 0 h
-no variable is called 'h'
+breakpoint 2: change 0 h
 > break change 0 h[0]
 refused: no such number
 > break change 0 g
-no variable is called 'g'
+refused: no such number
 > break change 0 g[1]
-no variable is called 'g[1]'
+breakpoint 3: change 0 g[1]
 > break change 0 g[9]
 refused: no such number
+> break change 2 g[1]
+refused: no such number
 > break change 0 empty
-no variable is called 'empty'
+refused: no such number
 > break change 0 empty[0]
 refused: no such number
 > break change 0 none
@@ -325,9 +326,9 @@ refused: no such number
 > break change 0 none[0]
 refused: no such number
 > break change 0 c
-no variable is called 'c'
+no variable or request is called 'c'
 > break change 2 c
-no variable is called 'c'
+no variable or request is called 'c'
 > break change 2 a
 refused: no such number
 > break 0
@@ -337,17 +338,19 @@ refused: no such number
 > break 65538
 refused: no such number
 > break 65537
-breakpoint 2: line 65537
+breakpoint 4: line 65537
 > break match 65537
-breakpoint 3: match 65537
+breakpoint 5: match 65537
 > break 3
-breakpoint 4: line 3
+breakpoint 6: line 3
 > breaks
 breakpoint 0: change 0 a[1]
 breakpoint 1: change 1 b
-breakpoint 2: line 65537
-breakpoint 3: match 65537
-breakpoint 4: line 3
+breakpoint 2: change 0 h
+breakpoint 3: change 0 g[1]
+breakpoint 4: line 65537
+breakpoint 5: match 65537
+breakpoint 6: line 3
 > delete 1
 deleted 1
 > delete 1
@@ -357,11 +360,27 @@ refused: no breakpoint has this number
 > break change 1 a[2]
 breakpoint 1: change 1 a[2]
 > run-back
-3 steps back, depth 0
+2 steps back, depth 1
+before breakpoint 3: change 0 g[1]
+2 ahead: local 0: line 4
+    4  isend g[1] a[1] to rank tag 9;
+> run-back
+1 step back, depth 0
 before breakpoint 0: change 0 a[1]
 3 ahead: local 0: line 3
+    3  a[1] = -5;
 > back
 refused: fewer steps are taken
+> run
+1 step, depth 1
+breakpoint 0: change 0 a[1]
+2 ahead: local 0: line 4
+    4  isend g[1] a[1] to rank tag 9;
+>
+1 step, depth 2
+breakpoint 3: change 0 g[1]
+1 ahead: local 0: line 5
+    5  print b;
 '''),
     Dialogue('an array of one cell, which is that cell', ONE_CELL, '''
 > print one
@@ -378,6 +397,7 @@ refused: no such number
 1 step, depth 1
 breakpoint 0: change 0 one[0]
 next: local 0: line 3
+    3  one[0] = 5;
 > print one
 rank 0: one[0] = 4
 '''),
@@ -386,6 +406,7 @@ rank 0: one[0] = 4
 2 steps, depth 2
 stopped: as many steps as were asked for
 next: wake 0: line 5
+    5  send rank + 10 to 1 - rank tag 5;
 > calls
 line 5, 0.0 send to 1 tag 5 value 10 buffered free
 line 5, 1.0 send to 0 tag 5 value 11 buffered free
@@ -409,8 +430,10 @@ ended: done
 > run
 2 steps, depth 2
 ended: deadlock 0.0 1.0
-  rank 0 waits at line 5, 0.0 send to 1 tag 5 value 10: for a receive of rank 1 from rank 0 with tag 5
-  rank 1 waits at line 5, 1.0 send to 0 tag 5 value 11: for a receive of rank 0 from rank 1 with tag 5
+  rank 0 waits at line 5, 0.0 send to 1 tag 5 value 10: for a receive of rank 1
+        from rank 0 with tag 5
+  rank 1 waits at line 5, 1.0 send to 0 tag 5 value 11: for a receive of rank 0
+        from rank 1 with tag 5
   rank 0 waits for rank 1
   rank 1 waits for rank 0
   a cycle, where each waits for the next: rank 0, rank 1, rank 0
@@ -420,6 +443,7 @@ ended: deadlock 0.0 1.0
 3 steps, depth 3
 stopped: as many steps as were asked for
 next: local 0: line 6
+    6  recv x from 1 - rank tag 5;
 > calls 0
 line 5, 0.0 send to 1 tag 5 value 10 free
 > deadlock
@@ -434,8 +458,10 @@ at the end: E ended, ! blocked, X trapped, V can go on
 > run
 6 steps, depth 6
 stopped at a choice of rank 0, line 7:
-  1 match 1.0 0.0: the send of rank 1, line 7, to the receive of rank 0, line 7
-  2 match 2.0 0.0: the send of rank 2, line 7, to the receive of rank 0, line 7
+    7  if rank == 0 { recv x from any tag any status who tag_of; recv x from 1
+        tag any; } else { send rank to 0 tag 0; }
+  1 match 1.0 0.0: rank 1, line 7, to rank 0, line 7
+  2 match 2.0 0.0: rank 2, line 7, to rank 0, line 7
 > picture
 0 1 2  line: call
 R | |  7: 0.0 recv from any tag any free
@@ -445,17 +471,23 @@ R | |  7: 0.0 recv from any tag any free
 S send, R receive, W wait, A wait for any, B barrier, o-> match, == release
 at the end: E ended, ! blocked, X trapped, V can go on
 > next 1
-7 match 1.0 0.0: the send of rank 1, line 7, to the receive of rank 0, line 7
+7 match 1.0 0.0: rank 1, line 7, to rank 0, line 7
 next: wake 0: line 7
+    7  if rank == 0 { recv x from any tag any status who tag_of; recv x from 1
+        tag any; } else { send rank to 0 tag 0; }
 > run 3
 3 steps, depth 10
 ended: deadlock 0.1 2.0
-  rank 0 waits at line 7, 0.1 recv from 1 tag any: for a send of rank 1 with any tag
+  rank 0 waits at line 7, 0.1 recv from 1 tag any: for a send of rank 1 with any
+        tag
     nearest miss: line 7, 2.0 send to 0 tag 0 value 2: another source
-    the last that fits is taken: line 7, 1.0 send to 0 tag 0 value 1, by line 7, 0.0 recv from any tag any
-  rank 2 waits at line 7, 2.0 send to 0 tag 0 value 2: for a receive of rank 0 from rank 2 with tag 0
+    the last that fits is taken: line 7, 1.0 send to 0 tag 0 value 1, by line 7,
+        0.0 recv from any tag any
+  rank 2 waits at line 7, 2.0 send to 0 tag 0 value 2: for a receive of rank 0
+        from rank 2 with tag 0
     nearest miss: line 7, 0.1 recv from 1 tag any: another source
-    the last that fits is taken: line 7, 0.0 recv from any tag any, by line 7, 1.0 send to 0 tag 0 value 1
+    the last that fits is taken: line 7, 0.0 recv from any tag any, by line 7,
+        1.0 send to 0 tag 0 value 1
   rank 0 waits for rank 1 (ended)
   rank 2 waits for rank 0
 > picture
@@ -471,6 +503,8 @@ at the end: E ended, ! blocked, X trapped, V can go on
 > goto 0
 depth 0
 10 ahead: local 0: line 7
+    7  if rank == 0 { recv x from any tag any status who tag_of; recv x from 1
+        tag any; } else { send rank to 0 tag 0; }
 > picture
 0 1 2  line: call
 V V V  at the end
@@ -485,6 +519,7 @@ picture: draws the run so far
 > run
 5 steps, depth 5
 stopped at a choice of rank 0, line 6:
+    6  waitany r to i;
   1 wakeany 0 0: line 6, by line 4, 0.1 irecv from 0 tag 1
   2 wakeany 0 1: line 6, by line 5, 0.2 isend to 0 tag 1 value 7
 > next 2
@@ -496,11 +531,13 @@ ended: leftovers 0.0
 3 steps, depth 3
 stopped: as many steps as were asked for
 next: wake 0: line 5
+    5    wait s;
 > why 0
 line 5, 0.1 wait none
 > wake 0
 4 wake 0: line 5
 next: local 0: line 6
+    6    wait r;
 > why 0.1
 line 5, 0.1 wait none
 > run

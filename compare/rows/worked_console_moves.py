@@ -1,33 +1,40 @@
 """Worked dialogues of the console that go along runs: steps, choices, deadlocks, breakpoints, and steps that are undone (console_worked.py)."""
 
-from rows.worked_console_scripts import (ANY_OF_ONE, BESIDE_ANY, BOTH_RACES, LOOP, ONE_RACE, SEVEN_SENDERS, STOLEN_AHEAD, STOLEN_CHOICE, STOLEN_END,
-                                         STOLEN_STEPS, TWO_RACES, Dialogue, first_orders)
+from rows.worked_console_scripts import (LOOP, SEVEN_SENDERS, STOLEN_AHEAD, STOLEN_CHOICE, STOLEN_END, STOLEN_STEPS, Dialogue,
+                                         first_orders)
 
 MOVES = (
     Dialogue('the first message, step by step, there and back', 'first_message.mpd', '''
 > next
 1 local 0: line 5
 next: local 0: line 6
+    6    send 7 to 1 tag 0;
 >
 2 local 0: line 6
 next: local 1: line 5
+    5  if rank == 0 {
 > n
 3 local 1: line 5
 next: local 1: line 8
+    8    recv x from 0 tag 0;
 > ranks
 rank 0 waits at line 6, 0.0 send to 1 tag 0 value 7
 rank 1 is at line 8
 > next
 4 local 1: line 8
-next: match 0.0 1.0: the send of rank 0, line 6, to the receive of rank 1, line 8
+next: match 0.0 1.0: rank 0, line 6, to rank 1, line 8
+    6    send 7 to 1 tag 0;
+    8    recv x from 0 tag 0;
 > next 1
 1 step, depth 5
 stopped: as many steps as were asked for
 next: wake 0: line 6
+    6    send 7 to 1 tag 0;
 > run 1
 1 step, depth 6
 stopped: as many steps as were asked for
 next: wake 1: line 8
+    8    recv x from 0 tag 0;
 > calls
 line 6, 0.0 send to 1 tag 0 value 7 with 1.0
 line 8, 1.0 recv from 0 tag 0 with 0.0 value 7
@@ -37,6 +44,7 @@ rank 1: x = 0
 > next
 7 wake 1: line 8
 next: local 1: line 9
+    9    print x;
 > p x 1
 rank 1: x = 7
 > run
@@ -58,30 +66,37 @@ rank 0: x = 0
 > back
 depth 7
 1 ahead: local 1: line 9
+    9    print x;
 > redo
 8 local 1: line 9
 ended: done
 > b 3
 depth 5
 3 ahead: wake 0: line 6
+    6    send 7 to 1 tag 0;
 > redo 2
 depth 7
 1 ahead: local 1: line 9
+    9    print x;
 > redo 1
 8 local 1: line 9
 ended: done
 > goto 0
 depth 0
 8 ahead: local 0: line 5
+    5  if rank == 0 {
 > next
 1 local 0: line 5
 7 ahead: local 0: line 6
+    6    send 7 to 1 tag 0;
 > g 1
 depth 1
 7 ahead: local 0: line 6
+    6    send 7 to 1 tag 0;
 > local 1
 2 local 1: line 5
 next: local 0: line 6
+    6    send 7 to 1 tag 0;
 > history
 1 local 0: line 5
 2 local 1: line 5
@@ -96,24 +111,29 @@ local 1
 2 steps, depth 2
 stopped: as many steps as were asked for
 next: local 1: line 5
+    5  if rank == 0 {
 > continue 1
 1 step, depth 3
 stopped: as many steps as were asked for
 next: local 1: line 8
+    8    recv x from 0 tag 0;
 > c
 5 steps, depth 8
 ended: done
 > reverse-next
 depth 7
 1 ahead: local 1: line 9
+    9    print x;
 > reverse-continue
 7 steps back, depth 0
 at the start
 8 ahead: local 0: line 5
+    5  if rank == 0 {
 > rc
 0 steps back, depth 0
 at the start
 8 ahead: local 0: line 5
+    5  if rank == 0 {
 > break 8
 breakpoint 0: line 8
 > d 0
@@ -144,7 +164,8 @@ breakpoint 0: match 8
 {STOLEN_CHOICE}
 > why 0
 line 9, 0.1 recv from 1 tag 7 free
-  could be matched with line 13, 1.0 send to 0 tag 7 value 42, but for line 8, 0.0 irecv from any tag any
+  could be matched with line 13, 1.0 send to 0 tag 7 value 42, but for line 8,
+        0.0 irecv from any tag any
 > why 0.0
 line 8, 0.0 irecv from any tag any free
   can be matched with line 13, 1.0 send to 0 tag 7 value 42
@@ -152,10 +173,11 @@ line 8, 0.0 irecv from any tag any free
 > why 1.0
 line 13, 1.0 send to 0 tag 7 value 42 free
   can be matched with line 8, 0.0 irecv from any tag any
-  could be matched with line 9, 0.1 recv from 1 tag 7, but for line 8, 0.0 irecv from any tag any
+  could be matched with line 9, 0.1 recv from 1 tag 7, but for line 8, 0.0 irecv
+        from any tag any
 > enabled
-match 1.0 0.0: the send of rank 1, line 13, to the receive of rank 0, line 8
-match 2.0 0.0: the send of rank 2, line 13, to the receive of rank 0, line 8
+match 1.0 0.0: rank 1, line 13, to rank 0, line 8
+match 2.0 0.0: rank 2, line 13, to rank 0, line 8
 > queues
 pending 1 to 0: line 13, 1.0 send to 0 tag 7 value 42
 pending 2 to 0: line 13, 2.0 send to 0 tag 1 value 5
@@ -198,15 +220,17 @@ refused: there is no such candidate
 0 steps, depth 9
 {STOLEN_CHOICE}
 > next 1
-10 match 1.0 0.0: the send of rank 1, line 13, to the receive of rank 0, line 8
+10 match 1.0 0.0: rank 1, line 13, to rank 0, line 8
 next: wake 1: line 13
+   13    if rank == 1 {{ send 42 to 0 tag 7; }} else {{ send 5 to 0 tag 1; }}
 > run
 1 step, depth 11
 {STOLEN_END}
 > why 0
 line 9, 0.1 recv from 1 tag 7 free
   has no partner yet: for a send of rank 1 with tag 7
-    the last that fits is taken: line 13, 1.0 send to 0 tag 7 value 42, by line 8, 0.0 irecv from any tag any
+    the last that fits is taken: line 13, 1.0 send to 0 tag 7 value 42, by line
+        8, 0.0 irecv from any tag any
 > why 1.0
 line 13, 1.0 send to 0 tag 7 value 42 with 0.0
 > enabled
@@ -217,11 +241,14 @@ no step is enabled
 > run-back
 2 steps back, depth 9
 before breakpoint 0: match 8
-2 ahead: match 1.0 0.0: the send of rank 1, line 13, to the receive of rank 0, line 8
+2 ahead: match 1.0 0.0: rank 1, line 13, to rank 0, line 8
+   13    if rank == 1 {{ send 42 to 0 tag 7; }} else {{ send 5 to 0 tag 1; }}
+    8    irecv r note from any tag any;
 {STOLEN_CHOICE}
 > next 2
-10 match 2.0 0.0: the send of rank 2, line 13, to the receive of rank 0, line 8
+10 match 2.0 0.0: rank 2, line 13, to rank 0, line 8
 next: wake 2: line 13
+   13    if rank == 1 {{ send 42 to 0 tag 7; }} else {{ send 5 to 0 tag 1; }}
 > why 0
 line 9, 0.1 recv from 1 tag 7 free
   can be matched with line 13, 1.0 send to 0 tag 7 value 42
@@ -235,9 +262,9 @@ ended: done
 > history
 8 local 2: line 13
 9 local 2: line 13
-10 match 2.0 0.0: the send of rank 2, line 13, to the receive of rank 0, line 8
+10 match 2.0 0.0: rank 2, line 13, to rank 0, line 8
 11 wake 2: line 13
-12 match 1.0 0.1: the send of rank 1, line 13, to the receive of rank 0, line 9
+12 match 1.0 0.1: rank 1, line 13, to rank 0, line 9
 13 wake 0: line 9
 14 local 0: line 10
 15 wake 0: line 10
@@ -254,13 +281,17 @@ rank 0: r = no request
 > deadlock
 deadlock 0.1 2.0 is 11 steps ahead
 11 ahead: local 0: line 7
+    7  if rank == 0 {{
 > run
 9 steps, depth 9
-2 ahead: match 1.0 0.0: the send of rank 1, line 13, to the receive of rank 0, line 8
+2 ahead: match 1.0 0.0: rank 1, line 13, to rank 0, line 8
+   13    if rank == 1 {{ send 42 to 0 tag 7; }} else {{ send 5 to 0 tag 1; }}
+    8    irecv r note from any tag any;
 {STOLEN_CHOICE}
 > redo
-10 match 1.0 0.0: the send of rank 1, line 13, to the receive of rank 0, line 8
+10 match 1.0 0.0: rank 1, line 13, to rank 0, line 8
 1 ahead: wake 1: line 13
+   13    if rank == 1 {{ send 42 to 0 tag 7; }} else {{ send 5 to 0 tag 1; }}
 > run
 1 step, depth 11
 {STOLEN_END}
@@ -269,11 +300,15 @@ deadlock 0.1 2.0 is 0 steps ahead
 {STOLEN_END}
 > goto 9
 depth 9
-2 ahead: match 1.0 0.0: the send of rank 1, line 13, to the receive of rank 0, line 8
+2 ahead: match 1.0 0.0: rank 1, line 13, to rank 0, line 8
+   13    if rank == 1 {{ send 42 to 0 tag 7; }} else {{ send 5 to 0 tag 1; }}
+    8    irecv r note from any tag any;
 {STOLEN_CHOICE}
 > deadlock
 deadlock 0.1 2.0 is 2 steps ahead
-2 ahead: match 1.0 0.0: the send of rank 1, line 13, to the receive of rank 0, line 8
+2 ahead: match 1.0 0.0: rank 1, line 13, to rank 0, line 8
+   13    if rank == 1 {{ send 42 to 0 tag 7; }} else {{ send 5 to 0 tag 1; }}
+    8    irecv r note from any tag any;
 {STOLEN_CHOICE}
 > redo 2
 depth 11
@@ -281,19 +316,25 @@ depth 11
 > goto 10
 depth 10
 1 ahead: wake 1: line 13
+   13    if rank == 1 {{ send 42 to 0 tag 7; }} else {{ send 5 to 0 tag 1; }}
 > deadlock
 deadlock 0.1 2.0 is 1 step ahead
 1 ahead: wake 1: line 13
+   13    if rank == 1 {{ send 42 to 0 tag 7; }} else {{ send 5 to 0 tag 1; }}
 > goto 0
 depth 0
 11 ahead: local 0: line 7
+    7  if rank == 0 {{
 > run
 9 steps, depth 9
-2 ahead: match 1.0 0.0: the send of rank 1, line 13, to the receive of rank 0, line 8
+2 ahead: match 1.0 0.0: rank 1, line 13, to rank 0, line 8
+   13    if rank == 1 {{ send 42 to 0 tag 7; }} else {{ send 5 to 0 tag 1; }}
+    8    irecv r note from any tag any;
 {STOLEN_CHOICE}
 >
-10 match 1.0 0.0: the send of rank 1, line 13, to the receive of rank 0, line 8
+10 match 1.0 0.0: rank 1, line 13, to rank 0, line 8
 1 ahead: wake 1: line 13
+   13    if rank == 1 {{ send 42 to 0 tag 7; }} else {{ send 5 to 0 tag 1; }}
 >
 1 step, depth 11
 {STOLEN_END}
@@ -303,30 +344,39 @@ depth 0
 > goto 10
 depth 10
 1 ahead: wake 1: line 13
+   13    if rank == 1 {{ send 42 to 0 tag 7; }} else {{ send 5 to 0 tag 1; }}
 > back
 depth 9
-2 ahead: match 1.0 0.0: the send of rank 1, line 13, to the receive of rank 0, line 8
+2 ahead: match 1.0 0.0: rank 1, line 13, to rank 0, line 8
+   13    if rank == 1 {{ send 42 to 0 tag 7; }} else {{ send 5 to 0 tag 1; }}
+    8    irecv r note from any tag any;
 {STOLEN_CHOICE}
 > next 2
-10 match 2.0 0.0: the send of rank 2, line 13, to the receive of rank 0, line 8
+10 match 2.0 0.0: rank 2, line 13, to rank 0, line 8
 next: wake 2: line 13
+   13    if rank == 1 {{ send 42 to 0 tag 7; }} else {{ send 5 to 0 tag 1; }}
 > run 2
 2 steps, depth 12
 stopped: as many steps as were asked for
 next: wake 0: line 9
+    9    recv result from 1 tag 7;
 > back
 depth 11
-1 ahead: match 1.0 0.1: the send of rank 1, line 13, to the receive of rank 0, line 9
+1 ahead: match 1.0 0.1: rank 1, line 13, to rank 0, line 9
+   13    if rank == 1 {{ send 42 to 0 tag 7; }} else {{ send 5 to 0 tag 1; }}
+    9    recv result from 1 tag 7;
 > deadlock
 no deadlock: 1 run, and no more (1 done)
 > redo
-12 match 1.0 0.1: the send of rank 1, line 13, to the receive of rank 0, line 9
+12 match 1.0 0.1: rank 1, line 13, to rank 0, line 9
 next: wake 0: line 9
+    9    recv result from 1 tag 7;
 > quit
 '''),
     Dialogue('a witness lies ahead from the start on', 'stolen_message.mpd', f'''
 deadlock 0.1 2.0 is 11 steps ahead
 11 ahead: local 0: line 7
+    7  if rank == 0 {{
 > history
 no step is taken
 > show
@@ -350,7 +400,9 @@ refused: fewer steps are taken
 refused: fewer steps are taken
 > goto 9
 depth 9
-2 ahead: match 1.0 0.0: the send of rank 1, line 13, to the receive of rank 0, line 8
+2 ahead: match 1.0 0.0: rank 1, line 13, to rank 0, line 8
+   13    if rank == 1 {{ send 42 to 0 tag 7; }} else {{ send 5 to 0 tag 1; }}
+    8    irecv r note from any tag any;
 {STOLEN_CHOICE}
 > redo 3
 depth 11
@@ -359,167 +411,6 @@ depth 11
 {STOLEN_STEPS}
 > quit
 ''', witness=STOLEN_AHEAD),
-    Dialogue('choices of several receives, and ends that differ in nothing', TWO_RACES, '''
-> run
-8 steps, depth 8
-stopped at a choice:
-  1 match 2.0 0.0: the send of rank 2, line 5, to the receive of rank 0, line 3
-  2 match 3.0 1.0: the send of rank 3, line 5, to the receive of rank 1, line 3
-> check
-1 choices 1 1: done
-2 choices 2 1: done
-2 runs, and no more (2 done)
-> deadlock
-no deadlock: 2 runs, and no more (2 done)
-> next 2
-9 match 3.0 1.0: the send of rank 3, line 5, to the receive of rank 1, line 3
-next: wake 1: line 3
-> run
-2 steps, depth 11
-stopped at a choice of rank 0, line 3:
-  1 match 2.0 0.0: the send of rank 2, line 5, to the receive of rank 0, line 3
-> next
-stopped at a choice of rank 0, line 3:
-  1 match 2.0 0.0: the send of rank 2, line 5, to the receive of rank 0, line 3
-> match 2.0 0.0
-12 match 2.0 0.0: the send of rank 2, line 5, to the receive of rank 0, line 3
-next: wake 0: line 3
-> wake 2
-13 wake 2: line 5
-next: wake 0: line 3
-> list
-    1  mpd 1; ranks 4; var x;
-    2  if rank < 2 {
-    3    recv x from any tag 0;  <- rank 0 blocked
-    4  } else {
-    5    send 7 to rank - 2 tag 0;
-    6  }
-ended: rank 1, rank 2, rank 3
-> list 3
-rank 3 has ended
-> list 4
-refused: no such number
-'''),
-    Dialogue('along the steps ahead, from choice to choice', TWO_RACES, f'''
-> run
-8 steps, depth 8
-{BOTH_RACES}
-> next 2
-9 match 3.0 1.0: the send of rank 3, line 5, to the receive of rank 1, line 3
-next: wake 1: line 3
-> run
-2 steps, depth 11
-{ONE_RACE}
-> run
-0 steps, depth 11
-{ONE_RACE}
-> next 1
-12 match 2.0 0.0: the send of rank 2, line 5, to the receive of rank 0, line 3
-next: wake 0: line 3
-> run
-2 steps, depth 14
-ended: done
-> goto 0
-depth 0
-14 ahead: local 0: line 2
-> run
-8 steps, depth 8
-6 ahead: match 3.0 1.0: the send of rank 3, line 5, to the receive of rank 1, line 3
-{BOTH_RACES}
-> run 0
-refused: no such number
-> break match 3
-breakpoint 0: match 3
-> break line 3
-breakpoint 1: line 3
-> delete 1
-deleted 1
-> run
-9 match 3.0 1.0: the send of rank 3, line 5, to the receive of rank 1, line 3
-5 ahead: wake 1: line 3
->
-2 steps, depth 11
-3 ahead: match 2.0 0.0: the send of rank 2, line 5, to the receive of rank 0, line 3
-{ONE_RACE}
->
-12 match 2.0 0.0: the send of rank 2, line 5, to the receive of rank 0, line 3
-2 ahead: wake 0: line 3
->
-2 steps, depth 14
-ended: done
->
-0 steps, depth 14
-ended: done
-> goto 8
-depth 8
-6 ahead: match 3.0 1.0: the send of rank 3, line 5, to the receive of rank 1, line 3
-{BOTH_RACES}
-> c 1000001
-9 match 3.0 1.0: the send of rank 3, line 5, to the receive of rank 1, line 3
-5 ahead: wake 1: line 3
-> goto 14
-depth 14
-ended: done
-> g 8
-depth 8
-6 ahead: match 3.0 1.0: the send of rank 3, line 5, to the receive of rank 1, line 3
-{BOTH_RACES}
-> run 7
-9 match 3.0 1.0: the send of rank 3, line 5, to the receive of rank 1, line 3
-5 ahead: wake 1: line 3
-> goto 10
-depth 10
-4 ahead: wake 3: line 5
-> goto 11
-depth 11
-3 ahead: match 2.0 0.0: the send of rank 2, line 5, to the receive of rank 0, line 3
-{ONE_RACE}
-> r 1
-12 match 2.0 0.0: the send of rank 2, line 5, to the receive of rank 0, line 3
-2 ahead: wake 0: line 3
-> back 4
-depth 8
-6 ahead: match 3.0 1.0: the send of rank 3, line 5, to the receive of rank 1, line 3
-{BOTH_RACES}
-> next 1
-9 match 2.0 0.0: the send of rank 2, line 5, to the receive of rank 0, line 3
-next: wake 0: line 3
-> goto 10
-refused: fewer steps are taken
-> quit
-'''),
-    Dialogue('a step ahead that is none of the candidates', BESIDE_ANY, f'''
-> run
-8 steps, depth 8
-{ANY_OF_ONE}
-> match 1.1 0.1
-9 match 1.1 0.1: the send of rank 1, line 9, to the receive of rank 0, line 5
-{ANY_OF_ONE}
-> run
-0 steps, depth 9
-{ANY_OF_ONE}
-> next 1
-10 wakeany 0 0: line 6, by line 4, 0.0 irecv from 1 tag 1
-ended: done
-> back 2
-depth 8
-2 ahead: match 1.1 0.1: the send of rank 1, line 9, to the receive of rank 0, line 5
-{ANY_OF_ONE}
-> run
-9 match 1.1 0.1: the send of rank 1, line 9, to the receive of rank 0, line 5
-1 ahead: wakeany 0 0: line 6, by line 4, 0.0 irecv from 1 tag 1
-{ANY_OF_ONE}
->
-10 wakeany 0 0: line 6, by line 4, 0.0 irecv from 1 tag 1
-ended: done
-> goto 9
-depth 9
-1 ahead: wakeany 0 0: line 6, by line 4, 0.0 irecv from 1 tag 1
-{ANY_OF_ONE}
-> redo 2
-10 wakeany 0 0: line 6, by line 4, 0.0 irecv from 1 tag 1
-ended: done
-'''),
     Dialogue('a barrier that all leave', 'skipped_barrier.mpd', '''
 > run 6
 6 steps, depth 6
@@ -532,6 +423,7 @@ line 6, 1.0 barrier
 > next
 7 release: all ranks leave the barrier
 next: local 0: line 7
+    7  if work > 0 {
 > why 1.0
 line 6, 1.0 barrier
 > break 9
@@ -540,14 +432,17 @@ breakpoint 0: line 9
 2 steps, depth 9
 breakpoint 0: line 9
 next: local 0: line 9
+    9    barrier;
 > run-back
 1 step back, depth 8
 before breakpoint 0: line 9
 1 ahead: local 0: line 8
+    8    print work;
 > run
 1 step, depth 9
 breakpoint 0: line 9
 next: local 0: line 9
+    9    barrier;
 > break change 2 work
 breakpoint 1: change 2 work
 > breaks
@@ -591,10 +486,12 @@ breakpoint 3: match 8
 5 steps, depth 5
 breakpoint 1: match 6
 next: wake 0: line 6
+    6    send 7 to 1 tag 0;
 > run 2
 2 steps, depth 7
 breakpoint 0: line 9
 next: local 1: line 9
+    9    print x;
 > delete 0
 deleted 0
 > delete 1
@@ -603,24 +500,30 @@ deleted 1
 1 step back, depth 6
 before breakpoint 2: change 1 x
 1 ahead: wake 1: line 8
+    8    recv x from 0 tag 0;
 > run-back
 2 steps back, depth 4
 before breakpoint 3: match 8
-3 ahead: match 0.0 1.0: the send of rank 0, line 6, to the receive of rank 1, line 8
+3 ahead: match 0.0 1.0: rank 0, line 6, to rank 1, line 8
+    6    send 7 to 1 tag 0;
+    8    recv x from 0 tag 0;
 > run
 1 step, depth 5
 breakpoint 3: match 8
 2 ahead: wake 0: line 6
+    6    send 7 to 1 tag 0;
 > run
 2 steps, depth 7
 breakpoint 2: change 1 x
 next: local 1: line 9
+    9    print x;
 '''),
     Dialogue('as many steps as are kept', LOOP, '''
 > run
 3 steps, depth 3
 stopped: no more than 1000000 steps are kept
 next: local 0: line 2
+    2  while 1 { }
 > next
 refused: no more than 1000000 steps are kept
 > local 0
@@ -636,13 +539,16 @@ no deadlock: 1 run, and no more (1 cut)
 0 steps, depth 3
 stopped: no more than 1000000 steps are kept
 next: local 0: line 2
+    2  while 1 { }
 > back 2
 depth 1
 2 ahead: local 0: line 2
+    2  while 1 { }
 > run 1
 1 step, depth 2
 stopped: as many steps as were asked for
 1 ahead: local 0: line 2
+    2  while 1 { }
 > check
 1 no choice: cut
 1 run, and no more (1 cut)
@@ -650,6 +556,7 @@ stopped: as many steps as were asked for
 1 step, depth 3
 stopped: no more than 1000000 steps are kept
 next: local 0: line 2
+    2  while 1 { }
 ''', limit=3),
     Dialogue('what is left of the steps that are kept', 'loop.mpd', '''
 > check
@@ -659,6 +566,7 @@ next: local 0: line 2
 4 steps, depth 4
 stopped: as many steps as were asked for
 next: local 0: line 7
+    7    i = i + 1;
 > check
 1 no choice: cut
 1 run, and no more (1 cut)
@@ -668,6 +576,7 @@ next: local 0: line 7
 3 steps, depth 3
 stopped: as many steps as were asked for
 next: local 0: line 6
+    6  while i < 3 {
 > check
 1 no choice: done
 1 run, and no more (1 done)
@@ -684,6 +593,7 @@ no deadlock: 1 run, and no more (1 cut)
 > next
 1 local 0: line 2
 next: local 0: line 2
+    2  while x < 4 { x = x + 1; }
 > check
 1 no choice: done
 1 run, and no more (1 done)
@@ -694,15 +604,19 @@ no deadlock: 1 run, and no more (1 done)
 > next
 1 local 0: line 5
 next: local 0: line 6
+    6    send 7 to 1 tag 0;
 > local 1
 2 local 1: line 5
 next: local 0: line 6
+    6    send 7 to 1 tag 0;
 > local 1
 3 local 1: line 8
 next: local 0: line 6
+    6    send 7 to 1 tag 0;
 > back 2
 depth 1
 2 ahead: local 1: line 5
+    5  if rank == 0 {
 > words
 local 0
 > enabled
@@ -714,9 +628,11 @@ local 1: line 5
 > redo
 2 local 1: line 5
 1 ahead: local 1: line 8
+    8    recv x from 0 tag 0;
 > next
 3 local 0: line 6
 next: local 1: line 8
+    8    recv x from 0 tag 0;
 > redo
 refused: fewer steps are ahead
 '''),
@@ -725,20 +641,25 @@ refused: fewer steps are ahead
 6 steps, depth 6
 stopped: as many steps as were asked for
 next: local 2: line 7
+    7  if rank == 0 {
 > enabled
 local 2: line 7
-match 1.0 0.0: the send of rank 1, line 13, to the receive of rank 0, line 8
+match 1.0 0.0: rank 1, line 13, to rank 0, line 8
 '''),
     Dialogue('the first of two deadlocks', 'missing_sender.mpd', '''
 > deadlock
 deadlock 0.2 is 21 steps ahead
 21 ahead: local 0: line 7
+    7  if rank == 0 {
 > redo 7
 depth 7
-14 ahead: match 1.0 0.0: the send of rank 1, line 15, to the receive of rank 0, line 9
+14 ahead: match 1.0 0.0: rank 1, line 15, to rank 0, line 9
+   15    send rank to 0 tag 0;
+    9      recv x from any tag 0;
 stopped at a choice of rank 0, line 9:
-  1 match 1.0 0.0: the send of rank 1, line 15, to the receive of rank 0, line 9
-  2 match 2.0 0.0: the send of rank 2, line 15, to the receive of rank 0, line 9
+    9      recv x from any tag 0;
+  1 match 1.0 0.0: rank 1, line 15, to rank 0, line 9
+  2 match 2.0 0.0: rank 2, line 15, to rank 0, line 9
 '''))
 # What takes the model some seconds.
 FIRST_RUNS = (

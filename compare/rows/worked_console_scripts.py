@@ -122,6 +122,20 @@ if rank == 0 {
   isend r[1] 6 to 0 tag 2;
 }
 '''
+# A rank that may go on by either of its requests, while another message may still come.
+BESIDE_ANY_OF_TWO = '''mpd 2; ranks 2;
+var x; var y; var i; req r[2]; req h;
+if rank == 0 {
+  irecv r[0] x from 1 tag 1;
+  irecv r[1] x from 1 tag 3;
+  irecv h y from any tag 2;
+  waitany r to i;
+} else {
+  isend r[0] 5 to 0 tag 1;
+  isend r[1] 6 to 0 tag 2;
+  isend h 7 to 0 tag 3;
+}
+'''
 # What nearly fits is free, and what fits is taken.
 NEARLY = '''mpd 1; ranks 2; var x; req r;
 if rank == 0 {
@@ -164,6 +178,8 @@ if rank == 0 {
   while i < 7 { recv x from any tag 0; i = i + 1; }
 } else { send 1 to 0 tag 0; }
 '''
+# Three of them.
+THREE_SENDERS = SEVEN_SENDERS.replace('ranks 8', 'ranks 4').replace('i < 7', 'i < 3')
 # By the message that comes first the first run traps, and the second is a deadlock, or the other way round.
 TRAP_THEN_HANG = '''mpd 1; ranks 3; var x;
 if rank == 0 {
@@ -201,13 +217,17 @@ PRINTS = 'mpd 1; ranks 1; print -7;\r\n\nprint 2;\t# 2\n#\r\r\n '
 
 # The choice of examples/stolen_message.mpd, its deadlock, and the way there.
 STOLEN_CHOICE = '''stopped at a choice of rank 0, line 8:
-  1 match 1.0 0.0: the send of rank 1, line 13, to the receive of rank 0, line 8
-  2 match 2.0 0.0: the send of rank 2, line 13, to the receive of rank 0, line 8'''
+    8    irecv r note from any tag any;
+  1 match 1.0 0.0: rank 1, line 13, to rank 0, line 8
+  2 match 2.0 0.0: rank 2, line 13, to rank 0, line 8'''
 STOLEN_END = '''ended: deadlock 0.1 2.0
   rank 0 waits at line 9, 0.1 recv from 1 tag 7: for a send of rank 1 with tag 7
-    the last that fits is taken: line 13, 1.0 send to 0 tag 7 value 42, by line 8, 0.0 irecv from any tag any
-  rank 2 waits at line 13, 2.0 send to 0 tag 1 value 5: for a receive of rank 0 from rank 2 with tag 1
-    the last that fits is taken: line 8, 0.0 irecv from any tag any, by line 13, 1.0 send to 0 tag 7 value 42
+    the last that fits is taken: line 13, 1.0 send to 0 tag 7 value 42, by line
+        8, 0.0 irecv from any tag any
+  rank 2 waits at line 13, 2.0 send to 0 tag 1 value 5: for a receive of rank 0
+        from rank 2 with tag 1
+    the last that fits is taken: line 8, 0.0 irecv from any tag any, by line 13,
+        1.0 send to 0 tag 7 value 42
   rank 0 waits for rank 1 (ended)
   rank 2 waits for rank 0'''
 STOLEN_STEPS = '''local 0
@@ -224,14 +244,26 @@ wake 1'''
 STOLEN_AHEAD = f'leaf 0 [0] deadlock 0.1 2.0\nwitness 0: {STOLEN_STEPS}\n'.replace('\nlocal', ', local').replace('\nmatch', ', match').replace(
     '\nwake', ', wake')
 
-# The choices of TWO_RACES, of both and of the one that is left, and that of BESIDE_ANY.
+# The choice of BESIDE_ANY_OF_TWO.
+ANY_CHOICE = '''stopped at a choice of rank 0, line 7:
+    7    waitany r to i;
+  1 wakeany 0 0: line 7, by line 4, 0.0 irecv from 1 tag 1
+  2 wakeany 0 1: line 7, by line 5, 0.1 irecv from 1 tag 3'''
+# The line that receives in THREE_SENDERS, its first choice, and the one behind the message of rank 2.
+TAKES_THREE = '    3    while i < 3 { recv x from any tag 0; i = i + 1; }'
+OF_THREE = f'''stopped at a choice of rank 0, line 3:
+{TAKES_THREE}
+  1 match 1.0 0.0: rank 1, line 4, to rank 0, line 3
+  2 match 2.0 0.0: rank 2, line 4, to rank 0, line 3
+  3 match 3.0 0.0: rank 3, line 4, to rank 0, line 3'''
+OF_TWO = f'''stopped at a choice of rank 0, line 3:
+{TAKES_THREE}
+  1 match 1.0 0.1: rank 1, line 4, to rank 0, line 3
+  2 match 3.0 0.1: rank 3, line 4, to rank 0, line 3'''
+# The choice of TWO_RACES.
 BOTH_RACES = '''stopped at a choice:
-  1 match 2.0 0.0: the send of rank 2, line 5, to the receive of rank 0, line 3
-  2 match 3.0 1.0: the send of rank 3, line 5, to the receive of rank 1, line 3'''
-ONE_RACE = '''stopped at a choice of rank 0, line 3:
-  1 match 2.0 0.0: the send of rank 2, line 5, to the receive of rank 0, line 3'''
-ANY_OF_ONE = '''stopped at a choice of rank 0, line 6:
-  1 wakeany 0 0: line 6, by line 4, 0.0 irecv from 1 tag 1'''
+  1 match 2.0 0.0: rank 2, line 5, to rank 0, line 3
+  2 match 3.0 1.0: rank 3, line 5, to rank 1, line 3'''
 
 
 def first_orders(count):

@@ -52,6 +52,7 @@ refused: fewer steps are taken
 > goto 0
 depth 0
 next: local 0: line 6
+    6  while i < 3 {
 > run 1000000
 11 steps, depth 11
 ended: done
@@ -81,9 +82,11 @@ ended: done
 > goto 000000003
 depth 3
 8 ahead: local 0: line 6
+    6  while i < 3 {
 > goto 4
 depth 4
 7 ahead: local 0: line 7
+    7    i = i + 1;
 > goto 12
 refused: fewer steps are taken
 > goto 999999999
@@ -101,12 +104,14 @@ ended: done
 > back 2
 depth 9
 2 ahead: local 0: line 6
+    6  while i < 3 {
 > redo 3
 depth 11
 ended: done
 > back
 depth 10
 1 ahead: local 0: line 10
+   10  print sum;
 > redo 2
 11 local 0: line 10
 ended: done
@@ -115,24 +120,28 @@ refused: fewer steps are ahead
 > back
 depth 10
 1 ahead: local 0: line 10
+   10  print sum;
 > redo 999999999
 11 local 0: line 10
 ended: done
 > goto 10
 depth 10
 1 ahead: local 0: line 10
+   10  print sum;
 > goto 11
 depth 11
 ended: done
 > goto 0
 depth 0
 11 ahead: local 0: line 6
+    6  while i < 3 {
 > redo 1000001
 depth 11
 ended: done
 > goto 0
 depth 0
 11 ahead: local 0: line 6
+    6  while i < 3 {
 > run 1000001
 refused: no such number
 > run
@@ -355,9 +364,9 @@ refused: no such number
 > print sum[0] 0
 refused: no such number
 > break change 9 nope
-no variable is called 'nope'
+no variable or request is called 'nope'
 > break change 9 sum[1
-no variable is called 'sum[1'
+no variable or request is called 'sum[1'
 > break change 9 i
 refused: no such number
 > break change x nope
@@ -372,20 +381,24 @@ rank 0: i = 0
 > \t next \t
 1 local 0: line 6
 next: local 0: line 7
+    7    i = i + 1;
 > # the word before is still the last
 >  \t
 2 local 0: line 7
 next: local 0: line 8
+    8    sum = sum + i;
 > nxt
 unknown word 'nxt': perhaps next
 >
 3 local 0: line 8
 next: local 0: line 6
+    6  while i < 3 {
 > next x
 usage: next [N]
 >
 4 local 0: line 6
 next: local 0: line 7
+    7    i = i + 1;
 > goto 9
 refused: fewer steps are taken
 >
@@ -393,9 +406,11 @@ refused: fewer steps are taken
 > back 2
 depth 2
 2 ahead: local 0: line 8
+    8    sum = sum + i;
 >
 depth 0
 4 ahead: local 0: line 6
+    6  while i < 3 {
 >
 refused: fewer steps are taken
 > print y
@@ -405,9 +420,11 @@ refused: fewer steps are taken
 > redo
 1 local 0: line 6
 3 ahead: local 0: line 7
+    7    i = i + 1;
 >
 2 local 0: line 7
 2 ahead: local 0: line 8
+    8    sum = sum + i;
 > help zap
 unknown word 'zap': help lists all
 > print sum[0]
@@ -415,11 +432,13 @@ refused: no such number
 >
 3 local 0: line 8
 1 ahead: local 0: line 6
+    6  while i < 3 {
 > break change 0 nope
-no variable is called 'nope'
+no variable or request is called 'nope'
 >
 4 local 0: line 6
 next: local 0: line 7
+    7    i = i + 1;
 > print sum 7
 refused: no such number
 >
@@ -437,11 +456,13 @@ no breakpoint
 > goto 2
 depth 2
 2 ahead: local 0: line 8
+    8    sum = sum + i;
 > zap
 unknown word 'zap': help lists all
 >
 depth 2
 2 ahead: local 0: line 8
+    8    sum = sum + i;
 > next # takes a step
 usage: next [N]
 > p sum
@@ -453,41 +474,59 @@ rank 0: sum = 0
     Dialogue('help, of all words and of some', PRINTS, '''
 > help
 next [N]                            takes the step that comes next
-run [N]                             goes on to the next breakpoint, choice or end, or so many steps at most
+run [N]                             goes on to the next breakpoint, choice or
+        end, or so many steps at most
 back [N]                            takes a step back, or so many
 run-back                            goes back to a breakpoint, or to the start
-undo-choice                         goes back to the last choice, so that another candidate can be taken
-goto N                              goes back, or along the steps ahead, until so many steps are taken
-redo [N]                            takes the step again that was undone last, or so many, or all
+undo-choice                         goes back to the last choice, so that
+        another candidate can be taken
+goto N                              goes back, or along the steps ahead, until
+        so many steps are taken
+redo [N]                            takes the step again that was undone last,
+        or so many, or all
 local P, match S R, wake P, wakeany P I, release takes this step
-break LINE, break match LINE, break change P NAME sets a breakpoint: behind a step by which a rank comes to that line, \
-behind a match of a call of that line, behind a change of that variable of rank P
+break LINE, break match LINE, break change P NAME sets a breakpoint: behind a
+        step by which a rank comes to that line, behind a match of a call of
+        that line, behind a change of that variable or request of rank P
 delete N                            removes a breakpoint
 breaks                              lists the breakpoints
-list [P]                            shows the script, and at each line which ranks stand there
-print NAME [P]                      shows a variable or a request of all ranks, or of rank P
-vars [P]                            shows all variables and requests, and what was printed
+list [P]                            shows the script, and at each line which
+        ranks stand there
+print NAME [P]                      shows a variable or a request of all ranks,
+        or of rank P
+vars [P]                            shows all variables and requests in short,
+        and what was printed
 ranks                               shows what each rank is doing
 calls [P]                           lists the calls of all ranks, or of rank P
-queues                              lists the sends and the receives that are free
-why [P], why CALL                   says why the calls that ranks wait for aren't matched
+queues                              lists the sends and the receives that are
+        free
+why [P], why CALL                   says why the calls that ranks wait for
+        aren't matched
 history [N]                         lists the last 10 steps, or the last N
 picture                             draws the run so far
-check [N]                           tries the choices from here, and lists how the runs end, 1,000 or N of them at most
+check [N]                           tries the choices from here, and lists how
+        the runs end, 1,000 or N of them at most
 follow N                            lays the steps of a run ahead
-deadlock                            looks for the first deadlock from here, and lays its steps ahead, so that redo and run go there
-trap                                looks for the first trap from here, and lays its steps ahead
-words                               lists the steps taken as trace words, to be kept in a file
+deadlock                            looks for the first deadlock from here, and
+        lays its steps ahead, so that redo and run go there
+trap                                looks for the first trap from here, and lays
+        its steps ahead
+words                               lists the steps taken as trace words, to be
+        kept in a file
 enabled                             lists the steps that are enabled
-show                                shows the whole state, as a trace does (docs/FORMATS.md, "Text of show")
+show                                shows the whole state, as a trace does
+        (docs/FORMATS.md, "Text of show")
 help [WORD]                         lists the words, or tells of one
 quit                                ends
 > help next
-next [N]: takes the step that comes next; at a choice it lists the candidates, and next N takes one, from 1; elsewhere next N is run N
+next [N]: takes the step that comes next; at a choice it lists the candidates,
+        and next N takes one, from 1; elsewhere next N is run N
 > help w
-why [P], why CALL: says why the calls that ranks wait for aren't matched; or that of rank P, or a call
+why [P], why CALL: says why the calls that ranks wait for aren't matched; or
+        that of rank P, or a call
 > help u
-undo-choice: goes back to the last choice, so that another candidate can be taken
+undo-choice: goes back to the last choice, so that another candidate can be
+        taken
 > help f
 follow N: lays the steps of a run ahead; N is its number in check
 > help trap
@@ -501,19 +540,23 @@ goto N: goes back, or along the steps ahead, until so many steps are taken
 > help redo
 redo [N]: takes the step again that was undone last, or so many, or all
 > help break
-break LINE, break match LINE, break change P NAME: sets a breakpoint: behind a step by which a rank comes to that line, \
-behind a match of a call of that line, behind a change of that variable of rank P
+break LINE, break match LINE, break change P NAME: sets a breakpoint: behind a
+        step by which a rank comes to that line, behind a match of a call of
+        that line, behind a change of that variable or request of rank P
 > help line
 unknown word 'line': perhaps list
 > help l
-list [P]: shows the script, and at each line which ranks stand there; or the lines about rank P
+list [P]: shows the script, and at each line which ranks stand there; or the
+        lines about rank P
 > help ?
 help [WORD]: lists the words, or tells of one
 > vars
+rank 0 has no variable
 > words
 > next
 1 local 0: line 1
 next: local 0: line 3
+    3  print 2;\t# 2
 > list
     1  mpd 1; ranks 1; print -7;
     2  
@@ -524,6 +567,7 @@ next: local 0: line 3
 2 local 0: line 3
 ended: done
 > vars
+rank 0 has no variable
 rank 0 has printed -7 2
 > list
     1  mpd 1; ranks 1; print -7;
@@ -537,12 +581,14 @@ ended: rank 0
 > next
 1 local 0: line 6
 next: local 0: line 7
+    7    i = i + 1;
 > {"x" * 4097}
 refused: this line is too long
 > # nothing
 >
 2 local 0: line 7
 next: local 0: line 8
+    8    sum = sum + i;
 > zap
 unknown word 'zap': help lists all
 > q
@@ -560,7 +606,7 @@ refused: 64 breakpoints are set
 > break 0
 refused: no such number
 > break change 0 y
-no variable is called 'y'
+no variable or request is called 'y'
 > delete 63
 deleted 63
 > break change 0 i

@@ -159,4 +159,46 @@ STOPS = (
     RunRow(THREE, RENDEZVOUS, 'run 100: stop choice steps 6 depth 6; match 1.0 0.0: ok 7; back: ok 6; copy: ok 6; redo: refused no-redo; '
            'decide: choice match 1.0 0.0, match 2.0 0.0; run-back: stop start steps 6 depth 0; run 100: stop choice steps 6 depth 6'))
 
-RUNS = DECISIONS + BREAKPOINTS + STOPS
+RUNS_ON = (
+    # past a choice of a single candidate, which is counted as any other step, to a leaf; one that is at a choice of none makes no step
+    RunRow(NAMED_AND_ANY, RENDEZVOUS, 'run-on 100: stop leaf steps 18 depth 18; run-on 100: stop leaf steps 0 depth 18; goto 0: ok 0; '
+           'run 100: stop choice steps 14 depth 14; run-on 1: stop max steps 1 depth 15; run-on 100: stop leaf steps 3 depth 18'),
+    # it stops before a choice of two, of one receive or of two
+    RunRow(THREE, RENDEZVOUS, 'run-on 100: stop choice steps 6 depth 6; run-on 100: stop choice steps 0 depth 6; match 1.0 0.0: ok 7; '
+           'run-on 100: stop leaf steps 6 depth 13'),
+    RunRow(TWO_RECEIVERS, RENDEZVOUS, 'run-on 100: stop choice steps 7 depth 7; match 2.0 1.0: ok 8; run-on 100: stop leaf steps 3 depth 11; '
+           'goto 8: ok 8; run 100: stop choice steps 1 depth 9; run-on 1: stop max steps 1 depth 10'),
+    # behind a single candidate that a breakpoint marks
+    RunRow(STATUS, RENDEZVOUS, 'break match 3: break 0; run-on 100: stop break 0 steps 7 depth 7; run-on 100: stop leaf steps 2 depth 9; '
+           'run-back: stop break 0 steps 3 depth 6; run 100: stop choice steps 0 depth 6; run-on 1: stop break 0 steps 1 depth 7'),
+    # by the number of steps, also where a single candidate comes next, and at the last depth before that
+    RunRow(STATUS, RENDEZVOUS, 'run-on 6: stop max steps 6 depth 6; run-on 0: stop max steps 0 depth 6; run 0: stop choice steps 0 depth 6; '
+           'run-on 1: stop max steps 1 depth 7'),
+    RunRow(STATUS, RENDEZVOUS, 'run-on 6: stop full steps 6 depth 6; run-on 9: stop full steps 0 depth 6; run 9: stop choice steps 0 depth 6', 6),
+    RunRow(THREE, RENDEZVOUS, 'run-on 6: stop choice steps 6 depth 6', 6),
+    # a single candidate that was undone is taken again, and what stands behind it stays; where another step was, that is dropped
+    RunRow(STATUS, RENDEZVOUS, 'run-on 100: stop leaf steps 9 depth 9; goto 6: ok 6; run-on 1: stop max steps 1 depth 7; redo: ok 8; '
+           'redo: ok 9; goto 0: ok 0; run-on 7: stop max steps 7 depth 7; redo: ok 8'),
+    RunRow(STATUS, RENDEZVOUS, 'local 1: ok 1; back: ok 0; run-on 7: stop max steps 7 depth 7; redo: refused no-redo'))
+
+TWICE_INTO = ('mpd 1; ranks 1; var x; req r; req s[2];\nisend r 1 to 0 tag 0;\nisend r 2 to 0 tag 0;\nirecv s[1] x from 0 tag 0;\n'
+              'wait s[1];\nwait r;')
+HANDLES = (
+    # a handle that gets a call, gets another one, and has none behind the wake of its wait
+    RunRow(TWICE_INTO, BUFFERED, 'break handle 0 0: break 0; run 99: stop break 0 steps 1 depth 1; run 99: stop break 0 steps 1 depth 2; '
+           'run 99: stop break 0 steps 6 depth 8; run 99: stop leaf steps 0 depth 8; decide: leaf leftovers 0.1; '
+           'run-back: stop break 0 steps 1 depth 7; run-back: stop break 0 steps 6 depth 1; run-back: stop break 0 steps 1 depth 0; '
+           'run-back: stop start steps 0 depth 0'),
+    # neither the wait for it nor the match of its call marks it; a rank that stays blocked keeps it
+    RunRow(TWICE_INTO, RENDEZVOUS, 'break handle 0 0: break 0; run 99: stop break 0 steps 1 depth 1; run 99: stop break 0 steps 1 depth 2; '
+           'run 99: stop leaf steps 5 depth 7; decide: leaf deadlock 0.4'),
+    RunRow(TWICE_INTO, RENDEZVOUS, 'break handle 0 2: break 0; run 99: stop break 0 steps 3 depth 3; run 99: stop break 0 steps 3 depth 6; '
+           'run 99: stop leaf steps 1 depth 7'),
+    # nor a call into another handle, or one that isn't there
+    RunRow(TWICE_INTO, RENDEZVOUS, 'break handle 0 1: break 0; break handle 0 3: break 1; break handle 1 0: break 2; '
+           'run 99: stop leaf steps 7 depth 7; breaks: breaks 0 handle 0 1, 1 handle 0 3, 2 handle 1 0; run-back: stop start steps 7 depth 0'),
+    # of two ranks one
+    RunRow(TO_BARRIER, RENDEZVOUS, 'break handle 1 0: break 0; break change 0 0: break 1; run 99: stop break 0 steps 5 depth 5; '
+           'run 99: stop leaf steps 3 depth 8; goto 0: ok 0; break handle 0 0: break 2; run 99: stop break 2 steps 2 depth 2'))
+
+RUNS = DECISIONS + BREAKPOINTS + STOPS + RUNS_ON + HANDLES

@@ -297,7 +297,46 @@ LINES = (
         ('\t', no('not-json')), ('\r\r', no('not-json')), (f'\t {STATE} \r', START_OF_FIRST), ('---', no('not-json')), (STATE, START_OF_FIRST))),
 )
 
-DIALOGUES = RUNS_AND_CHOICES + LINES_BEHIND + REFUSALS + STATES + LINES
+RUN_ON = '{"cmd":"run-on","max":100}'
+
+
+def handle_break(rank, handle):
+    return f'{{"cmd":"break","kind":"handle","rank":{rank},"handle":{handle}}}'
+
+
+RUNS_ON = (
+    # the single match of a receive of any source, and what stands behind it
+    Dialogue('a run past a single candidate', HELD_BACK, (
+        (RUN, ran(5, 5, 'choice', 1)), ('{"cmd":"run-on","max":1}', ran(6, 1, 'max', 2)), (RUN, ran(7, 1, 'leaf', 3)),
+        (STATE, '{"depth":7,"ok":true,"outcome":"leftovers 0.1","ranks":["ended","ended"],"sets":["pair 1.0 0.0","woke 1.0"],"undone":0,"version":3}'),
+        ('{"cmd":"goto","depth":0}', deep(0, 4)), (RUN_ON, ran(7, 7, 'leaf', 5)), (RUN_ON, ran(7, 0, 'leaf', 6)),
+        # its rank waits behind the match, and the breakpoint stops there
+        ('{"cmd":"goto","depth":0}', deep(0, 7)), ('{"cmd":"break","kind":"match","line":2}', set_break(0, 8)), (RUN_ON, ran(6, 6, 'break', 9, 0)))),
+    Dialogue('a run up to a choice of two', THREE, (
+        (RUN_ON, ran(6, 6, 'choice', 1)), (RUN_ON, ran(6, 0, 'choice', 2)), ('{"choice":1,"cmd":"next"}', stepped(7, 'match 2.0 0.0', 3)),
+        (RUN_ON, ran(10, 3, 'leaf', 4)), ('{"cmd":"run-on","max":0}', no('bad-number')), ('{"cmd":"run-on","max":1000001}', no('bad-number')),
+        ('{"cmd":"run-on"}', no('bad-field')), ('{"cmd":"run-on","max":1,"choice":0}', no('bad-field')), ('{"at":3,"cmd":"run-on","max":1}', stale(4)))),
+    Dialogue('a run past the second of two candidates', TWO_RECEIVERS, (
+        (RUN_ON, ran(7, 7, 'choice', 1)), ('{"cmd":"next","choice":1}', stepped(8, 'match 2.0 1.0', 2)), (RUN_ON, ran(11, 3, 'leaf', 3)))),
+    Dialogue('a single candidate at the last depth', HELD_BACK, (
+        ('{"cmd":"run-on","max":5}', ran(5, 5, 'full', 1)), (RUN, ran(5, 0, 'choice', 2)), (RUN_ON, ran(5, 0, 'full', 3))), limit=5),
+    Dialogue('handles as breakpoints', CELLS, (
+        # the first handle of all, and the last of an array; both ranks issue into that
+        (handle_break(0, 2), set_break(0, 1)), (handle_break(1, 2), set_break(1, 2)), (handle_break(1, 0), set_break(2, 3)),
+        (handle_break(0, 3), no('bad-number')), (handle_break(2, 0), no('bad-number')), (handle_break(2, 3), no('bad-number')),
+        ('{"cmd":"break","kind":"handle","rank":0,"cell":0}', no('bad-field')), ('{"cmd":"break","kind":"handle","handle":0}', no('bad-field')),
+        ('{"cmd":"break","kind":"change","rank":0,"handle":0}', no('bad-field')), (handle_break(0, '"0"'), no('bad-field')),
+        (BREAKS, '{"breaks":["0 handle 0 2","1 handle 1 2","2 handle 1 0"],"ok":true,"version":3}'),
+        (RUN, ran(5, 5, 'break', 4, 0)), (RUN, ran(10, 5, 'break', 5, 1)), (RUN, ran(10, 0, 'leaf', 6)), (RUN_BACK, ran(9, 1, 'break', 7, 1)),
+        ('{"cmd":"unbreak","break":1}', ok(8)), (RUN_BACK, ran(4, 5, 'break', 9, 0)), (handle_break(1, 1), set_break(1, 10)))),
+    Dialogue('a handle that gets two calls', SENDERS, (
+        (handle_break(0, 0), set_break(0, 1)), (handle_break(2, 0), set_break(1, 2)), (RUN_ON, ran(2, 2, 'break', 3, 0)), (RUN_ON, ran(3, 1, 'break', 4, 0)),
+        (RUN_ON, ran(8, 5, 'break', 5, 1)), (RUN_ON, ran(9, 1, 'break', 6, 1)), (RUN_ON, ran(9, 0, 'choice', 7)))),
+    Dialogue('a script without handles', FIRST, (
+        (handle_break(0, 0), no('bad-number')), ('{"cmd":"break","kind":"handles","rank":0,"handle":0}', no('bad-field')))),
+)
+
+DIALOGUES = RUNS_AND_CHOICES + LINES_BEHIND + REFUSALS + STATES + LINES + RUNS_ON
 
 # Inputs that don't end in a line feed, of the script FIRST, with what is answered.
 ENDINGS = (
@@ -349,6 +388,10 @@ TESTED = (
     (b'{"cmd":"break"}', 43), (b'{"cmd":"break","line":1}', 43), (b'{"cmd":"break","kind":"line"}', 43), (b'{"cmd":"break","kind":5,"line":1}', 43),
     (b'{"cmd":"break","kind":"Line","line":1}', 43), (b'{"cmd":"break","kind":"change","rank":0}', 43),
     (b'{"cmd":"break","kind":"change","rank":0,"cell":0,"line":1}', 43), (b'{"cmd":"break","kind":"match","line":1,"rank":0}', 43),
+    (b'{"cmd":"break","kind":"handle","rank":0}', 43), (b'{"cmd":"break","kind":"handle","rank":0,"handle":0,"cell":0}', 43),
+    (b'{"cmd":"break","kind":"handle","rank":0,"cell":0}', 43), (b'{"cmd":"break","kind":"change","rank":0,"handle":0}', 43),
+    (b'{"cmd":"break","kind":"handle","handle":null,"rank":0}', 43), (b'{"cmd":"break","kind":"Handle","rank":0,"handle":0}', 43),
+    (b'{"cmd":"run-on"}', 43), (b'{"cmd":"run-on","max":1.0}', 43), (b'{"cmd":"run-on","max":1,"count":1}', 43), (b'{"cmd":"run_on","max":1}', 44),
     (b'{"cmd":"break","kind":["line"],"line":1}', 43), (b'{"cmd":"break","kind":null,"line":1}', 43), (b'{"cmd":"unbreak"}', 43),
     (b'{"cmd":"unbreak","break":"0"}', 43), (b'{"cmd":"breaks","break":0}', 43), (b'{"cmd":"explore","runs":1}', 43),
     (b'{"cmd":"explore","fuel":1}', 43), (b'{"cmd":"explore","runs":1,"fuel":1,"split":0}', 43), (b'{"cmd":"explore","runs":1,"fuel":2.0}', 43),
@@ -358,6 +401,7 @@ TESTED = (
     (b'{"cmd":"fly","cmd":"state"}', None), (b'{"cmd":5,"cmd":"state"}', None), (b'{"cmd":"state","at":null,"at":0}', None),
     (b'{"cmd":"step","step":"\\u006cocal 0"}', None), (b'{"cmd":"step","step":"  match  0.0\\t1.0 "}', None),
     (b'{"cmd":"step","step":"wake 000000001"}', None), (b'{"cmd":"step","step":"release"}', None), (b'{"cmd":"step","step":"match 9.999999999 0.0"}', None),
+    (b'{"cmd":"run-on","max":18446744073709551615}', None), (b'{"cmd":"break","kind":"handle","rank":9,"handle":9}', None),
     (b'{"cmd":"next"}', None), (b'{"choice":0,"cmd":"next","at":0}', None), (b'{"cmd":"run","max":0}', None), (b'{"cmd":"back","count":18446744073709551615}', None),
     (b'{"cmd":"redo","count":0}', None), (b'{"cmd":"goto","depth":18446744073709551615}', None), (b'{"cmd":"run-back"}', None), (b'{"cmd":"enabled"}', None),
     (b'{"cmd":"vars","rank":99}', None), (b'{"cmd":"calls","rank":0}', None), (b'{"cmd":"why","rank":0,"call":0}', None),

@@ -12,7 +12,8 @@ from model.explorer import Asked
 from model.language import read_script
 from rows.worked_explorer import CheckRow, PlaceRow, ToldRow, WitnessRow
 from rows.worked_runs import RunRow
-from rows.worked_sessions import ENABLED, NEXT, RUN, STATE, Dialogue, deep, needs_choice, no, ran, step, stepped
+from rows.worked_sessions import (ENABLED, NEXT, RUN, RUN_BACK, RUN_ON, STATE, Dialogue, deep, handle_break, needs_choice, no, ran, set_break, step,
+                                  stepped)
 from rows.worked_texts import Input, trap_input
 from rows.worked_traces import Row
 
@@ -162,7 +163,18 @@ ANY_BEHIND = ('mpd 2; ranks 2; var x; var y; var i; req r[2];\n'
               'else { isend r[0] 5 to 0 tag 0; isend r[1] 6 to 0 tag 1; }')
 ON_LINES = ('mpd 2; ranks 2; var x; var i; req r[2];\nif rank == 0 {\nirecv r[0] x from 1 tag 0;\nwaitany r to i;\nprint i; } else {\n'
             'send 7 to 0 tag 0; }')
-RUNS = (
+BESIDE_ANOTHER = ('mpd 2; ranks 1; var x; var i; req r[2]; req h;\nisend r[1] 5 to 0 tag 0;\nirecv h x from 0 tag any;\nwaitany r to i;')
+RUNS_ON = (
+    # past a single request that is complete; at two of them it stops
+    RunRow(BESIDE_ANOTHER, RENDEZVOUS, 'run 99: stop choice steps 4 depth 4; decide: choice wakeany 0 1; run-on 99: stop leaf steps 1 depth 5; '
+           'decide: leaf done; goto 0: ok 0; run-on 4: stop max steps 4 depth 4; run-on 1: stop leaf steps 1 depth 5'),
+    RunRow(TWO_CAME, RENDEZVOUS, 'run-on 99: stop choice steps 11 depth 11; decide: choice wakeany 0 0, wakeany 0 1'),
+    # a handle that is cleared by the step of a wait for any, and the others not
+    RunRow(BESIDE_ANOTHER, RENDEZVOUS, 'break handle 0 1: break 0; run-on 99: stop break 0 steps 1 depth 1; run-on 99: stop break 0 steps 4 depth 5; '
+           'run-on 99: stop leaf steps 0 depth 5; run-back: stop break 0 steps 1 depth 4; run-back: stop break 0 steps 4 depth 0'),
+    RunRow(BESIDE_ANOTHER, RENDEZVOUS, 'break handle 0 0: break 0; break handle 0 2: break 1; run-on 99: stop break 1 steps 2 depth 2; '
+           'run-on 99: stop leaf steps 3 depth 5; run-back: stop break 1 steps 4 depth 1'))
+RUNS = RUNS_ON + (
     # one candidate is still a choice
     RunRow(ALONE, RENDEZVOUS, 'run 100: stop choice steps 5 depth 5; decide: choice wakeany 0 0; run 0: stop choice steps 0 depth 5; '
            'wakeany 0 0: ok 6; decide: forced local 0; run 9: stop leaf steps 1 depth 7; decide: leaf done'),
@@ -287,7 +299,19 @@ TOLD = (
 
 CALLED = '"irecv from 1 tag 1 with 1.0 value 5","irecv from 1 tag 2 with 1.1 value 6","waitany 0 2"'
 SETS = '"pair 1.0 0.0","woke 1.0","pair 1.1 0.1","woke 1.1"'
+ONE_ENDS = ('mpd 2; ranks 2; var i; req r[1];\nif rank == 0 {\nisend r[0] 1 to 0 tag 0;\nwaitany r to i; } else {\nprint 1; }')
+
 DIALOGUES = (
+    Dialogue('a run past a single request that is complete, whose handle is a breakpoint', BESIDE_ANOTHER, (
+        (RUN, ran(4, 4, 'choice', 1)), (RUN_ON, ran(5, 1, 'leaf', 2)), ('{"cmd":"goto","depth":0}', deep(0, 3)), (RUN_ON, ran(5, 5, 'leaf', 4)),
+        (handle_break(0, 1), set_break(0, 5)), (RUN_BACK, ran(4, 1, 'break', 6, 0)), (RUN_BACK, ran(0, 4, 'break', 7, 0)),
+        (RUN_ON, ran(1, 1, 'break', 8, 0)), (RUN_ON, ran(5, 4, 'break', 9, 0)))),
+    Dialogue('a run up to a choice of two requests', TWO_CAME, (
+        (RUN_ON, ran(11, 11, 'choice', 1)), (NEXT, needs_choice(2)))),
+    # the step of a wait for any moves one rank, whatever line the other one is at
+    Dialogue('a line that another rank is at', ONE_ENDS, (
+        *((step(f'local {rank}'), deep(depth, depth)) for depth, rank in enumerate((0, 0, 0, 1), 1)), (step('wakeany 0 0'), deep(5, 5)),
+        ('{"cmd":"break","kind":"line","line":5}', set_break(0, 6)), (RUN_BACK, ran(3, 2, 'break', 7, 0))), BUFFERED),
     Dialogue('a run up to two requests that are complete, and the second of them', TWO_CAME, (
         (RUN, ran(11, 11, 'choice', 1)), ('{"choice":1,"cmd":"next"}', stepped(12, 'wakeany 0 1', 2)))),
     Dialogue('a choice of a request, and what is told of it', TWO_CAME, (

@@ -23,11 +23,12 @@ sys.path.insert(0, os.path.dirname(os.path.dirname(os.path.abspath(__file__))))
 
 from cases.walks import USUAL, trace_lines
 from faults import waitany_faults
-from faults.policy_faults import breakages
+from faults.policy_faults import breakages, late_breakages, late_breakages_of_2
 from model import debugger, policy
 from model.debugger import Debugger, Step, eligible, enabled_steps, find_call, free_calls, next_world, rank_state
 from model.language import read_script
-from model.policy import BREAK, CHOICE, FULL, LEAF, MAX, START, Breaks, ChangeBreak, Choice, Forced, Leaf, LineBreak, MatchBreak, Stop
+from model.policy import (BREAK, CHOICE, FULL, LEAF, MAX, START, Breaks, ChangeBreak, Choice, Forced, HandleBreak, Leaf, LineBreak, MatchBreak,
+                          Stop)
 from model.policy_words import decision_text, stop_text
 from rows import worked_slots, worked_waitany
 from rows.worked_runs import RUNS
@@ -44,7 +45,8 @@ MUST_MEET = (
     'undone dropped', 'stop leaf', 'stop choice', 'stop full', 'stop max', 'stop break', 'stop start', 'line by local', 'line by wake',
     'line by release', 'change by local', 'change by wake', 'match by match', 'two marks', 'break at the last step',
     'break at the last depth', 'break before a leaf', 'break at the start', 'leaf at the last step', 'places', 'choice of one wake',
-    'choice of wakes', 'wakes of two ranks', 'wake before any source', 'line by wakeany', 'change by wakeany')
+    'choice of wakes', 'wakes of two ranks', 'wake before any source', 'line by wakeany', 'change by wakeany', 'handle by local',
+    'handle by wake', 'handle by wakeany', 'runs on', 'match of one passed', 'wake of one passed', 'break behind one', 'another call of a handle')
 
 
 def place_of(rank):
@@ -146,8 +148,16 @@ def is_marked(stop, worlds, step):
         ranks = list(zip(before.ranks, after.ranks))[stop.rank:stop.rank + 1]
         cells = [pair for was, now in ranks for pair in list(zip(was.cells, now.cells))[stop.cell:stop.cell + 1]]
         return any(was != now for was, now in cells)
+    if isinstance(stop, HandleBreak):
+        return held_by(before, stop) != held_by(after, stop)
     moved = {'match': [], 'release': range(len(after.ranks))}.get(step.kind, [step.first])
     return stop.line in [place_of(after.ranks[number]) for number in moved]
+
+
+def held_by(world, stop):
+    """What the handle of a breakpoint holds, as `show` lists it; nothing where it isn't there."""
+    lines = [line for line in debugger.show(world, 0, 0).split('\n') if line.startswith('handles')]
+    return [word for line in lines[stop.rank:stop.rank + 1] for word in line.split()[1:][stop.handle:stop.handle + 1]]
 
 
 def marks_of(there, worlds, step):
@@ -162,14 +172,21 @@ class Path(NamedTuple):
     ending: Optional[str]
 
 
-def path_of(walked, longest):
-    """The forced steps from where a debugger is, so many at most."""
+def step_due(world, is_on):
+    """The one step that a run takes, one that runs on past single candidates or another; None where it takes none."""
+    steps = steps_of(due(world))
+    return steps[0] if len(steps) == 1 and (is_on or isinstance(due(world), Forced)) else None
+
+
+def path_of(walked, longest, is_on=False):
+    """The steps of a run from where a debugger is, so many at most."""
     steps, worlds = [], list(walked.worlds)
-    while isinstance(wanted := due(worlds[-1]), Forced):
+    while (step := step_due(worlds[-1], is_on)) is not None:
         if len(steps) == longest:
             return Path(steps, worlds, None)
-        steps.append(wanted.step)
-        worlds.append(next_world(worlds[-1], wanted.step))
+        steps.append(step)
+        worlds.append(next_world(worlds[-1], step))
+    wanted = due(worlds[-1])
     return Path(steps, worlds, LEAF if isinstance(wanted, Leaf) else CHOICE)
 
 
@@ -207,7 +224,8 @@ def breaks_for(random, walked):
     for _ in range(random.choice([0, 1, 1, 2, 3, 5])):
         line = random.choice(lines) + random.choice([0, 0, 0, 1, 2])
         cell = ChangeBreak(random.randint(0, len(ranks)), random.randint(0, min(5, len(ranks[0].cells))))
-        stop = random.choice([LineBreak(line), LineBreak(line), MatchBreak(line), MatchBreak(line), cell, cell])
+        handle = HandleBreak(random.randint(0, len(ranks)), random.randint(0, min(5, len(ranks[0].handles))))
+        stop = random.choice([LineBreak(line), LineBreak(line), MatchBreak(line), MatchBreak(line), cell, cell, handle, handle])
         place = min(set(range(64)) - set(there))
         wrong += [] if breaks.add(stop) == place else ['the place of a breakpoint']
         there[place] = stop
@@ -220,13 +238,13 @@ def breaks_for(random, walked):
 def ran_wrong(random, walked, met):
     """What a run from here does otherwise than it must, and what runs back behind it do."""
     breaks, there, wrong = breaks_for(random, walked)
-    ran, most = copy_of(walked), random.choice([0, 1, 2, 3, 5, 10, LONGEST_RUN])
-    path = path_of(walked, most + 1)
+    ran, most, is_on = copy_of(walked), random.choice([0, 1, 2, 3, 5, 10, LONGEST_RUN]), random.random() < 0.5
+    path = path_of(walked, most + 1, is_on)
     most = random.choice([most, most, max(0, len(path.steps) - random.choice([0, 0, 1]))])
     room = random.choice([LONGEST_RUN + 1, LONGEST_RUN + 1, len(path.steps), random.randint(0, 6)])
     with mock.patch.object(debugger, 'MOST_STEPS', walked.depth + room):
         wanted, marks = stop_due(path, there, walked.depth, most)
-        said = policy.run(ran, breaks, most)
+        said = (policy.run_on if is_on else policy.run)(ran, breaks, most)
     steps = path.steps[:wanted.steps]
     if said != wanted:
         wrong.append(f'ran to {stop_text(said, ran.depth)}, and not {stop_text(wanted, walked.depth + wanted.steps)}')
@@ -235,6 +253,7 @@ def ran_wrong(random, walked, met):
     if ran.steps != kept_due(walked, steps):
         wrong.append('other steps behind a run')
     met.update(met_by(walked, path, wanted, marks, most, room))
+    met.update(met_on(walked, path, wanted) if is_on else [])
     return wrong or back_wrong(ran, breaks, there, met)
 
 
@@ -252,11 +271,20 @@ def met_by(walked, path, stop, marks, most, room):
     return found + ['leaf at the last step'] * (stop.cause == LEAF and stop.steps in (most, room))
 
 
+def met_on(walked, path, stop):
+    """What a run on may do wrongly at choices of a single candidate."""
+    singles = [steps_of(due(world)) for world in path.worlds[walked.depth:walked.depth + stop.steps] if isinstance(due(world), Choice)]
+    is_behind = stop.cause == BREAK and isinstance(due(path.worlds[walked.depth + stop.steps - 1]), Choice)
+    return ['runs on', *(f'{"match" if step.kind == "match" else "wake"} of one passed' for step, in singles)] + ['break behind one'] * is_behind
+
+
 def back_wrong(ran, breaks, there, met):
     """What runs back to the start do otherwise than they must."""
     worlds, steps, wrong = list(ran.worlds), list(ran.steps), []
     marks = [marks_of(there, worlds[:place + 2], step) for place, step in enumerate(steps[:ran.depth])]
     met.update(f'{kind_of(there[numbers[0]])} by {step.kind}' for numbers, step in zip(marks, steps) if numbers)
+    firsts = [(there[numbers[0]], place) for place, numbers in enumerate(marks) if numbers and isinstance(there[numbers[0]], HandleBreak)]
+    met['another call of a handle'] += any(['-'] not in (held_by(worlds[place], stop), held_by(worlds[place + 1], stop)) for stop, place in firsts)
     while ran.depth and not wrong:
         depth = ran.depth
         marked = [place for place in range(depth) if marks[place]]
@@ -274,7 +302,7 @@ def back_wrong(ran, breaks, there, met):
 
 
 def kind_of(stop):
-    return {LineBreak: 'line', ChangeBreak: 'change', MatchBreak: 'match'}[type(stop)]
+    return {LineBreak: 'line', ChangeBreak: 'change', MatchBreak: 'match', HandleBreak: 'handle'}[type(stop)]
 
 
 def places_wrong(random, met):
@@ -329,7 +357,7 @@ def check(seed, count, to_end=True):
 
 def faults():
     """All faults of the model that must be noticed."""
-    return [*breakages(), *waitany_faults.decision_faults(), *waitany_faults.mark_faults()]
+    return [*breakages(), *late_breakages(), *late_breakages_of_2(), *waitany_faults.decision_faults(), *waitany_faults.mark_faults()]
 
 
 def main():

@@ -28,7 +28,7 @@ from cases.explore_cases import Beside
 from cases.kinds import BESIDE
 from cases.session_cases import WAYS, Case, random_case
 from cases.session_lines import KINDS
-from faults import session_faults, session_line_faults, slots_faults, waitany_faults
+from faults import policy_faults, session_faults, session_line_faults, slots_faults, waitany_faults
 from model import session
 from model.debugger import Result
 from model.files import held
@@ -45,13 +45,14 @@ from started.turn_by_turn import run_in_turns
 CHUNK = 5
 # So many sessions meet all that must be met.
 MANY = 300
-STOPS = ('leaf', 'choice', 'max', 'full', 'break by a run', 'break by a run back', 'start')
+STOPS = ('leaf', 'choice', 'max', 'full', 'break by a run', 'break by a run on', 'break by a run back', 'start')
 TOLD = ('a null', 'a number below 0', 'a number printed', 'outcome done', 'outcome leftovers', 'outcome deadlock', 'outcome trap', 'undone steps',
         'set pair', 'set woke', 'set barrier', 'rank at', 'rank blocked', 'rank trapped', 'rank ended', 'eligible', 'held by', 'no partners',
         'leaf done', 'leaf leftovers', 'leaf deadlock', 'leaf trap', 'leaf cut', 'leaf with choices', 'more leaves', 'no more leaves',
-        'breakpoint line', 'breakpoint match', 'breakpoint change', 'two stops of one breakpoint', 'a last line without an end', 'no reply to a line',
+        'breakpoint line', 'breakpoint match', 'breakpoint change', 'breakpoint handle', 'two stops of one breakpoint', 'a last line without an end', 'no reply to a line',
         'a script that is refused', 'a depth above 100', 'the right version', 'a choice that is not looked at', 'a stop by line',
-        'a stop by match', 'a stop by change')
+        'a stop by match', 'a stop by change', 'a stop by handle', 'a run on past a single candidate',
+        'a run on that stops behind a single candidate')
 # What must be met of version 2.
 TOLD_OF_2 = ('a choice of wakes by a handle', 'a wake by a handle', 'a wait for any', 'a wait for any of nothing')
 # What must be met of modes of slots.
@@ -253,7 +254,7 @@ def breakages(chosen):
 
 def breakages_of_2():
     """Those of waits for any."""
-    return [*waitany_faults.decision_faults(), *waitany_faults.mark_faults()]
+    return [*waitany_faults.decision_faults(), *waitany_faults.mark_faults(), *policy_faults.late_breakages_of_2()]
 
 
 @cache

@@ -18,7 +18,7 @@ from model.console import GREETING
 from model.debugger import MOST_READS, Result
 from model.files import held
 from model.modes import KNOWN
-from rows.console_starts import AHEAD, BOTH_RECEIVE, STARTS, TYPED
+from rows.console_starts import BOTH_RECEIVE, RECEIVED, STARTS, TYPED
 from rows.console_worked import DIALOGUES, ENDINGS, SLOW
 from rows.worked_console_scripts import LOOP
 from started.devices import SECONDS, Files, at_terminal, broken_off, device, file_of_any_size, full, refused, soft_limit, unread_pipe
@@ -31,11 +31,13 @@ HINT = f'{GREETING}\n'.encode()
 MUCH_MIB = 32
 
 FIRST = b'mpd 1;\nranks 2;\nvar x;\nif rank == 0 { send 7 to 1 tag 0; } else { recv x from 0 tag 0; print x; }\n'
-MATCHED = 'match 0.0 1.0: the send of rank 0, line 4, to the receive of rank 1, line 4'
+MATCHED = 'match 0.0 1.0: rank 0, line 4, to rank 1, line 4'
+# Its last line, which is of 81 bytes where it is listed.
+SOURCE = '    4  if rank == 0 { send 7 to 1 tag 0; } else { recv x from 0 tag 0; print x;\n        }\n'
 # What is typed on this script, a line each, and what each is answered.
 TURNS = (
-    ('next', '1 local 0: line 4\nnext: local 0: line 4\n'),
-    ('run 3', f'3 steps, depth 4\nstopped: as many steps as were asked for\nnext: {MATCHED}\n'),
+    ('next', f'1 local 0: line 4\nnext: local 0: line 4\n{SOURCE}'),
+    ('run 3', f'3 steps, depth 4\nstopped: as many steps as were asked for\nnext: {MATCHED}\n{SOURCE}'),
     ('ranks', 'rank 0 waits at line 4, 0.0 send to 1 tag 0 value 7\nrank 1 waits at line 4, 1.0 recv from 0 tag 0\n'),
     ('goto 9', 'refused: fewer steps are taken\n'),
     ('run', '4 steps, depth 8\nended: done\n'),
@@ -50,8 +52,10 @@ HEAD_TO_HEAD = b'mpd 1; ranks 2; var x;\nsend rank to 1 - rank tag 5;\nrecv x fr
 PASSES = b'10 steps, depth 10\nended: done\n'
 WAITS = b'''2 steps, depth 2
 ended: deadlock 0.0 1.0
-  rank 0 waits at line 2, 0.0 send to 1 tag 5 value 0: for a receive of rank 1 from rank 0 with tag 5
-  rank 1 waits at line 2, 1.0 send to 0 tag 5 value 1: for a receive of rank 0 from rank 1 with tag 5
+  rank 0 waits at line 2, 0.0 send to 1 tag 5 value 0: for a receive of rank 1
+        from rank 0 with tag 5
+  rank 1 waits at line 2, 1.0 send to 0 tag 5 value 1: for a receive of rank 0
+        from rank 1 with tag 5
   rank 0 waits for rank 1
   rank 1 waits for rank 0
   a cycle, where each waits for the next: rank 0, rank 1, rank 0
@@ -124,7 +128,7 @@ def witness_rows(folder):
     yield 'a witness that is refused, errors full', folder.run(receives, '--witness', stuck, errors=full()), Result(b'', b'', 2)
     yield 'a witness that is refused, a terminal', at_terminal(folder.program, 'debug', receives, '--witness', stuck), not_stuck
     good = folder.file('good', b'deadlock 0.0 1.0\nlocal 0, local 1\n')
-    told = b''.join(AHEAD.output.splitlines(keepends=True)[:2])
+    told = b''.join(RECEIVED.output.splitlines(keepends=True)[:3])
     yield 'a witness, no words', folder.run(receives, '--witness', good, data=b''), Result(told, b'', 0)
     yield 'a witness, input closed', Files(None).run(folder.program, 'debug', receives, '--witness', good), device(told)
     yield 'a witness, output full', folder.run(receives, '--witness', good, data=b'', output=full()), device()

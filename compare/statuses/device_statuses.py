@@ -31,6 +31,11 @@ PIPE = 65536
 # The first message, word by word: what each is answered. It is read from a file.
 FIRST = b'mpd 1;\nranks 2;\nvar x;\nif rank == 0 { send 7 to 1 tag 0; } else { recv x from 0 tag 0; print x; }\n'
 WORDS = ('local 0', 'local 0', 'local 1', 'local 1', 'match 0.0 1.0', 'wake 0', 'wake 1', 'local 1', 'show')
+AHEAD = b'''deadlock 0.1 2.0 is 10 steps ahead
+10 ahead: local 0: line 7
+    7  if rank == 0 { recv x from any tag any status who tag_of; recv x from 1
+        tag any; } else { send rank to 0 tag 0; }
+'''
 SHOWN = ('depth 8 of 8; rank 0 ended; vars 0; handles; out; call 0.0 send to 1 tag 0 value 7 with 1.0; rank 1 ended; vars 7; handles; out 7; '
          'call 1.0 recv from 0 tag 0 with 0.0 value 7; set pair 0.0 1.0; set woke 0.0; set woke 1.0; outcome done; end')
 TOLD = [f'ok {depth}\n'.encode() for depth in range(1, 9)] + [as_lines(SHOWN)]
@@ -93,8 +98,7 @@ def telling(folder):
     verdicts = (('a witness', good, b'accepted\n', 0), ('no witness', cut, b'refused 33 not-stuck\n', 1))
     for name, path, text, status in verdicts:
         yield Case(name, ('verify', RACE, path), b'', [text], size_of(RACE, path), status)
-    yield Case('a witness ahead', ('debug', RACE, '--witness', good), b'', [b'deadlock 0.1 2.0 is 10 steps ahead\n10 ahead: local 0: line 7\n'],
-               size_of(RACE, good), 0)
+    yield Case('a witness ahead', ('debug', RACE, '--witness', good), b'', [AHEAD], size_of(RACE, good), 0)
 
 
 def cases(folder):
