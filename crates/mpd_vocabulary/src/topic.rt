@@ -260,12 +260,12 @@ pub(crate) fn purpose_of(topic: Topic) -> &'static str
         Topic::Local | Topic::Match | Topic::Wake | Topic::WakeAny | Topic::Release =>
             "takes this step",
         Topic::Break =>
-            "sets a breakpoint: behind a step by which a rank comes to that line, behind a match of a call of that line, behind a change of that variable of rank P",
+            "sets a breakpoint: behind a step by which a rank comes to that line, behind a match of a call of that line, behind a change of that variable or request of rank P",
         Topic::Delete => "removes a breakpoint",
         Topic::Breaks => "lists the breakpoints",
         Topic::List => "shows the script, and at each line which ranks stand there",
         Topic::Print => "shows a variable or a request of all ranks, or of rank P",
-        Topic::Vars => "shows all variables and requests, and what was printed",
+        Topic::Vars => "shows all variables and requests in short, and what was printed",
         Topic::Ranks => "shows what each rank is doing",
         Topic::Calls => "lists the calls of all ranks, or of rank P",
         Topic::Queues => "lists the sends and the receives that are free",
