@@ -1,5 +1,5 @@
 -- What words are answered that change nothing.
-use Rattle.std.specs.Prelude.{ℕ, nat_lt, if◌then◌else◌, List, [], ◌∷◌, length, Option, Some, None, is_some, codes}
+use Rattle.std.specs.Prelude.{ℕ, nat_lt, if◌then◌else◌, List, [], ◌∷◌, ◌++◌, length, Option, Some, None, is_some, codes}
 use Rattle.std.specs.List.{flat_map, range_with_len}
 use Rattle.mpd_model.specs.declared.limits.TheConstants.{BREAKS_MAX}
 use Rattle.mpd_model.specs.declared.step.CallId.{CallId}
@@ -16,6 +16,7 @@ use Rattle.mpd_names.specs.Listed.{list_text, about_text}
 use Rattle.mpd_view.specs.Shown as shown
 use Rattle.mpd_view.specs.Whys.{why_text, why_rank_text, why_ranks_text}
 use Rattle.mpd_view.specs.Past.{history_text, words_text}
+use Rattle.mpd_view.specs.Lost.{lost_text}
 use Rattle.mpd_picture.specs.Pictures.{picture_text}
 use Rattle.mpd_vocabulary.specs.declared.word.Word.{Word}
 use Rattle.mpd_vocabulary.specs.declared.word.Word.TheVariants as word
@@ -54,8 +55,12 @@ script_text s w text rank = of_ranks w rank (about_text s w text) (list_text s w
 abbrev pub print_text : Program → World → Named → Option ℕ → List ℕ
 print_text s w n rank = of_ranks w rank (λ p. named_line s w p n) (flat_map (λ p. named_line s w p n) (rank_numbers w.board))
 
+-- what a rank holds and has printed, and its requests that are lost
+abbrev pub rank_text : Program → World → ℕ → List ℕ
+rank_text s w p = variables_text s w p ++ lost_text s w p
+
 abbrev pub vars_text : Program → World → Option ℕ → List ℕ
-vars_text s w rank = of_ranks w rank (variables_text s w) (flat_map (variables_text s w) (rank_numbers w.board))
+vars_text s w rank = of_ranks w rank (rank_text s w) (flat_map (rank_text s w) (rank_numbers w.board))
 
 abbrev pub calls_text : Program → World → Option ℕ → List ℕ
 calls_text s w rank = of_ranks w rank (λ p. shown.calls_text s w.board (Some p)) (shown.calls_text s w.board None)

@@ -3,7 +3,7 @@
 ghost use Rattle.std.specs.Prelude.{◌≡◌, ◌++◌, OnOk, string_bytes};
 ghost use Rattle.std.specs.List.{flat_map, range_with_len};
 ghost use Rattle.mpd_model.specs.World.{rank_numbers};
-ghost use Rattle.mpd_names.specs.Held.{named_line, variables_text};
+ghost use Rattle.mpd_names.specs.Held.{named_line};
 ghost use Rattle.mpd_console.specs.Looks as spec;
 
 use crate::moves::push_break_line;
@@ -19,6 +19,7 @@ use mpd_policy::breaks::Breaks;
 use mpd_search::runs::push_runs;
 use mpd_trace::show::show;
 use mpd_trail::debugger::Debugger;
+use mpd_view::lost::push_lost;
 use mpd_view::past::{push_history, push_words};
 use mpd_view::shown::{push_calls, push_enabled, push_queues, push_ranks};
 use mpd_view::whys::{push_why, push_why_rank, push_why_ranks};
@@ -116,25 +117,33 @@ fn push_print(
     }
 }
 
-/// Adds the variables and requests of all ranks.
+/// Adds the variables and requests of a rank, what it has printed, and its requests that are lost.
+fn push_rank_text(core: &Core<'_>, out: &mut String, rank: usize) -> Result<(), AllocError>
+    ensures { OnOk result (string_bytes out.new ≡ string_bytes out.old ++ spec.rank_text core.now.program core.now.world rank) }
+{
+    push_variables(core, out, rank)?;
+    push_lost(core, out, rank)
+}
+
+/// Adds that of all ranks.
 fn push_all_variables(core: &Core<'_>, out: &mut String) -> Result<(), AllocError>
-    ensures { OnOk result (string_bytes out.new ≡ string_bytes out.old ++ flat_map (variables_text core.now.program core.now.world) (rank_numbers core.now.world.board)) }
+    ensures { OnOk result (string_bytes out.new ≡ string_bytes out.old ++ flat_map (spec.rank_text core.now.program core.now.world) (rank_numbers core.now.world.board)) }
 {
     let count = core.rank_count();
     for rank in 0..count {
-        push_variables(core, out, rank)?;
+        push_rank_text(core, out, rank)?;
     }
     Ok(())
 }
 
-/// Adds the variables and requests of all ranks, or of one.
+/// Adds that of all ranks, or of one.
 fn push_vars(core: &Core<'_>, out: &mut String, rank: Option<usize>) -> Result<(), AllocError>
     ensures { OnOk result (string_bytes out.new ≡ string_bytes out.old ++ spec.vars_text core.now.program core.now.world rank) }
 {
     match rank {
         None => push_all_variables(core, out),
         Some(rank) if rank >= core.rank_count() => out.push_str(NO_SUCH_NUMBER),
-        Some(rank) => push_variables(core, out, rank),
+        Some(rank) => push_rank_text(core, out, rank),
     }
 }
 
