@@ -56,6 +56,20 @@ same_value None (Some y) = false
 same_value (Some x) None = false
 same_value (Some x) (Some y) = int_eq x y
 
+-- the call that a handle of a rank holds, if any; none where there is no such handle
+abbrev pub call_held : Option RankWorld → ℕ → Option ℕ
+call_held None h = None
+call_held (Some r) h = slice_index_or r.handles h None
+
+abbrev pub handle_at : World → ℕ → ℕ → Option ℕ
+handle_at w p h = call_held (slice_get w.ranks p) h
+
+abbrev pub same_number : Option ℕ → Option ℕ → Bool
+same_number None None = true
+same_number None (Some n) = false
+same_number (Some m) None = false
+same_number (Some m) (Some n) = m == n
+
 -- a call that a statement of a line has issued
 abbrev pub issued_on : Program → ℕ → Board → CallId → Bool
 issued_on s line b c = on_line s line (option_map (λ call. call.statement) (call_at b c))
@@ -77,6 +91,7 @@ match_marks s line a new = false
 abbrev pub marked : Program → Break → World → Step → World → Bool
 marked s (on.Line line) old a new = line_marks s line a new
 marked s (on.Change p c) old a new = not (same_value (cell_at old p c) (cell_at new p c))
+marked s (on.Handle p h) old a new = not (same_number (handle_at old p h) (handle_at new p h))
 marked s (on.Match line) old a new = match_marks s line a new
 
 -- ---- numbered places, each for a breakpoint

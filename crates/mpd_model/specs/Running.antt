@@ -29,12 +29,12 @@ behind a (Some n) more = record { steps = a ∷ []; cause = for.Break n }
 behind a None more = record { steps = a ∷ more.steps; cause = more.cause }
 
 -- Before a step the run stops at a leaf, at a choice, and where so many steps are not undone.
-abbrev pub ran_on : (World → Ran) → Program → List (Option Break) → World → Step → Option World → Ran
-ran_on more s places w a None = stopped for.Leaf
-ran_on more s places w a (Some v) = behind a (lowest_mark s places w a v) (more v)
+abbrev pub ran_taking : (World → Ran) → Program → List (Option Break) → World → Step → Option World → Ran
+ran_taking more s places w a None = stopped for.Leaf
+ran_taking more s places w a (Some v) = behind a (lowest_mark s places w a v) (more v)
 
 abbrev pub ran_by : (World → Ran) → Program → List (Option Break) → ℕ → World → Decision → Ran
-ran_by more s places depth w (next_is.Forced a) = if depth == STEPS_MAX then stopped for.Full else ran_on more s places w a (next w a)
+ran_by more s places depth w (next_is.Forced a) = if depth == STEPS_MAX then stopped for.Full else ran_taking more s places w a (next w a)
 ran_by more s places depth w (next_is.Choice steps) = stopped for.Choice
 ran_by more s places depth w (next_is.Leaf o) = stopped for.Leaf
 
@@ -43,10 +43,14 @@ at_most depth (next_is.Forced a) = if depth == STEPS_MAX then for.Full else for.
 at_most depth (next_is.Choice steps) = for.Choice
 at_most depth (next_is.Leaf o) = for.Leaf
 
--- a run of at most so many steps, from a world behind so many steps
+-- a run of at most so many steps, from a world behind so many steps, along what comes next in each world
+abbrev pub ran_along : (World → Decision) → Program → List (Option Break) → ℕ → ℕ → World → Ran
+ran_along comes s places zero depth w = stopped (at_most depth (comes w))
+ran_along comes s places (suc n) depth w = ran_by (ran_along comes s places n (depth + 1)) s places depth w (comes w)
+
+-- a run along decisions
 abbrev pub ran : Program → List (Option Break) → ℕ → ℕ → World → Ran
-ran s places zero depth w = stopped (at_most depth (decision w))
-ran s places (suc n) depth w = ran_by (ran s places n (depth + 1)) s places depth w (decision w)
+ran = ran_along decision
 
 -- a trail with these steps taken, one after another
 abbrev pub all_applied : Trail → List Step → Trail

@@ -12,6 +12,13 @@ pub enum Break {
         /// Which of its cells, from 0.
         cell: usize,
     },
+    /// A handle of a rank changes: it holds another call, or one where it held none, or none where it held one.
+    Handle {
+        /// Which rank, from 0.
+        rank: usize,
+        /// Which of its handles, from 0.
+        handle: usize,
+    },
     /// A call is matched that a statement of this line, from 1, has issued.
     Match(usize),
 }

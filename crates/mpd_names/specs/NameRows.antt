@@ -46,7 +46,7 @@ unfolding digits
 row_names = refl
 
 abbrev stops : List (Break × List ℕ)
-stops = (on.Line 9, codes "line 9") ∷ (on.Match 12, codes "match 12") ∷ (on.Change 1 0, codes "change 1 x") ∷ (on.Change 1 2, codes "change 1 a[1]") ∷ []
+stops = (on.Line 9, codes "line 9") ∷ (on.Match 12, codes "match 12") ∷ (on.Change 1 0, codes "change 1 x") ∷ (on.Change 1 2, codes "change 1 a[1]") ∷ (on.Handle 0 0, codes "change 0 r") ∷ []
 
 pub row_stops : map {B = List ℕ} (λ q. break_text five q.0) stops ≡ map {B = List ℕ} (λ q. q.1) stops
 unfolding digits

@@ -50,5 +50,9 @@ pub fn push_break(out: &mut String, decls: &[Decl], stop: Break) -> Result<(), A
             write!(out, "change {rank} ")?;
             push_cell_name(out, decls, DeclKind::Variable, cell)
         }
+        Break::Handle { rank, handle } => {
+            write!(out, "change {rank} ")?;
+            push_cell_name(out, decls, DeclKind::Handle, handle)
+        }
     }
 }

@@ -1,5 +1,5 @@
 -- What marks a step that is taken or taken back, and a run back.
-use Rattle.std.proofs.Common.{◌≡◌, ℕ, ℤ, zero, suc, ◌+◌, ◌-◌, ◌<◌, ◌≤◌, Option, Some, None, List, [], ◌∷◌, length, get_or, slice_get, refl, sym, ap, subst, ◌∙◌, arith}
+use Rattle.std.proofs.Common.{◌≡◌, ℕ, zero, suc, ◌+◌, ◌-◌, ◌<◌, ◌≤◌, Option, Some, None, List, [], ◌∷◌, length, get_or, slice_get, refl, sym, ap, subst, ◌∙◌, arith}
 use Rattle.mpd_model.specs.declared.step.Step.{Step}
 use Rattle.mpd_model.specs.declared.breakpoint.Break.{Break}
 use Rattle.mpd_model.specs.declared.breakpoint.Stop.{Stop}
@@ -10,6 +10,8 @@ use Rattle.mpd_model.specs.World.{World}
 use Rattle.mpd_model.specs.Trail.{Trail, Standing, IsReached, taken_back, gone_back, world_of}
 use Rattle.mpd_model.specs.Breakpoints.{break_at, lowest_mark}
 use Rattle.mpd_model.specs.Running.{world_at, mark_of, mark_at, one_back, ran_back}
+use Rattle.mpd_policy.specs.declared.marks.Watched.{Watched}
+use Rattle.mpd_policy.specs.declared.marks.Watched.TheVariants.{Nothing}
 use Rattle.mpd_policy.specs.Places.{watched_at, lowest_told, lowest_changed, lower}
 use Rattle.mpd_policy.proofs.MarkLemmas.{mark_forward, mark_backward}
 
@@ -22,8 +24,8 @@ lower_in : (one other one' other' : Option ℕ) → one ≡ one' → other ≡ o
 lower_in one other one' other' e f = ap (λ (o : Option ℕ). lower o other) e ∙ ap (lower one') f
 
 -- The state after a step is known by the core that is lent there.
-pub take_mark : (places : List (Option Break)) (values : List (Option ℤ)) (s p : Program) (w v old new : World) (a : Step) (told changed found : Option ℕ) → s ≡ p → w ≡ old → v ≡ new
-    → ((n : ℕ) → get_or values n None ≡ watched_at w (break_at places n)) → told ≡ lowest_told s places a v → changed ≡ lowest_changed places values v → found ≡ lower told changed → found ≡ lowest_mark p places old a new
+pub take_mark : (places : List (Option Break)) (values : List Watched) (s p : Program) (w v old new : World) (a : Step) (told changed found : Option ℕ) → s ≡ p → w ≡ old → v ≡ new
+    → ((n : ℕ) → get_or values n Nothing ≡ watched_at w (break_at places n)) → told ≡ lowest_told s places a v → changed ≡ lowest_changed places values v → found ≡ lower told changed → found ≡ lowest_mark p places old a new
 take_mark places values s p w v old new a told changed found same before after held is differs low =
     low
     ∙ lower_in told changed (lowest_told p places a new) (lowest_changed places values new) (is ∙ told_in s p places a v new same after) (differs ∙ ap (lowest_changed places values) after)
@@ -40,9 +42,9 @@ at_place places old new a r q some back at =
     ∙ ap (λ (o : Option Step). mark_of t.program places (Some new.world) o (world_at t ((t.depth - 1) + 1))) at
     ∙ ap (λ (o : Option World). mark_of t.program places (Some new.world) (Some a) o) after)
 
-pub back_mark : (places : List (Option Break)) (values : List (Option ℤ)) (s : Program) (w v : World) (old new : Standing) (a : Step) (told changed found : Option ℕ) → IsReached old → IsReached new → 0 < old.trail.depth → new.trail ≡ taken_back old.trail
+pub back_mark : (places : List (Option Break)) (values : List Watched) (s : Program) (w v : World) (old new : Standing) (a : Step) (told changed found : Option ℕ) → IsReached old → IsReached new → 0 < old.trail.depth → new.trail ≡ taken_back old.trail
     → slice_get old.trail.steps (old.trail.depth - 1) ≡ Some a → s ≡ old.trail.program → w ≡ old.world → v ≡ new.world
-    → ((n : ℕ) → get_or values n None ≡ watched_at w (break_at places n)) → told ≡ lowest_told s places a w → changed ≡ lowest_changed places values v → found ≡ lower told changed → found ≡ mark_at places old.trail (old.trail.depth - 1)
+    → ((n : ℕ) → get_or values n Nothing ≡ watched_at w (break_at places n)) → told ≡ lowest_told s places a w → changed ≡ lowest_changed places values v → found ≡ lower told changed → found ≡ mark_at places old.trail (old.trail.depth - 1)
 back_mark places values s w v old new a told changed found r q some back at same after before held is differs low =
     low
     ∙ lower_in told changed (lowest_told old.trail.program places a old.world) (lowest_changed places values new.world) (is ∙ told_in s old.trail.program places a w old.world same after) (differs ∙ ap (lowest_changed places values) before)

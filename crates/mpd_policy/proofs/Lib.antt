@@ -1,5 +1,6 @@
 pub mod StepKinds
 pub mod Followed
+pub mod SingleLemmas
 pub mod NumberLemmas
 pub mod PlaceLemmas
 pub mod MarkLemmas

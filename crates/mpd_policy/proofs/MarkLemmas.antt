@@ -1,10 +1,11 @@
 -- What breakpoints mark, told apart.
-use Rattle.std.proofs.Common.{◌≡◌, ℕ, ℤ, ◌+◌, ◌-◌, ◌<◌, ◌≤◌, Bool, true, false, ◌||◌, ◌&&◌, ◌==◌, not, Option, Some, None, IfSome, List, length, get_or, slice_get, refl, sym, ap, ◌∙◌, arith}
+use Rattle.std.proofs.Common.{◌≡◌, ℕ, ℤ, ◌+◌, ◌-◌, ◌<◌, ◌≤◌, Bool, true, false, ◌||◌, ◌&&◌, ◌==◌, not, Option, Some, None, IfSome, List, length, get_or, slice_get, slice_index_or, inl, inr, refl, sym, ap, ◌∙◌, arith}
 use Rattle.std.proofs.lemmas.Option.{slice_get_past}
+use Rattle.std.proofs.lemmas.Bool.Decides.{eqb_tells}
 use Rattle.std.proofs.lemmas.Cmp.{int_eq_equiv}
 use Rattle.std.specs.Option.{option_map}
 use Rattle.mpd_model.specs.declared.breakpoint.Break.{Break}
-use Rattle.mpd_model.specs.declared.breakpoint.Break.TheVariants.{Line, Change, Match}
+use Rattle.mpd_model.specs.declared.breakpoint.Break.TheVariants.{Line, Change, Handle, Match}
 use Rattle.mpd_model.specs.declared.call.Activity.{Activity}
 use Rattle.mpd_model.specs.declared.call.Activity.TheVariants.{Running, Blocked, Trapped}
 use Rattle.mpd_model.specs.declared.step.Step.{Step}
@@ -13,10 +14,12 @@ use Rattle.mpd_model.specs.declared.call.Call.{Call}
 use Rattle.mpd_model.specs.Program.{Program}
 use Rattle.mpd_model.specs.World.{World, RankWorld, Board, call_at}
 use Rattle.mpd_model.specs.Outcomes.{first_number}
-use Rattle.mpd_model.specs.Breakpoints.{is_number, on_line, is_running, comes_at, held_at, cell_at, same_value, issued_on, line_marks, match_marks, marked_by, break_at, lowest_mark}
+use Rattle.mpd_model.specs.Breakpoints.{is_number, on_line, is_running, comes_at, held_at, cell_at, same_value, call_held, handle_at, same_number, issued_on, line_marks, match_marks, marked_by, break_at, lowest_mark}
 use Rattle.mpd_match.proofs.Matches.{any_from, any_on, any_now}
 use Rattle.mpd_rank.specs.Views.{RankView, rank_of}
-use Rattle.mpd_policy.specs.Places.{told_by, watched_at, changed_by, lowest_told, lowest_changed, lower}
+use Rattle.mpd_policy.specs.declared.marks.Watched.{Watched}
+use Rattle.mpd_policy.specs.declared.marks.Watched.TheVariants as seen
+use Rattle.mpd_policy.specs.Places.{of_value, of_call, told_by, watched_by, watched_at, same_watched, changed_by, lowest_told, lowest_changed, lower}
 use Rattle.mpd_policy.proofs.NumberLemmas.{both_lowest}
 
 -- ---- statements and lines
@@ -109,42 +112,75 @@ holder s v vars ranks p c o at same is = is ∙ ap (λ (xs : List ℤ). slice_ge
 
 pub ruleset holding = (no_holder, holder)
 
--- ---- a mark is told by the state behind the step, or by a cell that changed
+-- ---- a handle
+
+pub no_caller : (ranks : List RankWorld) (p h : ℕ) → length ranks ≤ p → None ≡ call_held (slice_get ranks p) h
+no_caller ranks p h past = sym (ap (λ (o : Option RankWorld). call_held o h) (slice_get_past ranks p past))
+
+pub caller : (s : Program) (v : RankView) (ranks : List RankWorld) (p h : ℕ) (o : Option ℕ) → slice_get ranks p ≡ Some (rank_of s v) → o ≡ slice_index_or v.handles h None → o ≡ call_held (slice_get ranks p) h
+caller s v ranks p h o at is = is ∙ sym (ap (λ (o : Option RankWorld). call_held o h) at)
+
+pub ruleset calling = (no_caller, caller)
+
+-- ---- a mark is told by the state behind the step, or by a cell or a handle that changed
 
 or_no : (b : Bool) → b ≡ (b || false)
 or_no true = refl
 or_no false = refl
 
+value_same : (x y : Option ℤ) → same_value x y ≡ same_watched (of_value x) (of_value y)
+value_same None None = refl
+value_same None (Some y) = refl
+value_same (Some x) None = refl
+value_same (Some x) (Some y) = refl
+
+call_same : (x y : Option ℕ) → same_number x y ≡ same_watched (of_call x) (of_call y)
+call_same None None = refl
+call_same None (Some n) = refl
+call_same (Some m) None = refl
+call_same (Some m) (Some n) = refl
+
 mark_split : (s : Program) (place : Option Break) (old : World) (a : Step) (new : World) → marked_by s place old a new ≡ (told_by s place a new || changed_by (watched_at old place) place new)
 mark_split s (Some (Line line)) old a new = or_no (line_marks s line a new)
-mark_split s (Some (Change p c)) old a new = refl
+mark_split s (Some (Change p c)) old a new = ap not (value_same (cell_at old p c) (cell_at new p c))
+mark_split s (Some (Handle p h)) old a new = ap not (call_same (handle_at old p h) (handle_at new p h))
 mark_split s (Some (Match line)) old a new = or_no (match_marks s line a new)
 mark_split s None old a new = refl
 
-same_turned : (x y : Option ℤ) → same_value x y ≡ same_value y x
-same_turned None None = refl
-same_turned None (Some y) = refl
-same_turned (Some x) None = refl
-same_turned (Some x) (Some y) = int_eq_equiv.symm x y
+number_turned : (m n : ℕ) → (m == n) ≡ (n == m)
+number_turned m n =
+    elim (eqb_tells m n) [
+      | inl t ↦ elim (eqb_tells n m) [ inl u ↦ t.0 ∙ sym u.0 | inr u ↦ absurd (u.1 (sym t.1)) ]
+      | inr t ↦ elim (eqb_tells n m) [ inl u ↦ absurd (t.1 (sym u.1)) | inr u ↦ t.0 ∙ sym u.0 ]
+    ]
 
--- what the cells held before a step
-pub mark_forward : (s : Program) (places : List (Option Break)) (values : List (Option ℤ)) (old : World) (a : Step) (new : World) → ((n : ℕ) → get_or values n None ≡ watched_at old (break_at places n))
+same_turned : (x y : Watched) → same_watched x y ≡ same_watched y x
+same_turned seen.Nothing seen.Nothing = refl
+same_turned seen.Nothing (seen.Value y) = refl
+same_turned seen.Nothing (seen.Call n) = refl
+same_turned (seen.Value x) seen.Nothing = refl
+same_turned (seen.Value x) (seen.Value y) = int_eq_equiv.symm x y
+same_turned (seen.Value x) (seen.Call n) = refl
+same_turned (seen.Call m) seen.Nothing = refl
+same_turned (seen.Call m) (seen.Value y) = refl
+same_turned (seen.Call m) (seen.Call n) = number_turned m n
+
+-- what was watched before a step
+pub mark_forward : (s : Program) (places : List (Option Break)) (values : List Watched) (old : World) (a : Step) (new : World) → ((n : ℕ) → get_or values n seen.Nothing ≡ watched_at old (break_at places n))
     → lowest_mark s places old a new ≡ lower (lowest_told s places a new) (lowest_changed places values new)
 mark_forward s places values old a new held =
-    both_lowest (λ n. told_by s (break_at places n) a new) (λ n. changed_by (get_or values n None) (break_at places n) new) (λ n. marked_by s (break_at places n) old a new)
-    (λ n. mark_split s (break_at places n) old a new ∙ ap (λ (v : Option ℤ). told_by s (break_at places n) a new || changed_by v (break_at places n) new) (sym (held n))) 0 (length places)
+    both_lowest (λ n. told_by s (break_at places n) a new) (λ n. changed_by (get_or values n seen.Nothing) (break_at places n) new) (λ n. marked_by s (break_at places n) old a new)
+    (λ n. mark_split s (break_at places n) old a new ∙ ap (λ (v : Watched). told_by s (break_at places n) a new || changed_by v (break_at places n) new) (sym (held n))) 0 (length places)
 
 changed_turned : (place : Option Break) (old new : World) → changed_by (watched_at old place) place new ≡ changed_by (watched_at new place) place old
-changed_turned (Some (Line line)) old new = refl
-changed_turned (Some (Change p c)) old new = ap not (same_turned (cell_at old p c) (cell_at new p c))
-changed_turned (Some (Match line)) old new = refl
 changed_turned None old new = refl
+changed_turned (Some b) old new = ap not (same_turned (watched_by old b) (watched_by new b))
 
--- what they held behind it
-pub mark_backward : (s : Program) (places : List (Option Break)) (values : List (Option ℤ)) (old : World) (a : Step) (new : World) → ((n : ℕ) → get_or values n None ≡ watched_at new (break_at places n))
+-- what was watched behind it
+pub mark_backward : (s : Program) (places : List (Option Break)) (values : List Watched) (old : World) (a : Step) (new : World) → ((n : ℕ) → get_or values n seen.Nothing ≡ watched_at new (break_at places n))
     → lowest_mark s places old a new ≡ lower (lowest_told s places a new) (lowest_changed places values old)
 mark_backward s places values old a new held =
-    both_lowest (λ n. told_by s (break_at places n) a new) (λ n. changed_by (get_or values n None) (break_at places n) old) (λ n. marked_by s (break_at places n) old a new)
+    both_lowest (λ n. told_by s (break_at places n) a new) (λ n. changed_by (get_or values n seen.Nothing) (break_at places n) old) (λ n. marked_by s (break_at places n) old a new)
     (λ n. mark_split s (break_at places n) old a new
     ∙ ap (λ (b : Bool). told_by s (break_at places n) a new || b) (changed_turned (break_at places n) old new)
-    ∙ ap (λ (v : Option ℤ). told_by s (break_at places n) a new || changed_by v (break_at places n) old) (sym (held n))) 0 (length places)
+    ∙ ap (λ (v : Watched). told_by s (break_at places n) a new || changed_by v (break_at places n) old) (sym (held n))) 0 (length places)

@@ -1,16 +1,42 @@
 -- What a run does next, and where it stands in the end.
-use Rattle.std.specs.Prelude.{◌≡◌, ℕ, ◌<◌, ◌≤◌, ◌==◌, if◌then◌else◌, List, length, take, Option, Some, Result, Ok, Err}
+use Rattle.std.specs.Prelude.{◌≡◌, ℕ, ◌<◌, ◌≤◌, ◌==◌, ◌⊎◌, if◌then◌else◌, List, length, take, Option, Some, None, Result, Ok, Err}
 use Rattle.mpd_model.specs.declared.limits.TheConstants.{STEPS_MAX}
 use Rattle.mpd_model.specs.declared.decision.Decision.{Decision}
 use Rattle.mpd_model.specs.declared.decision.Decision.TheVariants as next_is
 use Rattle.mpd_model.specs.declared.breakpoint.Break.{Break}
 use Rattle.mpd_model.specs.declared.breakpoint.Stop.{Stop}
 use Rattle.mpd_model.specs.declared.breakpoint.Cause.TheVariants as for
+use Rattle.mpd_model.specs.World.{World}
+use Rattle.mpd_model.specs.declared.step.Step.{Step}
 use Rattle.mpd_model.specs.Next.{fold}
+use Rattle.mpd_model.specs.Decisions.{forced_step, choices, decision}
 use Rattle.mpd_model.specs.Trail.{Standing, kept}
-use Rattle.mpd_model.specs.Running.{Ran, ran, stop_of, all_applied}
+use Rattle.mpd_model.specs.Running.{Ran, ran_along, stop_of, all_applied}
 use Rattle.mpd_policy.specs.declared.run.Ahead.{Ahead}
 use Rattle.mpd_policy.specs.declared.run.Ahead.TheVariants.{Take, Halt}
+use Rattle.mpd_policy.specs.declared.run.Taking.{Taking}
+use Rattle.mpd_policy.specs.declared.run.Taking.TheVariants as taking
+use Rattle.mpd_policy.specs.Single.{narrowed}
+
+-- what comes next, by what a run takes
+abbrev pub comes : Taking → World → Decision
+comes taking.Forced = decision
+comes taking.Single = narrowed
+
+abbrev pub forced_in : Decision → Option Step
+forced_in (next_is.Forced a) = Some a
+forced_in (next_is.Choice steps) = None
+forced_in (next_is.Leaf o) = None
+
+-- where candidates are listed to see what comes next
+abbrev pub Lists : Taking → World → Type 0
+Lists taking.Forced w = ⊥
+Lists taking.Single w = (forced_step w ≡ None) × (0 < length (choices w))
+
+-- where a run that makes so many steps may want memory on its way
+abbrev pub Wants : Taking → ℕ → World → Type 0
+Wants taking.Forced made w = 0 < made
+Wants taking.Single made w = (0 < made) ⊎ ((forced_step w ≡ None) × (0 < length (choices w)))
 
 -- what follows behind so many steps, by the decision
 abbrev pub ahead_of : ℕ → Decision → Ahead
@@ -18,23 +44,23 @@ ahead_of depth (next_is.Forced a) = if depth == STEPS_MAX then Halt for.Full els
 ahead_of depth (next_is.Choice steps) = Halt for.Choice
 ahead_of depth (next_is.Leaf o) = Halt for.Leaf
 
-abbrev pub ran_from : List (Option Break) → ℕ → Standing → Ran
-ran_from places max s = ran s.trail.program places max s.trail.depth s.world
+abbrev pub ran_from : Taking → List (Option Break) → ℕ → Standing → Ran
+ran_from t places max s = ran_along (comes t) s.trail.program places max s.trail.depth s.world
 
 -- a run that has stopped
-pub record Ended (places : List (Option Break)) (max : ℕ) (old new : Standing) (halt : Stop) : Type 0 where
-  pub stop : halt ≡ stop_of (ran_from places max old)
-  pub trail : new.trail ≡ all_applied old.trail (ran_from places max old).steps
-  pub world : fold old.world (ran_from places max old).steps ≡ Some new.world
+pub record Ended (t : Taking) (places : List (Option Break)) (max : ℕ) (old new : Standing) (halt : Stop) : Type 0 where
+  pub stop : halt ≡ stop_of (ran_from t places max old)
+  pub trail : new.trail ≡ all_applied old.trail (ran_from t places max old).steps
+  pub world : fold old.world (ran_from t places max old).steps ≡ Some new.world
 
--- a run that was refused memory on its way: the steps before it still stand, and it was to make a step at least
-pub record Broken (places : List (Option Break)) (max : ℕ) (old new : Standing) : Type 0 where
+-- a run that was refused memory on its way: the steps before it still stand, and it was to make a step at least, or to list candidates
+pub record Broken (t : Taking) (places : List (Option Break)) (max : ℕ) (old new : Standing) : Type 0 where
   pub begins : take old.trail.depth (kept new.trail) ≡ kept old.trail
   pub deeper : old.trail.depth ≤ new.trail.depth
   pub program : new.trail.program ≡ old.trail.program
   pub mode : new.trail.mode ≡ old.trail.mode
-  pub makes : 0 < length (ran_from places max old).steps
+  pub makes : Wants t (length (ran_from t places max old).steps) old.world
 
-abbrev pub Went : {E : Type 0} → List (Option Break) → ℕ → Standing → Standing → Result Stop E → Type 0
-Went places max old new (Ok stop) = Ended places max old new stop
-Went places max old new (Err e) = Broken places max old new
+abbrev pub Went : {E : Type 0} → Taking → List (Option Break) → ℕ → Standing → Standing → Result Stop E → Type 0
+Went t places max old new (Ok stop) = Ended t places max old new stop
+Went t places max old new (Err e) = Broken t places max old new

@@ -1,14 +1,17 @@
--- What breakpoints in numbered places mark, told apart: by the state behind a step, and by cells before it and behind it.
-use Rattle.std.specs.Prelude.{◌≡◌, ℕ, ℤ, ◌≤◌, Bool, false, not, if◌then◌else◌, nat_lt, List, length, slice_index_or, Option, Some, None}
+-- What breakpoints in numbered places mark, told apart: by the state behind a step, and by cells and handles before it and behind it.
+use Rattle.std.specs.Prelude.{◌≡◌, ℕ, ℤ, ◌≤◌, ◌==◌, Bool, true, false, not, if◌then◌else◌, nat_lt, List, length, slice_index_or, Option, Some, None}
 use Rattle.std.specs.List.{filter, range_with_len}
+use Rattle.std.specs.Ordering.{int_eq}
 use Rattle.mpd_model.specs.declared.limits.TheConstants.{BREAKS_MAX}
 use Rattle.mpd_model.specs.declared.step.Step.{Step}
 use Rattle.mpd_model.specs.declared.breakpoint.Break.{Break}
-use Rattle.mpd_model.specs.declared.breakpoint.Break.TheVariants.{Line, Change, Match}
+use Rattle.mpd_model.specs.declared.breakpoint.Break.TheVariants.{Line, Change, Handle, Match}
 use Rattle.mpd_model.specs.Program.{Program}
 use Rattle.mpd_model.specs.World.{World}
 use Rattle.mpd_model.specs.Why.{first_in}
-use Rattle.mpd_model.specs.Breakpoints.{break_at, cell_at, same_value, line_marks, match_marks}
+use Rattle.mpd_model.specs.Breakpoints.{break_at, cell_at, handle_at, line_marks, match_marks}
+use Rattle.mpd_policy.specs.declared.marks.Watched.{Watched}
+use Rattle.mpd_policy.specs.declared.marks.Watched.TheVariants.{Nothing, Value, Call}
 
 -- so many places, of which none from a number on is taken
 pub record Uses (places : List (Option Break)) (used : ℕ) : Type 0 where
@@ -20,27 +23,50 @@ pub record Uses (places : List (Option Break)) (used : ℕ) : Type 0 where
 abbrev pub told_by : Program → Option Break → Step → World → Bool
 told_by s (Some (Line line)) a w = line_marks s line a w
 told_by s (Some (Change p c)) a w = false
+told_by s (Some (Handle p h)) a w = false
 told_by s (Some (Match line)) a w = match_marks s line a w
 told_by s None a w = false
 
--- what the cell of a breakpoint holds, and whether that is another value
-abbrev pub watched_at : World → Option Break → Option ℤ
-watched_at w (Some (Line line)) = None
-watched_at w (Some (Change p c)) = cell_at w p c
-watched_at w (Some (Match line)) = None
-watched_at w None = None
+-- what a breakpoint watches: what its cell holds, or the call of its handle
+abbrev pub of_value : Option ℤ → Watched
+of_value None = Nothing
+of_value (Some x) = Value x
 
-abbrev pub changed_by : Option ℤ → Option Break → World → Bool
-changed_by value (Some (Line line)) w = false
-changed_by value (Some (Change p c)) w = not (same_value value (cell_at w p c))
-changed_by value (Some (Match line)) w = false
+abbrev pub of_call : Option ℕ → Watched
+of_call None = Nothing
+of_call (Some n) = Call n
+
+abbrev pub watched_by : World → Break → Watched
+watched_by w (Line line) = Nothing
+watched_by w (Change p c) = of_value (cell_at w p c)
+watched_by w (Handle p h) = of_call (handle_at w p h)
+watched_by w (Match line) = Nothing
+
+abbrev pub watched_at : World → Option Break → Watched
+watched_at w None = Nothing
+watched_at w (Some b) = watched_by w b
+
+abbrev pub same_watched : Watched → Watched → Bool
+same_watched Nothing Nothing = true
+same_watched Nothing (Value y) = false
+same_watched Nothing (Call n) = false
+same_watched (Value x) Nothing = false
+same_watched (Value x) (Value y) = int_eq x y
+same_watched (Value x) (Call n) = false
+same_watched (Call m) Nothing = false
+same_watched (Call m) (Value y) = false
+same_watched (Call m) (Call n) = m == n
+
+-- whether that is another than it was
+abbrev pub changed_by : Watched → Option Break → World → Bool
 changed_by value None w = false
+changed_by value (Some b) w = not (same_watched value (watched_by w b))
 
 abbrev pub lowest_told : Program → List (Option Break) → Step → World → Option ℕ
 lowest_told s places a w = first_in (filter (λ n. told_by s (break_at places n) a w) (range_with_len 0 (length places)))
 
-abbrev pub lowest_changed : List (Option Break) → List (Option ℤ) → World → Option ℕ
-lowest_changed places values w = first_in (filter (λ n. changed_by (slice_index_or values n None) (break_at places n) w) (range_with_len 0 (length places)))
+abbrev pub lowest_changed : List (Option Break) → List Watched → World → Option ℕ
+lowest_changed places values w = first_in (filter (λ n. changed_by (slice_index_or values n Nothing) (break_at places n) w) (range_with_len 0 (length places)))
 
 -- the lower of two numbers, where there are some
 abbrev pub lower : Option ℕ → Option ℕ → Option ℕ

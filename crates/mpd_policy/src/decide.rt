@@ -1,6 +1,6 @@
 //! What comes next in a state.
 
-ghost use Rattle.std.specs.Prelude.{◌≡◌, ◌<◌, [], length, IfOk, OnOk, OnErr};
+ghost use Rattle.std.specs.Prelude.{◌≡◌, ◌<◌, [], length, None, IfOk, OnOk, OnErr};
 ghost use Rattle.mpd_model.specs.World.{World};
 ghost use Rattle.mpd_model.specs.Next.{enabled};
 ghost use Rattle.mpd_model.specs.Outcomes.{ending};
@@ -8,6 +8,7 @@ ghost use Rattle.mpd_model.specs.Decisions as decisions;
 ghost use Rattle.mpd_model.specs.Decisions.{is_local, is_release, is_wake, is_named_match, first_enabled, any_choices, decision, CanFollow};
 ghost use Rattle.mpd_model.specs.declared.decision.Decision.TheVariants as next_is;
 ghost use Rattle.mpd_policy.specs.Entries.{entries_of};
+ghost use Rattle.mpd_policy.specs.Single as singles;
 
 use mpd_core::state::Core;
 use mpd_model::decision::{Decision, StepList};
@@ -131,6 +132,32 @@ pub fn decide(alloc: Global, core: &Core<'_>) -> Result<Decision, AllocError>
     }
     let outcome = core.ending(alloc)?;
     Ok(Decision::Leaf(outcome))
+}
+
+/// The step of a list of one.
+#[tactic(auto, using(crate::proofs::SingleLemmas::alone))]
+fn sole(steps: &[Step]) -> Option<Step>
+    ensures { result ≡ singles.sole steps.now }
+{
+    if steps.len() == 1 {
+        return Some(steps[0]);
+    }
+    None
+}
+
+/// The step that comes next where a single candidate is no choice: the step that nobody has to choose, or the one candidate of a
+/// choice. An `Err` is want of memory for the candidates, and comes only where no step is forced and there is a candidate.
+#[tactic(auto, using(crate::proofs::SingleLemmas::only))]
+pub fn only_step(alloc: Global, core: &Core<'_>) -> Result<Option<Step>, AllocError>
+    ensures ok { IfOk result (λ step. step ≡ singles.only_step core.now.world) }
+    ensures forced { OnErr result (decisions.forced_step core.now.world ≡ None) }
+    ensures memory { OnErr result (0 < length (decisions.choices core.now.world)) }
+{
+    if let Some(step) = forced_step(core) {
+        return Ok(Some(step));
+    }
+    let steps = choices(alloc, core)?;
+    Ok(sole(&steps))
 }
 
 /// A law: in every world a forced step is enabled, and so are all candidates of a choice, of which there is one at least; and the

@@ -1,9 +1,10 @@
 //! Which breakpoint marks a step.
 
-ghost use Rattle.std.specs.Prelude.{◌≡◌, ℕ, None, slice_get, slice_index_or, not};
+ghost use Rattle.std.specs.Prelude.{◌≡◌, ℕ, slice_get, slice_index_or, not};
 ghost use Rattle.mpd_model.specs.Breakpoints as points;
-ghost use Rattle.mpd_model.specs.Breakpoints.{break_at, comes_at, cell_at, line_marks, match_marks};
-ghost use Rattle.mpd_policy.specs.Places.{watched_at, told_by, changed_by, lowest_told, lowest_changed, lower};
+ghost use Rattle.mpd_model.specs.Breakpoints.{break_at, comes_at, cell_at, handle_at, line_marks, match_marks};
+ghost use Rattle.mpd_policy.specs.Places.{of_value, of_call, watched_by, watched_at, same_watched, told_by, changed_by, lowest_told, lowest_changed, lower};
+ghost use Rattle.mpd_policy.specs.declared.marks.Watched.TheVariants.{Nothing};
 
 use crate::breaks::Breaks;
 use mpd_code::code::Code;
@@ -12,6 +13,17 @@ use mpd_model::breakpoint::Break;
 use mpd_model::call::Activity;
 use mpd_model::limits::BREAKS_MAX;
 use mpd_model::step::{CallId, Step};
+
+/// What a breakpoint watches.
+#[derive(Clone, Copy)]
+pub(crate) enum Watched {
+    /// It watches nothing, or there is none.
+    Nothing,
+    /// What a cell holds.
+    Value(i64),
+    /// The call that a handle holds.
+    Call(usize),
+}
 
 /// The line of a statement, where it is there.
 fn line_at(lines: &[usize], number: usize) -> Option<usize>
@@ -118,6 +130,17 @@ fn cell(core: &Core<'_>, rank: usize, cell: usize) -> Option<i64>
     value_at(vars, cell)
 }
 
+/// The call that a handle of a rank holds, if any.
+#[tactic(auto, using(crate::proofs::MarkLemmas::calling))]
+fn held_call(core: &Core<'_>, rank: usize, handle: usize) -> Option<usize>
+    ensures { result ≡ handle_at core.now.world rank handle }
+{
+    if rank >= core.rank_count() {
+        return None;
+    }
+    core.rank(rank).held_call(handle)
+}
+
 /// Whether a breakpoint of a line or of a match marks a step, told by the state behind it.
 fn is_told(core: &Core<'_>, place: Option<Break>, step: Step) -> bool
     ensures { result ≡ told_by core.now.program place step core.now.world }
@@ -125,51 +148,83 @@ fn is_told(core: &Core<'_>, place: Option<Break>, step: Step) -> bool
     match place {
         Some(Break::Line(line)) => line_marks_step(core, line, step),
         Some(Break::Match(line)) => match_marks_step(core, line, step),
-        Some(Break::Change { .. }) | None => false,
+        Some(Break::Change { .. }) | Some(Break::Handle { .. }) | None => false,
     }
 }
 
-/// What the cell holds that a breakpoint watches.
-fn watched(core: &Core<'_>, place: Option<Break>) -> Option<i64>
+/// A value that is watched, where it is there.
+fn of_value(value: Option<i64>) -> Watched
+    ensures { result ≡ of_value value }
+{
+    match value {
+        None => Watched::Nothing,
+        Some(value) => Watched::Value(value),
+    }
+}
+
+/// A call that is watched, where there is one.
+fn of_call(call: Option<usize>) -> Watched
+    ensures { result ≡ of_call call }
+{
+    match call {
+        None => Watched::Nothing,
+        Some(call) => Watched::Call(call),
+    }
+}
+
+/// What a breakpoint watches.
+fn watched_by(core: &Core<'_>, stop: Break) -> Watched
+    ensures { result ≡ watched_by core.now.world stop }
+{
+    match stop {
+        Break::Change { rank, cell: number } => of_value(cell(core, rank, number)),
+        Break::Handle { rank, handle } => of_call(held_call(core, rank, handle)),
+        Break::Line(_) | Break::Match(_) => Watched::Nothing,
+    }
+}
+
+/// What the breakpoint of a place watches.
+fn watched_at(core: &Core<'_>, place: Option<Break>) -> Watched
     ensures { result ≡ watched_at core.now.world place }
 {
     match place {
-        Some(Break::Change { rank, cell: number }) => cell(core, rank, number),
-        Some(Break::Line(_)) | Some(Break::Match(_)) | None => None,
+        None => Watched::Nothing,
+        Some(stop) => watched_by(core, stop),
     }
 }
 
-/// Whether two cells differ.
-fn differ(one: Option<i64>, other: Option<i64>) -> bool
-    ensures { result ≡ not (points.same_value one other) }
+/// Whether what is watched differs.
+fn differ(one: Watched, other: Watched) -> bool
+    ensures { result ≡ not (same_watched one other) }
 {
     match (one, other) {
-        (None, None) => false,
-        (Some(one), Some(other)) => one != other,
+        (Watched::Nothing, Watched::Nothing) => false,
+        (Watched::Value(one), Watched::Value(other)) => one != other,
+        (Watched::Call(one), Watched::Call(other)) => one != other,
         _ => true,
     }
 }
 
-/// Whether the cell that a breakpoint watches holds another value.
-fn is_changed(core: &Core<'_>, place: Option<Break>, value: Option<i64>) -> bool
+/// Whether what the breakpoint of a place watches is another than it was.
+fn is_changed(core: &Core<'_>, place: Option<Break>, value: Watched) -> bool
     ensures { result ≡ changed_by value place core.now.world }
 {
     match place {
-        Some(Break::Change { rank, cell: number }) => differ(value, cell(core, rank, number)),
-        Some(Break::Line(_)) | Some(Break::Match(_)) | None => false,
+        None => false,
+        Some(stop) => differ(value, watched_by(core, stop)),
     }
 }
 
 impl Breaks {
-    /// What the cells hold that the breakpoints watch, by number.
+    /// What the breakpoints watch, by number.
     #[tactic(auto, using(crate::proofs::WatchLemmas::watching))]
-    pub(crate) fn watch(&self, core: &Core<'_>) -> [Option<i64>; BREAKS_MAX]
-        ensures { (n : ℕ) → slice_index_or result n None ≡ watched_at core.now.world (break_at self.now n) }
+    pub(crate) fn watch(&self, core: &Core<'_>) -> [Watched; BREAKS_MAX]
+        ensures { (n : ℕ) → slice_index_or result n Nothing ≡ watched_at core.now.world (break_at self.now n) }
     {
-        let mut values = [None; BREAKS_MAX];
+        let mut values = [Watched::Nothing; BREAKS_MAX];
         let count = self.bound();
         for number in 0..count {
-            values[number] = watched(core, self.get(number));
+            values[number] = watched_at(core, self.get(number));
         }
         values
     }
@@ -188,12 +243,12 @@ impl Breaks {
         None
     }
 
-    /// The lowest number of a breakpoint whose cell holds another value than it did.
+    /// The lowest number of a breakpoint that watches another value or call than it did.
     #[tactic(auto, using(crate::proofs::NumberLemmas::numbering))]
     pub(crate) fn lowest_changed(
         &self,
         core: &Core<'_>,
-        values: &[Option<i64>; BREAKS_MAX],
+        values: &[Watched; BREAKS_MAX],
     ) -> Option<usize>
         ensures { result ≡ lowest_changed self.now values.now core.now.world }
     {

@@ -1,17 +1,19 @@
 //! Runs that go by themselves, forward along decisions, and back.
 
-ghost use Rattle.std.specs.Prelude.{◌≡◌, ◌<◌, ◌≤◌, ◌+◌, ◌-◌, ◌⊎◌, ◌++◌, ◌∷◌, [], IfOk, OnOk, OnErr, IfSome, IfNone, IsSome, Some, length, take, slice_get};
+ghost use Rattle.std.specs.Prelude.{◌≡◌, ◌<◌, ◌≤◌, ◌+◌, ◌-◌, ◌⊎◌, ◌++◌, ◌∷◌, [], IfOk, OnOk, OnErr, IfSome, IfNone, IsSome, Some, None, length, take, slice_get};
 ghost use Rattle.mpd_model.specs.Next.{next, fold};
 ghost use Rattle.mpd_model.specs.Trail.{IsReached, IsRun, applied, kept, gone_back, forgotten, with_steps};
-ghost use Rattle.mpd_model.specs.Decisions.{decision};
+ghost use Rattle.mpd_model.specs.Decisions as decisions;
 ghost use Rattle.mpd_model.specs.Breakpoints.{lowest_mark};
-ghost use Rattle.mpd_model.specs.Running.{ran, stop_of, all_applied, mark_at, ran_back};
+ghost use Rattle.mpd_model.specs.Running.{ran, ran_along, stop_of, all_applied, mark_at, ran_back};
 ghost use Rattle.mpd_trail.specs.Views.{standing_of};
-ghost use Rattle.mpd_policy.specs.Ahead.{ahead_of, Went};
+ghost use Rattle.mpd_policy.specs.Ahead.{comes, forced_in, ahead_of, Lists, Wants, Went};
+ghost use Rattle.mpd_policy.specs.Single.{ran_on};
 
 use crate::breaks::Breaks;
-use crate::decide::forced_step;
+use crate::decide::{forced_step, only_step};
 use crate::marks::lower;
+use mpd_core::state::Core;
 use mpd_model::breakpoint::{Cause, Stop};
 use mpd_model::limits::STEPS_MAX;
 use mpd_model::step::Step;
@@ -25,23 +27,47 @@ pub(crate) enum Ahead {
     Halt(Cause),
 }
 
-/// What a run does next. Before a step it stops at a leaf, at a choice, and where 1,000,000 steps are not undone.
+/// Which steps a run takes.
+#[derive(Clone, Copy)]
+pub(crate) enum Taking {
+    /// Those that are forced.
+    Forced,
+    /// The single candidate of a choice, too.
+    Single,
+}
+
+/// The step that a run takes next, where it takes one. An `Err` is want of memory for candidates, and comes only where some are listed.
+#[tactic(auto, using(crate::proofs::SingleLemmas::coming))]
+fn coming(alloc: Global, core: &Core<'_>, taking: Taking) -> Result<Option<Step>, AllocError>
+    ensures step { IfOk result (λ step. step ≡ forced_in (comes taking core.now.world)) }
+    ensures lists { OnErr result (Lists taking core.now.world) }
+{
+    match taking {
+        Taking::Forced => Ok(forced_step(core)),
+        Taking::Single => only_step(alloc, core),
+    }
+}
+
+/// What a run does next. Before a step it stops at a leaf, at a choice, and where 1,000,000 steps are not undone. An `Err` is want of
+/// memory for candidates, and comes only where some are listed.
 #[tactic(auto, using(crate::proofs::RunLemmas::looking))]
-fn look_ahead(debugger: &Debugger<'_>) -> Ahead
-    ensures { result ≡ ahead_of debugger.now.trail.depth (decision debugger.now.world) }
+fn look_ahead(alloc: Global, debugger: &Debugger<'_>, taking: Taking) -> Result<Ahead, AllocError>
+    ensures ahead { IfOk result (λ ahead. ahead ≡ ahead_of debugger.now.trail.depth (comes taking debugger.now.world)) }
+    ensures lists { OnErr result (Lists taking debugger.now.world) }
 {
     let depth = debugger.depth();
     let core = debugger.core();
-    if let Some(step) = forced_step(core) {
+    let next = coming(alloc, core, taking)?;
+    if let Some(step) = next {
         if depth >= STEPS_MAX {
-            return Ahead::Halt(Cause::Full);
+            return Ok(Ahead::Halt(Cause::Full));
         }
-        return Ahead::Take(step);
+        return Ok(Ahead::Take(step));
     }
     if core.is_stuck() {
-        return Ahead::Halt(Cause::Leaf);
+        return Ok(Ahead::Halt(Cause::Leaf));
     }
-    Ahead::Halt(Cause::Choice)
+    Ok(Ahead::Halt(Cause::Choice))
 }
 
 /// Takes a step that is enabled, and answers the lowest number that marks it. An `Err` is want of memory, and nothing has changed.
@@ -92,16 +118,23 @@ fn take(
     take_watched(debugger, breaks, step)
 }
 
-/// Runs along decisions, and where memory is refused on the way leaves the steps that it made. It is refused only where it makes a
-/// step.
+/// Runs, and where memory is refused on the way leaves the steps that it made. It is refused only where it makes a step, or lists
+/// candidates.
 #[tactic(auto, using(crate::proofs::RunLemmas::going))]
-fn go(debugger: &mut Debugger<'_>, breaks: &Breaks, max: usize) -> Result<Stop, AllocError>
-    ensures went { Went breaks.now max (standing_of debugger.old) (standing_of debugger.new) result }
+fn go(
+    alloc: Global,
+    debugger: &mut Debugger<'_>,
+    breaks: &Breaks,
+    max: usize,
+    taking: Taking,
+) -> Result<Stop, AllocError>
+    ensures went { Went taking breaks.now max (standing_of debugger.old) (standing_of debugger.new) result }
     ensures reached { IsReached (standing_of debugger.new) }
 {
     let _ = debugger.core();
     for made in 0..max {
-        let step = match look_ahead(debugger) {
+        let ahead = look_ahead(alloc, debugger, taking)?;
+        let step = match ahead {
             Ahead::Halt(cause) => return Ok(Stop { steps: made, cause }),
             Ahead::Take(step) => step,
         };
@@ -113,7 +146,8 @@ fn go(debugger: &mut Debugger<'_>, breaks: &Breaks, max: usize) -> Result<Stop, 
             });
         }
     }
-    match look_ahead(debugger) {
+    let last = look_ahead(alloc, debugger, taking)?;
+    match last {
         Ahead::Halt(cause) => Ok(Stop { steps: max, cause }),
         Ahead::Take(_) => Ok(Stop {
             steps: max,
@@ -154,6 +188,36 @@ fn put_back(debugger: &mut Debugger<'_>, depth: usize, saved: Option<Vec<Step>>)
     }
 }
 
+/// Runs, and stops behind the first step that a breakpoint marks, and before a step at a leaf, at a choice, where 1,000,000 steps are
+/// not undone, or after `max` steps, in this order. An `Err` is want of memory, and then the state and all steps, undone ones too, are
+/// as before.
+fn run_by(
+    alloc: Global,
+    debugger: &mut Debugger<'_>,
+    breaks: &Breaks,
+    max: usize,
+    taking: Taking,
+) -> Result<Stop, AllocError>
+    ensures stop { IfOk result (λ stop. stop ≡ stop_of (ran_along (comes taking) debugger.old.trail.program breaks.now max debugger.old.trail.depth debugger.old.world)) }
+    ensures trail { OnOk result (debugger.new.trail ≡ all_applied debugger.old.trail (ran_along (comes taking) debugger.old.trail.program breaks.now max debugger.old.trail.depth debugger.old.world).steps) }
+    ensures world { OnOk result (fold debugger.old.world (ran_along (comes taking) debugger.old.trail.program breaks.now max debugger.old.trail.depth debugger.old.world).steps ≡ Some debugger.new.world) }
+    ensures reached { IsReached (standing_of debugger.new) }
+    ensures err { OnErr result (debugger.new.trail ≡ debugger.old.trail) }
+    ensures err_world { OnErr result (debugger.new.world ≡ debugger.old.world) }
+    ensures memory { OnErr result ((debugger.old.trail.depth < length debugger.old.trail.steps) ⊎ Wants taking (length (ran_along (comes taking) debugger.old.trail.program breaks.now max debugger.old.trail.depth debugger.old.world).steps) debugger.old.world) }
+{
+    let _ = debugger.core();
+    let depth = debugger.depth();
+    let saved = set_aside(alloc, debugger)?;
+    match go(alloc, debugger, breaks, max, taking) {
+        Ok(stop) => Ok(stop),
+        Err(fault) => {
+            put_back(debugger, depth, saved);
+            Err(fault)
+        }
+    }
+}
+
 /// Runs along decisions (docs/DEFINITIONS.md, "Runs"): it makes every forced step, and stops behind the first that a breakpoint
 /// marks, and before a step at a leaf, at a choice, where 1,000,000 steps are not undone, or after `max` steps, in this order. An
 /// `Err` is want of memory, and then the state and all steps, undone ones too, are as before; it comes only where steps are undone,
@@ -172,16 +236,28 @@ pub fn run(
     ensures err_world { OnErr result (debugger.new.world ≡ debugger.old.world) }
     ensures memory { OnErr result ((debugger.old.trail.depth < length debugger.old.trail.steps) ⊎ (0 < length (ran debugger.old.trail.program breaks.now max debugger.old.trail.depth debugger.old.world).steps)) }
 {
-    let _ = debugger.core();
-    let depth = debugger.depth();
-    let saved = set_aside(alloc, debugger)?;
-    match go(debugger, breaks, max) {
-        Ok(stop) => Ok(stop),
-        Err(fault) => {
-            put_back(debugger, depth, saved);
-            Err(fault)
-        }
-    }
+    run_by(alloc, debugger, breaks, max, Taking::Forced)
+}
+
+/// Runs as `run` does, but takes the single candidate of a choice as if it were forced (docs/DEFINITIONS.md, "Runs"): so it stops at
+/// choices of two candidates or more. An `Err` is want of memory, and then the state and all steps, undone ones too, are as before; it
+/// comes only where steps are undone, whose list is set aside, where the run makes a step, or where it begins at a choice, whose
+/// candidates are listed.
+pub fn run_on(
+    alloc: Global,
+    debugger: &mut Debugger<'_>,
+    breaks: &Breaks,
+    max: usize,
+) -> Result<Stop, AllocError>
+    ensures stop { IfOk result (λ stop. stop ≡ stop_of (ran_on debugger.old.trail.program breaks.now max debugger.old.trail.depth debugger.old.world)) }
+    ensures trail { OnOk result (debugger.new.trail ≡ all_applied debugger.old.trail (ran_on debugger.old.trail.program breaks.now max debugger.old.trail.depth debugger.old.world).steps) }
+    ensures world { OnOk result (fold debugger.old.world (ran_on debugger.old.trail.program breaks.now max debugger.old.trail.depth debugger.old.world).steps ≡ Some debugger.new.world) }
+    ensures reached { IsReached (standing_of debugger.new) }
+    ensures err { OnErr result (debugger.new.trail ≡ debugger.old.trail) }
+    ensures err_world { OnErr result (debugger.new.world ≡ debugger.old.world) }
+    ensures memory { OnErr result ((debugger.old.trail.depth < length debugger.old.trail.steps) ⊎ ((0 < length (ran_on debugger.old.trail.program breaks.now max debugger.old.trail.depth debugger.old.world).steps) ⊎ ((decisions.forced_step debugger.old.world ≡ None) × (0 < length (decisions.choices debugger.old.world))))) }
+{
+    run_by(alloc, debugger, breaks, max, Taking::Single)
 }
 
 /// Takes the last step back, and answers the lowest number that marks it.

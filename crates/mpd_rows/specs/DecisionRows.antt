@@ -23,7 +23,7 @@ use Rattle.mpd_model.specs.Decisions.{decision}
 use Rattle.mpd_model.specs.Breakpoints.{marked, no_breaks, lowest_free}
 use Rattle.mpd_model.specs.Running.{Ran, ran, ran_back}
 use Rattle.mpd_model.specs.Trail.{Trail}
-use Rattle.mpd_rows.specs.Statements.{print, send, assign, barrier, recv_any, irecv, irecv_any}
+use Rattle.mpd_rows.specs.Statements.{print, send, assign, barrier, recv_any, irecv, irecv_any, wait}
 use Rattle.mpd_rows.specs.RequestRows.{n, whole, x, variable, request, script, two_parts, after}
 
 abbrev y : Place
@@ -130,6 +130,27 @@ pub row_changes : map {B = Option Bool} (λ (r : Break × List Step × Step). ma
     ((on.Change 1 0, [], Local 1) ∷ (on.Change 1 0, [], Local 0) ∷ (on.Change 0 0, [], Local 1) ∷ (on.Change 1 0, both_there ++ paired ∷ [], Wake 1) ∷ (on.Change 1 0, both_there ++ paired ∷ [], Wake 0) ∷ (on.Change 1 1, [], Local 1) ∷ (on.Change 2 0, [], Local 1) ∷ [])
     ≡ Some true ∷ Some false ∷ Some false ∷ Some true ∷ Some false ∷ Some false ∷ Some false ∷ []
 row_changes = refl
+
+-- if rank == 0 { irecv h x from 1 tag 1; irecv h y from any tag any; wait h; } else { send rank to 0 tag 0; }
+abbrev holding : Program
+holding = script 2 (two ++ request (codes "h") None ∷ [])
+    (two_parts
+    (then_more (irecv (whole handle) (whole x) (n 1) (n 1)) (then_more (irecv_any (whole handle) (whole y) None None None) (then_more (wait (whole handle)) no_more)))
+    (then_more (send own_rank (n 0) (n 0)) no_more))
+
+abbrev waited : List Step
+waited = Local 0 ∷ Local 0 ∷ Local 0 ∷ Local 0 ∷ Local 1 ∷ Local 1 ∷ []
+
+abbrev taken_second : Step
+taken_second = Match (call_id 1 0) (call_id 0 1)
+
+-- a handle that holds a call where it held none, or another, or none any more; no match changes one, and one that isn't there holds none
+pub row_handles : map {B = Option Bool} (λ (r : Break × List Step × Step). marks holding r.0 r.1 r.2)
+    ((on.Handle 0 0, [], Local 0) ∷ (on.Handle 0 0, Local 0 ∷ [], Local 0) ∷ (on.Handle 0 0, Local 0 ∷ Local 0 ∷ [], Local 0) ∷ (on.Handle 0 0, Local 0 ∷ Local 0 ∷ Local 0 ∷ [], Local 0)
+    ∷ (on.Handle 0 0, waited, taken_second) ∷ (on.Handle 0 0, waited ++ taken_second ∷ [], Wake 0) ∷ (on.Handle 1 0, Local 0 ∷ [], Local 0) ∷ (on.Handle 0 1, Local 0 ∷ [], Local 0)
+    ∷ (on.Handle 2 0, Local 0 ∷ [], Local 0) ∷ (on.Change 0 0, Local 0 ∷ [], Local 0) ∷ [])
+    ≡ Some false ∷ Some true ∷ Some true ∷ Some false ∷ Some false ∷ Some true ∷ Some false ∷ Some false ∷ Some false ∷ Some false ∷ []
+row_handles = refl
 
 -- ---- places
 

@@ -14,6 +14,7 @@ use Rattle.mpd_model.specs.Decisions.{decision}
 use Rattle.mpd_model.specs.Trail.{Trail, applied, world_of}
 use Rattle.mpd_model.specs.Breakpoints.{lowest_free, break_at}
 use Rattle.mpd_model.specs.Running.{Ran, ran, all_applied}
+use Rattle.mpd_policy.specs.Single.{ran_on}
 use Rattle.mpd_wire.specs.declared.request.Command.{Command}
 use Rattle.mpd_wire.specs.declared.request.Command.TheVariants as command
 use Rattle.mpd_wire.specs.declared.request.Request.{Request}
@@ -28,7 +29,7 @@ use Rattle.mpd_session.specs.declared.limits.TheConstants.{RUNS_MAX}
 use Rattle.mpd_session.specs.declared.effect.Effect.{Effect}
 use Rattle.mpd_session.specs.declared.effect.Effect.TheVariants.{Refused, Told, Changed}
 use Rattle.mpd_session.specs.declared.history.Entry.{Entry}
-use Rattle.mpd_session.specs.Effects.{OnTrail, OnBreaks, is_within, is_there, applied_effect, step_effect, picked_effect, next_effect, ran_effect, run_effect, at_depth, back_effect, redo_effect, goto_effect, added_effect, break_effect, unbreak_effect, vars_of, vars_effect, calls_effect, why_effect, explore_effect}
+use Rattle.mpd_session.specs.Effects.{OnTrail, OnBreaks, is_within, is_there, applied_effect, step_effect, picked_effect, next_effect, ran_effect, going_effect, run_effect, run_on_effect, at_depth, back_effect, redo_effect, goto_effect, added_effect, break_effect, unbreak_effect, vars_of, vars_effect, calls_effect, why_effect, explore_effect}
 use Rattle.mpd_session.specs.Held.{Held, opened}
 use Rattle.mpd_session.specs.Respond.{Carried, carried, respond, respond_at, reply_to, version_then, finished, is_current}
 use Rattle.mpd_session.specs.History.{Leads, IsReplay}
@@ -64,8 +65,8 @@ next_fits t w choice (Forced a) = taken_fits t w a (next w a)
 next_fits t w None (Choice steps) = refl
 next_fits t w (Some i) (Choice steps) = picked_fits t w (slice_get steps i)
 
-run_fits : (t : Trail) (places : List (Option Break)) (w : World) (max : ℕ) → Fit t (run_effect t places w max)
-run_fits t places w max = either t (is_within 1 STEPS_MAX max) (ran_effect t (ran t.program places max t.depth w)) (Refused BadNumber, t) refl refl
+going_fits : (t : Trail) (max : ℕ) (r : Ran) → Fit t (going_effect t max r)
+going_fits t max r = either t (is_within 1 STEPS_MAX max) (ran_effect t r) (Refused BadNumber, t) refl refl
 
 depth_fits : (t : Trail) (n m : ℕ) (b : Bool) (r : Refusal) → Fit t (cond b (Refused r, t) (at_depth t m))
 depth_fits t n m b r = either t b (Refused r, t) (at_depth t m) refl refl
@@ -131,7 +132,8 @@ on_breaks_fits t places set (Changed a) h = h
 carried_fits : (t : Trail) (places : List (Option Break)) (w : World) (c : Command) → Fits {X = Both} (t, places) (carried t places w c).0 (carried t places w c).1
 carried_fits t places w (command.Step a) = let q : OnTrail = step_effect t w a in on_trail_fits t q.1 places q.0 (applied_fits answer.Depth t a (next w a) (λ d. refl))
 carried_fits t places w (command.Next choice) = let q : OnTrail = next_effect t w choice (decision w) in on_trail_fits t q.1 places q.0 (next_fits t w choice (decision w))
-carried_fits t places w (command.Run max) = let q : OnTrail = run_effect t places w max in on_trail_fits t q.1 places q.0 (run_fits t places w max)
+carried_fits t places w (command.Run max) = let q : OnTrail = run_effect t places w max in on_trail_fits t q.1 places q.0 (going_fits t max (ran t.program places max t.depth w))
+carried_fits t places w (command.RunOn max) = let q : OnTrail = run_on_effect t places w max in on_trail_fits t q.1 places q.0 (going_fits t max (ran_on t.program places max t.depth w))
 carried_fits t places w (command.Back n) = let q : OnTrail = back_effect t n in on_trail_fits t q.1 places q.0 (back_fits t n)
 carried_fits t places w (command.Redo n) = let q : OnTrail = redo_effect t n in on_trail_fits t q.1 places q.0 (redo_fits t n)
 carried_fits t places w (command.Goto n) = let q : OnTrail = goto_effect t n in on_trail_fits t q.1 places q.0 (goto_fits t n)
@@ -195,15 +197,17 @@ all_keep : (t : Trail) (steps : List Step) → Keeps t (all_applied t steps)
 all_keep t [] = (refl, refl)
 all_keep t (a ∷ steps) = all_keep (applied t a) steps
 
+going_keeps : (t : Trail) (max : ℕ) (r : Ran) → Keeps t (going_effect t max r).1
+going_keeps t max r = keeps_by t (is_within 1 STEPS_MAX max) (ran_effect t r) (Refused BadNumber, t) (all_keep t r.steps) (refl, refl)
+
 depth_keeps : (t : Trail) (m : ℕ) (b : Bool) (r : Refusal) → Keeps t (cond b (Refused r, t) (at_depth t m)).1
 depth_keeps t m b r = keeps_by t b (Refused r, t) (at_depth t m) (refl, refl) (refl, refl)
 
 carried_keeps : (t : Trail) (places : List (Option Break)) (w : World) (c : Command) → Keeps t (carried t places w c).1.0
 carried_keeps t places w (command.Step a) = applied_keeps answer.Depth t a (next w a)
 carried_keeps t places w (command.Next choice) = next_keeps t w choice (decision w)
-carried_keeps t places w (command.Run max) =
-    let r : Ran = ran t.program places max t.depth w in
-    keeps_by t (is_within 1 STEPS_MAX max) (ran_effect t r) (Refused BadNumber, t) (all_keep t r.steps) (refl, refl)
+carried_keeps t places w (command.Run max) = going_keeps t max (ran t.program places max t.depth w)
+carried_keeps t places w (command.RunOn max) = going_keeps t max (ran_on t.program places max t.depth w)
 carried_keeps t places w (command.Back n) =
     keeps_by t (is_within 1 STEPS_MAX n) (cond (nat_lt t.depth n) (Refused AtStart, t) (at_depth t (t.depth - n))) (Refused BadNumber, t) (depth_keeps t (t.depth - n) (nat_lt t.depth n) AtStart) (refl, refl)
 carried_keeps t places w (command.Redo n) =

@@ -12,7 +12,7 @@ use Rattle.mpd_explore.specs.ReportText.{leaf_text}
 use Rattle.mpd_wire.specs.declared.reply.Answer.TheVariants as answer
 use Rattle.mpd_wire.specs.declared.reply.Refusal.TheVariants.{BadNumber}
 use Rattle.mpd_session.specs.declared.effect.Effect.TheVariants.{Refused, Told}
-use Rattle.mpd_session.specs.Effects.{vars_of, vars_effect, explore_effect, is_within}
+use Rattle.mpd_session.specs.Effects.{vars_of, vars_effect, has_handle, explore_effect, is_within}
 
 -- ---- what a rank holds
 
@@ -29,6 +29,14 @@ no_cell w p c h = ap (λ (o : Option RankWorld). is_some (held_at o c)) (sym (sl
 
 pub some_cell : (w : World) (p c : ℕ) (r : RankWorld) (vars : List ℤ) → slice_get w.ranks p ≡ Some r → vars ≡ r.vars → is_some (slice_get vars c) ≡ is_some (cell_at w p c)
 some_cell w p c r vars e v = ap (λ xs. is_some (slice_get xs c)) v ∙ ap (λ (o : Option RankWorld). is_some (held_at o c)) (sym e)
+
+pub no_handle : (w : World) (p h : ℕ) → length w.ranks ≤ p → false ≡ has_handle (slice_get w.ranks p) h
+no_handle w p h past = ap (λ (o : Option RankWorld). has_handle o h) (sym (slice_get_past w.ranks p past))
+
+pub some_handle : (w : World) (p h n : ℕ) (r : RankWorld) → slice_get w.ranks p ≡ Some r → n ≡ length r.handles → nat_lt h n ≡ has_handle (slice_get w.ranks p) h
+some_handle w p h n r e is = ap (nat_lt h) is ∙ ap (λ (o : Option RankWorld). has_handle o h) (sym e)
+
+pub ruleset handling = (no_handle, some_handle)
 
 pub ruleset holding = (vars_told, no_vars, no_cell, some_cell)
 

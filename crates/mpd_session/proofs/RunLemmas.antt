@@ -5,26 +5,25 @@ use Rattle.mpd_model.specs.declared.breakpoint.Break.{Break}
 use Rattle.mpd_model.specs.declared.breakpoint.Stop.{Stop}
 use Rattle.mpd_model.specs.World.{World}
 use Rattle.mpd_model.specs.Trail.{Trail, IsReached, applied, gone_back, forgotten}
-use Rattle.mpd_model.specs.Running.{ran, stop_of, all_applied, ran_back}
+use Rattle.mpd_model.specs.Running.{Ran, stop_of, all_applied, ran_back}
 use Rattle.mpd_wire.specs.declared.reply.Answer.TheVariants as answer
 use Rattle.mpd_session.specs.declared.effect.Effect.TheVariants.{Changed}
-use Rattle.mpd_session.specs.Effects.{OnTrail, is_within, run_effect, ran_effect, run_back_effect, run_back_by}
+use Rattle.mpd_session.specs.Effects.{OnTrail, is_within, going_effect, ran_effect, run_back_effect, run_back_by}
 
 deep : (t : Trail) (steps : List Step) → (all_applied t steps).depth ≡ t.depth + length steps
 deep t [] = omega arith
 deep t (a ∷ steps) = deep (applied t a) steps ∙ omega arith
 
-in_range : (t : Trail) (places : List (Option Break)) (w : World) (max : ℕ) → is_within 1 1000000 max ≡ true → run_effect t places w max ≡ ran_effect t (ran t.program places max t.depth w)
-in_range t places w max e = rw e refl
+in_range : (t : Trail) (max : ℕ) (r : Ran) → is_within 1 1000000 max ≡ true → going_effect t max r ≡ ran_effect t r
+in_range t max r e = rw e refl
 
-pub run_0 : (t u : Trail) (places : List (Option Break)) (w : World) (max depth : ℕ) (stop : Stop) → is_within 1 1000000 max ≡ true
-    → stop ≡ stop_of (ran t.program places max t.depth w) → u ≡ all_applied t (ran t.program places max t.depth w).steps → depth ≡ u.depth → Changed (answer.Ran depth stop) ≡ (run_effect t places w max).0
-run_0 t u places w max depth stop e is leads d =
-    let far : depth ≡ t.depth + length (ran t.program places max t.depth w).steps = d ∙ ap (λ (x : Trail). x.depth) leads ∙ deep t _ in
-    ap (λ n. Changed (answer.Ran n stop)) far ∙ ap (λ x. Changed (answer.Ran (t.depth + length (ran t.program places max t.depth w).steps) x)) is ∙ ap (λ (p : OnTrail). p.0) (sym (in_range t places w max e))
+pub run_0 : (t u : Trail) (r : Ran) (max depth : ℕ) (stop : Stop) → is_within 1 1000000 max ≡ true → stop ≡ stop_of r → u ≡ all_applied t r.steps → depth ≡ u.depth → Changed (answer.Ran depth stop) ≡ (going_effect t max r).0
+run_0 t u r max depth stop e is leads d =
+    let far : depth ≡ t.depth + length r.steps = d ∙ ap (λ (x : Trail). x.depth) leads ∙ deep t r.steps in
+    ap (λ n. Changed (answer.Ran n stop)) far ∙ ap (λ x. Changed (answer.Ran (t.depth + length r.steps) x)) is ∙ ap (λ (p : OnTrail). p.0) (sym (in_range t max r e))
 
-pub run_1 : (t u : Trail) (places : List (Option Break)) (w : World) (max : ℕ) → is_within 1 1000000 max ≡ true → u ≡ all_applied t (ran t.program places max t.depth w).steps → u ≡ (run_effect t places w max).1
-run_1 t u places w max e leads = leads ∙ ap (λ (p : OnTrail). p.1) (sym (in_range t places w max e))
+pub run_1 : (t u : Trail) (r : Ran) (max : ℕ) → is_within 1 1000000 max ≡ true → u ≡ all_applied t r.steps → u ≡ (going_effect t max r).1
+run_1 t u r max e leads = leads ∙ ap (λ (p : OnTrail). p.1) (sym (in_range t max r e))
 
 pub back_0 : (t u : Trail) (places : List (Option Break)) (depth : ℕ) (stop : Stop) → stop ≡ ran_back places t t.depth → u ≡ gone_back t (t.depth - stop.steps) → depth ≡ u.depth
     → Changed (answer.Ran depth stop) ≡ (run_back_effect t places).0

@@ -1,5 +1,5 @@
 -- What each command comes to: a refusal, an answer that changes nothing, or one that changes something, with what is changed.
-use Rattle.std.specs.Prelude.{ℕ, ◌+◌, ◌-◌, Bool, ◌&&◌, nat_le, nat_lt, if◌then◌else◌, List, [], ◌∷◌, ◌++◌, map, length, take, slice_get, slice_set, Option, Some, None, option_map, is_some, codes}
+use Rattle.std.specs.Prelude.{ℕ, ◌+◌, ◌-◌, Bool, false, ◌&&◌, nat_le, nat_lt, if◌then◌else◌, List, [], ◌∷◌, ◌++◌, map, length, take, slice_get, slice_set, Option, Some, None, option_map, is_some, codes}
 use Rattle.std.specs.Fmt.{decimal}
 use Rattle.std.specs.List.{flat_map, range_with_len}
 use Rattle.mpd_model.specs.declared.limits.TheConstants.{STEPS_MAX, BREAKS_MAX}
@@ -18,6 +18,7 @@ use Rattle.mpd_model.specs.Trail.{Trail, applied, gone_back}
 use Rattle.mpd_model.specs.Breakpoints.{break_at, cell_at, lowest_free}
 use Rattle.mpd_model.specs.Running.{Ran, ran, stop_of, all_applied, ran_back}
 use Rattle.mpd_model.specs.Texts.{id_text, step_text, rank_text, set_text, call_text, outcome_text}
+use Rattle.mpd_policy.specs.Single.{ran_on}
 use Rattle.mpd_explore.specs.declared.report.Leaf.{Leaf as RunLeaf}
 use Rattle.mpd_explore.specs.Walk.{walk}
 use Rattle.mpd_explore.specs.Report.{shown}
@@ -62,8 +63,15 @@ next_effect t w (Some i) (Choice steps) = picked_effect t w (slice_get steps i)
 abbrev pub ran_effect : Trail → Ran → OnTrail
 ran_effect t r = (Changed (answer.Ran (t.depth + length r.steps) (stop_of r)), all_applied t r.steps)
 
+-- a run of at most so many steps
+abbrev pub going_effect : Trail → ℕ → Ran → OnTrail
+going_effect t max r = if is_within 1 STEPS_MAX max then ran_effect t r else (Refused BadNumber, t)
+
 abbrev pub run_effect : Trail → List (Option Break) → World → ℕ → OnTrail
-run_effect t places w max = if is_within 1 STEPS_MAX max then ran_effect t (ran t.program places max t.depth w) else (Refused BadNumber, t)
+run_effect t places w max = going_effect t max (ran t.program places max t.depth w)
+
+abbrev pub run_on_effect : Trail → List (Option Break) → World → ℕ → OnTrail
+run_on_effect t places w max = going_effect t max (ran_on t.program places max t.depth w)
 
 abbrev pub run_back_by : Trail → Stop → OnTrail
 run_back_by t stop = (Changed (answer.Ran (t.depth - stop.steps) stop), gone_back t (t.depth - stop.steps))
@@ -95,10 +103,15 @@ goto_effect t n = if nat_lt t.depth n then (Refused NotBefore, t) else at_depth 
 abbrev pub OnBreaks : Type 0
 OnBreaks = Effect × List (Option Break)
 
+abbrev pub has_handle : Option RankWorld → ℕ → Bool
+has_handle None h = false
+has_handle (Some r) h = nat_lt h (length r.handles)
+
 -- The lines of a script are 1 to LINES_MAX.
 abbrev pub is_there : World → Break → Bool
 is_there w (on.Line n) = is_within 1 LINES_MAX n
 is_there w (on.Change p c) = is_some (cell_at w p c)
+is_there w (on.Handle p h) = has_handle (slice_get w.ranks p) h
 is_there w (on.Match n) = is_within 1 LINES_MAX n
 
 abbrev pub added_effect : List (Option Break) → Break → Option ℕ → OnBreaks
@@ -144,6 +157,7 @@ why_effect w c = if is_some (call_at w.board c) then Told (answer.Partners (map 
 abbrev pub break_text : Break → List ℕ
 break_text (on.Line n) = codes " line " ++ decimal n
 break_text (on.Change p c) = codes " change " ++ decimal p ++ 32 ∷ decimal c
+break_text (on.Handle p h) = codes " handle " ++ decimal p ++ 32 ∷ decimal h
 break_text (on.Match n) = codes " match " ++ decimal n
 
 abbrev pub place_texts : ℕ → Option Break → List (List ℕ)

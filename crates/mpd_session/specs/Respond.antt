@@ -15,7 +15,7 @@ use Rattle.mpd_session.specs.declared.limits.TheConstants.{VERSION_MAX}
 use Rattle.mpd_session.specs.declared.effect.Effect.{Effect}
 use Rattle.mpd_session.specs.declared.effect.Effect.TheVariants.{Refused, Told, Changed}
 use Rattle.mpd_session.specs.Held.{Held}
-use Rattle.mpd_session.specs.Effects.{step_effect, next_effect, run_effect, back_effect, redo_effect, goto_effect, run_back_effect, enabled_effect, state_effect, vars_effect, calls_effect, why_effect, break_effect, unbreak_effect, breaks_effect, explore_effect}
+use Rattle.mpd_session.specs.Effects.{step_effect, next_effect, run_effect, run_on_effect, back_effect, redo_effect, goto_effect, run_back_effect, enabled_effect, state_effect, vars_effect, calls_effect, why_effect, break_effect, unbreak_effect, breaks_effect, explore_effect}
 
 -- ---- what a command comes to, with what is changed
 
@@ -32,6 +32,7 @@ abbrev pub carried : Trail → List (Option Break) → World → Command → Car
 carried t places w (command.Step a) = on_trail places (step_effect t w a)
 carried t places w (command.Next choice) = on_trail places (next_effect t w choice (decision w))
 carried t places w (command.Run max) = on_trail places (run_effect t places w max)
+carried t places w (command.RunOn max) = on_trail places (run_on_effect t places w max)
 carried t places w (command.Back n) = on_trail places (back_effect t n)
 carried t places w (command.Redo n) = on_trail places (redo_effect t n)
 carried t places w (command.Goto n) = on_trail places (goto_effect t n)
@@ -56,6 +57,7 @@ may_want (command.Unbreak n) = false
 may_want (command.Step a) = true
 may_want (command.Next choice) = true
 may_want (command.Run max) = true
+may_want (command.RunOn max) = true
 may_want (command.Redo n) = true
 may_want command.Enabled = true
 may_want command.State = true

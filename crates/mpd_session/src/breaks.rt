@@ -1,6 +1,6 @@
 //! Commands on breakpoints.
 
-ghost use Rattle.std.specs.Prelude.{◌≡◌, ◌-◌, ◌++◌, IfOk, OnOk, IfSome, IfNone, map, length, is_some, string_bytes};
+ghost use Rattle.std.specs.Prelude.{◌≡◌, ◌-◌, ◌++◌, IfOk, OnOk, IfSome, IfNone, map, length, is_some, slice_get, string_bytes};
 ghost use Rattle.std.specs.Fmt.{decimal};
 ghost use Rattle.mpd_session.specs.Effects as spec;
 ghost use Rattle.mpd_session.specs.Effects.{break_effect, unbreak_effect, breaks_effect, break_text, place_texts};
@@ -27,6 +27,17 @@ fn has_cell(core: &Core<'_>, rank: usize, cell: usize) -> bool
     core.rank(rank).variables().get(cell).is_some()
 }
 
+/// Whether a rank has a handle.
+#[tactic(auto, using(crate::proofs::LookLemmas::handling))]
+fn has_handle(core: &Core<'_>, rank: usize, handle: usize) -> bool
+    ensures { result ≡ spec.has_handle (slice_get core.now.world.ranks rank) handle }
+{
+    if rank >= core.rank_count() {
+        return false;
+    }
+    handle < core.rank(rank).handle_count()
+}
+
 /// Whether there is what a breakpoint names.
 pub fn is_there(core: &Core<'_>, stop: Break) -> bool
     ensures { result ≡ spec.is_there core.now.world stop }
@@ -34,6 +45,7 @@ pub fn is_there(core: &Core<'_>, stop: Break) -> bool
     match stop {
         Break::Line(line) => is_within(1, LINES_MAX, line),
         Break::Change { rank, cell } => has_cell(core, rank, cell),
+        Break::Handle { rank, handle } => has_handle(core, rank, handle),
         Break::Match(line) => is_within(1, LINES_MAX, line),
     }
 }
@@ -73,6 +85,7 @@ fn text_of(alloc: Global, number: usize, stop: Break) -> Result<String, AllocErr
     match stop {
         Break::Line(line) => format!(in alloc; "{number} line {line}"),
         Break::Change { rank, cell } => format!(in alloc; "{number} change {rank} {cell}"),
+        Break::Handle { rank, handle } => format!(in alloc; "{number} handle {rank} {handle}"),
         Break::Match(line) => format!(in alloc; "{number} match {line}"),
     }
 }

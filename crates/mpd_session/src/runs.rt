@@ -5,7 +5,7 @@ ghost use Rattle.mpd_model.specs.Trail.{IsReached};
 ghost use Rattle.mpd_trail.specs.Views.{standing_of};
 ghost use Rattle.mpd_explore.specs.Walk.{walk};
 ghost use Rattle.mpd_explore.specs.Report.{shown};
-ghost use Rattle.mpd_session.specs.Effects.{run_effect, run_back_effect};
+ghost use Rattle.mpd_session.specs.Effects.{run_effect, run_on_effect, run_back_effect};
 
 use crate::effect::{Effect, is_within};
 use mpd_explore::explore::explore;
@@ -34,6 +34,28 @@ pub fn run(
         return Ok(Effect::Refused(Refusal::BadNumber));
     }
     let stop = policy::run(alloc, debugger, breaks, max)?;
+    Ok(Effect::Changed(Answer::Ran {
+        depth: debugger.depth(),
+        stop,
+    }))
+}
+
+/// Runs along decisions, a single candidate taken as if it were forced. An `Err` is want of memory, and then nothing has changed.
+#[tactic(auto, using(crate::proofs::RunLemmas::running))]
+pub fn run_on(
+    alloc: Global,
+    debugger: &mut Debugger<'_>,
+    breaks: &Breaks,
+    max: usize,
+) -> Result<Effect, AllocError>
+    ensures effect { IfOk result (λ effect. effect ≡ (run_on_effect debugger.old.trail breaks.now debugger.old.world max).0) }
+    ensures trail { OnOk result (debugger.new.trail ≡ (run_on_effect debugger.old.trail breaks.now debugger.old.world max).1) }
+    ensures err { OnErr result (debugger.new.trail ≡ debugger.old.trail) }
+{
+    if !is_within(1, STEPS_MAX, max) {
+        return Ok(Effect::Refused(Refusal::BadNumber));
+    }
+    let stop = policy::run_on(alloc, debugger, breaks, max)?;
     Ok(Effect::Changed(Answer::Ran {
         depth: debugger.depth(),
         stop,

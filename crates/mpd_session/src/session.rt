@@ -78,6 +78,7 @@ fn carry_out(
         Command::Step(step) => steps::step(debugger, step),
         Command::Next(choice) => steps::next(alloc, debugger, choice),
         Command::Run(max) => runs::run(alloc, debugger, breaks, max),
+        Command::RunOn(max) => runs::run_on(alloc, debugger, breaks, max),
         Command::Back(count) => Ok(steps::back(debugger, count)),
         Command::Redo(count) => steps::redo(debugger, count),
         Command::Goto(depth) => Ok(steps::goto(debugger, depth)),

@@ -5,7 +5,7 @@ use Rattle.mpd_model.specs.Words.{words}
 use Rattle.mpd_model.specs.Texts.{line}
 use Rattle.mpd_vocabulary.specs.declared.topic.Topic.{Topic}
 use Rattle.mpd_vocabulary.specs.declared.word.WordFault.{WordFault}
-use Rattle.mpd_vocabulary.specs.declared.word.WordFault.TheVariants.{Unknown, Usage, NoName, NoVariable, NoSuchNumber}
+use Rattle.mpd_vocabulary.specs.declared.word.WordFault.TheVariants.{Unknown, Usage, NoName, NoSuchNumber}
 use Rattle.mpd_vocabulary.specs.Topics.{topics, nearest, usage_of, forms_of, purpose_of, details_of}
 
 abbrev pub word_at : List (List ℕ) → ℕ → List ℕ
@@ -30,9 +30,6 @@ missing_line begun name = begun ++ map shown_byte name ++ line (codes "'")
 unfoldable pub no_name_line : List ℕ → List ℕ
 no_name_line name = missing_line (codes "no variable or request is called '") name
 
-unfoldable pub no_variable_line : List ℕ → List ℕ
-no_variable_line name = missing_line (codes "no variable is called '") name
-
 unfoldable pub no_number_line : List ℕ
 no_number_line = line (codes "refused: no such number")
 
@@ -44,7 +41,6 @@ abbrev pub fault_text : List ℕ → WordFault → List ℕ
 fault_text z (Unknown n) = unknown_line (word_at (words z) n)
 fault_text z (Usage t) = usage_line t
 fault_text z (NoName n) = no_name_line (word_at (words z) n)
-fault_text z (NoVariable n) = no_variable_line (word_at (words z) n)
 fault_text z NoSuchNumber = no_number_line
 
 -- ---- help

@@ -1,6 +1,7 @@
 -- What a line of the console asks for (docs/CONSOLE.md, "Words").
 use Rattle.std.specs.Prelude.{ℕ, ◌==◌, Bool, false, bytes_eq, if◌then◌else◌, List, [], ◌∷◌, Option, Some, None, option_map, Result, Ok, Err, codes}
 use Rattle.mpd_model.specs.declared.limits.TheConstants.{STEPS_MAX}
+use Rattle.mpd_model.specs.declared.breakpoint.Break.{Break}
 use Rattle.mpd_model.specs.declared.breakpoint.Break.TheVariants as on
 use Rattle.mpd_model.specs.declared.place.DeclKind.{DeclKind}
 use Rattle.mpd_model.specs.declared.place.DeclKind.TheVariants.{Variable, Handle}
@@ -18,7 +19,7 @@ use Rattle.mpd_vocabulary.specs.declared.topic.Topic.TheVariants as topic
 use Rattle.mpd_vocabulary.specs.declared.word.Word.{Word}
 use Rattle.mpd_vocabulary.specs.declared.word.Word.TheVariants as word
 use Rattle.mpd_vocabulary.specs.declared.word.WordFault.{WordFault}
-use Rattle.mpd_vocabulary.specs.declared.word.WordFault.TheVariants.{Unknown, Usage, NoName, NoVariable, NoSuchNumber}
+use Rattle.mpd_vocabulary.specs.declared.word.WordFault.TheVariants.{Unknown, Usage, NoName, NoSuchNumber}
 use Rattle.mpd_vocabulary.specs.declared.read.Line.{Line}
 use Rattle.mpd_vocabulary.specs.declared.read.Line.TheVariants.{Blank, Comment, Says, Wrong}
 use Rattle.mpd_vocabulary.specs.Topics.{topic_of}
@@ -69,20 +70,20 @@ step_in z = step_by (command_of z)
 
 -- ---- breakpoints
 
-abbrev pub change_by : ℕ → DeclKind → Named → Result Word WordFault
-change_by p Handle n = Err (NoVariable 3)
-change_by p Variable n = if n.cells == 1 then Ok (word.Break (on.Change p n.first)) else Err NoSuchNumber
+abbrev pub break_on : ℕ → DeclKind → ℕ → Break
+break_on p Variable c = on.Change p c
+break_on p Handle h = on.Handle p h
 
 abbrev pub change_of : ℕ → Result Named NameFault → Result Word WordFault
-change_of p (Ok n) = change_by p n.kind n
-change_of p (Err name.Unknown) = Err (NoVariable 3)
+change_of p (Ok n) = if n.cells == 1 then Ok (word.Break (break_on p n.kind n.first)) else Err NoSuchNumber
+change_of p (Err name.Unknown) = Err (NoName 3)
 change_of p (Err name.NoSuchCell) = Err NoSuchNumber
 
 abbrev pub change_at : Option ℕ → Result Named NameFault → Result Word WordFault
 change_at None n = Err (Usage topic.Break)
 change_at (Some p) n = change_of p n
 
--- a rank, and one of its variables
+-- a rank, and one of its variables or requests
 abbrev pub change_in : List Declared → List (List ℕ) → Result Word WordFault
 change_in ds [] = Err (Usage topic.Break)
 change_in ds (a ∷ []) = Err (Usage topic.Break)

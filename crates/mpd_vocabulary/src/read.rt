@@ -171,25 +171,36 @@ fn step_in(line: &[u8]) -> Option<Word>
     }
 }
 
-/// The breakpoint on a cell of a variable.
+/// The breakpoint on a cell of a variable, or on a handle.
+fn break_on(rank: usize, kind: DeclKind, number: usize) -> Break
+    ensures { result ≡ spec.break_on rank kind number }
+{
+    match kind {
+        DeclKind::Variable => Break::Change { rank, cell: number },
+        DeclKind::Handle => Break::Handle {
+            rank,
+            handle: number,
+        },
+    }
+}
+
+/// The breakpoint on what a name stands for, where that is one cell or one handle.
 fn change_of(rank: usize, cell: Result<Named, NameFault>) -> Result<Word, WordFault>
     ensures { result ≡ spec.change_of rank cell }
 {
     match cell {
-        Ok(named) => match named.kind {
-            DeclKind::Handle => Err(WordFault::NoVariable(3)),
-            DeclKind::Variable if named.cells == 1 => Ok(Word::Break(Break::Change {
-                rank,
-                cell: named.first,
-            })),
-            DeclKind::Variable => Err(WordFault::NoSuchNumber),
-        },
-        Err(NameFault::Unknown) => Err(WordFault::NoVariable(3)),
+        Ok(named) => {
+            if named.cells == 1 {
+                return Ok(Word::Break(break_on(rank, named.kind, named.first)));
+            }
+            Err(WordFault::NoSuchNumber)
+        }
+        Err(NameFault::Unknown) => Err(WordFault::NoName(3)),
         Err(NameFault::NoSuchCell) => Err(WordFault::NoSuchNumber),
     }
 }
 
-/// The breakpoint on a variable of a rank, which are two words.
+/// The breakpoint on a variable or a request of a rank, which are two words.
 fn change_in(code: &Code, rest: &[u8]) -> Result<Word, WordFault>
     ensures { result ≡ spec.change_in code.now.program.decls (words rest.now) }
 {

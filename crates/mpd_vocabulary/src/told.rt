@@ -102,14 +102,6 @@ fn push_no_name(out: &mut String, name: &[u8]) -> Result<(), AllocError>
     push_missing(out, "no variable or request is called '", name)
 }
 
-/// Adds what is told of a name that is no variable's.
-#[tactic(auto, unfolding(crate::specs::Faults::no_variable_line))]
-fn push_no_variable(out: &mut String, name: &[u8]) -> Result<(), AllocError>
-    ensures { OnOk result (string_bytes out.new ≡ string_bytes out.old ++ spec.no_variable_line name.now) }
-{
-    push_missing(out, "no variable is called '", name)
-}
-
 /// Adds that there is no such number.
 #[tactic(auto, unfolding(crate::specs::Faults::no_number_line))]
 fn push_no_number(out: &mut String) -> Result<(), AllocError>
@@ -133,7 +125,6 @@ pub fn push_fault(out: &mut String, line: &[u8], fault: WordFault) -> Result<(),
         WordFault::Unknown(number) => push_unknown(out, word_at(line, number)),
         WordFault::Usage(topic) => push_usage(out, topic),
         WordFault::NoName(number) => push_no_name(out, word_at(line, number)),
-        WordFault::NoVariable(number) => push_no_variable(out, word_at(line, number)),
         WordFault::NoSuchNumber => push_no_number(out),
     }
 }

@@ -80,8 +80,6 @@ pub enum WordFault {
     Usage(Topic),
     /// This word of the line is no name of a variable or a request.
     NoName(usize),
-    /// This word of the line is no name of a variable.
-    NoVariable(usize),
     /// An index is none of its array.
     NoSuchNumber,
 }

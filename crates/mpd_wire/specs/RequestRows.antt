@@ -32,6 +32,14 @@ pub row_change : request_in (codes "{\"cmd\":\"break\",\"kind\":\"change\",\"ran
 unfolding is_utf8 chars serde_json_on_literals break_shape shape_of is_own command_in asked json_of
 row_change = refl
 
+pub row_handle : request_in (codes "{\"cmd\":\"break\",\"kind\":\"handle\",\"rank\":2,\"handle\":1}") ≡ plain (command.Break (on.Handle 2 1))
+unfolding is_utf8 chars serde_json_on_literals break_shape shape_of is_own command_in asked json_of
+row_handle = refl
+
+pub row_run_on : request_in (codes "{\"cmd\":\"run-on\",\"max\":9}") ≡ plain (command.RunOn 9)
+unfolding is_utf8 chars serde_json_on_literals break_shape shape_of is_own command_in asked json_of
+row_run_on = refl
+
 pub row_why : request_in (codes "{\"call\":4,\"cmd\":\"why\",\"rank\":2}") ≡ plain (command.Why (call_id 2 4))
 unfolding is_utf8 chars serde_json_on_literals break_shape shape_of is_own command_in asked json_of
 row_why = refl

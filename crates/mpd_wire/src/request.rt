@@ -12,6 +12,8 @@ pub enum Command {
     Next(Option<usize>),
     /// Run along decisions, up to a choice, an end, a breakpoint, or so many steps.
     Run(usize),
+    /// Run so, but take the single candidate of a choice as if it were forced.
+    RunOn(usize),
     /// Take so many steps back.
     Back(usize),
     /// Take so many undone steps again.
@@ -60,6 +62,7 @@ pub(crate) enum Shape {
     Step,
     Next,
     Run,
+    RunOn,
     Back,
     Redo,
     Goto,
@@ -72,6 +75,7 @@ pub(crate) enum Shape {
     BreakLine,
     BreakMatch,
     BreakChange,
+    BreakHandle,
     Unbreak,
     Breaks,
     Explore,

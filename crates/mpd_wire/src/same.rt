@@ -31,6 +31,7 @@ fn same_command(one: Command, other: Command) -> bool
         Command::Step(step) => matches!(other, Command::Step(also) if also == step),
         Command::Next(choice) => matches!(other, Command::Next(also) if also == choice),
         Command::Run(max) => matches!(other, Command::Run(also) if also == max),
+        Command::RunOn(max) => matches!(other, Command::RunOn(also) if also == max),
         Command::Back(count) => matches!(other, Command::Back(also) if also == count),
         Command::Redo(count) => matches!(other, Command::Redo(also) if also == count),
         Command::Goto(depth) => matches!(other, Command::Goto(also) if also == depth),

@@ -4,4 +4,4 @@ use Rattle.mpd_policy.proofs.RunLemmas.{Going}
 use Rattle.mpd_policy.proofs.run.go.Given as goal
 
 abbrev pub invariant-loop-made : goal.invariant-loop-made
-invariant-loop-made l = Going l.breaks l.max (standing_of l.fn.debugger) (standing_of l.debugger) l.made × IsReached (standing_of l.debugger)
+invariant-loop-made l = Going l.taking l.breaks l.max (standing_of l.fn.debugger) (standing_of l.debugger) l.made × IsReached (standing_of l.debugger)
