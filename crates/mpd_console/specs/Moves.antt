@@ -23,9 +23,10 @@ use Rattle.mpd_wire.specs.declared.reply.Refusal.{Refusal}
 use Rattle.mpd_wire.specs.declared.reply.Refusal.TheVariants as refusal
 use Rattle.mpd_wire.specs.declared.reply.Reply.{Reply}
 use Rattle.mpd_wire.specs.declared.reply.Reply.TheVariants as reply
+use Rattle.mpd_policy.specs.Single.{single, only_step}
 use Rattle.mpd_names.specs.Called.{break_text}
 use Rattle.mpd_view.specs.Steps.{step_words}
-use Rattle.mpd_view.specs.Standing.{sole, standing_text}
+use Rattle.mpd_view.specs.Standing.{standing_text}
 use Rattle.mpd_console.specs.declared.moves.TheConstants.{NO_CANDIDATE}
 use Rattle.mpd_console.specs.declared.moves.Doing.{Doing}
 use Rattle.mpd_console.specs.declared.moves.Doing.TheVariants.{Asks, Undoes, Seeks, Follows, Looks}
@@ -40,15 +41,6 @@ use Rattle.mpd_vocabulary.specs.declared.word.Word.TheVariants as word
 abbrev pub from_one : ℕ → ℕ
 from_one n = if n == 0 then NO_CANDIDATE else n - 1
 
--- the step that comes next: a forced one, or the single candidate of a choice
-abbrev pub single : Decision → Option Step
-single (Forced a) = Some a
-single (Choice steps) = sole steps
-single (Leaf o) = None
-
-abbrev pub only_step : World → Option Step
-only_step w = single (decision w)
-
 -- whether `next` asks for the step that comes next: where there is one, a number asks for so many
 abbrev pub asks_next : World → Word → Bool
 asks_next w (word.Next None) = true
@@ -58,7 +50,7 @@ asks_next w other = false
 -- a step that comes next is taken as the first candidate is, which is looked at where it is a candidate alone
 abbrev pub next_command : World → Option ℕ → Command
 next_command w None = if is_some (only_step w) then command.Next (Some 0) else command.Next None
-next_command w (Some n) = if is_some (only_step w) then command.Run n else command.Next (Some (from_one n))
+next_command w (Some n) = if is_some (only_step w) then command.RunOn n else command.Next (Some (from_one n))
 
 -- how many steps are undone
 abbrev pub ahead_of : Trail → ℕ
@@ -74,7 +66,7 @@ goes_along t w = is_alone (slice_get t.steps t.depth) (only_step w)
 
 -- `run` goes along: at a choice it takes the step that lies ahead
 abbrev pub run_command : Trail → World → ℕ → Command
-run_command t w n = if nat_lt 0 n && goes_along t w then command.Redo 1 else command.Run n
+run_command t w n = if nat_lt 0 n && goes_along t w then command.Redo 1 else command.RunOn n
 
 -- `redo` takes no more steps than lie ahead, where one does
 abbrev pub redo_command : Trail → ℕ → Command

@@ -2,6 +2,7 @@
 
 ghost use Rattle.std.specs.Prelude.{◌≡◌, ◌++◌, IfOk, OnOk, None, Some, slice_get, string_bytes};
 ghost use Rattle.mpd_model.specs.Decisions.{decision};
+ghost use Rattle.mpd_policy.specs.Single.{single};
 ghost use Rattle.mpd_names.specs.Called.{break_text};
 ghost use Rattle.mpd_view.specs.Steps.{step_words};
 ghost use Rattle.mpd_view.specs.Standing.{standing_text};
@@ -14,7 +15,7 @@ use mpd_model::place::Decl;
 use mpd_model::step::Step;
 use mpd_names::text::push_break;
 use mpd_policy::breaks::Breaks;
-use mpd_policy::decide::decide;
+use mpd_policy::decide::{decide, only_step};
 use mpd_search::seek::push_count;
 use mpd_search::way::Way;
 use mpd_trail::debugger::Debugger;
@@ -70,21 +71,13 @@ fn is_alone(one: Option<Step>, other: Option<Step>) -> bool
 
 /// The step that comes next by a decision: a forced one, or the single candidate of a choice.
 fn single(decision: &Decision) -> Option<Step>
-    ensures { result ≡ spec.single decision.now }
+    ensures { result ≡ single decision.now }
 {
     match decision {
         Decision::Forced(step) => Some(*step),
         Decision::Choice(steps) => sole(&steps.items),
         Decision::Leaf(_) => None,
     }
-}
-
-/// The step that comes next.
-fn only_step(alloc: Global, core: &Core<'_>) -> Result<Option<Step>, AllocError>
-    ensures { IfOk result (λ step. step ≡ spec.only_step core.now.world) }
-{
-    let decision = decide(alloc, core)?;
-    Ok(single(&decision))
 }
 
 /// Whether a run would stop here at a choice though the step that is taken there lies ahead.
@@ -108,7 +101,7 @@ fn next_command(
     match number {
         None if comes => Ok(Command::Next(Some(0))),
         None => Ok(Command::Next(None)),
-        Some(number) if comes => Ok(Command::Run(number)),
+        Some(number) if comes => Ok(Command::RunOn(number)),
         Some(number) => Ok(Command::Next(Some(from_one(number)))),
     }
 }
@@ -118,12 +111,12 @@ fn run_command(alloc: Global, debugger: &Debugger<'_>, max: usize) -> Result<Com
     ensures { IfOk result (λ c. c ≡ spec.run_command debugger.now.trail debugger.now.world max) }
 {
     if max == 0 {
-        return Ok(Command::Run(0));
+        return Ok(Command::RunOn(0));
     }
     if goes_along(alloc, debugger)? {
         return Ok(Command::Redo(1));
     }
-    Ok(Command::Run(max))
+    Ok(Command::RunOn(max))
 }
 
 /// What `redo` asks for: no more steps than lie ahead, where one does.

@@ -1,7 +1,7 @@
 -- A list of one.
 use Rattle.std.proofs.Common.{◌≡◌, ◌≢◌, ℕ, Option, None, List, [], ◌∷◌, length, refl}
 use Rattle.mpd_model.specs.declared.step.Step.{Step}
-use Rattle.mpd_view.specs.Standing.{sole}
+use Rattle.mpd_policy.specs.Single.{sole}
 
 pub sole_none : (xs : List Step) → length xs ≢ 1 → None ≡ sole xs
 sole_none [] e = refl

@@ -15,6 +15,7 @@ use Rattle.mpd_model.specs.Texts.{line, outcome_text}
 use Rattle.mpd_model.specs.Trail.{Trail}
 use Rattle.mpd_explore.specs.declared.report.Ending.TheVariants.{Ended}
 use Rattle.mpd_explain.specs.Explained.{told}
+use Rattle.mpd_policy.specs.Single.{sole}
 use Rattle.mpd_names.specs.Sources.{source}
 use Rattle.mpd_view.specs.Lost.{lost_lines}
 use Rattle.mpd_view.specs.Steps.{issued, line_of, call_line_of, step_words}
@@ -102,12 +103,6 @@ next_line s w a = line (codes "next: " ++ step_words s w a)
 abbrev pub next_text : List ℕ → Program → World → Step → Option Step → List ℕ
 next_text text s w a None = next_line s w a ++ step_source text s w a
 next_text text s w a (Some b) = []
-
--- the step of a list of one
-abbrev pub sole : List Step → Option Step
-sole [] = None
-sole (a ∷ []) = Some a
-sole (a ∷ b ∷ steps) = None
 
 -- a single candidate comes next as a forced step does
 abbrev pub chosen_by : List ℕ → Program → World → Option Step → List Step → Option Step → List ℕ

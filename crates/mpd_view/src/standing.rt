@@ -3,6 +3,7 @@
 ghost use Rattle.std.specs.Prelude.{◌≡◌, ◌++◌, ◌<◌, ◌+◌, OnOk, length, string_bytes};
 ghost use Rattle.std.specs.List.{list_all};
 ghost use Rattle.mpd_model.specs.Decisions.{decision};
+ghost use Rattle.mpd_policy.specs.Single.{sole};
 ghost use Rattle.mpd_view.specs.Standing as standing;
 
 use crate::lost::push_all_lost;
@@ -250,7 +251,7 @@ fn push_next(
 /// The step of a list of one.
 #[tactic(auto, using(crate::proofs::StandingLemmas::alone))]
 pub fn sole(steps: &[Step]) -> Option<Step>
-    ensures { result ≡ standing.sole steps.now }
+    ensures { result ≡ sole steps.now }
 {
     if steps.len() == 1 {
         return Some(steps[0]);
