@@ -55,12 +55,12 @@ script_text s w text rank = of_ranks w rank (about_text s w text) (list_text s w
 abbrev pub print_text : Program → World → Named → Option ℕ → List ℕ
 print_text s w n rank = of_ranks w rank (λ p. named_line s w p n) (flat_map (λ p. named_line s w p n) (rank_numbers w.board))
 
--- what a rank holds and has printed, and its requests that are lost
-abbrev pub rank_text : Program → World → ℕ → List ℕ
-rank_text s w p = variables_text s w p ++ lost_text s w p
+-- what a rank holds, and its requests that are lost
+abbrev pub vars_of : Program → World → ℕ → List ℕ
+vars_of s w p = variables_text s w p ++ lost_text s w p
 
 abbrev pub vars_text : Program → World → Option ℕ → List ℕ
-vars_text s w rank = of_ranks w rank (rank_text s w) (flat_map (rank_text s w) (rank_numbers w.board))
+vars_text s w rank = of_ranks w rank (vars_of s w) (flat_map (vars_of s w) (rank_numbers w.board))
 
 abbrev pub calls_text : Program → World → Option ℕ → List ℕ
 calls_text s w rank = of_ranks w rank (λ p. shown.calls_text s w.board (Some p)) (shown.calls_text s w.board None)

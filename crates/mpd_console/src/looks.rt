@@ -118,8 +118,8 @@ fn push_print(
 }
 
 /// Adds the variables and requests of a rank, what it has printed, and its requests that are lost.
-fn push_rank_text(core: &Core<'_>, out: &mut String, rank: usize) -> Result<(), AllocError>
-    ensures { OnOk result (string_bytes out.new ≡ string_bytes out.old ++ spec.rank_text core.now.program core.now.world rank) }
+fn push_vars_of(core: &Core<'_>, out: &mut String, rank: usize) -> Result<(), AllocError>
+    ensures { OnOk result (string_bytes out.new ≡ string_bytes out.old ++ spec.vars_of core.now.program core.now.world rank) }
 {
     push_variables(core, out, rank)?;
     push_lost(core, out, rank)
@@ -127,11 +127,11 @@ fn push_rank_text(core: &Core<'_>, out: &mut String, rank: usize) -> Result<(), 
 
 /// Adds that of all ranks.
 fn push_all_variables(core: &Core<'_>, out: &mut String) -> Result<(), AllocError>
-    ensures { OnOk result (string_bytes out.new ≡ string_bytes out.old ++ flat_map (spec.rank_text core.now.program core.now.world) (rank_numbers core.now.world.board)) }
+    ensures { OnOk result (string_bytes out.new ≡ string_bytes out.old ++ flat_map (spec.vars_of core.now.program core.now.world) (rank_numbers core.now.world.board)) }
 {
     let count = core.rank_count();
     for rank in 0..count {
-        push_rank_text(core, out, rank)?;
+        push_vars_of(core, out, rank)?;
     }
     Ok(())
 }
@@ -143,7 +143,7 @@ fn push_vars(core: &Core<'_>, out: &mut String, rank: Option<usize>) -> Result<(
     match rank {
         None => push_all_variables(core, out),
         Some(rank) if rank >= core.rank_count() => out.push_str(NO_SUCH_NUMBER),
-        Some(rank) => push_rank_text(core, out, rank),
+        Some(rank) => push_vars_of(core, out, rank),
     }
 }
 

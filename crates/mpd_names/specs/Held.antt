@@ -1,13 +1,12 @@
 -- What a rank holds, by names.
-use Rattle.std.specs.Prelude.{ℕ, ℤ, ◌+◌, nat_lt, if◌then◌else◌, List, [], ◌∷◌, ◌++◌, length, take, drop, slice_get, Option, Some, None, codes}
+use Rattle.std.specs.Prelude.{ℕ, ℤ, ◌+◌, nat_lt, if◌then◌else◌, List, [], ◌∷◌, ◌++◌, length, map, take, drop, slice_get, Option, Some, None, codes}
 use Rattle.std.specs.Fmt.{decimal, signed_decimal}
-use Rattle.std.specs.List.{flat_map, range_with_len}
 use Rattle.mpd_model.specs.declared.place.DeclKind.{DeclKind}
 use Rattle.mpd_model.specs.declared.place.DeclKind.TheVariants.{Variable, Handle}
 use Rattle.mpd_model.specs.Declaration.{Declared}
 use Rattle.mpd_model.specs.Program.{Program}
 use Rattle.mpd_model.specs.World.{RankWorld, World, Board, call_id}
-use Rattle.mpd_model.specs.Texts.{line, spaced}
+use Rattle.mpd_model.specs.Texts.{line, spaced, id_text}
 use Rattle.mpd_explain.specs.Explained.{placed}
 use Rattle.mpd_names.specs.declared.name.Named.{Named}
 use Rattle.mpd_names.specs.Cells.{whole}
@@ -18,7 +17,7 @@ abbrev pub begun : List ℕ → List (List ℕ) → List ℕ
 begun before [] = []
 begun before (t ∷ ts) = before ++ t ++ begun (codes ", ") ts
 
--- cells, each with what it holds, from the cell of number c on
+-- cells, or declarations, each with what is told of it and of its number, from number c on
 abbrev pub assigned : {A : Type 0} → (ℕ → A → List ℕ) → ℕ → List A → List (List ℕ)
 assigned text c [] = []
 assigned text c (x ∷ xs) = text c x ∷ assigned text (c + 1) xs
@@ -72,14 +71,6 @@ held_line s w p n = line (codes "rank " ++ decimal p ++ codes ": " ++ cells_at s
 abbrev pub named_line : Program → World → ℕ → Named → List ℕ
 named_line s w p n = if nat_lt p (length w.ranks) then held_line s w p n else []
 
--- that of a declaration
-abbrev pub declared_by : Program → World → ℕ → ℕ → Option Declared → List ℕ
-declared_by s w p i None = []
-declared_by s w p i (Some d) = named_line s w p (whole s.decls i d)
-
-abbrev pub declared_line : Program → World → ℕ → ℕ → List ℕ
-declared_line s w p i = declared_by s w p i (slice_get s.decls i)
-
 -- `rank 0 has printed 5 7`
 abbrev pub printed_text : ℕ → List ℤ → List ℕ
 printed_text p values = line (codes "rank " ++ decimal p ++ codes " has printed" ++ spaced signed_decimal values)
@@ -93,6 +84,51 @@ abbrev pub printed_line : ℕ → Option RankWorld → List ℕ
 printed_line p None = []
 printed_line p (Some r) = printed_by p r.out
 
--- All that a rank holds, in the order of the declarations, and what it has printed.
+-- ---- all that a rank holds, in short
+
+-- the call that a handle has
+abbrev pub short_request : ℕ → Option ℕ → List ℕ
+short_request p None = codes "-"
+short_request p (Some i) = id_text (call_id p i)
+
+-- what is told behind the first 16 of so many cells
+abbrev pub more_cells : ℕ → List ℕ
+more_cells count = if nat_lt 16 count then codes ", .." else []
+
+-- `5`, or of an array `[1, 2]`
+abbrev pub short_cells : {A : Type 0} → (A → List ℕ) → Option ℕ → List A → List ℕ
+short_cells text None xs = begun [] (map text xs)
+short_cells text (Some size) xs = codes "[" ++ begun [] (map text (take 16 xs)) ++ more_cells (length xs) ++ codes "]"
+
+abbrev pub short_held : ℕ → Named → Option ℕ → RankWorld → DeclKind → List ℕ
+short_held p n size r Variable = short_cells signed_decimal size (own n r.vars)
+short_held p n size r Handle = short_cells (short_request p) size (own n r.handles)
+
+abbrev pub short_at : ℕ → Named → Option ℕ → Option RankWorld → List ℕ
+short_at p n size None = []
+short_at p n size (Some r) = short_held p n size r n.kind
+
+-- `a = [1, 2]`, of the declaration of number i
+abbrev pub short_text : Program → World → ℕ → ℕ → Declared → List ℕ
+short_text s w p i d = d.name ++ codes " = " ++ short_at p (whole s.decls i d) d.size (slice_get w.ranks p)
+
+-- those of all declarations
+abbrev pub short_texts : Program → World → ℕ → List (List ℕ)
+short_texts s w p = assigned (short_text s w p) 0 s.decls
+
+-- `: x = 5, a = [1, 2]`
+abbrev pub names_or_none : List (List ℕ) → List ℕ
+names_or_none [] = codes " has no variable"
+names_or_none (t ∷ ts) = begun (codes ": ") (t ∷ ts)
+
+-- `rank 0: x = 5, a = [1, 2]`
+abbrev pub short_line : Program → World → ℕ → List ℕ
+short_line s w p = line (codes "rank " ++ decimal p ++ names_or_none (short_texts s w p))
+
+-- that, and nothing of a rank that isn't there
+abbrev pub names_line : Program → World → ℕ → List ℕ
+names_line s w p = if nat_lt p (length w.ranks) then short_line s w p else []
+
+-- All that a rank holds, and what it has printed.
 abbrev pub variables_text : Program → World → ℕ → List ℕ
-variables_text s w p = flat_map (declared_line s w p) (range_with_len 0 (length s.decls)) ++ printed_line p (slice_get w.ranks p)
+variables_text s w p = names_line s w p ++ printed_line p (slice_get w.ranks p)

@@ -1,6 +1,6 @@
 -- Worked rows of what ranks hold, and of a list. What is wanted was worked out by hand.
 use Rattle.std.specs.Prelude.{◌≡◌, ℕ, ℤ, pos, Bool, true, false, map, List, [], ◌∷◌, ◌++◌, Option, Some, None, codes, refl}
-use Rattle.std.specs.Fmt.{digits}
+use Rattle.std.specs.Fmt.{digits, signed_decimal}
 use Rattle.std.specs.List.{flat_map}
 use Rattle.mpd_model.specs.declared.call.Activity.{Activity}
 use Rattle.mpd_model.specs.declared.call.Activity.TheVariants.{Running, Blocked, Trapped}
@@ -14,7 +14,7 @@ use Rattle.mpd_model.specs.Program.{Program}
 use Rattle.mpd_model.specs.World.{RankWorld, World}
 use Rattle.mpd_model.specs.Texts.{line}
 use Rattle.mpd_names.specs.NameRows.{five}
-use Rattle.mpd_names.specs.Held.{variables_text}
+use Rattle.mpd_names.specs.Held.{short_request, short_cells, variables_text}
 use Rattle.mpd_names.specs.Listed.{is_shown, list_text, about_text}
 use Rattle.mpd_names.specs.Sources.{source}
 
@@ -43,11 +43,26 @@ here = record {
 }
 
 pub row_variables : map {B = List ℕ} (variables_text script here) (0 ∷ 2 ∷ 4 ∷ [])
-    ≡ flat_map line (codes "rank 0: x = 5" ∷ codes "rank 0: r = line 2, 0.0 irecv from any tag 7" ∷ codes "rank 0: a[0] = 1, a[1] = 2" ∷ codes "rank 0: q has no cell" ∷ codes "rank 0: b has no cell" ∷ codes "rank 0 has printed 5 7" ∷ [])
-    ∷ flat_map line (codes "rank 2: x = 0" ∷ codes "rank 2: r = no request" ∷ codes "rank 2: a[0] = 0, a[1] = 0" ∷ codes "rank 2: q has no cell" ∷ codes "rank 2: b has no cell" ∷ [])
-    ∷ [] ∷ []
+    ≡ flat_map line (codes "rank 0: x = 5, r = 0.0, a = [1, 2], q = [], b = []" ∷ codes "rank 0 has printed 5 7" ∷ [])
+    ∷ line (codes "rank 2: x = 0, r = -, a = [0, 0], q = [], b = []") ∷ [] ∷ []
 unfolding digits
 row_variables = refl
+
+pub row_nothing : variables_text (record script { decls = [] }) here 0 ≡ flat_map line (codes "rank 0 has no variable" ∷ codes "rank 0 has printed 5 7" ∷ [])
+unfolding digits
+row_nothing = refl
+
+abbrev sixteen : List ℤ
+sixteen = pos 1 ∷ pos 2 ∷ pos 3 ∷ pos 4 ∷ pos 5 ∷ pos 6 ∷ pos 7 ∷ pos 8 ∷ pos 9 ∷ pos 10 ∷ pos 11 ∷ pos 12 ∷ pos 13 ∷ pos 14 ∷ pos 15 ∷ pos 16 ∷ []
+
+pub row_short : map {B = List ℕ} (short_cells signed_decimal (Some 17)) (sixteen ∷ (sixteen ++ pos 17 ∷ []) ∷ [])
+    ≡ codes "[1, 2, 3, 4, 5, 6, 7, 8, 9, 10, 11, 12, 13, 14, 15, 16]" ∷ codes "[1, 2, 3, 4, 5, 6, 7, 8, 9, 10, 11, 12, 13, 14, 15, 16, ..]" ∷ []
+unfolding digits
+row_short = refl
+
+pub row_requests : short_cells (short_request 0) (Some 2) (Some 1 ∷ None ∷ []) ≡ codes "[0.1, -]"
+unfolding digits
+row_requests = refl
 
 -- a line with a carriage return, and a line feed at the end
 abbrev text : List ℕ

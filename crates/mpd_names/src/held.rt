@@ -1,8 +1,7 @@
 //! What a rank holds, by names.
 
-ghost use Rattle.std.specs.Prelude.{◌≡◌, ◌++◌, ◌<◌, ◌+◌, ◌^◌, [], OnOk, codes, length, slice_get, string_bytes};
+ghost use Rattle.std.specs.Prelude.{◌≡◌, ◌++◌, ◌<◌, ◌+◌, ◌^◌, [], OnOk, Some, codes, length, map, slice_get, string_bytes, take};
 ghost use Rattle.std.specs.Fmt.{decimal, signed_decimal};
-ghost use Rattle.std.specs.List.{flat_map, range_with_len};
 ghost use Rattle.mpd_model.specs.Texts.{spaced};
 ghost use Rattle.mpd_names.specs.Held as held;
 
@@ -14,6 +13,9 @@ use mpd_explain::told::push_placed;
 use mpd_model::place::{Decl, DeclKind};
 use mpd_model::step::CallId;
 use std::alloc::AllocError;
+
+/// How many cells of an array are told in short.
+const SHORT_CELLS: usize = 16;
 
 /// What is meant of all cells of a kind.
 fn own<T>(all: &[T], named: Named) -> &[T]
@@ -227,33 +229,6 @@ pub fn push_named(
     push_held(core, out, rank, named)
 }
 
-/// Adds that line for the declaration of a number.
-fn push_declared(
-    core: &Core<'_>,
-    out: &mut String,
-    rank: usize,
-    number: usize,
-) -> Result<(), AllocError>
-    ensures { OnOk result (string_bytes out.new ≡ string_bytes out.old ++ held.declared_line core.now.program core.now.world rank number) }
-{
-    let code = core.code();
-    match code.decls().get(number) {
-        None => Ok(()),
-        Some(decl) => push_named(core, out, rank, whole(code, number, decl)),
-    }
-}
-
-/// Adds that line for each declaration.
-fn push_all_declared(core: &Core<'_>, out: &mut String, rank: usize) -> Result<(), AllocError>
-    ensures { OnOk result (string_bytes out.new ≡ string_bytes out.old ++ flat_map (held.declared_line core.now.program core.now.world rank) (range_with_len 0 (length core.now.program.decls))) }
-{
-    let count = core.code().decls().len();
-    for number in 0..count {
-        push_declared(core, out, rank, number)?;
-    }
-    Ok(())
-}
-
 /// Adds values, each with a space before it.
 fn push_spaced(out: &mut String, values: &[i64]) -> Result<(), AllocError>
     ensures { OnOk result (string_bytes out.new ≡ string_bytes out.old ++ spaced signed_decimal values.now) }
@@ -296,10 +271,185 @@ fn push_printed(core: &Core<'_>, out: &mut String, rank: usize) -> Result<(), Al
     push_output(out, rank, core.rank(rank).output())
 }
 
-/// Adds all that a rank holds, a line for each declaration, and what it has printed.
+/// The first cells of an array, as many as are told in short.
+fn short<T>(cells: &[T]) -> &[T]
+    ensures { result.now ≡ take 16 cells.now }
+{
+    let (short, _) = cells.split_at(SHORT_CELLS.min(cells.len()));
+    short
+}
+
+/// What is told behind these, of so many cells.
+fn more_cells(count: usize) -> &'static str
+    ensures { result.now ≡ held.more_cells count }
+{
+    if SHORT_CELLS < count { ", .." } else { "" }
+}
+
+/// Adds values, with a comma between two.
+fn push_short_values(out: &mut String, values: &[i64]) -> Result<(), AllocError>
+    ensures { OnOk result (string_bytes out.new ≡ string_bytes out.old ++ held.begun [] (map signed_decimal values.now)) }
+{
+    let mut before = "";
+    for value in values {
+        write!(out, "{before}{value}")?;
+        before = ", ";
+    }
+    Ok(())
+}
+
+/// Adds the values of a declaration.
+fn push_value_cells(out: &mut String, size: Option<usize>, values: &[i64]) -> Result<(), AllocError>
+    ensures { OnOk result (string_bytes out.new ≡ string_bytes out.old ++ held.short_cells signed_decimal size values.now) }
+{
+    if size.is_none() {
+        return push_short_values(out, values);
+    }
+    out.push_str("[")?;
+    push_short_values(out, short(values))?;
+    let more = more_cells(values.len());
+    write!(out, "{more}]")
+}
+
+/// Adds the call that a handle has, behind this.
+fn push_short_request(
+    out: &mut String,
+    before: &str,
+    rank: usize,
+    handle: Option<usize>,
+) -> Result<(), AllocError>
+    ensures { OnOk result (string_bytes out.new ≡ string_bytes out.old ++ (before.now ++ held.short_request rank handle)) }
+{
+    let Some(index) = handle else {
+        return write!(out, "{before}-");
+    };
+    let call = CallId { rank, index };
+    write!(out, "{before}{call}")
+}
+
+/// Adds the calls that handles have, with a comma between two.
+fn push_short_requests(
+    out: &mut String,
+    rank: usize,
+    handles: &[Option<usize>],
+) -> Result<(), AllocError>
+    ensures { OnOk result (string_bytes out.new ≡ string_bytes out.old ++ held.begun [] (map (held.short_request rank) handles.now)) }
+{
+    let mut before = "";
+    for handle in handles {
+        push_short_request(out, before, rank, *handle)?;
+        before = ", ";
+    }
+    Ok(())
+}
+
+/// Adds the calls that the handles of a declaration have.
+fn push_handle_cells(
+    out: &mut String,
+    rank: usize,
+    size: Option<usize>,
+    handles: &[Option<usize>],
+) -> Result<(), AllocError>
+    ensures { OnOk result (string_bytes out.new ≡ string_bytes out.old ++ held.short_cells (held.short_request rank) size handles.now) }
+{
+    if size.is_none() {
+        return push_short_requests(out, rank, handles);
+    }
+    out.push_str("[")?;
+    push_short_requests(out, rank, short(handles))?;
+    let more = more_cells(handles.len());
+    write!(out, "{more}]")
+}
+
+/// Adds what a rank holds in the cells of a declaration.
+fn push_short_held(
+    core: &Core<'_>,
+    out: &mut String,
+    rank: usize,
+    named: Named,
+    size: Option<usize>,
+) -> Result<(), AllocError>
+    requires { rank < length core.now.world.ranks }
+    ensures { OnOk result (string_bytes out.new ≡ string_bytes out.old ++ held.short_at rank named size (slice_get core.now.world.ranks rank)) }
+{
+    let state = core.rank(rank);
+    match named.kind {
+        DeclKind::Variable => push_value_cells(out, size, own(state.variables(), named)),
+        DeclKind::Handle => push_handle_cells(out, rank, size, own(state.handles(), named)),
+    }
+}
+
+/// Adds the name of a declaration, whose number this is, with what a rank holds in it, behind this.
+fn push_short_text(
+    core: &Core<'_>,
+    out: &mut String,
+    before: &str,
+    rank: usize,
+    number: usize,
+    decl: &Decl,
+) -> Result<(), AllocError>
+    requires rank { rank < length core.now.world.ranks }
+    requires there { slice_get core.now.program.decls number ≡ Some decl.now }
+    ensures { OnOk result (string_bytes out.new ≡ string_bytes out.old ++ (before.now ++ held.short_text core.now.program core.now.world rank number decl.now)) }
+{
+    out.push_str(before)?;
+    out.push_str(&decl.name)?;
+    out.push_str(" = ")?;
+    push_short_held(core, out, rank, whole(core.code(), number, decl), decl.size)
+}
+
+/// Adds all names, with what a rank holds.
+fn push_short_texts(core: &Core<'_>, out: &mut String, rank: usize) -> Result<(), AllocError>
+    requires { rank < length core.now.world.ranks }
+    ensures { OnOk result (string_bytes out.new ≡ string_bytes out.old ++ held.begun (codes ": ") (held.short_texts core.now.program core.now.world rank)) }
+{
+    let decls = core.code().decls();
+    let mut before = ": ";
+    let mut number = 0;
+    for decl in decls {
+        push_short_text(core, out, before, rank, number, decl)?;
+        before = ", ";
+        number += 1;
+    }
+    Ok(())
+}
+
+/// Adds that, or that there is no name.
+#[tactic(auto, using(crate::proofs::HeldLemmas::naming))]
+fn push_names_or_none(core: &Core<'_>, out: &mut String, rank: usize) -> Result<(), AllocError>
+    requires { rank < length core.now.world.ranks }
+    ensures { OnOk result (string_bytes out.new ≡ string_bytes out.old ++ held.names_or_none (held.short_texts core.now.program core.now.world rank)) }
+{
+    if core.code().decls().is_empty() {
+        return out.push_str(" has no variable");
+    }
+    push_short_texts(core, out, rank)
+}
+
+/// Adds the line of all that a rank holds.
+fn push_short_line(core: &Core<'_>, out: &mut String, rank: usize) -> Result<(), AllocError>
+    requires { rank < length core.now.world.ranks }
+    ensures { OnOk result (string_bytes out.new ≡ string_bytes out.old ++ held.short_line core.now.program core.now.world rank) }
+{
+    write!(out, "rank {rank}")?;
+    push_names_or_none(core, out, rank)?;
+    out.push('\n')
+}
+
+/// Adds that line, and nothing where there is no such rank.
+fn push_names(core: &Core<'_>, out: &mut String, rank: usize) -> Result<(), AllocError>
+    ensures { OnOk result (string_bytes out.new ≡ string_bytes out.old ++ held.names_line core.now.program core.now.world rank) }
+{
+    if rank >= core.rank_count() {
+        return Ok(());
+    }
+    push_short_line(core, out, rank)
+}
+
+/// Adds all that a rank holds, in a line, and what it has printed.
 pub fn push_variables(core: &Core<'_>, out: &mut String, rank: usize) -> Result<(), AllocError>
     ensures { OnOk result (string_bytes out.new ≡ string_bytes out.old ++ held.variables_text core.now.program core.now.world rank) }
 {
-    push_all_declared(core, out, rank)?;
+    push_names(core, out, rank)?;
     push_printed(core, out, rank)
 }
