@@ -1,2 +1,3 @@
 pub mod JoinLemmas
+pub mod MoveLemmas
 pub mod SaidLemmas

@@ -20,6 +20,7 @@ use Rattle.mpd_vocabulary.specs.declared.word.Word.{Word}
 use Rattle.mpd_vocabulary.specs.declared.word.WordFault.{WordFault}
 use Rattle.mpd_vocabulary.specs.declared.read.Line.{Line}
 use Rattle.mpd_vocabulary.specs.declared.read.Line.TheVariants.{Blank, Comment, Says, Wrong}
+use Rattle.mpd_fold.specs.Folding.{folded}
 use Rattle.mpd_console.specs.Moves.{doing_of, lead_text, reply_text}
 use Rattle.mpd_console.specs.Looks.{look_text}
 use Rattle.mpd_vocabulary.specs.Reading.{line_of}
@@ -28,7 +29,7 @@ use Rattle.mpd_search.specs.declared.way.Way.{Way}
 use Rattle.mpd_search.specs.Runs.{none_line}
 use Rattle.mpd_search.specs.Seek.{found_run, numbered_run, nothing_line, LiesAhead, ahead_line, not_followed_line}
 use Rattle.mpd_search.specs.Choices.{last_choice, no_choice_line}
-use Rattle.mpd_console.specs.Says.{memory_line, unprinted_line, too_long_line, at_world, prompt, lead_said, reply_said, look_said, laid_said, not_found_said, refused_said, none_said, prompts_behind, fault_said, Told, Looked, asking, Carried, UndoneBy, LaidBy, found_from, numbered_from, SoughtBy, FollowedBy, doing_at, doing_in, AnsweredBy, Answered, Console, WordSays, RepeatSays, LineSays, SaysBy, ConsoleSays, Adds, OrElse}
+use Rattle.mpd_console.specs.Says.{memory_line, unprinted_line, too_long_line, at_world, prompt, said, lead_said, reply_said, laid_out, look_said, laid_said, not_found_said, none_said, prompts_behind, fault_said, Told, Looked, asking, Carried, UndoneBy, LaidBy, found_from, numbered_from, SoughtBy, FollowedBy, doing_at, doing_in, AnsweredBy, Answered, Console, WordSays, RepeatSays, LineSays, SaysBy, ConsoleSays, Adds, OrElse}
 
 -- ---- texts on the world of a trail
 
@@ -39,27 +40,41 @@ world_at s d r e = ap world_of (sym e) ∙ r.world
 told_at : (tell : Trail → World → List ℕ) (s : Held) (d : DebuggerView) → IsReached (standing_of d) → d.trail ≡ s.trail → tell d.trail d.world ≡ at_world (tell s.trail) (world_of s.trail)
 told_at tell s d r e = ap (λ t. tell t d.world) e ∙ sym (ap (at_world (tell s.trail)) (world_at s d r e))
 
-pub replied : (p : Bool) (s : Held) (d : DebuggerView) (places : List (Option Break)) (x : Word) (lead begun one text : List ℕ) (r : Reply) → IsReached (standing_of d) → d.trail ≡ s.trail → places ≡ s.breaks
-    → begun ≡ [] → one ≡ begun ++ reply_text d.trail d.world places x lead r → text ≡ one ++ prompt p s → text ≡ reply_said p s x lead r
-replied p s d places x lead begun one text r reached e pl b h k =
-    let u : one ≡ reply_text d.trail d.world s.breaks x lead r = h ∙ ap (λ z. z ++ reply_text d.trail d.world places x lead r) b ∙ ap (λ z. reply_text d.trail d.world z x lead r) pl in
-    k ∙ ap (λ z. z ++ prompt p s) (u ∙ told_at (λ t w. reply_text t w s.breaks x lead r) s d reached e)
+pub replied : (p : Bool) (script : List ℕ) (s : Held) (d : DebuggerView) (places : List (Option Break)) (x : Word) (lead begun one lent text : List ℕ) (r : Reply) → IsReached (standing_of d) → d.trail ≡ s.trail → places ≡ s.breaks
+    → begun ≡ [] → one ≡ begun ++ reply_text script d.trail d.world places x lead r → lent ≡ one → text ≡ said p s lent → text ≡ reply_said p script s x lead r
+replied p script s d places x lead begun one lent text r reached e pl b h l k =
+    let u : one ≡ reply_text script d.trail d.world s.breaks x lead r = h ∙ ap (λ z. z ++ reply_text script d.trail d.world places x lead r) b ∙ ap (λ z. reply_text script d.trail d.world z x lead r) pl in
+    k ∙ ap (said p s) (l ∙ u ∙ told_at (λ t w. reply_text script t w s.breaks x lead r) s d reached e)
 
 pub led : (s : Held) (d : DebuggerView) (x : Word) (text : List ℕ) → IsReached (standing_of d) → d.trail ≡ s.trail → text ≡ lead_text d.trail d.world x → text ≡ lead_said s x
 led s d x text reached e h = h ∙ told_at (λ t w. lead_text t w x) s d reached e
 
-pub looked : (p q : Bool) (script : List ℕ) (s : Held) (d : DebuggerView) (places : List (Option Break)) (x : Word) (begun one text : List ℕ) → IsReached (standing_of d) → d.trail ≡ s.trail → places ≡ s.breaks
-    → q ≡ prompts_behind p x → begun ≡ [] → one ≡ begun ++ look_text d.trail d.world places script x → text ≡ one ++ prompt q s → text ≡ look_said p script s x
-looked p q script s d places x begun one text reached e pl is b h k =
+pub looked : (p q : Bool) (script : List ℕ) (s : Held) (d : DebuggerView) (places : List (Option Break)) (x : Word) (begun one lent none two text : List ℕ) → IsReached (standing_of d) → d.trail ≡ s.trail → places ≡ s.breaks
+    → q ≡ prompts_behind p x → begun ≡ [] → one ≡ begun ++ look_text d.trail d.world places script x → lent ≡ one → none ≡ [] → two ≡ none ++ laid_out x lent → text ≡ two ++ prompt q s → text ≡ look_said p script s x
+looked p q script s d places x begun one lent none two text reached e pl is b h l n m k =
     let u : one ≡ look_text d.trail d.world s.breaks script x = h ∙ ap (λ z. z ++ look_text d.trail d.world places script x) b ∙ ap (λ z. look_text d.trail d.world z script x) pl in
-    k ∙ ap (λ z. z ++ prompt q s) (u ∙ told_at (λ t w. look_text t w s.breaks script x) s d reached e) ∙ ap (λ z. at_world (λ w. look_text s.trail w s.breaks script x) (world_of s.trail) ++ prompt z s) is
+    k ∙ ap (λ z. z ++ prompt q s) (m ∙ ap (λ z. z ++ laid_out x lent) n) ∙ ap (λ z. laid_out x z ++ prompt q s) (l ∙ u ∙ told_at (λ t w. look_text t w s.breaks script x) s d reached e)
+    ∙ ap (λ z. laid_out x (at_world (λ w. look_text s.trail w s.breaks script x) (world_of s.trail)) ++ prompt z s) is
 
-pub found : (p : Bool) (s : Held) (d : DebuggerView) (number : Option ℕ) (e : Ending) (ahead : ℕ) (begun one two text : List ℕ) → IsReached (standing_of d) → d.trail ≡ s.trail
-    → begun ≡ [] → one ≡ begun ++ ahead_line number e ahead → two ≡ one ++ standing_text d.trail d.world → text ≡ two ++ prompt p s → text ≡ laid_said p s number e ahead
-found p s d number e ahead begun one two text reached at b h k m =
+pub found : (p : Bool) (script : List ℕ) (s : Held) (d : DebuggerView) (number : Option ℕ) (e : Ending) (ahead : ℕ) (begun one two lent text : List ℕ) → IsReached (standing_of d) → d.trail ≡ s.trail
+    → begun ≡ [] → one ≡ begun ++ ahead_line number e ahead → two ≡ one ++ standing_text script d.trail d.world → lent ≡ two → text ≡ said p s lent → text ≡ laid_said p script s number e ahead
+found p script s d number e ahead begun one two lent text reached at b h k l m =
     let u : one ≡ ahead_line number e ahead = h ∙ ap (λ z. z ++ ahead_line number e ahead) b in
-    let v : two ≡ ahead_line number e ahead ++ at_world (standing_text s.trail) (world_of s.trail) = k ∙ ap (λ z. z ++ standing_text d.trail d.world) u ∙ ap (λ z. ahead_line number e ahead ++ z) (told_at standing_text s d reached at) in
-    m ∙ ap (λ z. z ++ prompt p s) v
+    let v : two ≡ ahead_line number e ahead ++ at_world (standing_text script s.trail) (world_of s.trail) = k ∙ ap (λ z. z ++ standing_text script d.trail d.world) u ∙ ap (λ z. ahead_line number e ahead ++ z) (told_at (standing_text script) s d reached at) in
+    m ∙ ap (said p s) (l ∙ v)
+
+-- what is told of nothing but what is given
+pub told_so : (p : Bool) (s : Held) (told begun one lent text : List ℕ) → begun ≡ [] → one ≡ begun ++ told → lent ≡ one → text ≡ said p s lent → text ≡ said p s told
+told_so p s told begun one lent text b h l k = k ∙ ap (said p s) (l ∙ h ∙ ap (λ z. z ++ told) b)
+
+-- an answer, and the prompt behind it
+pub said_is : (p : Bool) (s : Held) (told begun one two lent : List ℕ) → begun ≡ [] → lent ≡ told → one ≡ begun ++ folded lent → two ≡ one ++ prompt p s → two ≡ said p s told
+said_is p s told begun one two lent b l h k = k ∙ ap (λ z. z ++ prompt p s) (h ∙ ap (λ z. z ++ folded lent) b ∙ ap folded l)
+
+pub idle_is : (p : Bool) (s : Held) (old now idle lent : List ℕ) → idle ≡ prompt p s → lent ≡ idle → now ≡ old ++ lent → now ≡ old ++ prompt p s
+idle_is p s old now idle lent i l k = k ∙ ap (λ z. old ++ z) (l ∙ i)
+
+pub ruleset saying = (told_so, said_is, idle_is)
 
 pub ruleset replying = (replied, led)
 
@@ -72,7 +87,7 @@ pub ruleset leading = (led, done_at)
 
 pub ruleset looking = (looked, led)
 
-pub ruleset finding = (found, led)
+pub ruleset finding = (found, told_so)
 
 -- ---- what is added
 
@@ -102,13 +117,13 @@ pub ruleset telling = (told_whole, told_not, looked_whole, looked_not)
 
 -- ---- what a word does
 
-pub carried : (p : Bool) (s t : Held) (x : Word) (c : Command) (lead before after : List ℕ) (r : Reply) → lead ≡ lead_said s x → r ≡ (respond s (asking c)).0 → t ≡ (respond s (asking c)).1
-    → Adds (Told (reply_said p t x lead r)) before after → Adds (Carried p s x c t) before after
-carried p s t x c lead before after r is e k (z, h, told) =
-    (z, h, inl (k, subst (λ y. Told (reply_said p t x y (respond s (asking c)).0) z) is (subst (λ y. Told (reply_said p t x lead y) z) e told)))
+pub carried : (p : Bool) (script : List ℕ) (s t : Held) (x : Word) (c : Command) (lead before after : List ℕ) (r : Reply) → lead ≡ lead_said s x → r ≡ (respond s (asking c)).0 → t ≡ (respond s (asking c)).1
+    → Adds (Told (reply_said p script t x lead r)) before after → Adds (Carried p script s x c t) before after
+carried p script s t x c lead before after r is e k (z, h, told) =
+    (z, h, inl (k, subst (λ y. Told (reply_said p script t x y (respond s (asking c)).0) z) is (subst (λ y. Told (reply_said p script t x lead y) z) e told)))
 
-pub not_carried : (p : Bool) (s t : Held) (x : Word) (c : Command) (before after : List ℕ) → t ≡ s → after ≡ before ++ memory_line → Adds (Carried p s x c t) before after
-not_carried p s t x c before after e h = (memory_line, h, inr (e, refl))
+pub not_carried : (p : Bool) (script : List ℕ) (s t : Held) (x : Word) (c : Command) (before after : List ℕ) → t ≡ s → after ≡ before ++ memory_line → Adds (Carried p script s x c t) before after
+not_carried p script s t x c before after e h = (memory_line, h, inr (e, refl))
 
 pub ruleset carrying = (carried, not_carried)
 
@@ -128,44 +143,44 @@ numbered_at s d n o r e h = h ∙ ap (λ t. numbered_run n t d.world) e ∙ sym 
 
 pub none_at_is : (p : Bool) (s : Held) (d : DebuggerView) (x : Way) (leaves : List Leaf) (more : Bool) → IsReached (standing_of d) → d.trail ≡ s.trail → none_line x leaves more ≡ nothing_line x d.trail d.world
     → not_found_said p s x leaves more ≡ none_said p s x
-none_at_is p s d x leaves more r e h = ap (λ z. z ++ prompt p s) (h ∙ told_at (nothing_line x) s d r e)
+none_at_is p s d x leaves more r e h = ap (said p s) (h ∙ told_at (nothing_line x) s d r e)
 
 pub lies_at : (s : Held) (d : DebuggerView) (o : Option WholeRun) → d.trail ≡ s.trail → IfSome o (LiesAhead d.trail) → IfSome o (LiesAhead s.trail)
 lies_at s d o e h = subst (λ t. IfSome o (LiesAhead t)) e h
 
 pub ruleset seeking = (found_at, numbered_at, none_at_is, lies_at)
 
-laid_by : (p : Bool) (s t : Held) (number : Option ℕ) (r : WholeRun) (text : List ℕ) → LiesAhead s.trail r → t ≡ laid s r.steps → Told (laid_said p t number r.ending (length r.steps - s.trail.depth)) text → LaidBy p s number r t text
-laid_by p s t number r text lies e told = inl (lies, e, told)
+laid_by : (p : Bool) (script : List ℕ) (s t : Held) (number : Option ℕ) (r : WholeRun) (text : List ℕ) → LiesAhead s.trail r → t ≡ laid s r.steps → Told (laid_said p script t number r.ending (length r.steps - s.trail.depth)) text → LaidBy p script s number r t text
+laid_by p script s t number r text lies e told = inl (lies, e, told)
 
-pub sought_told : (p : Bool) (s t : Held) (x : Way) (r : WholeRun) (before after : List ℕ) → Some r ≡ found_from s x → LiesAhead s.trail r → t ≡ laid s r.steps
-    → Adds (Told (laid_said p t None r.ending (length r.steps - s.trail.depth))) before after → Adds (SoughtBy p s x (found_from s x) t) before after
-sought_told p s t x r before after is lies e (z, h, told) = (z, h, subst (λ o. SoughtBy p s x o t z) is (laid_by p s t None r z lies e told))
+pub sought_told : (p : Bool) (script : List ℕ) (s t : Held) (x : Way) (r : WholeRun) (before after : List ℕ) → Some r ≡ found_from s x → LiesAhead s.trail r → t ≡ laid s r.steps
+    → Adds (Told (laid_said p script t None r.ending (length r.steps - s.trail.depth))) before after → Adds (SoughtBy p script s x (found_from s x) t) before after
+sought_told p script s t x r before after is lies e (z, h, told) = (z, h, subst (λ o. SoughtBy p script s x o t z) is (laid_by p script s t None r z lies e told))
 
-pub none_told : (p : Bool) (s t : Held) (x : Way) (leaves : List Leaf) (more : Bool) (before after : List ℕ) → None ≡ found_from s x → t ≡ s → not_found_said p s x leaves more ≡ none_said p s x
-    → Adds (Looked (not_found_said p s x leaves more)) before after → Adds (SoughtBy p s x (found_from s x) t) before after
-none_told p s t x leaves more before after is e same (z, h, told) = (z, h, subst (λ o. SoughtBy p s x o t z) is (e, subst (λ y. Looked y z) same told))
+pub none_told : (p : Bool) (script : List ℕ) (s t : Held) (x : Way) (leaves : List Leaf) (more : Bool) (before after : List ℕ) → None ≡ found_from s x → t ≡ s → not_found_said p s x leaves more ≡ none_said p s x
+    → Adds (Looked (not_found_said p s x leaves more)) before after → Adds (SoughtBy p script s x (found_from s x) t) before after
+none_told p script s t x leaves more before after is e same (z, h, told) = (z, h, subst (λ o. SoughtBy p script s x o t z) is (e, subst (λ y. Looked y z) same told))
 
-not_laid : (p : Bool) (s t : Held) (x : Way) (o : Option WholeRun) → t ≡ s → SoughtBy p s x o t memory_line
-not_laid p s t x None e = (e, inr refl)
-not_laid p s t x (Some r) e = inr (e, refl)
+not_laid : (p : Bool) (script : List ℕ) (s t : Held) (x : Way) (o : Option WholeRun) → t ≡ s → SoughtBy p script s x o t memory_line
+not_laid p script s t x None e = (e, inr refl)
+not_laid p script s t x (Some r) e = inr (e, refl)
 
-pub not_sought : (p : Bool) (s t : Held) (x : Way) (before after : List ℕ) → t ≡ s → after ≡ before ++ memory_line → Adds (SoughtBy p s x (found_from s x) t) before after
-not_sought p s t x before after e h = (memory_line, h, not_laid p s t x (found_from s x) e)
+pub not_sought : (p : Bool) (script : List ℕ) (s t : Held) (x : Way) (before after : List ℕ) → t ≡ s → after ≡ before ++ memory_line → Adds (SoughtBy p script s x (found_from s x) t) before after
+not_sought p script s t x before after e h = (memory_line, h, not_laid p script s t x (found_from s x) e)
 
-pub followed_told : (p : Bool) (s t : Held) (n : ℕ) (r : WholeRun) (before after : List ℕ) → Some r ≡ numbered_from s n → LiesAhead s.trail r → t ≡ laid s r.steps
-    → Adds (Told (laid_said p t (Some n) r.ending (length r.steps - s.trail.depth))) before after → Adds (FollowedBy p s n (numbered_from s n) t) before after
-followed_told p s t n r before after is lies e (z, h, told) = (z, h, subst (λ o. FollowedBy p s n o t z) is (laid_by p s t (Some n) r z lies e told))
+pub followed_told : (p : Bool) (script : List ℕ) (s t : Held) (n : ℕ) (r : WholeRun) (before after : List ℕ) → Some r ≡ numbered_from s n → LiesAhead s.trail r → t ≡ laid s r.steps
+    → Adds (Told (laid_said p script t (Some n) r.ending (length r.steps - s.trail.depth))) before after → Adds (FollowedBy p script s n (numbered_from s n) t) before after
+followed_told p script s t n r before after is lies e (z, h, told) = (z, h, subst (λ o. FollowedBy p script s n o t z) is (laid_by p script s t (Some n) r z lies e told))
 
-pub no_run_told : (p : Bool) (s t : Held) (n : ℕ) (before after : List ℕ) → None ≡ numbered_from s n → t ≡ s → Adds (Told (refused_said p s (not_followed_line n))) before after → Adds (FollowedBy p s n (numbered_from s n) t) before after
-no_run_told p s t n before after is e (z, h, told) = (z, h, subst (λ o. FollowedBy p s n o t z) is (e, inl told))
+pub no_run_told : (p : Bool) (script : List ℕ) (s t : Held) (n : ℕ) (before after : List ℕ) → None ≡ numbered_from s n → t ≡ s → Adds (Told (said p s (not_followed_line n))) before after → Adds (FollowedBy p script s n (numbered_from s n) t) before after
+no_run_told p script s t n before after is e (z, h, told) = (z, h, subst (λ o. FollowedBy p script s n o t z) is (e, inl told))
 
-not_numbered : (p : Bool) (s t : Held) (n : ℕ) (o : Option WholeRun) → t ≡ s → FollowedBy p s n o t memory_line
-not_numbered p s t n None e = (e, inr refl)
-not_numbered p s t n (Some r) e = inr (e, refl)
+not_numbered : (p : Bool) (script : List ℕ) (s t : Held) (n : ℕ) (o : Option WholeRun) → t ≡ s → FollowedBy p script s n o t memory_line
+not_numbered p script s t n None e = (e, inr refl)
+not_numbered p script s t n (Some r) e = inr (e, refl)
 
-pub not_followed : (p : Bool) (s t : Held) (n : ℕ) (before after : List ℕ) → t ≡ s → after ≡ before ++ memory_line → Adds (FollowedBy p s n (numbered_from s n) t) before after
-not_followed p s t n before after e h = (memory_line, h, not_numbered p s t n (numbered_from s n) e)
+pub not_followed : (p : Bool) (script : List ℕ) (s t : Held) (n : ℕ) (before after : List ℕ) → t ≡ s → after ≡ before ++ memory_line → Adds (FollowedBy p script s n (numbered_from s n) t) before after
+not_followed p script s t n before after e h = (memory_line, h, not_numbered p script s t n (numbered_from s n) e)
 
 pub ruleset laying = (lies_begins, lies_runs, sought_told, none_told, not_sought, followed_told, no_run_told, not_followed)
 
@@ -174,33 +189,33 @@ pub ruleset laying = (lies_begins, lies_runs, sought_told, none_told, not_sought
 pub choice_in : (s : Held) (t : Trail) (o : Option ℕ) → t ≡ s.trail → o ≡ last_choice t → o ≡ last_choice s.trail
 choice_in s t o e h = h ∙ ap last_choice e
 
-pub choice_told : (p : Bool) (s t : Held) (x : Word) (n : ℕ) (before after : List ℕ) → Some n ≡ last_choice s.trail → Adds (Carried p s x (command.Goto n) t) before after → Adds (UndoneBy p s x (last_choice s.trail) t) before after
-choice_told p s t x n before after is (z, h, told) = (z, h, subst (λ o. UndoneBy p s x o t z) is told)
+pub choice_told : (p : Bool) (script : List ℕ) (s t : Held) (x : Word) (n : ℕ) (before after : List ℕ) → Some n ≡ last_choice s.trail → Adds (Carried p script s x (command.Goto n) t) before after → Adds (UndoneBy p script s x (last_choice s.trail) t) before after
+choice_told p script s t x n before after is (z, h, told) = (z, h, subst (λ o. UndoneBy p script s x o t z) is told)
 
-pub no_choice_told : (p : Bool) (s t : Held) (x : Word) (before after : List ℕ) → None ≡ last_choice s.trail → t ≡ s → Adds (Told (refused_said p s no_choice_line)) before after → Adds (UndoneBy p s x (last_choice s.trail) t) before after
-no_choice_told p s t x before after is e (z, h, told) = (z, h, subst (λ o. UndoneBy p s x o t z) is (e, inl told))
+pub no_choice_told : (p : Bool) (script : List ℕ) (s t : Held) (x : Word) (before after : List ℕ) → None ≡ last_choice s.trail → t ≡ s → Adds (Told (said p s no_choice_line)) before after → Adds (UndoneBy p script s x (last_choice s.trail) t) before after
+no_choice_told p script s t x before after is e (z, h, told) = (z, h, subst (λ o. UndoneBy p script s x o t z) is (e, inl told))
 
-not_gone : (p : Bool) (s t : Held) (x : Word) (o : Option ℕ) → t ≡ s → UndoneBy p s x o t memory_line
-not_gone p s t x None e = (e, inr refl)
-not_gone p s t x (Some n) e = inr (e, refl)
+not_gone : (p : Bool) (script : List ℕ) (s t : Held) (x : Word) (o : Option ℕ) → t ≡ s → UndoneBy p script s x o t memory_line
+not_gone p script s t x None e = (e, inr refl)
+not_gone p script s t x (Some n) e = inr (e, refl)
 
-pub not_undone : (p : Bool) (s t : Held) (x : Word) (before after : List ℕ) → t ≡ s → after ≡ before ++ memory_line → Adds (UndoneBy p s x (last_choice s.trail) t) before after
-not_undone p s t x before after e h = (memory_line, h, not_gone p s t x (last_choice s.trail) e)
+pub not_undone : (p : Bool) (script : List ℕ) (s t : Held) (x : Word) (before after : List ℕ) → t ≡ s → after ≡ before ++ memory_line → Adds (UndoneBy p script s x (last_choice s.trail) t) before after
+not_undone p script s t x before after e h = (memory_line, h, not_gone p script s t x (last_choice s.trail) e)
 
 pub ruleset undoing = (choice_in, choice_told, no_choice_told, not_undone)
 
 -- ---- words
 
-pub answered_asks : (p : Bool) (script : List ℕ) (s t : Held) (x : Word) (c : Command) (before after : List ℕ) → Asks c ≡ doing_in s x → Adds (Carried p s x c t) before after → Adds (Answered p script s x t) before after
+pub answered_asks : (p : Bool) (script : List ℕ) (s t : Held) (x : Word) (c : Command) (before after : List ℕ) → Asks c ≡ doing_in s x → Adds (Carried p script s x c t) before after → Adds (Answered p script s x t) before after
 answered_asks p script s t x c before after is h = subst (λ d. Adds (AnsweredBy p script s x d t) before after) is h
 
-pub answered_undoes : (p : Bool) (script : List ℕ) (s t : Held) (x : Word) (before after : List ℕ) → Undoes ≡ doing_in s x → Adds (UndoneBy p s x (last_choice s.trail) t) before after → Adds (Answered p script s x t) before after
+pub answered_undoes : (p : Bool) (script : List ℕ) (s t : Held) (x : Word) (before after : List ℕ) → Undoes ≡ doing_in s x → Adds (UndoneBy p script s x (last_choice s.trail) t) before after → Adds (Answered p script s x t) before after
 answered_undoes p script s t x before after is h = subst (λ d. Adds (AnsweredBy p script s x d t) before after) is h
 
-pub answered_seeks : (p : Bool) (script : List ℕ) (s t : Held) (x : Word) (way : Way) (before after : List ℕ) → Seeks way ≡ doing_in s x → Adds (SoughtBy p s way (found_from s way) t) before after → Adds (Answered p script s x t) before after
+pub answered_seeks : (p : Bool) (script : List ℕ) (s t : Held) (x : Word) (way : Way) (before after : List ℕ) → Seeks way ≡ doing_in s x → Adds (SoughtBy p script s way (found_from s way) t) before after → Adds (Answered p script s x t) before after
 answered_seeks p script s t x way before after is h = subst (λ d. Adds (AnsweredBy p script s x d t) before after) is h
 
-pub answered_follows : (p : Bool) (script : List ℕ) (s t : Held) (x : Word) (n : ℕ) (before after : List ℕ) → Follows n ≡ doing_in s x → Adds (FollowedBy p s n (numbered_from s n) t) before after → Adds (Answered p script s x t) before after
+pub answered_follows : (p : Bool) (script : List ℕ) (s t : Held) (x : Word) (n : ℕ) (before after : List ℕ) → Follows n ≡ doing_in s x → Adds (FollowedBy p script s n (numbered_from s n) t) before after → Adds (Answered p script s x t) before after
 answered_follows p script s t x n before after is h = subst (λ d. Adds (AnsweredBy p script s x d t) before after) is h
 
 looks_alone : (p : Bool) (script : List ℕ) (s t : Held) (x : Word) (before after : List ℕ) → t ≡ s → Adds (Looked (look_said p script s x)) before after → Adds (AnsweredBy p script s x Looks t) before after
@@ -209,7 +224,17 @@ looks_alone p script s t x before after e (z, h, told) = (z, h, (e, told))
 pub answered_looks : (p : Bool) (script : List ℕ) (s t : Held) (x : Word) (before after : List ℕ) → Looks ≡ doing_in s x → t ≡ s → Adds (Looked (look_said p script s x)) before after → Adds (Answered p script s x t) before after
 answered_looks p script s t x before after is e h = subst (λ d. Adds (AnsweredBy p script s x d t) before after) is (looks_alone p script s t x before after e h)
 
-pub ruleset answering = (answered_asks, answered_undoes, answered_seeks, answered_follows, answered_looks)
+not_done : (p : Bool) (script : List ℕ) (s t : Held) (x : Word) (d : Doing) → t ≡ s → AnsweredBy p script s x d t memory_line
+not_done p script s t x (Asks c) e = inr (e, refl)
+not_done p script s t x Undoes e = not_gone p script s t x (last_choice s.trail) e
+not_done p script s t x (Seeks way) e = not_laid p script s t way (found_from s way) e
+not_done p script s t x (Follows n) e = not_numbered p script s t n (numbered_from s n) e
+not_done p script s t x Looks e = (e, inr refl)
+
+pub not_answered : (p : Bool) (script : List ℕ) (s t : Held) (x : Word) (before after : List ℕ) → t ≡ s → after ≡ before ++ memory_line → Adds (Answered p script s x t) before after
+not_answered p script s t x before after e h = (memory_line, h, not_done p script s t x (doing_in s x) e)
+
+pub ruleset answering = (answered_asks, answered_undoes, answered_seeks, answered_follows, answered_looks, not_answered)
 
 -- ---- lines
 

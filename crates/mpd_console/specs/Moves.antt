@@ -11,7 +11,7 @@ use Rattle.mpd_model.specs.declared.breakpoint.Stop.{Stop}
 use Rattle.mpd_model.specs.Declaration.{Declared}
 use Rattle.mpd_model.specs.Program.{Program}
 use Rattle.mpd_model.specs.World.{World}
-use Rattle.mpd_model.specs.Decisions.{decision, forced_step}
+use Rattle.mpd_model.specs.Decisions.{decision}
 use Rattle.mpd_model.specs.Trail.{Trail}
 use Rattle.mpd_model.specs.Texts.{line}
 use Rattle.mpd_model.specs.Breakpoints.{break_at}
@@ -23,6 +23,7 @@ use Rattle.mpd_wire.specs.declared.reply.Refusal.{Refusal}
 use Rattle.mpd_wire.specs.declared.reply.Refusal.TheVariants as refusal
 use Rattle.mpd_wire.specs.declared.reply.Reply.{Reply}
 use Rattle.mpd_wire.specs.declared.reply.Reply.TheVariants as reply
+use Rattle.mpd_policy.specs.Single.{single, only_step}
 use Rattle.mpd_names.specs.Called.{break_text}
 use Rattle.mpd_view.specs.Steps.{step_words}
 use Rattle.mpd_view.specs.Standing.{standing_text}
@@ -40,34 +41,32 @@ use Rattle.mpd_vocabulary.specs.declared.word.Word.TheVariants as word
 abbrev pub from_one : ℕ → ℕ
 from_one n = if n == 0 then NO_CANDIDATE else n - 1
 
--- whether `next` asks for the step that comes next: a number where a step is forced asks for so many
+-- whether `next` asks for the step that comes next: where there is one, a number asks for so many
 abbrev pub asks_next : World → Word → Bool
 asks_next w (word.Next None) = true
-asks_next w (word.Next (Some n)) = is_none (forced_step w)
+asks_next w (word.Next (Some n)) = is_none (only_step w)
 asks_next w other = false
 
-abbrev pub numbered_command : World → ℕ → Command
-numbered_command w n = if is_some (forced_step w) then command.Run n else command.Next (Some (from_one n))
-
+-- a step that comes next is taken as the first candidate is, which is looked at where it is a candidate alone
 abbrev pub next_command : World → Option ℕ → Command
-next_command w None = command.Next None
-next_command w (Some n) = numbered_command w n
+next_command w None = if is_some (only_step w) then command.Next (Some 0) else command.Next None
+next_command w (Some n) = if is_some (only_step w) then command.RunOn n else command.Next (Some (from_one n))
 
 -- how many steps are undone
 abbrev pub ahead_of : Trail → ℕ
 ahead_of t = length t.steps - t.depth
 
--- A run would stop here, at a choice, though the step that is taken there lies ahead: where a step can be taken and none is forced, there is
+-- A run would stop here, at a choice, though the step that is taken there lies ahead: where a step can be taken and none comes next, there is
 -- a choice to make.
 abbrev pub is_alone : Option Step → Option Step → Bool
 is_alone one other = is_some one && is_none other
 
 abbrev pub goes_along : Trail → World → Bool
-goes_along t w = is_alone (slice_get t.steps t.depth) (forced_step w)
+goes_along t w = is_alone (slice_get t.steps t.depth) (only_step w)
 
 -- `run` goes along: at a choice it takes the step that lies ahead
 abbrev pub run_command : Trail → World → ℕ → Command
-run_command t w n = if nat_lt 0 n && goes_along t w then command.Redo 1 else command.Run n
+run_command t w n = if nat_lt 0 n && goes_along t w then command.Redo 1 else command.RunOn n
 
 -- `redo` takes no more steps than lie ahead, where one does
 abbrev pub redo_command : Trail → ℕ → Command
@@ -97,13 +96,20 @@ doing_of t w other = Looks
 
 -- ---- the step that a word takes, told before it is taken
 
--- the step that is taken next, by the candidate of this number, from 1, at a choice; a number where a step is forced is one of steps
+-- the candidate of this number, from 1, where there is a choice to make
+abbrev pub candidate : ℕ → Decision → Option Step
+candidate n (Forced a) = None
+candidate n (Choice steps) = slice_get steps (from_one n)
+candidate n (Leaf o) = None
+
+abbrev pub picked_at : ℕ → Decision → Option Step → Option Step
+picked_at n d None = candidate n d
+picked_at n d (Some a) = None
+
+-- the step that `next` takes, by the candidate of this number at a choice; where a step comes next, a number is one of steps
 abbrev pub picked : Option ℕ → Decision → Option Step
-picked None (Forced a) = Some a
-picked (Some n) (Forced a) = None
-picked None (Choice steps) = None
-picked (Some n) (Choice steps) = slice_get steps (from_one n)
-picked choice (Leaf o) = None
+picked None d = single d
+picked (Some n) d = picked_at n d (single d)
 
 -- the step that is taken again by a request for one
 abbrev pub redone_step : Trail → Command → Option Step
@@ -132,8 +138,8 @@ abbrev pub moved_line : ℕ → List ℕ → List ℕ
 moved_line depth [] = line (codes "depth " ++ decimal depth)
 moved_line depth (b ∷ lead) = line (decimal depth ++ 32 ∷ b ∷ lead)
 
-abbrev pub move_text : Trail → World → ℕ → List ℕ → List ℕ
-move_text t w depth lead = moved_line depth lead ++ standing_text t w
+abbrev pub move_text : List ℕ → Trail → World → ℕ → List ℕ → List ℕ
+move_text text t w depth lead = moved_line depth lead ++ standing_text text t w
 
 -- ---- what is told of a run
 
@@ -172,8 +178,8 @@ cause_line ds places x (for.Break n) = break_cause ds x n (break_at places n)
 abbrev pub ran_line : Word → ℕ → ℕ → List ℕ
 ran_line x depth count = line (count_words count ++ back_words x ++ codes ", depth " ++ decimal depth)
 
-abbrev pub run_text : Trail → World → List (Option Break) → Word → ℕ → Stop → List ℕ
-run_text t w places x depth stop = ran_line x depth stop.steps ++ cause_line t.program.decls places x stop.cause ++ standing_text t w
+abbrev pub run_text : List ℕ → Trail → World → List (Option Break) → Word → ℕ → Stop → List ℕ
+run_text text t w places x depth stop = ran_line x depth stop.steps ++ cause_line t.program.decls places x stop.cause ++ standing_text text t w
 
 -- ---- breakpoints
 
@@ -204,19 +210,19 @@ abbrev pub stands_behind : Bool → Refusal → Bool
 stands_behind next refusal.Full = false
 stands_behind next other = next
 
-abbrev pub refused_text : Trail → World → Word → Refusal → List ℕ
-refused_text t w x r = refusal_line (asks_next w x) r ++ (if stands_behind (asks_next w x) r then standing_text t w else [])
+abbrev pub refused_text : List ℕ → Trail → World → Word → Refusal → List ℕ
+refused_text text t w x r = refusal_line (asks_next w x) r ++ (if stands_behind (asks_next w x) r then standing_text text t w else [])
 
--- ---- what is told of a reply, behind the request
+-- ---- what is told of a reply, behind the request, given the text of the script
 
-abbrev pub answer_text : Trail → World → List (Option Break) → Word → List ℕ → Answer → List ℕ
-answer_text t w places x lead (answer.Depth depth) = move_text t w depth lead
-answer_text t w places x lead (answer.Stepped depth a) = move_text t w depth lead
-answer_text t w places x lead (answer.Ran depth stop) = run_text t w places x depth stop
-answer_text t w places x lead (answer.Added n) = added_line t.program.decls x n
-answer_text t w places x lead answer.Removed = removed_line x
-answer_text t w places x lead other = []
+abbrev pub answer_text : List ℕ → Trail → World → List (Option Break) → Word → List ℕ → Answer → List ℕ
+answer_text text t w places x lead (answer.Depth depth) = move_text text t w depth lead
+answer_text text t w places x lead (answer.Stepped depth a) = move_text text t w depth lead
+answer_text text t w places x lead (answer.Ran depth stop) = run_text text t w places x depth stop
+answer_text text t w places x lead (answer.Added n) = added_line t.program.decls x n
+answer_text text t w places x lead answer.Removed = removed_line x
+answer_text text t w places x lead other = []
 
-abbrev pub reply_text : Trail → World → List (Option Break) → Word → List ℕ → Reply → List ℕ
-reply_text t w places x lead (reply.Refused r) = refused_text t w x r
-reply_text t w places x lead (reply.Done v a) = answer_text t w places x lead a
+abbrev pub reply_text : List ℕ → Trail → World → List (Option Break) → Word → List ℕ → Reply → List ℕ
+reply_text text t w places x lead (reply.Refused r) = refused_text text t w x r
+reply_text text t w places x lead (reply.Done v a) = answer_text text t w places x lead a

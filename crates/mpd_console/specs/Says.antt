@@ -32,6 +32,7 @@ use Rattle.mpd_search.specs.Runs.{none_line}
 use Rattle.mpd_search.specs.Seek.{found_run, numbered_run, nothing_line, LiesAhead, ahead_line, not_followed_line}
 use Rattle.mpd_search.specs.Choices.{last_choice, no_choice_line}
 use Rattle.mpd_vocabulary.specs.Faults.{fault_text}
+use Rattle.mpd_fold.specs.Folding.{folded}
 
 -- the lines that stand in the place of an answer: where memory is refused before anything was done, and behind that
 abbrev pub memory_line : List ℕ
@@ -54,35 +55,44 @@ abbrev pub prompt : Bool → Held → List ℕ
 prompt false s = []
 prompt true s = codes "(" ++ decimal s.trail.depth ++ codes ") "
 
+-- an answer whose long lines go on in further lines
+abbrev pub said : Bool → Held → List ℕ → List ℕ
+said p s told = folded told ++ prompt p s
+
 abbrev pub lead_said : Held → Word → List ℕ
 lead_said s x = at_world (λ w. lead_text s.trail w x) (world_of s.trail)
 
-abbrev pub reply_said : Bool → Held → Word → List ℕ → Reply → List ℕ
-reply_said p s x lead r = at_world (λ w. reply_text s.trail w s.breaks x lead r) (world_of s.trail) ++ prompt p s
+abbrev pub reply_said : Bool → List ℕ → Held → Word → List ℕ → Reply → List ℕ
+reply_said p script s x lead r = said p s (at_world (λ w. reply_text script s.trail w s.breaks x lead r) (world_of s.trail))
 
 -- behind `quit` no prompt stands
 abbrev pub prompts_behind : Bool → Word → Bool
 prompts_behind p word.Quit = false
 prompts_behind p other = p
 
+-- what a word shows as it is, however long its lines are
+abbrev pub laid_out : Word → List ℕ → List ℕ
+laid_out (word.List rank) told = told
+laid_out word.Show told = told
+laid_out word.Words told = told
+laid_out word.Picture told = told
+laid_out other told = folded told
+
 abbrev pub look_said : Bool → List ℕ → Held → Word → List ℕ
-look_said p script s x = at_world (λ w. look_text s.trail w s.breaks script x) (world_of s.trail) ++ prompt (prompts_behind p x) s
+look_said p script s x = laid_out x (at_world (λ w. look_text s.trail w s.breaks script x) (world_of s.trail)) ++ prompt (prompts_behind p x) s
 
 -- of a run that lies ahead, which ends so and has so many steps more than are taken; of the run of a number this, too
-abbrev pub laid_said : Bool → Held → Option ℕ → Ending → ℕ → List ℕ
-laid_said p s number e ahead = ahead_line number e ahead ++ at_world (λ w. standing_text s.trail w) (world_of s.trail) ++ prompt p s
+abbrev pub laid_said : Bool → List ℕ → Held → Option ℕ → Ending → ℕ → List ℕ
+laid_said p script s number e ahead = said p s (ahead_line number e ahead ++ at_world (λ w. standing_text script s.trail w) (world_of s.trail))
 
 abbrev pub not_found_said : Bool → Held → Way → List Leaf → Bool → List ℕ
-not_found_said p s x leaves more = none_line x leaves more ++ prompt p s
-
-abbrev pub refused_said : Bool → Held → List ℕ → List ℕ
-refused_said p s told = told ++ prompt p s
+not_found_said p s x leaves more = said p s (none_line x leaves more)
 
 abbrev pub fault_said : Bool → Held → List ℕ → WordFault → List ℕ
-fault_said p s z f = fault_text z f ++ prompt p s
+fault_said p s z f = said p s (fault_text z f)
 
 abbrev pub none_said : Bool → Held → Way → List ℕ
-none_said p s x = at_world (λ w. nothing_line x s.trail w) (world_of s.trail) ++ prompt p s
+none_said p s x = said p s (at_world (λ w. nothing_line x s.trail w) (world_of s.trail))
 
 -- ---- what a word does to the session
 
@@ -99,24 +109,24 @@ asking c = record { command = c; at = None }
 
 -- A word that asks the session: the session behind it is the one behind that request, and its reply is told; or memory was refused, and
 -- the session is as before.
-abbrev pub Carried : Bool → Held → Word → Command → Held → List ℕ → Type 0
-Carried p s x c t text =
-    ((t ≡ (respond s (asking c)).1) × Told (reply_said p t x (lead_said s x) (respond s (asking c)).0) text) ⊎ ((t ≡ s) × (text ≡ memory_line))
+abbrev pub Carried : Bool → List ℕ → Held → Word → Command → Held → List ℕ → Type 0
+Carried p script s x c t text =
+    ((t ≡ (respond s (asking c)).1) × Told (reply_said p script t x (lead_said s x) (respond s (asking c)).0) text) ⊎ ((t ≡ s) × (text ≡ memory_line))
 
 -- A word that is refused by its own: the session is as before.
 abbrev pub Refused : Bool → Held → List ℕ → Held → List ℕ → Type 0
-Refused p s told t text = (t ≡ s) × (Told (refused_said p s told) text ⊎ (text ≡ memory_line))
+Refused p s told t text = (t ≡ s) × (Told (said p s told) text ⊎ (text ≡ memory_line))
 
 -- The last choice is gone back to, by a request for it, or none was made.
-abbrev pub UndoneBy : Bool → Held → Word → Option ℕ → Held → List ℕ → Type 0
-UndoneBy p s x None t text = Refused p s no_choice_line t text
-UndoneBy p s x (Some n) t text = Carried p s x (command.Goto n) t text
+abbrev pub UndoneBy : Bool → List ℕ → Held → Word → Option ℕ → Held → List ℕ → Type 0
+UndoneBy p script s x None t text = Refused p s no_choice_line t text
+UndoneBy p script s x (Some n) t text = Carried p script s x (command.Goto n) t text
 
 -- A run lies ahead: its steps are those that are kept, of which as many are not undone as were before; or memory was refused, and the
 -- session is as before.
-abbrev pub LaidBy : Bool → Held → Option ℕ → WholeRun → Held → List ℕ → Type 0
-LaidBy p s number r t text =
-    (LiesAhead s.trail r × (t ≡ laid s r.steps) × Told (laid_said p t number r.ending (length r.steps - s.trail.depth)) text) ⊎ ((t ≡ s) × (text ≡ memory_line))
+abbrev pub LaidBy : Bool → List ℕ → Held → Option ℕ → WholeRun → Held → List ℕ → Type 0
+LaidBy p script s number r t text =
+    (LiesAhead s.trail r × (t ≡ laid s r.steps) × Told (laid_said p script t number r.ending (length r.steps - s.trail.depth)) text) ⊎ ((t ≡ s) × (text ≡ memory_line))
 
 -- the first run from where a session stands that ends so, and the run of a number
 abbrev pub found_from : Held → Way → Option WholeRun
@@ -125,19 +135,19 @@ found_from s x = option_and_then (λ w. found_run x s.trail w) (world_of s.trail
 abbrev pub numbered_from : Held → ℕ → Option WholeRun
 numbered_from s n = option_and_then (λ w. numbered_run n s.trail w) (world_of s.trail)
 
-abbrev pub SoughtBy : Bool → Held → Way → Option WholeRun → Held → List ℕ → Type 0
-SoughtBy p s x None t text = (t ≡ s) × Looked (none_said p s x) text
-SoughtBy p s x (Some r) t text = LaidBy p s None r t text
+abbrev pub SoughtBy : Bool → List ℕ → Held → Way → Option WholeRun → Held → List ℕ → Type 0
+SoughtBy p script s x None t text = (t ≡ s) × Looked (none_said p s x) text
+SoughtBy p script s x (Some r) t text = LaidBy p script s None r t text
 
-abbrev pub FollowedBy : Bool → Held → ℕ → Option WholeRun → Held → List ℕ → Type 0
-FollowedBy p s n None t text = Refused p s (not_followed_line n) t text
-FollowedBy p s n (Some r) t text = LaidBy p s (Some n) r t text
+abbrev pub FollowedBy : Bool → List ℕ → Held → ℕ → Option WholeRun → Held → List ℕ → Type 0
+FollowedBy p script s n None t text = Refused p s (not_followed_line n) t text
+FollowedBy p script s n (Some r) t text = LaidBy p script s (Some n) r t text
 
 abbrev pub AnsweredBy : Bool → List ℕ → Held → Word → Doing → Held → List ℕ → Type 0
-AnsweredBy p script s x (Asks c) t text = Carried p s x c t text
-AnsweredBy p script s x Undoes t text = UndoneBy p s x (last_choice s.trail) t text
-AnsweredBy p script s x (Seeks way) t text = SoughtBy p s way (found_from s way) t text
-AnsweredBy p script s x (Follows n) t text = FollowedBy p s n (numbered_from s n) t text
+AnsweredBy p script s x (Asks c) t text = Carried p script s x c t text
+AnsweredBy p script s x Undoes t text = UndoneBy p script s x (last_choice s.trail) t text
+AnsweredBy p script s x (Seeks way) t text = SoughtBy p script s way (found_from s way) t text
+AnsweredBy p script s x (Follows n) t text = FollowedBy p script s n (numbered_from s n) t text
 AnsweredBy p script s x Looks t text = (t ≡ s) × Looked (look_said p script s x) text
 
 -- what a word does with a session; no session holds a trail that leads nowhere

@@ -12,6 +12,7 @@ use crate::looks::push_look;
 use crate::moves::{Doing, doing_of, lead, push_reply};
 use itoa::Buffer;
 use mpd_explore::report::{Ending, Report};
+use mpd_fold::fold::push_folded;
 use mpd_lines::desk::{LineDesk, ROOM};
 use mpd_lines::kept::push_all;
 use mpd_model::limits::LINE_MAX;
@@ -42,13 +43,13 @@ const TOO_LONG: &[u8] = b"refused: this line is too long\n";
 
 /// Adds a text, or the line that stands in its place where that is refused memory.
 #[tactic(auto, using(crate::proofs::SaidLemmas::adding))]
-fn add(text: &str, otherwise: &[u8], out: &mut Vec<u8>)
+fn add(text: &[u8], otherwise: &[u8], out: &mut Vec<u8>)
     requires short { length otherwise.now ≤ ROOM }
     requires room { vec_len out.old + ROOM ≤ vec_capacity out.old }
     ensures added { Adds (OrElse text.now otherwise.now) out.old.items out.new.items }
     ensures capacity { vec_capacity out.old ≤ vec_capacity out.new }
 {
-    match out.extend_from_slice(text.as_bytes()) {
+    match out.extend_from_slice(text) {
         Ok(()) => {}
         Err(_) => push_all(out, otherwise),
     }
@@ -69,32 +70,90 @@ fn push_prompt(
     write!(out, "({depth}) ")
 }
 
+/// The prompt, where one is wanted, which is what is told where nothing is done.
+pub(crate) fn idle_text(
+    alloc: Global,
+    session: &Session<'_>,
+    is_prompting: bool,
+) -> Result<String, AllocError>
+    ensures { IfOk result (λ t. string_bytes t ≡ spec.prompt is_prompting session.now) }
+{
+    let mut out = String::new(alloc);
+    push_prompt(session, &mut out, is_prompting)?;
+    Ok(out)
+}
+
+/// Adds the prompt to the bytes of an answer.
+#[tactic(auto, using(crate::proofs::SaidLemmas::saying))]
+fn push_idle(
+    alloc: Global,
+    session: &Session<'_>,
+    is_prompting: bool,
+    out: &mut Vec<u8>,
+) -> Result<(), AllocError>
+    ensures { OnOk result (out.new.items ≡ out.old.items ++ spec.prompt is_prompting session.now) }
+{
+    let prompt = idle_text(alloc, session, is_prompting)?;
+    out.extend_from_slice(prompt.as_bytes())
+}
+
+/// The prompt, where one is wanted, as bytes.
+#[tactic(auto, using(crate::proofs::SaidLemmas::saying))]
+pub(crate) fn idle_bytes(
+    alloc: Global,
+    session: &Session<'_>,
+    is_prompting: bool,
+) -> Result<Vec<u8>, AllocError>
+    ensures { IfOk result (λ t. t.items ≡ spec.prompt is_prompting session.now) }
+{
+    let mut out = Vec::new(alloc);
+    push_idle(alloc, session, is_prompting, &mut out)?;
+    Ok(out)
+}
+
+/// An answer whose long lines go on in further lines, with the prompt behind it.
+#[tactic(auto, using(crate::proofs::SaidLemmas::saying))]
+fn said(
+    alloc: Global,
+    session: &Session<'_>,
+    is_prompting: bool,
+    told: &str,
+) -> Result<Vec<u8>, AllocError>
+    ensures { IfOk result (λ t. t.items ≡ spec.said is_prompting session.now told.now) }
+{
+    let mut out = Vec::new(alloc);
+    push_folded(&mut out, told.as_bytes())?;
+    push_idle(alloc, session, is_prompting, &mut out)?;
+    Ok(out)
+}
+
 /// The answer to a word by the reply of the session, behind it.
 #[tactic(auto, using(crate::proofs::SaidLemmas::replying))]
 fn reply_text(
     alloc: Global,
     session: &Session<'_>,
     is_prompting: bool,
+    script: &[u8],
     word: Word,
     lead: &str,
     reply: &Reply,
-) -> Result<String, AllocError>
-    ensures { IfOk result (λ t. string_bytes t ≡ spec.reply_said is_prompting session.now word lead.now reply.now) }
+) -> Result<Vec<u8>, AllocError>
+    ensures { IfOk result (λ t. t.items ≡ spec.reply_said is_prompting script.now session.now word lead.now reply.now) }
 {
-    let mut out = String::new(alloc);
+    let mut told = String::new(alloc);
     let debugger = session.debugger();
     debugger.state_is_reached();
     push_reply(
         alloc,
         debugger,
+        script,
         session.breaks(),
-        &mut out,
+        &mut told,
         word,
         lead,
         reply,
     )?;
-    push_prompt(session, &mut out, is_prompting)?;
-    Ok(out)
+    said(alloc, session, is_prompting, &told)
 }
 
 /// Adds the answer to a word by the reply of the session, behind it.
@@ -103,16 +162,17 @@ fn tell_reply(
     alloc: Global,
     session: &Session<'_>,
     is_prompting: bool,
+    script: &[u8],
     word: Word,
     lead: &str,
     reply: &Reply,
     out: &mut Vec<u8>,
 )
     requires room { vec_len out.old + ROOM ≤ vec_capacity out.old }
-    ensures told { Adds (Told (spec.reply_said is_prompting session.now word lead.now reply.now)) out.old.items out.new.items }
+    ensures told { Adds (Told (spec.reply_said is_prompting script.now session.now word lead.now reply.now)) out.old.items out.new.items }
     ensures capacity { vec_capacity out.old ≤ vec_capacity out.new }
 {
-    let Ok(text) = reply_text(alloc, session, is_prompting, word, lead, reply) else {
+    let Ok(text) = reply_text(alloc, session, is_prompting, script, word, lead, reply) else {
         return push_all(out, UNPRINTED);
     };
     add(&text, UNPRINTED, out)
@@ -134,12 +194,13 @@ fn carry_out(
     alloc: Global,
     session: &mut Session<'_>,
     is_prompting: bool,
+    script: &[u8],
     word: Word,
     command: Command,
     out: &mut Vec<u8>,
 )
     requires room { vec_len out.old + ROOM ≤ vec_capacity out.old }
-    ensures carried { Adds (Carried is_prompting session.old word command session.new) out.old.items out.new.items }
+    ensures carried { Adds (Carried is_prompting script.now session.old word command session.new) out.old.items out.new.items }
     ensures capacity { vec_capacity out.old ≤ vec_capacity out.new }
 {
     let Ok(lead) = lead_text(alloc, session, word) else {
@@ -147,7 +208,18 @@ fn carry_out(
     };
     let request = Request { command, at: None };
     match session.answer(alloc, &request) {
-        Ok(reply) => tell_reply(alloc, session, is_prompting, word, &lead, &reply, out),
+        Ok(reply) => {
+            tell_reply(
+                alloc,
+                session,
+                is_prompting,
+                script,
+                word,
+                &lead,
+                &reply,
+                out,
+            )
+        }
         Err(_) => push_all(out, MEMORY),
     }
 }
@@ -162,6 +234,16 @@ fn prompts_behind(is_prompting: bool, word: Word) -> bool
     }
 }
 
+/// Adds the answer to a word that changes nothing: its long lines go on in further lines, but of a word that shows them as they are.
+fn push_laid_out(out: &mut Vec<u8>, word: Word, told: &[u8]) -> Result<(), AllocError>
+    ensures { OnOk result (out.new.items ≡ out.old.items ++ spec.laid_out word told.now) }
+{
+    match word {
+        Word::List(_) | Word::Show | Word::Words | Word::Picture => out.extend_from_slice(told),
+        _ => push_folded(out, told),
+    }
+}
+
 /// The answer to a word that changes nothing.
 #[tactic(auto, using(crate::proofs::SaidLemmas::looking))]
 fn look_text(
@@ -170,14 +252,16 @@ fn look_text(
     is_prompting: bool,
     script: &[u8],
     word: Word,
-) -> Result<String, AllocError>
-    ensures { IfOk result (λ t. string_bytes t ≡ spec.look_said is_prompting script.now session.now word) }
+) -> Result<Vec<u8>, AllocError>
+    ensures { IfOk result (λ t. t.items ≡ spec.look_said is_prompting script.now session.now word) }
 {
-    let mut out = String::new(alloc);
+    let mut told = String::new(alloc);
     let debugger = session.debugger();
     debugger.state_is_reached();
-    push_look(alloc, debugger, session.breaks(), script, &mut out, word)?;
-    push_prompt(session, &mut out, prompts_behind(is_prompting, word))?;
+    push_look(alloc, debugger, session.breaks(), script, &mut told, word)?;
+    let mut out = Vec::new(alloc);
+    push_laid_out(&mut out, word, told.as_bytes())?;
+    push_idle(alloc, session, prompts_behind(is_prompting, word), &mut out)?;
     Ok(out)
 }
 
@@ -187,35 +271,35 @@ pub(crate) fn laid_text(
     alloc: Global,
     session: &Session<'_>,
     is_prompting: bool,
+    script: &[u8],
     number: Option<usize>,
     ending: &Ending,
     ahead: usize,
-) -> Result<String, AllocError>
-    ensures { IfOk result (λ t. string_bytes t ≡ spec.laid_said is_prompting session.now number ending.now ahead) }
+) -> Result<Vec<u8>, AllocError>
+    ensures { IfOk result (λ t. t.items ≡ spec.laid_said is_prompting script.now session.now number ending.now ahead) }
 {
-    let mut out = String::new(alloc);
+    let mut told = String::new(alloc);
     let debugger = session.debugger();
     debugger.state_is_reached();
-    push_ahead(alloc, &mut out, number, ending, ahead)?;
-    push_standing(alloc, debugger, &mut out)?;
-    push_prompt(session, &mut out, is_prompting)?;
-    Ok(out)
+    push_ahead(alloc, &mut told, number, ending, ahead)?;
+    push_standing(alloc, debugger, script, &mut told)?;
+    said(alloc, session, is_prompting, &told)
 }
 
 /// What is told where no run ends so.
+#[tactic(auto, using(crate::proofs::SaidLemmas::saying))]
 fn not_found_text(
     alloc: Global,
     session: &Session<'_>,
     is_prompting: bool,
     way: Way,
     report: &Report,
-) -> Result<String, AllocError>
-    ensures { IfOk result (λ t. string_bytes t ≡ spec.not_found_said is_prompting session.now way report.now.leaves.items report.now.more) }
+) -> Result<Vec<u8>, AllocError>
+    ensures { IfOk result (λ t. t.items ≡ spec.not_found_said is_prompting session.now way report.now.leaves.items report.now.more) }
 {
-    let mut out = String::new(alloc);
-    push_none(&mut out, way, report)?;
-    push_prompt(session, &mut out, is_prompting)?;
-    Ok(out)
+    let mut told = String::new(alloc);
+    push_none(&mut told, way, report)?;
+    said(alloc, session, is_prompting, &told)
 }
 
 /// Tells of a run that lies ahead.
@@ -224,16 +308,17 @@ fn tell_laid(
     alloc: Global,
     session: &Session<'_>,
     is_prompting: bool,
+    script: &[u8],
     number: Option<usize>,
     ending: &Ending,
     ahead: usize,
     out: &mut Vec<u8>,
 )
     requires room { vec_len out.old + ROOM ≤ vec_capacity out.old }
-    ensures told { Adds (Told (spec.laid_said is_prompting session.now number ending.now ahead)) out.old.items out.new.items }
+    ensures told { Adds (Told (spec.laid_said is_prompting script.now session.now number ending.now ahead)) out.old.items out.new.items }
     ensures capacity { vec_capacity out.old ≤ vec_capacity out.new }
 {
-    let Ok(text) = laid_text(alloc, session, is_prompting, number, ending, ahead) else {
+    let Ok(text) = laid_text(alloc, session, is_prompting, script, number, ending, ahead) else {
         return push_all(out, UNPRINTED);
     };
     add(&text, UNPRINTED, out)
@@ -245,6 +330,7 @@ fn lay(
     alloc: Global,
     session: &mut Session<'_>,
     is_prompting: bool,
+    script: &[u8],
     number: Option<usize>,
     run: WholeRun,
     out: &mut Vec<u8>,
@@ -252,14 +338,23 @@ fn lay(
     requires lies { LiesAhead session.old.trail run }
     requires room { vec_len out.old + ROOM ≤ vec_capacity out.old }
     ensures session { session.new ≡ laid session.old run.steps }
-    ensures told { Adds (Told (spec.laid_said is_prompting session.new number run.ending (length run.steps - session.old.trail.depth))) out.old.items out.new.items }
+    ensures told { Adds (Told (spec.laid_said is_prompting script.now session.new number run.ending (length run.steps - session.old.trail.depth))) out.old.items out.new.items }
     ensures capacity { vec_capacity out.old ≤ vec_capacity out.new }
 {
     let depth = session.debugger().depth();
     let ahead = run.steps.items.len().saturating_sub(depth);
     let ending = run.ending;
     session.lay(run.steps.items);
-    tell_laid(alloc, session, is_prompting, number, &ending, ahead, out)
+    tell_laid(
+        alloc,
+        session,
+        is_prompting,
+        script,
+        number,
+        &ending,
+        ahead,
+        out,
+    )
 }
 
 /// Tells that no run ends so.
@@ -296,9 +391,16 @@ fn sought_from(alloc: Global, session: &Session<'_>, way: Way) -> Result<Search,
 
 /// Looks for the first run that ends so, has its steps lie ahead, and tells so.
 #[tactic(auto, using(crate::proofs::SaidLemmas::laying))]
-fn seek(alloc: Global, session: &mut Session<'_>, is_prompting: bool, way: Way, out: &mut Vec<u8>)
+fn seek(
+    alloc: Global,
+    session: &mut Session<'_>,
+    is_prompting: bool,
+    script: &[u8],
+    way: Way,
+    out: &mut Vec<u8>,
+)
     requires room { vec_len out.old + ROOM ≤ vec_capacity out.old }
-    ensures sought { Adds (SoughtBy is_prompting session.old way (spec.found_from session.old way) session.new) out.old.items out.new.items }
+    ensures sought { Adds (SoughtBy is_prompting script.now session.old way (spec.found_from session.old way) session.new) out.old.items out.new.items }
     ensures capacity { vec_capacity out.old ≤ vec_capacity out.new }
 {
     let Ok(sought) = sought_from(alloc, session, way) else {
@@ -306,7 +408,7 @@ fn seek(alloc: Global, session: &mut Session<'_>, is_prompting: bool, way: Way, 
     };
     let Search { report, found } = sought;
     match found {
-        Some(run) => lay(alloc, session, is_prompting, None, run, out),
+        Some(run) => lay(alloc, session, is_prompting, script, None, run, out),
         None => tell_none(alloc, session, is_prompting, way, &report, out),
     }
 }
@@ -327,18 +429,18 @@ fn numbered_from(
 }
 
 /// What is told of a number that no run has.
+#[tactic(auto, using(crate::proofs::SaidLemmas::saying))]
 fn not_followed_text(
     alloc: Global,
     session: &Session<'_>,
     is_prompting: bool,
     number: usize,
-) -> Result<String, AllocError>
-    ensures { IfOk result (λ t. string_bytes t ≡ spec.refused_said is_prompting session.now (not_followed_line number)) }
+) -> Result<Vec<u8>, AllocError>
+    ensures { IfOk result (λ t. t.items ≡ spec.said is_prompting session.now (not_followed_line number)) }
 {
-    let mut out = String::new(alloc);
-    push_not_followed(&mut out, number)?;
-    push_prompt(session, &mut out, is_prompting)?;
-    Ok(out)
+    let mut told = String::new(alloc);
+    push_not_followed(&mut told, number)?;
+    said(alloc, session, is_prompting, &told)
 }
 
 /// Tells of a number that no run has.
@@ -351,7 +453,7 @@ fn tell_not_followed(
     out: &mut Vec<u8>,
 )
     requires room { vec_len out.old + ROOM ≤ vec_capacity out.old }
-    ensures told { Adds (Told (spec.refused_said is_prompting session.now (not_followed_line number))) out.old.items out.new.items }
+    ensures told { Adds (Told (spec.said is_prompting session.now (not_followed_line number))) out.old.items out.new.items }
     ensures capacity { vec_capacity out.old ≤ vec_capacity out.new }
 {
     let Ok(text) = not_followed_text(alloc, session, is_prompting, number) else {
@@ -366,18 +468,19 @@ fn follow(
     alloc: Global,
     session: &mut Session<'_>,
     is_prompting: bool,
+    script: &[u8],
     number: usize,
     out: &mut Vec<u8>,
 )
     requires room { vec_len out.old + ROOM ≤ vec_capacity out.old }
-    ensures followed { Adds (FollowedBy is_prompting session.old number (spec.numbered_from session.old number) session.new) out.old.items out.new.items }
+    ensures followed { Adds (FollowedBy is_prompting script.now session.old number (spec.numbered_from session.old number) session.new) out.old.items out.new.items }
     ensures capacity { vec_capacity out.old ≤ vec_capacity out.new }
 {
     let Ok(found) = numbered_from(alloc, session, number) else {
         return push_all(out, MEMORY);
     };
     match found {
-        Some(run) => lay(alloc, session, is_prompting, Some(number), run, out),
+        Some(run) => lay(alloc, session, is_prompting, script, Some(number), run, out),
         None => tell_not_followed(alloc, session, is_prompting, number, out),
     }
 }
@@ -391,24 +494,24 @@ fn last_choice_in(alloc: Global, session: &Session<'_>) -> Result<Option<usize>,
 }
 
 /// What is told where no choice was made.
+#[tactic(auto, using(crate::proofs::SaidLemmas::saying))]
 fn no_choice_text(
     alloc: Global,
     session: &Session<'_>,
     is_prompting: bool,
-) -> Result<String, AllocError>
-    ensures { IfOk result (λ t. string_bytes t ≡ spec.refused_said is_prompting session.now no_choice_line) }
+) -> Result<Vec<u8>, AllocError>
+    ensures { IfOk result (λ t. t.items ≡ spec.said is_prompting session.now no_choice_line) }
 {
-    let mut out = String::new(alloc);
-    push_no_choice(&mut out)?;
-    push_prompt(session, &mut out, is_prompting)?;
-    Ok(out)
+    let mut told = String::new(alloc);
+    push_no_choice(&mut told)?;
+    said(alloc, session, is_prompting, &told)
 }
 
 /// Tells that no choice was made.
 #[tactic(auto, using(crate::proofs::SaidLemmas::telling))]
 fn tell_no_choice(alloc: Global, session: &Session<'_>, is_prompting: bool, out: &mut Vec<u8>)
     requires room { vec_len out.old + ROOM ≤ vec_capacity out.old }
-    ensures told { Adds (Told (spec.refused_said is_prompting session.now no_choice_line)) out.old.items out.new.items }
+    ensures told { Adds (Told (spec.said is_prompting session.now no_choice_line)) out.old.items out.new.items }
     ensures capacity { vec_capacity out.old ≤ vec_capacity out.new }
 {
     let Ok(text) = no_choice_text(alloc, session, is_prompting) else {
@@ -423,11 +526,12 @@ fn undo_choice(
     alloc: Global,
     session: &mut Session<'_>,
     is_prompting: bool,
+    script: &[u8],
     word: Word,
     out: &mut Vec<u8>,
 )
     requires room { vec_len out.old + ROOM ≤ vec_capacity out.old }
-    ensures undone { Adds (UndoneBy is_prompting session.old word (last_choice_of session.old.trail) session.new) out.old.items out.new.items }
+    ensures undone { Adds (UndoneBy is_prompting script.now session.old word (last_choice_of session.old.trail) session.new) out.old.items out.new.items }
     ensures capacity { vec_capacity out.old ≤ vec_capacity out.new }
 {
     let Ok(found) = last_choice_in(alloc, session) else {
@@ -439,6 +543,7 @@ fn undo_choice(
                 alloc,
                 session,
                 is_prompting,
+                script,
                 word,
                 Command::Goto(depth),
                 out,
@@ -470,12 +575,12 @@ fn look(
 
 /// What a word does with a session.
 #[tactic(auto, using(crate::proofs::SaidLemmas::doing))]
-fn doing_in(session: &Session<'_>, word: Word) -> Doing
-    ensures { result ≡ spec.doing_in session.now word }
+fn doing_in(alloc: Global, session: &Session<'_>, word: Word) -> Result<Doing, AllocError>
+    ensures { IfOk result (λ doing. doing ≡ spec.doing_in session.now word) }
 {
     let debugger = session.debugger();
     debugger.state_is_reached();
-    doing_of(debugger, word)
+    doing_of(alloc, debugger, word)
 }
 
 /// Answers a word.
@@ -492,42 +597,34 @@ fn answer_word(
     ensures answered { Adds (Answered is_prompting script.now session.old word session.new) out.old.items out.new.items }
     ensures capacity { vec_capacity out.old ≤ vec_capacity out.new }
 {
-    match doing_in(session, word) {
-        Doing::Asks(command) => carry_out(alloc, session, is_prompting, word, command, out),
-        Doing::Undoes => undo_choice(alloc, session, is_prompting, word, out),
-        Doing::Seeks(way) => seek(alloc, session, is_prompting, way, out),
-        Doing::Follows(number) => follow(alloc, session, is_prompting, number, out),
+    let Ok(doing) = doing_in(alloc, session, word) else {
+        return push_all(out, MEMORY);
+    };
+    match doing {
+        Doing::Asks(command) => {
+            carry_out(alloc, session, is_prompting, script, word, command, out)
+        }
+        Doing::Undoes => undo_choice(alloc, session, is_prompting, script, word, out),
+        Doing::Seeks(way) => seek(alloc, session, is_prompting, script, way, out),
+        Doing::Follows(number) => follow(alloc, session, is_prompting, script, number, out),
         Doing::Looks => look(alloc, session, is_prompting, script, word, out),
     }
 }
 
-/// What is told where nothing is done.
-pub(crate) fn idle_text(
-    alloc: Global,
-    session: &Session<'_>,
-    is_prompting: bool,
-) -> Result<String, AllocError>
-    ensures { IfOk result (λ t. string_bytes t ≡ spec.prompt is_prompting session.now) }
-{
-    let mut out = String::new(alloc);
-    push_prompt(session, &mut out, is_prompting)?;
-    Ok(out)
-}
-
 /// What is told of a line that asks for nothing that can be done.
+#[tactic(auto, using(crate::proofs::SaidLemmas::saying))]
 fn fault_text(
     alloc: Global,
     session: &Session<'_>,
     is_prompting: bool,
     line: &[u8],
     fault: WordFault,
-) -> Result<String, AllocError>
-    ensures { IfOk result (λ t. string_bytes t ≡ spec.fault_said is_prompting session.now line.now fault) }
+) -> Result<Vec<u8>, AllocError>
+    ensures { IfOk result (λ t. t.items ≡ spec.fault_said is_prompting session.now line.now fault) }
 {
-    let mut out = String::new(alloc);
-    push_fault(&mut out, line, fault)?;
-    push_prompt(session, &mut out, is_prompting)?;
-    Ok(out)
+    let mut told = String::new(alloc);
+    push_fault(&mut told, line, fault)?;
+    said(alloc, session, is_prompting, &told)
 }
 
 /// Adds the prompt, which takes no memory, where one is wanted.
@@ -615,7 +712,7 @@ impl<'c, 't> ConsoleDesk<'c, 't> {
         let Ok(text) = idle_text(alloc, &self.session, self.is_prompting) else {
             return push_all(out, MEMORY);
         };
-        add(&text, MEMORY, out)
+        add(text.as_bytes(), MEMORY, out)
     }
 
     /// Answers an empty line: by the last word once more, where there was one.

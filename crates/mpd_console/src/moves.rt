@@ -2,6 +2,7 @@
 
 ghost use Rattle.std.specs.Prelude.{◌≡◌, ◌++◌, IfOk, OnOk, None, Some, slice_get, string_bytes};
 ghost use Rattle.mpd_model.specs.Decisions.{decision};
+ghost use Rattle.mpd_policy.specs.Single.{single};
 ghost use Rattle.mpd_names.specs.Called.{break_text};
 ghost use Rattle.mpd_view.specs.Steps.{step_words};
 ghost use Rattle.mpd_view.specs.Standing.{standing_text};
@@ -14,11 +15,11 @@ use mpd_model::place::Decl;
 use mpd_model::step::Step;
 use mpd_names::text::push_break;
 use mpd_policy::breaks::Breaks;
-use mpd_policy::decide::{decide, forced_step};
+use mpd_policy::decide::{decide, only_step};
 use mpd_search::seek::push_count;
 use mpd_search::way::Way;
 use mpd_trail::debugger::Debugger;
-use mpd_view::standing::push_standing;
+use mpd_view::standing::{push_standing, sole};
 use mpd_view::steps::push_step;
 use mpd_vocabulary::word::Word;
 use mpd_wire::reply::{Answer, Refusal, Reply};
@@ -68,41 +69,54 @@ fn is_alone(one: Option<Step>, other: Option<Step>) -> bool
     one.is_some() && other.is_none()
 }
 
-/// Whether a run would stop here at a choice though the step that is taken there lies ahead.
-fn goes_along(debugger: &Debugger<'_>) -> bool
-    ensures { result ≡ spec.goes_along debugger.now.trail debugger.now.world }
+/// The step that comes next by a decision: a forced one, or the single candidate of a choice.
+fn single(decision: &Decision) -> Option<Step>
+    ensures { result ≡ single decision.now }
 {
-    is_alone(debugger.next_undone(), forced_step(debugger.core()))
-}
-
-/// What `next` asks for, with a number: where a step is forced so many steps, else a candidate.
-fn numbered_command(core: &Core<'_>, number: usize) -> Command
-    ensures { result ≡ spec.numbered_command core.now.world number }
-{
-    if forced_step(core).is_some() {
-        return Command::Run(number);
+    match decision {
+        Decision::Forced(step) => Some(*step),
+        Decision::Choice(steps) => sole(&steps.items),
+        Decision::Leaf(_) => None,
     }
-    Command::Next(Some(from_one(number)))
 }
 
-/// What `next` asks for.
-fn next_command(core: &Core<'_>, number: Option<usize>) -> Command
-    ensures { result ≡ spec.next_command core.now.world number }
+/// Whether a run would stop here at a choice though the step that is taken there lies ahead.
+#[tactic(auto, using(crate::proofs::MoveLemmas::going))]
+fn goes_along(alloc: Global, debugger: &Debugger<'_>) -> Result<bool, AllocError>
+    ensures { IfOk result (λ b. b ≡ spec.goes_along debugger.now.trail debugger.now.world) }
 {
+    let only = only_step(alloc, debugger.core())?;
+    Ok(is_alone(debugger.next_undone(), only))
+}
+
+/// What `next` asks for: the step that comes next, or with a number so many; at a choice a candidate.
+fn next_command(
+    alloc: Global,
+    core: &Core<'_>,
+    number: Option<usize>,
+) -> Result<Command, AllocError>
+    ensures { IfOk result (λ c. c ≡ spec.next_command core.now.world number) }
+{
+    let comes = only_step(alloc, core)?.is_some();
     match number {
-        None => Command::Next(None),
-        Some(number) => numbered_command(core, number),
+        None if comes => Ok(Command::Next(Some(0))),
+        None => Ok(Command::Next(None)),
+        Some(number) if comes => Ok(Command::RunOn(number)),
+        Some(number) => Ok(Command::Next(Some(from_one(number)))),
     }
 }
 
 /// What `run` asks for: at a choice the step that lies ahead, where one does.
-fn run_command(debugger: &Debugger<'_>, max: usize) -> Command
-    ensures { result ≡ spec.run_command debugger.now.trail debugger.now.world max }
+fn run_command(alloc: Global, debugger: &Debugger<'_>, max: usize) -> Result<Command, AllocError>
+    ensures { IfOk result (λ c. c ≡ spec.run_command debugger.now.trail debugger.now.world max) }
 {
-    if max > 0 && goes_along(debugger) {
-        return Command::Redo(1);
+    if max == 0 {
+        return Ok(Command::RunOn(0));
     }
-    Command::Run(max)
+    if goes_along(alloc, debugger)? {
+        return Ok(Command::Redo(1));
+    }
+    Ok(Command::RunOn(max))
 }
 
 /// What `redo` asks for: no more steps than lie ahead, where one does.
@@ -127,24 +141,28 @@ fn goto_command(debugger: &Debugger<'_>, depth: usize) -> Command
     Command::Goto(depth)
 }
 
-/// What a word does with the session of a debugger.
-pub(crate) fn doing_of(debugger: &Debugger<'_>, word: Word) -> Doing
-    ensures { result ≡ spec.doing_of debugger.now.trail debugger.now.world word }
+/// What a word does with the session of a debugger. An `Err` is want of memory.
+pub(crate) fn doing_of(
+    alloc: Global,
+    debugger: &Debugger<'_>,
+    word: Word,
+) -> Result<Doing, AllocError>
+    ensures { IfOk result (λ doing. doing ≡ spec.doing_of debugger.now.trail debugger.now.world word) }
 {
     match word {
-        Word::Next(number) => Doing::Asks(next_command(debugger.core(), number)),
-        Word::Run(max) => Doing::Asks(run_command(debugger, max)),
-        Word::Back(count) => Doing::Asks(Command::Back(count)),
-        Word::RunBack => Doing::Asks(Command::RunBack),
-        Word::UndoChoice => Doing::Undoes,
-        Word::Goto(depth) => Doing::Asks(goto_command(debugger, depth)),
-        Word::Redo(count) => Doing::Asks(redo_command(debugger, count)),
-        Word::Step(step) => Doing::Asks(Command::Step(step)),
-        Word::Break(stop) => Doing::Asks(Command::Break(stop)),
-        Word::Delete(number) => Doing::Asks(Command::Unbreak(number)),
-        Word::Follow(number) => Doing::Follows(number),
-        Word::Deadlock => Doing::Seeks(Way::Deadlock),
-        Word::Trap => Doing::Seeks(Way::Trap),
+        Word::Next(number) => Ok(Doing::Asks(next_command(alloc, debugger.core(), number)?)),
+        Word::Run(max) => Ok(Doing::Asks(run_command(alloc, debugger, max)?)),
+        Word::Back(count) => Ok(Doing::Asks(Command::Back(count))),
+        Word::RunBack => Ok(Doing::Asks(Command::RunBack)),
+        Word::UndoChoice => Ok(Doing::Undoes),
+        Word::Goto(depth) => Ok(Doing::Asks(goto_command(debugger, depth))),
+        Word::Redo(count) => Ok(Doing::Asks(redo_command(debugger, count))),
+        Word::Step(step) => Ok(Doing::Asks(Command::Step(step))),
+        Word::Break(stop) => Ok(Doing::Asks(Command::Break(stop))),
+        Word::Delete(number) => Ok(Doing::Asks(Command::Unbreak(number))),
+        Word::Follow(number) => Ok(Doing::Follows(number)),
+        Word::Deadlock => Ok(Doing::Seeks(Way::Deadlock)),
+        Word::Trap => Ok(Doing::Seeks(Way::Trap)),
         Word::Breaks
         | Word::List(_)
         | Word::Print(_, _)
@@ -161,27 +179,27 @@ pub(crate) fn doing_of(debugger: &Debugger<'_>, word: Word) -> Doing
         | Word::Enabled
         | Word::Show
         | Word::Help(_)
-        | Word::Quit => Doing::Looks,
+        | Word::Quit => Ok(Doing::Looks),
     }
 }
 
-/// The step that is taken next without a number: one that is forced.
-fn forced_in(decision: &Decision) -> Option<Step>
-    ensures { result ≡ spec.picked None decision.now }
-{
-    match decision {
-        Decision::Forced(step) => Some(*step),
-        Decision::Choice(_) | Decision::Leaf(_) => None,
-    }
-}
-
-/// The candidate of a number, from 1, at a choice, where there is one.
-fn candidate_in(decision: &Decision, number: usize) -> Option<Step>
-    ensures { result ≡ spec.picked (Some number) decision.now }
+/// The candidate of a number, from 1, where there is a choice to make.
+fn candidate(decision: &Decision, number: usize) -> Option<Step>
+    ensures { result ≡ spec.candidate number decision.now }
 {
     match decision {
         Decision::Choice(steps) => steps.items.get(from_one(number)).copied(),
         Decision::Forced(_) | Decision::Leaf(_) => None,
+    }
+}
+
+/// The step that is taken next by the candidate of a number, from 1, where none comes next.
+fn picked_at(decision: &Decision, number: usize, only: Option<Step>) -> Option<Step>
+    ensures { result ≡ spec.picked_at number decision.now only }
+{
+    match only {
+        None => candidate(decision, number),
+        Some(_) => None,
     }
 }
 
@@ -190,8 +208,8 @@ fn picked(decision: &Decision, number: Option<usize>) -> Option<Step>
     ensures { result ≡ spec.picked number decision.now }
 {
     match number {
-        None => forced_in(decision),
-        Some(number) => candidate_in(decision, number),
+        None => single(decision),
+        Some(number) => picked_at(decision, number, single(decision)),
     }
 }
 
@@ -223,7 +241,7 @@ fn step_of(alloc: Global, debugger: &Debugger<'_>, word: Word) -> Result<Option<
 {
     match word {
         Word::Next(number) => next_step(alloc, debugger.core(), number),
-        Word::Run(max) => Ok(redone_step(debugger, run_command(debugger, max))),
+        Word::Run(max) => Ok(redone_step(debugger, run_command(alloc, debugger, max)?)),
         Word::Redo(count) => Ok(redone_step(debugger, redo_command(debugger, count))),
         Word::Step(step) => Ok(Some(step)),
         _ => Ok(None),
@@ -359,13 +377,13 @@ fn push_removed(out: &mut String, word: Word) -> Result<(), AllocError>
 }
 
 /// Whether a word asks for the step that comes next.
-fn asks_next(core: &Core<'_>, word: Word) -> bool
-    ensures { result ≡ spec.asks_next core.now.world word }
+fn asks_next(alloc: Global, core: &Core<'_>, word: Word) -> Result<bool, AllocError>
+    ensures { IfOk result (λ b. b ≡ spec.asks_next core.now.world word) }
 {
     match word {
-        Word::Next(None) => true,
-        Word::Next(Some(_)) => forced_step(core).is_none(),
-        _ => false,
+        Word::Next(None) => Ok(true),
+        Word::Next(Some(_)) => Ok(only_step(alloc, core)?.is_none()),
+        _ => Ok(false),
     }
 }
 
@@ -407,16 +425,17 @@ fn refusal_line(is_next: bool, refusal: Refusal) -> &'static str
 fn push_refused(
     alloc: Global,
     debugger: &Debugger<'_>,
+    text: &[u8],
     out: &mut String,
     word: Word,
     refusal: Refusal,
 ) -> Result<(), AllocError>
-    ensures { OnOk result (string_bytes out.new ≡ string_bytes out.old ++ spec.refused_text debugger.now.trail debugger.now.world word refusal) }
+    ensures { OnOk result (string_bytes out.new ≡ string_bytes out.old ++ spec.refused_text text.now debugger.now.trail debugger.now.world word refusal) }
 {
-    let is_next = asks_next(debugger.core(), word);
+    let is_next = asks_next(alloc, debugger.core(), word)?;
     out.push_str(refusal_line(is_next, refusal))?;
     if stands_behind(is_next, refusal) {
-        push_standing(alloc, debugger, out)?;
+        push_standing(alloc, debugger, text, out)?;
     }
     Ok(())
 }
@@ -425,13 +444,14 @@ fn push_refused(
 fn push_run(
     alloc: Global,
     debugger: &Debugger<'_>,
+    text: &[u8],
     breaks: &Breaks,
     out: &mut String,
     word: Word,
     depth: usize,
     stop: Stop,
 ) -> Result<(), AllocError>
-    ensures { OnOk result (string_bytes out.new ≡ string_bytes out.old ++ spec.run_text debugger.now.trail debugger.now.world breaks.now word depth stop) }
+    ensures { OnOk result (string_bytes out.new ≡ string_bytes out.old ++ spec.run_text text.now debugger.now.trail debugger.now.world breaks.now word depth stop) }
 {
     push_ran(out, word, depth, stop.steps)?;
     push_cause(
@@ -441,42 +461,44 @@ fn push_run(
         word,
         stop.cause,
     )?;
-    push_standing(alloc, debugger, out)
+    push_standing(alloc, debugger, text, out)
 }
 
 /// Adds what is told of a move.
 fn push_move(
     alloc: Global,
     debugger: &Debugger<'_>,
+    text: &[u8],
     out: &mut String,
     depth: usize,
     lead: &str,
 ) -> Result<(), AllocError>
-    ensures { OnOk result (string_bytes out.new ≡ string_bytes out.old ++ spec.move_text debugger.now.trail debugger.now.world depth lead.now) }
+    ensures { OnOk result (string_bytes out.new ≡ string_bytes out.old ++ spec.move_text text.now debugger.now.trail debugger.now.world depth lead.now) }
 {
     push_moved(out, depth, lead)?;
-    push_standing(alloc, debugger, out)
+    push_standing(alloc, debugger, text, out)
 }
 
 /// Adds what is told of a reply to a word, behind it. `lead` is what was told of its step before. An `Err` is want of memory.
 pub(crate) fn push_reply(
     alloc: Global,
     debugger: &Debugger<'_>,
+    text: &[u8],
     breaks: &Breaks,
     out: &mut String,
     word: Word,
     lead: &str,
     reply: &Reply,
 ) -> Result<(), AllocError>
-    ensures { OnOk result (string_bytes out.new ≡ string_bytes out.old ++ spec.reply_text debugger.now.trail debugger.now.world breaks.now word lead.now reply.now) }
+    ensures { OnOk result (string_bytes out.new ≡ string_bytes out.old ++ spec.reply_text text.now debugger.now.trail debugger.now.world breaks.now word lead.now reply.now) }
 {
     match reply {
-        Reply::Refused(refusal) => push_refused(alloc, debugger, out, word, *refusal),
+        Reply::Refused(refusal) => push_refused(alloc, debugger, text, out, word, *refusal),
         Reply::Done { answer, .. } => match answer {
-            Answer::Depth(depth) => push_move(alloc, debugger, out, *depth, lead),
-            Answer::Stepped { depth, .. } => push_move(alloc, debugger, out, *depth, lead),
+            Answer::Depth(depth) => push_move(alloc, debugger, text, out, *depth, lead),
+            Answer::Stepped { depth, .. } => push_move(alloc, debugger, text, out, *depth, lead),
             Answer::Ran { depth, stop } => {
-                push_run(alloc, debugger, breaks, out, word, *depth, *stop)
+                push_run(alloc, debugger, text, breaks, out, word, *depth, *stop)
             }
             Answer::Added(number) => push_added(out, debugger.core().code().decls(), word, *number),
             Answer::Removed => push_removed(out, word),

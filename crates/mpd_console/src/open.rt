@@ -1,6 +1,6 @@
 //! Opens a console: at the start of a script, or with a deadlock ahead.
 
-ghost use Rattle.std.specs.Prelude.{◌≡◌, IfOk, None, string_bytes, length};
+ghost use Rattle.std.specs.Prelude.{◌≡◌, IfOk, None, length};
 ghost use Rattle.mpd_model.specs.Trail.{IsRun};
 ghost use Rattle.mpd_explore.specs.Witness.{IsWitness};
 ghost use Rattle.mpd_session.specs.Held.{opened};
@@ -9,7 +9,7 @@ ghost use Rattle.mpd_model.specs.declared.outcome.Outcome.TheVariants.{Deadlock}
 ghost use Rattle.mpd_explore.specs.declared.report.Ending.TheVariants.{Ended};
 ghost use Rattle.mpd_console.specs.Says.{prompt, laid_said};
 
-use crate::desk::{ConsoleDesk, idle_text, laid_text};
+use crate::desk::{ConsoleDesk, idle_bytes, laid_text};
 use mpd_code::code::Code;
 use mpd_explore::report::{Ending, Witness};
 use mpd_explore::verify::{WitnessFault, verify};
@@ -34,7 +34,7 @@ pub enum OpenFault {
 #[derive(Drop)]
 pub struct Opened<'c, 't> {
     pub desk: ConsoleDesk<'c, 't>,
-    pub said: String,
+    pub said: Vec<u8>,
 }
 
 /// A console at the start of a script, given its text. It says a prompt, where prompts are wanted.
@@ -46,12 +46,12 @@ pub fn open<'c, 't>(
     is_prompting: bool,
 ) -> Result<Opened<'c, 't>, OpenFault>
     ensures desk { IfOk result (λ o. o.desk ≡ record { session = opened code.now.program mode; script = script.entry.now; last = None; prompts = is_prompting }) }
-    ensures said { IfOk result (λ o. string_bytes o.said ≡ prompt is_prompting (opened code.now.program mode)) }
+    ensures said { IfOk result (λ o. o.said.items ≡ prompt is_prompting (opened code.now.program mode)) }
 {
     let Ok(session) = Session::start(alloc, code, mode) else {
         return Err(OpenFault::Memory);
     };
-    let Ok(said) = idle_text(alloc, &session, is_prompting) else {
+    let Ok(said) = idle_bytes(alloc, &session, is_prompting) else {
         return Err(OpenFault::Memory);
     };
     let desk = ConsoleDesk::new(session, script, is_prompting);
@@ -70,7 +70,7 @@ pub fn open_with<'c, 't>(
 ) -> Result<Opened<'c, 't>, OpenFault>
     ensures is { IfOk result (λ _. IsWitness code.now.program mode witness) }
     ensures desk { IfOk result (λ o. o.desk ≡ record { session = laid (opened code.now.program mode) witness.steps; script = script.entry.now; last = None; prompts = is_prompting }) }
-    ensures said { IfOk result (λ o. string_bytes o.said ≡ laid_said is_prompting (laid (opened code.now.program mode) witness.steps) None (Ended (Deadlock witness.blocked)) (length witness.steps)) }
+    ensures said { IfOk result (λ o. o.said.items ≡ laid_said is_prompting script.entry.now (laid (opened code.now.program mode) witness.steps) None (Ended (Deadlock witness.blocked)) (length witness.steps)) }
 {
     if witness.steps.items.len() > STEPS_MAX {
         return Err(OpenFault::TooLong);
@@ -86,7 +86,7 @@ pub fn open_with<'c, 't>(
     let ahead = witness.steps.items.len();
     let ending = Ending::Ended(Outcome::Deadlock(witness.blocked));
     session.lay(witness.steps.items);
-    let Ok(said) = laid_text(alloc, &session, is_prompting, None, &ending, ahead) else {
+    let Ok(said) = laid_text(alloc, &session, is_prompting, script, None, &ending, ahead) else {
         return Err(OpenFault::Memory);
     };
     let desk = ConsoleDesk::new(session, script, is_prompting);

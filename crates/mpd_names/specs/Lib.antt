@@ -5,5 +5,6 @@ pub mod Held
 pub mod Stand
 pub mod Cuts
 pub mod Listed
+pub mod Sources
 pub mod NameRows
 pub mod ListRows

@@ -16,6 +16,7 @@ use Rattle.mpd_model.specs.Texts.{line}
 use Rattle.mpd_names.specs.NameRows.{five}
 use Rattle.mpd_names.specs.Held.{short_request, short_cells, variables_text}
 use Rattle.mpd_names.specs.Listed.{is_shown, list_text, about_text}
+use Rattle.mpd_names.specs.Sources.{source}
 
 -- ---- what ranks hold, and where they stand
 
@@ -80,3 +81,8 @@ row_about = refl
 
 pub row_shown : map {B = Bool} (is_shown (Some 9)) (4 ∷ 5 ∷ 9 ∷ 13 ∷ 14 ∷ []) ≡ false ∷ true ∷ true ∷ true ∷ false ∷ []
 row_shown = refl
+
+-- lines by number: two that are there, and three that aren't
+pub row_source : map {B = List ℕ} (source text) (1 ∷ 3 ∷ 0 ∷ 4 ∷ 65537 ∷ []) ≡ line (codes "    1  a") ∷ line (codes "    3  c") ∷ [] ∷ [] ∷ [] ∷ []
+unfolding digits
+row_source = refl

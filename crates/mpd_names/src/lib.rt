@@ -8,5 +8,6 @@ pub mod held;
 pub mod lines;
 pub mod list;
 pub mod name;
+pub mod source;
 mod stand;
 pub mod text;

@@ -90,7 +90,7 @@ fn shown(byte: u8) -> u8
 }
 
 /// Adds the bytes of a line.
-fn push_shown(out: &mut String, line: &[u8]) -> Result<(), AllocError>
+pub(crate) fn push_shown(out: &mut String, line: &[u8]) -> Result<(), AllocError>
     ensures { OnOk result (string_bytes out.new ≡ string_bytes out.old ++ map listed.shown line.now) }
 {
     for byte in line {
@@ -100,7 +100,7 @@ fn push_shown(out: &mut String, line: &[u8]) -> Result<(), AllocError>
 }
 
 /// Adds a number, to the right in five columns.
-fn push_column(out: &mut String, number: usize) -> Result<(), AllocError>
+pub(crate) fn push_column(out: &mut String, number: usize) -> Result<(), AllocError>
     ensures { OnOk result (string_bytes out.new ≡ string_bytes out.old ++ listed.column number) }
 {
     write!(out, "{number:>5}")

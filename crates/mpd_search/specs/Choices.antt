@@ -1,5 +1,5 @@
--- The last choice that was made.
-use Rattle.std.specs.Prelude.{ℕ, zero, suc, Bool, true, false, if◌then◌else◌, Option, Some, None, codes, List}
+-- The last choice that was made, among two candidates or more.
+use Rattle.std.specs.Prelude.{ℕ, zero, suc, Bool, false, nat_lt, if◌then◌else◌, Option, Some, None, codes, List, length}
 use Rattle.mpd_model.specs.declared.decision.Decision.{Decision}
 use Rattle.mpd_model.specs.declared.decision.Decision.TheVariants.{Forced, Choice, Leaf}
 use Rattle.mpd_model.specs.World.{World}
@@ -8,9 +8,10 @@ use Rattle.mpd_model.specs.Trail.{Trail}
 use Rattle.mpd_model.specs.Running.{world_at}
 use Rattle.mpd_model.specs.Texts.{line}
 
+-- whether somebody has to choose: a single candidate is no choice
 abbrev pub is_choice : Decision → Bool
 is_choice (Forced a) = false
-is_choice (Choice steps) = true
+is_choice (Choice steps) = nat_lt 1 (length steps)
 is_choice (Leaf o) = false
 
 -- whether a choice is open in a world

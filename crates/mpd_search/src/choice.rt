@@ -10,12 +10,12 @@ use mpd_policy::decide::decide;
 use mpd_trail::debugger::Debugger;
 use std::alloc::{AllocError, Global};
 
-/// Whether a choice is open.
+/// Whether a choice is open, of two candidates or more.
 fn is_open(alloc: Global, core: &Core<'_>) -> Result<bool, AllocError>
     ensures { IfOk result (λ b. b ≡ spec.is_choice (decision core.now.world)) }
 {
     match decide(alloc, core)? {
-        Decision::Choice(_) => Ok(true),
+        Decision::Choice(steps) => Ok(steps.items.len() > 1),
         Decision::Forced(_) | Decision::Leaf(_) => Ok(false),
     }
 }

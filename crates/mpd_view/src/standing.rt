@@ -3,35 +3,84 @@
 ghost use Rattle.std.specs.Prelude.{◌≡◌, ◌++◌, ◌<◌, ◌+◌, OnOk, length, string_bytes};
 ghost use Rattle.std.specs.List.{list_all};
 ghost use Rattle.mpd_model.specs.Decisions.{decision};
+ghost use Rattle.mpd_policy.specs.Single.{sole};
 ghost use Rattle.mpd_view.specs.Standing as standing;
 
+use crate::lost::push_all_lost;
 use crate::steps::{push_issued, push_step};
 use mpd_core::state::Core;
-use mpd_explain::told::push_told;
+use mpd_explain::told::{issue_line, push_told, rank_line};
 use mpd_explore::report::Ending;
 use mpd_model::decision::Decision;
 use mpd_model::outcome::Outcome;
 use mpd_model::step::{CallId, Step};
 use mpd_model::text::print_outcome;
+use mpd_names::source::push_source;
 use mpd_policy::decide::decide;
 use mpd_trail::debugger::Debugger;
 use std::alloc::{AllocError, Global};
 
-/// Adds how many steps are undone, and the first of them, where there is one.
+/// Adds two lines of the script, the second where it is another.
+fn push_sources(out: &mut String, text: &[u8], one: usize, other: usize) -> Result<(), AllocError>
+    ensures { OnOk result (string_bytes out.new ≡ string_bytes out.old ++ standing.sources text.now one other) }
+{
+    push_source(out, text, one)?;
+    if one == other {
+        return Ok(());
+    }
+    push_source(out, text, other)
+}
+
+/// Adds the lines of the script that a step is about.
+fn push_step_source(
+    core: &Core<'_>,
+    text: &[u8],
+    out: &mut String,
+    step: Step,
+) -> Result<(), AllocError>
+    ensures { OnOk result (string_bytes out.new ≡ string_bytes out.old ++ standing.step_source text.now core.now.program core.now.world step) }
+{
+    match step {
+        Step::Local(rank) => push_source(out, text, rank_line(core, rank)),
+        Step::Match(send, recv) => {
+            push_sources(out, text, issue_line(core, send), issue_line(core, recv))
+        }
+        Step::Wake(rank) | Step::WakeAny { rank, index: _ } => {
+            push_source(out, text, issue_line(core, core.board().last_call(rank)))
+        }
+        Step::Release => Ok(()),
+    }
+}
+
+/// Adds how many steps are undone, and the first of them.
+fn push_ahead_line(
+    core: &Core<'_>,
+    out: &mut String,
+    count: usize,
+    step: Step,
+) -> Result<(), AllocError>
+    ensures { OnOk result (string_bytes out.new ≡ string_bytes out.old ++ standing.ahead_line core.now.program core.now.world count step) }
+{
+    write!(out, "{count} ahead: ")?;
+    push_step(core, out, step)?;
+    out.push('\n')
+}
+
+/// Adds that, with its lines of the script, where a step is undone.
 fn push_ahead(
     core: &Core<'_>,
+    text: &[u8],
     out: &mut String,
     count: usize,
     undone: Option<Step>,
 ) -> Result<(), AllocError>
-    ensures { OnOk result (string_bytes out.new ≡ string_bytes out.old ++ standing.ahead_line core.now.program core.now.world count undone) }
+    ensures { OnOk result (string_bytes out.new ≡ string_bytes out.old ++ standing.ahead_text text.now core.now.program core.now.world count undone) }
 {
     let Some(step) = undone else {
         return Ok(());
     };
-    write!(out, "{count} ahead: ")?;
-    push_step(core, out, step)?;
-    out.push('\n')
+    push_ahead_line(core, out, count, step)?;
+    push_step_source(core, text, out, step)
 }
 
 /// The call that a candidate is chosen for.
@@ -84,21 +133,30 @@ fn one_chooser(core: &Core<'_>, steps: &[Step]) -> Option<CallId>
     }
 }
 
-/// Adds for which call it is chosen, where it is one.
-fn push_choice_head(
-    core: &Core<'_>,
-    out: &mut String,
-    call: Option<CallId>,
-) -> Result<(), AllocError>
-    ensures { OnOk result (string_bytes out.new ≡ string_bytes out.old ++ standing.choice_head core.now.program core.now.world.board call) }
+/// Adds for which call it is chosen.
+fn push_chooser(core: &Core<'_>, out: &mut String, call: CallId) -> Result<(), AllocError>
+    ensures { OnOk result (string_bytes out.new ≡ string_bytes out.old ++ standing.chooser_line core.now.program core.now.world.board call) }
 {
-    let Some(call) = call else {
-        return out.push_str("stopped at a choice:\n");
-    };
     out.push_str("stopped at a choice")?;
     push_issued(core, out, call)?;
     out.push_str(":")?;
     out.push('\n')
+}
+
+/// Adds for which call it is chosen, and its line of the script, where it is one.
+fn push_choice_head(
+    core: &Core<'_>,
+    text: &[u8],
+    out: &mut String,
+    call: Option<CallId>,
+) -> Result<(), AllocError>
+    ensures { OnOk result (string_bytes out.new ≡ string_bytes out.old ++ standing.choice_head text.now core.now.program core.now.world.board call) }
+{
+    let Some(call) = call else {
+        return out.push_str("stopped at a choice:\n");
+    };
+    push_chooser(core, out, call)?;
+    push_source(out, text, issue_line(core, call))
 }
 
 /// Adds a candidate, where so many stand before it.
@@ -130,10 +188,15 @@ fn push_candidates(core: &Core<'_>, out: &mut String, steps: &[Step]) -> Result<
 }
 
 /// Adds a choice and its candidates.
-fn push_choice(core: &Core<'_>, out: &mut String, steps: &[Step]) -> Result<(), AllocError>
-    ensures { OnOk result (string_bytes out.new ≡ string_bytes out.old ++ standing.choice_text core.now.program core.now.world steps.now) }
+fn push_choice(
+    core: &Core<'_>,
+    text: &[u8],
+    out: &mut String,
+    steps: &[Step],
+) -> Result<(), AllocError>
+    ensures { OnOk result (string_bytes out.new ≡ string_bytes out.old ++ standing.choice_text text.now core.now.program core.now.world steps.now) }
 {
-    push_choice_head(core, out, one_chooser(core, steps))?;
+    push_choice_head(core, text, out, one_chooser(core, steps))?;
     push_candidates(core, out, steps)
 }
 
@@ -145,7 +208,7 @@ fn push_outcome(alloc: Global, out: &mut String, outcome: &Outcome) -> Result<()
     write!(out, "ended: {text}\n")
 }
 
-/// Adds how the run has ended, and what is told of that.
+/// Adds how the run has ended, what is told of that, and the requests that are lost.
 fn push_ended(
     alloc: Global,
     core: &Core<'_>,
@@ -155,39 +218,77 @@ fn push_ended(
     ensures { OnOk result (string_bytes out.new ≡ string_bytes out.old ++ standing.ended_text core.now.program core.now.world outcome) }
 {
     push_outcome(alloc, out, &outcome)?;
-    push_told(alloc, core, out, &Ending::Ended(outcome))
+    push_told(alloc, core, out, &Ending::Ended(outcome))?;
+    push_all_lost(core, out)
 }
 
-/// Adds the step that comes next, where no step is undone.
+/// Adds the step that comes next.
+fn push_next_line(core: &Core<'_>, out: &mut String, step: Step) -> Result<(), AllocError>
+    ensures { OnOk result (string_bytes out.new ≡ string_bytes out.old ++ standing.next_line core.now.program core.now.world step) }
+{
+    out.push_str("next: ")?;
+    push_step(core, out, step)?;
+    out.push('\n')
+}
+
+/// Adds that, with its lines of the script, where no step is undone.
 fn push_next(
     core: &Core<'_>,
+    text: &[u8],
     out: &mut String,
     step: Step,
     undone: Option<Step>,
 ) -> Result<(), AllocError>
-    ensures { OnOk result (string_bytes out.new ≡ string_bytes out.old ++ standing.next_line core.now.program core.now.world step undone) }
+    ensures { OnOk result (string_bytes out.new ≡ string_bytes out.old ++ standing.next_text text.now core.now.program core.now.world step undone) }
 {
     if let Some(_) = undone {
         return Ok(());
     }
-    out.push_str("next: ")?;
-    push_step(core, out, step)?;
-    out.push('\n')
+    push_next_line(core, out, step)?;
+    push_step_source(core, text, out, step)
+}
+
+/// The step of a list of one.
+#[tactic(auto, using(crate::proofs::StandingLemmas::alone))]
+pub fn sole(steps: &[Step]) -> Option<Step>
+    ensures { result ≡ sole steps.now }
+{
+    if steps.len() == 1 {
+        return Some(steps[0]);
+    }
+    None
+}
+
+/// Adds a choice, or its single candidate as the step that comes next.
+fn push_chosen(
+    core: &Core<'_>,
+    text: &[u8],
+    out: &mut String,
+    undone: Option<Step>,
+    steps: &[Step],
+) -> Result<(), AllocError>
+    ensures { OnOk result (string_bytes out.new ≡ string_bytes out.old ++ standing.chosen_text text.now core.now.program core.now.world undone steps.now) }
+{
+    match sole(steps) {
+        Some(only) => push_next(core, text, out, only, undone),
+        None => push_choice(core, text, out, steps),
+    }
 }
 
 /// Adds what a decision is.
 fn push_decided(
     alloc: Global,
     core: &Core<'_>,
+    text: &[u8],
     out: &mut String,
     undone: Option<Step>,
     decided: Decision,
 ) -> Result<(), AllocError>
-    ensures { OnOk result (string_bytes out.new ≡ string_bytes out.old ++ standing.decided_text core.now.program core.now.world undone decided) }
+    ensures { OnOk result (string_bytes out.new ≡ string_bytes out.old ++ standing.decided_text text.now core.now.program core.now.world undone decided) }
 {
     match decided {
-        Decision::Forced(step) => push_next(core, out, step, undone),
-        Decision::Choice(candidates) => push_choice(core, out, &candidates.items),
+        Decision::Forced(step) => push_next(core, text, out, step, undone),
+        Decision::Choice(candidates) => push_chosen(core, text, out, undone, &candidates.items),
         Decision::Leaf(outcome) => push_ended(alloc, core, out, outcome),
     }
 }
@@ -196,26 +297,28 @@ fn push_decided(
 fn push_here(
     alloc: Global,
     core: &Core<'_>,
+    text: &[u8],
     out: &mut String,
     count: usize,
     undone: Option<Step>,
 ) -> Result<(), AllocError>
-    ensures { OnOk result (string_bytes out.new ≡ string_bytes out.old ++ standing.standing_by core.now.program core.now.world count undone) }
+    ensures { OnOk result (string_bytes out.new ≡ string_bytes out.old ++ standing.standing_by text.now core.now.program core.now.world count undone) }
 {
-    push_ahead(core, out, count, undone)?;
-    push_decided(alloc, core, out, undone, decide(alloc, core)?)
+    push_ahead(core, text, out, count, undone)?;
+    push_decided(alloc, core, text, out, undone, decide(alloc, core)?)
 }
 
-/// Adds where a debugger stands: the steps that are undone, and the choice, the end, or the step that comes next. An `Err` is want of
-/// memory.
+/// Adds where a debugger stands, given the text of the script: the steps that are undone, and the choice, the end, or the step that comes
+/// next. An `Err` is want of memory.
 pub fn push_standing(
     alloc: Global,
     debugger: &Debugger<'_>,
+    text: &[u8],
     out: &mut String,
 ) -> Result<(), AllocError>
-    ensures { OnOk result (string_bytes out.new ≡ string_bytes out.old ++ standing.standing_text debugger.now.trail debugger.now.world) }
+    ensures { OnOk result (string_bytes out.new ≡ string_bytes out.old ++ standing.standing_text text.now debugger.now.trail debugger.now.world) }
 {
     let undone = debugger.next_undone();
     let count = debugger.steps().len() - debugger.depth();
-    push_here(alloc, debugger.core(), out, count, undone)
+    push_here(alloc, debugger.core(), text, out, count, undone)
 }

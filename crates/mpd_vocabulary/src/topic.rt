@@ -265,7 +265,7 @@ pub(crate) fn purpose_of(topic: Topic) -> &'static str
         Topic::Breaks => "lists the breakpoints",
         Topic::List => "shows the script, and at each line which ranks stand there",
         Topic::Print => "shows a variable or a request of all ranks, or of rank P",
-        Topic::Vars => "shows all variables and requests, and what was printed",
+        Topic::Vars => "shows all variables and requests in short, and what was printed",
         Topic::Ranks => "shows what each rank is doing",
         Topic::Calls => "lists the calls of all ranks, or of rank P",
         Topic::Queues => "lists the sends and the receives that are free",

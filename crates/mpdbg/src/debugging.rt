@@ -78,7 +78,7 @@ pub(crate) fn debug_script<'a, R: Eprint + AllocGlobal, S: Source, W: Sink>(
     if terminals.is_terminal {
         let _unwritten = eprintln!(rt; "help lists the words, quit ends; docs/CONSOLE.md");
     }
-    if write_all(sink, said.as_bytes()).is_err() {
+    if write_all(sink, &said).is_err() {
         return Err(Fault::from(EngineFault::WriteFailed));
     }
     let mut source = UntilQuit::new(source);

@@ -1,0 +1,4 @@
+pub mod FoldLemmas
+pub mod WordLemmas
+pub mod ShortLemmas
+pub mod CutLemmas

@@ -1,0 +1,4 @@
+//! How answers are laid out: long lines go on in further lines (docs/CONSOLE.md, "Long lines").
+#![tactic(auto)]
+
+pub mod fold;

@@ -1,0 +1,51 @@
+//! Lines of the script that something is about.
+
+ghost use Rattle.std.specs.Prelude.{◌≡◌, ◌++◌, OnOk, MatchOption, None, Some, slice_get, string_bytes};
+ghost use Rattle.mpd_model.specs.Lines.{lines_of};
+ghost use Rattle.mpd_names.specs.Sources as spec;
+
+use crate::lines::{bare, cut};
+use crate::list::{push_column, push_shown};
+use std::alloc::AllocError;
+
+/// The line of a text behind so many others, without what ends it, where there is one.
+#[tactic(auto, using(crate::proofs::SourceLemmas::passing))]
+fn line_behind(text: &[u8], above: usize) -> Option<&[u8]>
+    ensures { MatchOption result (slice_get (lines_of text.now) above ≡ None) (λ l. slice_get (lines_of text.now) above ≡ Some l.now) }
+{
+    let mut rest = text;
+    let mut left = above;
+    while let Some((line, behind)) = cut(rest) {
+        if left > 0 {
+            left -= 1;
+            rest = behind;
+        } else {
+            return Some(bare(line));
+        }
+    }
+    None
+}
+
+/// Adds a line of the script, which has this number.
+fn push_source_line(out: &mut String, number: usize, line: &[u8]) -> Result<(), AllocError>
+    ensures { OnOk result (string_bytes out.new ≡ string_bytes out.old ++ spec.source_line number (Some line.now)) }
+{
+    push_column(out, number)?;
+    out.push_str("  ")?;
+    push_shown(out, line)?;
+    out.push('\n')
+}
+
+/// Adds the line of a number of a text, and nothing where there is none. An `Err` is want of memory.
+#[tactic(auto, using(crate::proofs::SourceLemmas::numbering))]
+pub fn push_source(out: &mut String, text: &[u8], number: usize) -> Result<(), AllocError>
+    ensures { OnOk result (string_bytes out.new ≡ string_bytes out.old ++ spec.source text.now number) }
+{
+    if number < 1 {
+        return Ok(());
+    }
+    match line_behind(text, number - 1) {
+        None => Ok(()),
+        Some(line) => push_source_line(out, number, line),
+    }
+}
