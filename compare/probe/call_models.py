@@ -519,7 +519,7 @@ MODELS = {
     'Book::new, len, audit': book_looks, 'Shared::new': shared_opened, 'Shared::call': shared_called, 'Shared::settle, code, SeatDesk': by_hand,
     'trace': trace_written, 'plain': plain_written, 'plain_keeping': plain_written, 'run_script': requests_served, 'serve': requests_served,
     'TraceDesk::start': by_hand, 'Divider::new': by_hand, 'Divider looks': by_hand, 'read_options': by_hand, 'UsageFault looks': by_hand,
-    'mode_of, step_of, command_of, has_word': by_hand}
+    'mode_of, step_of, trace_word_of, has_word': by_hand}
 
 
 def wanted(row):

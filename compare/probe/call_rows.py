@@ -373,7 +373,7 @@ def programs():
         yield Row('UsageFault looks', argument=words, by_hand=no_state(told + '\n'), spares=True)
     for text, told in (('buffered', 'true false false true'), ('match 0.0 1.0', 'false true true true'), ('goto 3', 'false false true true'),
                        (' ', 'false false false false')):
-        yield Row('mode_of, step_of, command_of, has_word', argument=text, by_hand=no_state(told + '\n'), spares=True)
+        yield Row('mode_of, step_of, trace_word_of, has_word', argument=text, by_hand=no_state(told + '\n'), spares=True)
 
 
 def rows():

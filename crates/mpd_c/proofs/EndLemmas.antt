@@ -1,8 +1,8 @@
 -- The text of a script in C ends in a line feed.
 use Rattle.std.proofs.Common.{◌≡◌, ℕ, true, List, [], ◌∷◌, ◌++◌, refl}
-use Rattle.mpd_model.specs.Lines.{ends_with_feed}
-use Rattle.mpd_model.specs.Program.{Program}
-use Rattle.mpd_model.specs.Tree.{block_of}
+use Rattle.mpd_model.specs.texts.Lines.{ends_with_feed}
+use Rattle.mpd_model.specs.script.Program.{Program}
+use Rattle.mpd_model.specs.script.Tree.{block_of}
 use Rattle.mpd_c.specs.CText.{c_text, head_text, main_text, names_text, requests_text}
 use Rattle.mpd_c.specs.Statements.{c_block}
 use Rattle.mpd_c.specs.Pieces.{piece_text}

@@ -2,8 +2,8 @@
 use Rattle.std.proofs.Common.{◌≡◌, ℕ, zero, suc, ◌+◌, ◌-◌, ◌<◌, ◌≤◌, List, [], ◌∷◌, ◌++◌, length, get_or, drop, append_assoc, append-nil, refl, ap, sym, ◌∙◌, arith}
 use Rattle.std.specs.Prelude.{Option, Some, None, codes}
 use Rattle.mpd_model.specs.declared.stmt.StatusStmt.{StatusStmt}
-use Rattle.mpd_model.specs.Declaration.{Declared}
-use Rattle.mpd_model.specs.Tree.{Tree, block_of, statements, statements_in}
+use Rattle.mpd_model.specs.script.Declaration.{Declared}
+use Rattle.mpd_model.specs.script.Tree.{Tree, block_of, statements, statements_in}
 use Rattle.mpd_c.specs.Pieces.{piece_text}
 use Rattle.mpd_c.specs.Statements.{braced, call_status_lines, else_text, line_text, lines_text, margin}
 use Rattle.mpd_c.specs.declared.piece.Piece.TheVariants as piece

@@ -7,9 +7,9 @@ use Rattle.mpd_model.specs.declared.place.DeclKind.TheVariants.{Variable, Handle
 use Rattle.mpd_model.specs.declared.place.Place.{Place}
 use Rattle.mpd_model.specs.declared.stmt.SendStmt.{SendStmt}
 use Rattle.mpd_model.specs.declared.stmt.Simple.TheVariants as st
-use Rattle.mpd_model.specs.Declaration.{Declared}
-use Rattle.mpd_model.specs.Term.{Term, lit, own_rank, size, cell, element, op1, op2, Target}
-use Rattle.mpd_model.specs.Tree.{Tree, simple, branch, repeat, block_of}
+use Rattle.mpd_model.specs.script.Declaration.{Declared}
+use Rattle.mpd_model.specs.script.Term.{Term, lit, own_rank, size, cell, element, op1, op2, Target}
+use Rattle.mpd_model.specs.script.Tree.{Tree, simple, branch, repeat, block_of}
 use Rattle.mpd_c.specs.CText.{declared_text, processes}
 use Rattle.mpd_c.specs.Expressions.{c_whole}
 use Rattle.mpd_c.specs.Pieces.{fed, piece_text}

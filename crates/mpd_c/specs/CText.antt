@@ -4,9 +4,9 @@ use Rattle.std.specs.List.{flat_map}
 use Rattle.std.specs.Fmt.{decimal}
 use Rattle.mpd_model.specs.declared.place.DeclKind.{DeclKind}
 use Rattle.mpd_model.specs.declared.place.DeclKind.TheVariants.{Variable, Handle}
-use Rattle.mpd_model.specs.Declaration.{Declared}
-use Rattle.mpd_model.specs.Program.{Program}
-use Rattle.mpd_model.specs.Tree.{block_of}
+use Rattle.mpd_model.specs.script.Declaration.{Declared}
+use Rattle.mpd_model.specs.script.Program.{Program}
+use Rattle.mpd_model.specs.script.Tree.{block_of}
 use Rattle.mpd_c.specs.Pieces.{piece_text}
 use Rattle.mpd_c.specs.Statements.{c_block}
 use Rattle.mpd_c.specs.declared.piece.Piece.TheVariants as piece

@@ -5,9 +5,9 @@ use Rattle.mpd_model.specs.declared.expr.BinaryOp.{BinaryOp}
 use Rattle.mpd_model.specs.declared.expr.BinaryOp.TheVariants.{Or, And, Equal, NotEqual, Less, AtMost, Greater, AtLeast, Add, Subtract, Multiply, Divide, Remainder}
 use Rattle.mpd_model.specs.declared.expr.UnaryOp.TheVariants.{Negate, Not}
 use Rattle.mpd_model.specs.declared.place.Place.{Place}
-use Rattle.mpd_model.specs.Canonical.{in_brackets, name_text, op_text}
-use Rattle.mpd_model.specs.Declaration.{Declared}
-use Rattle.mpd_model.specs.Term.{Term, lit, own_rank, size, cell, element, op1, op2, Target}
+use Rattle.mpd_model.specs.grammar.Canonical.{in_brackets, name_text, op_text}
+use Rattle.mpd_model.specs.script.Declaration.{Declared}
+use Rattle.mpd_model.specs.script.Term.{Term, lit, own_rank, size, cell, element, op1, op2, Target}
 use Rattle.mpd_c.specs.Pieces.{piece_text}
 use Rattle.mpd_c.specs.declared.piece.Piece.TheVariants as piece
 

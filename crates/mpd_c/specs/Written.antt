@@ -5,7 +5,7 @@ use Rattle.mpd_device.specs.Seen.{SinkSeen}
 use Rattle.mpd_lines.specs.declared.engine.EngineFault.{EngineFault}
 use Rattle.mpd_lines.specs.declared.engine.EngineFault.TheVariants.{ReadFailed, WriteFailed, TooManyTurns, Memory}
 use Rattle.mpd_lines.specs.Telling.{AppendsPart}
-use Rattle.mpd_model.specs.Program.{Program}
+use Rattle.mpd_model.specs.script.Program.{Program}
 use Rattle.mpd_c.specs.CText.{c_text}
 
 -- the whole text of the script was written, or a part of it until a write failed; or nothing was, since memory was refused

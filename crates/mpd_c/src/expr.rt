@@ -1,13 +1,11 @@
 //! The text of expressions and places.
 
 ghost use Rattle.std.specs.Prelude.{◌≡◌, ◌++◌, OnOk, slice_get, string_bytes};
-ghost use Rattle.mpd_model.specs.Canonical.{op_text};
+ghost use Rattle.mpd_model.specs.grammar.Canonical.{op_text};
 ghost use Rattle.mpd_c.specs.Expressions.{c_handles, c_name, c_target, c_term, c_whole, is_comparison, is_logical, is_number, is_scalar, macro_text, size_of, stands_between};
 
 use crate::piece::{Piece, text_of};
-use mpd_model::expr::{BinaryOp, Expr, ExprNode, UnaryOp};
-use mpd_model::place::{Decl, Place};
-use mpd_model::stmt::Target;
+use mpd_model::{BinaryOp, Decl, Expr, ExprNode, Place, Target, UnaryOp};
 use std::alloc::AllocError;
 
 /// `rank`, `size` and a variable that is no array.

@@ -9,5 +9,6 @@ mod simple;
 mod stmt;
 mod write;
 
+pub use laws::text_ends_its_last_line;
 pub use script::print_c;
 pub use write::write_c;

@@ -7,8 +7,7 @@ ghost use Rattle.mpd_c.specs.Pieces.{piece_text};
 
 use crate::piece::{Piece, text_of};
 use crate::stmt::push_stmts;
-use mpd_model::place::{Decl, DeclKind};
-use mpd_model::script::Script;
+use mpd_model::{Decl, DeclKind, Script};
 use std::alloc::{AllocError, Global};
 
 /// A script as one file of C with MPI calls (docs/FORMATS.md, "A script in C"). An `Err` is want of memory.

@@ -8,10 +8,9 @@ ghost use Rattle.mpd_c.specs.Statements.{assign_text, braced, call_lines, call_s
 
 use crate::expr::{push_expr, push_handles, push_target};
 use crate::piece::{Piece, text_of};
-use mpd_model::expr::Expr;
-use mpd_model::place::{Decl, Place};
-use mpd_model::stmt::{
-    AssignStmt, IrecvStmt, IsendStmt, RecvStmt, SendStmt, Simple, StatusStmt, Target, WaitanyStmt,
+use mpd_model::{
+    AssignStmt, Decl, Expr, IrecvStmt, IsendStmt, Place, RecvStmt, SendStmt, Simple, StatusStmt,
+    Target, WaitanyStmt,
 };
 use std::alloc::AllocError;
 

@@ -2,7 +2,7 @@
 
 ghost use Rattle.std.specs.Prelude.{◌≡◌, ◌≤◌, ◌<◌, ◌+◌, ◌++◌, IfOk, OnOk, slice_get, string_bytes, codes};
 ghost use Rattle.mpd_model.specs.declared.limits.TheConstants.{STATEMENTS_MAX};
-ghost use Rattle.mpd_model.specs.Tree.{statements, statements_in, block_of};
+ghost use Rattle.mpd_model.specs.script.Tree.{statements, statements_in, block_of};
 ghost use Rattle.mpd_c.specs.Expressions.{c_whole};
 ghost use Rattle.mpd_c.specs.Pieces.{piece_text};
 ghost use Rattle.mpd_c.specs.declared.piece.Piece.TheVariants as piece;
@@ -11,9 +11,7 @@ ghost use Rattle.mpd_c.specs.Statements.{at_line, c_block, c_tree, else_text, li
 use crate::expr::push_expr;
 use crate::piece::{Piece, text_of};
 use crate::simple::{push_line, push_margin, push_piece, push_simple, push_with_expr};
-use mpd_model::expr::Expr;
-use mpd_model::script::Script;
-use mpd_model::stmt::{Stmt, StmtNode};
+use mpd_model::{Expr, Script, Stmt, StmtNode};
 use std::alloc::AllocError;
 
 /// Adds the line of the script of a statement, by its number.

@@ -3,10 +3,9 @@
 ghost use Rattle.mpd_c.specs.Written.{WroteC};
 
 use crate::script::print_c;
-use mpd_device::device::Sink;
-use mpd_lines::engine::EngineFault;
-use mpd_lines::outbox::write_all;
-use mpd_model::script::Script;
+use mpd_device::Sink;
+use mpd_lines::{EngineFault, write_all};
+use mpd_model::Script;
 use std::alloc::Global;
 
 /// Writes a script as a C program with MPI calls (docs/FORMATS.md, "A script in C"). `WriteFailed` (46) comes only where a write failed,

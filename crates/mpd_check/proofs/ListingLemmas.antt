@@ -1,18 +1,18 @@
 -- What is told of a sample is what is answered; and a part with nothing beside its leaves is the text of a report.
 use Rattle.std.proofs.Common.{◌≡◌, ℕ, Bool, List, [], Result, Ok, Err, refl, ap, ◌∙◌}
 use Rattle.mpd_model.specs.declared.call.Mode.{Mode}
-use Rattle.mpd_model.specs.Program.{Program}
+use Rattle.mpd_model.specs.script.Program.{Program}
 use Rattle.mpd_device.specs.Seen.{SinkSeen}
 use Rattle.mpd_explore.specs.declared.report.Limits.{Limits}
-use Rattle.mpd_model.specs.World.{start}
-use Rattle.mpd_model.specs.Trail.{first_standing}
+use Rattle.mpd_model.specs.steps.World.{start}
+use Rattle.mpd_model.specs.runs.Trail.{first_standing}
 use Rattle.mpd_explore.specs.declared.report.Leaf.{Leaf}
 use Rattle.mpd_explore.specs.ReportText.{report_text}
 use Rattle.mpd_explore.specs.Printed.{told_text}
 use Rattle.mpd_explore.specs.WitnessTexts.{witness_texts}
 use Rattle.mpd_explore.proofs.PrintLemmas.{told_reports}
 use Rattle.mpd_explain.proofs.PrintLemmas.{plain_told}
-use Rattle.mpd_pool.specs.declared.check.CheckPlan.{CheckPlan}
+use Rattle.mpd_pool.specs.declared.pool.CheckPlan.{CheckPlan}
 use Rattle.mpd_lines.specs.declared.engine.EngineFault.{EngineFault}
 use Rattle.mpd_lines.specs.declared.engine.EngineFault.TheVariants.{ReadFailed, WriteFailed, TooManyTurns, Memory}
 use Rattle.mpd_check.specs.declared.counts.Tally.{Tally}

@@ -3,16 +3,16 @@ use Rattle.std.specs.Prelude.{◌≡◌, ◌<◌, ◌≤◌, ℕ, ◌+◌, ◌++
 use Rattle.std.specs.Fmt.{decimal}
 use Rattle.std.specs.Io.KnownBytes.{Appends}
 use Rattle.mpd_model.specs.declared.call.Mode.{Mode}
-use Rattle.mpd_model.specs.Program.{Program}
-use Rattle.mpd_model.specs.World.{start}
-use Rattle.mpd_model.specs.Texts.{line}
+use Rattle.mpd_model.specs.script.Program.{Program}
+use Rattle.mpd_model.specs.steps.World.{start}
+use Rattle.mpd_model.specs.texts.Texts.{line}
 use Rattle.mpd_device.specs.Seen.{SinkSeen}
 use Rattle.mpd_explore.specs.declared.report.Leaf.{Leaf}
 use Rattle.mpd_explore.specs.ReportText.{report_text}
-use Rattle.mpd_pieces.specs.declared.split.TheConstants.{PIECES_MAX}
+use Rattle.mpd_pieces.specs.declared.splitter.TheConstants.{PIECES_MAX}
 use Rattle.mpd_pieces.specs.Pieces.{pieces, part, part_left, split_report, split_more}
-use Rattle.mpd_pool.specs.declared.check.TheConstants.{WORKERS_MAX}
-use Rattle.mpd_pool.specs.declared.check.CheckPlan.{CheckPlan}
+use Rattle.mpd_pool.specs.declared.pool.TheConstants.{WORKERS_MAX}
+use Rattle.mpd_pool.specs.declared.pool.CheckPlan.{CheckPlan}
 use Rattle.mpd_lines.specs.declared.engine.EngineFault.TheVariants.{ReadFailed, WriteFailed, TooManyTurns, Memory}
 use Rattle.mpd_lines.specs.Telling.{AppendsPart}
 use Rattle.mpd_check.specs.declared.fault.CheckFault.{CheckFault}

@@ -1,9 +1,9 @@
 -- A report that is explained, or whose leaves are grouped by how they end; and what is written of a sample.
 use Rattle.std.specs.Prelude.{◌≡◌, ℕ, Bool, true, false, nat_lt, List, [], length, map, Result, Ok, Err}
 use Rattle.mpd_model.specs.declared.call.Mode.{Mode}
-use Rattle.mpd_model.specs.Program.{Program}
-use Rattle.mpd_model.specs.World.{start}
-use Rattle.mpd_model.specs.Trail.{Standing, first_standing, kept}
+use Rattle.mpd_model.specs.script.Program.{Program}
+use Rattle.mpd_model.specs.steps.World.{start}
+use Rattle.mpd_model.specs.runs.Trail.{Standing, first_standing, done_steps}
 use Rattle.mpd_device.specs.Seen.{SinkSeen}
 use Rattle.mpd_explore.specs.declared.report.Leaf.{Leaf}
 use Rattle.mpd_explore.specs.declared.report.Limits.{Limits}
@@ -13,7 +13,7 @@ use Rattle.mpd_explore.specs.WitnessTexts.{witness_texts}
 use Rattle.mpd_explain.specs.Explanations.{explanations}
 use Rattle.mpd_explain.specs.Told.{explained_text}
 use Rattle.mpd_sample.specs.Drawn.{seeded, draws, sampled}
-use Rattle.mpd_pool.specs.declared.check.CheckPlan.{CheckPlan}
+use Rattle.mpd_pool.specs.declared.pool.CheckPlan.{CheckPlan}
 use Rattle.mpd_lines.specs.declared.engine.EngineFault.{EngineFault}
 use Rattle.mpd_lines.specs.declared.engine.EngineFault.TheVariants.{ReadFailed, WriteFailed, TooManyTurns, Memory}
 use Rattle.mpd_check.specs.declared.fault.CheckFault.{CheckFault}
@@ -25,11 +25,11 @@ use Rattle.mpd_check.specs.Checked.{leaves_of, more_of, leaves_at, more_at, text
 -- the explanations of leaves from where a debugger stands, where they are asked for
 abbrev pub explained_at : Bool → ℕ → Standing → List Leaf → List (List ℕ)
 explained_at false fuel d leaves = []
-explained_at true fuel d leaves = explanations d.trail.program d.trail.mode (kept d.trail) fuel d.world leaves
+explained_at true fuel d leaves = explanations d.trail.program d.trail.mode (done_steps d.trail) fuel d.world leaves
 
 -- the text of a report of these leaves, made where a debugger stands
 abbrev pub listing_at : Telling → Limits → Standing → List Leaf → Bool → List ℕ
-listing_at t l d leaves more = explained_text t.group (witness_texts l.witnesses (kept d.trail) l.fuel d.world leaves) (explained_at t.explain l.fuel d leaves) leaves more
+listing_at t l d leaves more = explained_text t.group (witness_texts l.witnesses (done_steps d.trail) l.fuel d.world leaves) (explained_at t.explain l.fuel d leaves) leaves more
 
 -- the same from the start of a script
 abbrev pub listing_text : Telling → Program → Mode → Limits → List Leaf → Bool → List ℕ

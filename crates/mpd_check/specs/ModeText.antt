@@ -3,8 +3,8 @@ use Rattle.std.specs.Prelude.{ℕ, ◌++◌, ◌||◌, Bool, List, Option, Some,
 use Rattle.std.specs.Fmt.{decimal}
 use Rattle.mpd_model.specs.declared.call.Mode.{Mode}
 use Rattle.mpd_model.specs.declared.call.Mode.TheVariants.{Rendezvous, Buffered, Slots}
-use Rattle.mpd_model.specs.Modes.{rendezvous_word, buffered_word, slots_word}
-use Rattle.mpd_model.specs.Texts.{line}
+use Rattle.mpd_model.specs.texts.Modes.{rendezvous_word, buffered_word, slots_word}
+use Rattle.mpd_model.specs.texts.Texts.{line}
 use Rattle.mpd_check.specs.declared.counts.Tally.{Tally}
 use Rattle.mpd_check.specs.declared.modes.Tried.{Tried}
 use Rattle.mpd_check.specs.Tally.{is_bad}

@@ -2,9 +2,9 @@
 use Rattle.std.specs.Prelude.{◌≡◌, ◌&&◌, ◌||◌, ◌==◌, nat_lt, not, if◌then◌else◌, Bool, true, false, List, length, count_by}
 use Rattle.mpd_model.specs.declared.call.Mode.{Mode}
 use Rattle.mpd_model.specs.declared.outcome.Outcome.TheVariants as outcome
-use Rattle.mpd_model.specs.World.{is_limited}
-use Rattle.mpd_model.specs.Tree.{block_of}
-use Rattle.mpd_model.specs.Program.{Program, IsBlockOf}
+use Rattle.mpd_model.specs.steps.World.{is_limited}
+use Rattle.mpd_model.specs.script.Tree.{block_of}
+use Rattle.mpd_model.specs.script.Program.{Program, IsBlockOf}
 use Rattle.mpd_explore.specs.declared.report.Ending.{Ending}
 use Rattle.mpd_explore.specs.declared.report.Ending.TheVariants.{Ended}
 use Rattle.mpd_explore.specs.declared.report.Ending.TheVariants as ends

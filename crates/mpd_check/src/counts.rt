@@ -2,14 +2,13 @@
 
 ghost use Rattle.std.specs.Prelude.{◌≡◌, ◌<◌, Bool, length, count_by};
 ghost use Rattle.std.specs.Bool.{Decides};
-ghost use Rattle.mpd_model.specs.World.{is_limited as limited};
+ghost use Rattle.mpd_model.specs.steps.World.{is_limited as limited};
 ghost use Rattle.mpd_check.specs.Tally.{tally_of, is_of, is_bad, is_whole, TellsAll, verdict_of};
 
-use mpd_code::code::Code;
-use mpd_explore::report::{Ending, Leaf, Report};
-use mpd_lines::verdict::Verdict;
-use mpd_model::call::Mode;
-use mpd_model::outcome::Outcome;
+use mpd_code::Code;
+use mpd_explore::{Ending, Leaf, Report};
+use mpd_lines::Verdict;
+use mpd_model::{Mode, Outcome};
 
 /// How a run ends, as far as it is counted.
 #[derive(Clone, Copy)]

@@ -1,6 +1,6 @@
 //! Why a check is refused.
 
-use mpd_lines::engine::EngineFault;
+use mpd_lines::EngineFault;
 
 /// Why a check is refused.
 #[derive(Clone, Copy)]

@@ -12,19 +12,19 @@ ghost use Rattle.mpd_check.specs.Checked.{pieces_of, leaves_of, more_of, text_of
 ghost use Rattle.mpd_check.specs.Refused.{refused_by};
 ghost use Rattle.mpd_check.specs.Tally.{tally_of};
 
-use crate::counts::{Tally, tally_of};
-use crate::fault::CheckFault;
-use mpd_code::code::Code;
-use mpd_device::device::Sink;
-use mpd_lines::engine::EngineFault;
-use mpd_lines::outbox::write_all;
-use mpd_model::call::Mode;
-use mpd_model::limits::STEPS_MAX;
-use mpd_pieces::split::PIECES_MAX;
-use mpd_pool::check::{CheckPlan, PoolFault, WORKERS_MAX};
-use mpd_pool::gate::Gate;
-use mpd_pool::print::print_report;
-use mpd_trail::debugger::Debugger;
+use crate::counts::tally_of;
+pub use counts::{Tally, is_limited};
+pub use fault::CheckFault;
+pub use listing::{Telling, check_listing, check_sample};
+pub use modes::{Tried, check_mode, put_least};
+use mpd_code::Code;
+use mpd_device::Sink;
+use mpd_lines::{EngineFault, write_all};
+use mpd_model::{Mode, STEPS_MAX};
+use mpd_pieces::PIECES_MAX;
+use mpd_pool::{CheckPlan, Gate, PoolFault, WORKERS_MAX, print_report};
+use mpd_trail::Debugger;
+pub use part::{check_piece, count_pieces};
 use std::alloc::Global;
 use std::marker::Sync;
 use std::sync::Wait;
@@ -85,7 +85,7 @@ fn tell<G: Gate, R: Threads + Wait + Sync>(
     let Ok(mut debugger) = Debugger::start(alloc, code, mode) else {
         return Err(PoolFault::Memory);
     };
-    let report = match mpd_pool::check::check(rt, alloc, &mut debugger, plan, workers, gate) {
+    let report = match mpd_pool::check(rt, alloc, &mut debugger, plan, workers, gate) {
         Ok(report) => report,
         Err(fault) => {
             drop(debugger);

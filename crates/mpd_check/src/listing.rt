@@ -2,7 +2,7 @@
 
 ghost use Rattle.std.specs.Prelude.{◌≡◌, ◌≤◌, ◌<◌, ◌+◌, ◌⊎◌, IfOk, OnOk, IsErrOf, length, map, string_bytes};
 ghost use Rattle.std.specs.List.{AllByRecursion};
-ghost use Rattle.mpd_model.specs.Trail.{kept, IsReached};
+ghost use Rattle.mpd_model.specs.runs.Trail.{done_steps, IsReached};
 ghost use Rattle.mpd_trail.specs.Views.{standing_of};
 ghost use Rattle.mpd_explore.specs.Witness.{HasWitness};
 ghost use Rattle.mpd_explain.specs.Told.{explained_text};
@@ -13,21 +13,16 @@ ghost use Rattle.mpd_check.specs.Tally.{tally_of};
 use crate::counts::{Tally, tally_of};
 use crate::fault::CheckFault;
 use crate::{Told, is_crew, put, refused};
-use mpd_code::code::Code;
-use mpd_device::device::Sink;
-use mpd_explain::explain::explain_all;
-use mpd_explain::print::print_explained;
-use mpd_explore::report::{Limits, Report};
-use mpd_explore::watch::Watch;
-use mpd_lines::engine::EngineFault;
-use mpd_lines::outbox::write_all;
-use mpd_model::call::Mode;
-use mpd_model::limits::STEPS_MAX;
-use mpd_pieces::split::PIECES_MAX;
-use mpd_pool::check::{CheckPlan, PoolFault, WORKERS_MAX};
-use mpd_pool::gate::Gate;
-use mpd_sample::sample::sample;
-use mpd_trail::debugger::Debugger;
+use mpd_code::Code;
+use mpd_device::Sink;
+use mpd_explain::{explain_all, print_explained};
+use mpd_explore::{Limits, Report, Watch};
+use mpd_lines::{EngineFault, write_all};
+use mpd_model::{Mode, STEPS_MAX};
+use mpd_pieces::PIECES_MAX;
+use mpd_pool::{CheckPlan, Gate, PoolFault, WORKERS_MAX};
+use mpd_sample::sample;
+use mpd_trail::Debugger;
 use std::alloc::{AllocError, Global};
 use std::marker::Sync;
 use std::sync::Wait;
@@ -52,7 +47,7 @@ fn explanations_of(
 ) -> Result<Vec<String>, AllocError>
     requires clean { length debugger.old.trail.steps ≡ debugger.old.trail.depth }
     requires fits { debugger.old.trail.depth + fuel ≤ STEPS_MAX }
-    requires listed { AllByRecursion (HasWitness debugger.old.trail.program debugger.old.trail.mode (kept debugger.old.trail) fuel debugger.old.world) report.now.leaves.items }
+    requires listed { AllByRecursion (HasWitness debugger.old.trail.program debugger.old.trail.mode (done_steps debugger.old.trail) fuel debugger.old.world) report.now.leaves.items }
     ensures texts { IfOk result (λ texts. map string_bytes texts.items ≡ explained_at asked fuel (standing_of debugger.old) report.now.leaves.items) }
 {
     if !asked {
@@ -71,7 +66,7 @@ pub(crate) fn told_of(
 ) -> Result<Told, AllocError>
     requires clean { length debugger.old.trail.steps ≡ debugger.old.trail.depth }
     requires fits { debugger.old.trail.depth + fuel ≤ STEPS_MAX }
-    requires listed { AllByRecursion (HasWitness debugger.old.trail.program debugger.old.trail.mode (kept debugger.old.trail) fuel debugger.old.world) report.now.leaves.items }
+    requires listed { AllByRecursion (HasWitness debugger.old.trail.program debugger.old.trail.mode (done_steps debugger.old.trail) fuel debugger.old.world) report.now.leaves.items }
     ensures text { IfOk result (λ told. string_bytes told.text ≡ explained_text telling.group (map string_bytes report.now.witnesses.items) (explained_at telling.explain fuel (standing_of debugger.old) report.now.leaves.items) report.now.leaves.items report.now.more) }
     ensures tally { IfOk result (λ told. told.tally ≡ tally_of report.now.leaves.items report.now.more) }
 {
@@ -102,7 +97,7 @@ fn tell_listing<G: Gate, R: Threads + Wait + Sync>(
     let Ok(mut debugger) = Debugger::start(alloc, code, mode) else {
         return Err(PoolFault::Memory);
     };
-    let report = match mpd_pool::check::check(rt, alloc, &mut debugger, plan, workers, gate) {
+    let report = match mpd_pool::check(rt, alloc, &mut debugger, plan, workers, gate) {
         Ok(report) => report,
         Err(fault) => {
             drop(debugger);

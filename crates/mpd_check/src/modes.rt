@@ -8,17 +8,13 @@ ghost use Rattle.mpd_check.specs.Tally.{tally_of};
 use crate::counts::{Tally, tally_of};
 use crate::fault::CheckFault;
 use crate::{Told, is_crew, put, refused};
-use mpd_code::code::Code;
-use mpd_device::device::Sink;
-use mpd_lines::engine::EngineFault;
-use mpd_lines::outbox::write_all;
-use mpd_lines::verdict::Verdict;
-use mpd_model::call::Mode;
-use mpd_model::limits::STEPS_MAX;
-use mpd_pieces::split::PIECES_MAX;
-use mpd_pool::check::{CheckPlan, PoolFault, WORKERS_MAX};
-use mpd_pool::gate::Gate;
-use mpd_trail::debugger::Debugger;
+use mpd_code::Code;
+use mpd_device::Sink;
+use mpd_lines::{EngineFault, Verdict, write_all};
+use mpd_model::{Mode, STEPS_MAX};
+use mpd_pieces::PIECES_MAX;
+use mpd_pool::{CheckPlan, Gate, PoolFault, WORKERS_MAX};
+use mpd_trail::Debugger;
 use std::alloc::{AllocError, Global};
 use std::marker::Sync;
 use std::sync::Wait;
@@ -132,7 +128,7 @@ fn tally_in<G: Gate, R: Threads + Wait + Sync>(
     let Ok(mut debugger) = Debugger::start(alloc, code, mode) else {
         return Err(PoolFault::Memory);
     };
-    match mpd_pool::check::check(rt, alloc, &mut debugger, plan, workers, gate) {
+    match mpd_pool::check(rt, alloc, &mut debugger, plan, workers, gate) {
         Ok(report) => {
             drop(debugger);
             let tally = tally_of(&report);

@@ -1,7 +1,7 @@
 //! One piece of a script's runs, and how many pieces there are (docs/FORMATS.md, "Reports").
 
 ghost use Rattle.std.specs.Prelude.{◌≡◌, ◌≤◌, ◌<◌, IfOk, OnOk, IsErrOf, length, string_bytes};
-ghost use Rattle.mpd_model.specs.Trail.{first_standing};
+ghost use Rattle.mpd_model.specs.runs.Trail.{first_standing};
 ghost use Rattle.mpd_trail.specs.Views.{standing_of};
 ghost use Rattle.mpd_pieces.specs.Pieces.{numbered, Reaches};
 ghost use Rattle.mpd_check.specs.Checked.{pieces_of, leaves_at, more_at, count_text, AreFew, Counted, PartAnswered, PartTold};
@@ -14,16 +14,14 @@ use crate::fault::CheckFault;
 use crate::listing::{Telling, told_of};
 use crate::modes::put_text;
 use crate::{Told, put};
-use mpd_code::code::Code;
-use mpd_device::device::Sink;
-use mpd_explore::watch::Watch;
-use mpd_lines::engine::EngineFault;
-use mpd_model::call::Mode;
-use mpd_model::limits::STEPS_MAX;
-use mpd_pieces::explore_at::explore_at;
-use mpd_pieces::split::{PIECES_MAX, Piece, SplitFault, split};
-use mpd_pool::check::CheckPlan;
-use mpd_trail::debugger::Debugger;
+use mpd_code::Code;
+use mpd_device::Sink;
+use mpd_explore::Watch;
+use mpd_lines::EngineFault;
+use mpd_model::{Mode, STEPS_MAX};
+use mpd_pieces::{PIECES_MAX, Piece, SplitFault, explore_at, split};
+use mpd_pool::CheckPlan;
+use mpd_trail::Debugger;
 use std::alloc::{AllocError, Global};
 
 /// A debugger at the start of a script, and the pieces of its runs.

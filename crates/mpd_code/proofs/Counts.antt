@@ -1,6 +1,6 @@
 -- How many statements there are.
 use Rattle.std.proofs.Common.{ℕ, zero, suc, ◌<◌, ◌≤◌, List, [], ◌∷◌, length, get_or, arith}
-use Rattle.mpd_model.specs.Tree.{Tree, simple, branch, repeat, block_of, statements, statements_in}
+use Rattle.mpd_model.specs.script.Tree.{Tree, simple, branch, repeat, block_of, statements, statements_in}
 
 pub statements_pos : (t : Tree) → 0 < statements t
 statements_pos (simple s) = omega arith

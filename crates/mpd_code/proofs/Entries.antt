@@ -1,7 +1,7 @@
 -- Where blocks begin.
 use Rattle.std.proofs.Common.{◌≡◌, ℕ, ◌<◌, List, [], ◌∷◌, length, reverse, refl, sym, arith}
 use Rattle.std.proofs.lemmas.List.{length-reverse}
-use Rattle.mpd_model.specs.Tree.{Tree, block_of}
+use Rattle.mpd_model.specs.script.Tree.{Tree, block_of}
 use Rattle.mpd_code.specs.Lowered.{entry}
 
 pub entry_some : (n next : ℕ) (ts : List Tree) → 0 < length ts → n ≡ entry n (block_of ts) next

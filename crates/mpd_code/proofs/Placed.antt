@@ -1,8 +1,8 @@
 -- What the nodes are that were added for a statement and for a block.
 use Rattle.std.proofs.Common.{◌≡◌, ℕ, ◌+◌, List, [], ◌∷◌, ◌++◌, length, reverse, refl, sym, ap, ◌∙◌, arith, length-append, append_assoc}
 use Rattle.std.proofs.lemmas.List.{reverse-append}
-use Rattle.mpd_model.specs.Term.{Term}
-use Rattle.mpd_model.specs.Tree.{Tree, simple, branch, repeat, Block, no_more, then_more, block_of, statements, statements_in}
+use Rattle.mpd_model.specs.script.Term.{Term}
+use Rattle.mpd_model.specs.script.Tree.{Tree, simple, branch, repeat, Block, no_more, then_more, block_of, statements, statements_in}
 use Rattle.mpd_code.specs.declared.node.Node.{Node}
 use Rattle.mpd_code.specs.declared.node.Action.TheVariants.{Branch, Repeat}
 use Rattle.mpd_code.specs.Lowered.{entry, lowered, lowered_one}

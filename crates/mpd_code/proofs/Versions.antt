@@ -5,8 +5,8 @@ use Rattle.std.specs.Bool.{Decides}
 use Rattle.std.specs.List.{list_all}
 use Rattle.mpd_model.specs.declared.stmt.Simple.{Simple}
 use Rattle.mpd_model.specs.declared.stmt.Simple.TheVariants as st
-use Rattle.mpd_model.specs.Tree.{Tree, simple, branch, repeat, Block, no_more, then_more, statements, statements_in}
-use Rattle.mpd_model.specs.Program.{first_version, IsTreeOf, IsBlockOf}
+use Rattle.mpd_model.specs.script.Tree.{Tree, simple, branch, repeat, Block, no_more, then_more, statements, statements_in}
+use Rattle.mpd_model.specs.script.Program.{first_version, IsTreeOf, IsBlockOf}
 use Rattle.mpd_code.specs.declared.node.Node.{Node}
 use Rattle.mpd_code.specs.declared.node.Action.TheVariants as does
 use Rattle.mpd_code.specs.Lowered.{entry, lowered, lowered_one}

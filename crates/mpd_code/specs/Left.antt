@@ -1,7 +1,7 @@
 -- What is left to run at each statement of a program, the statement itself first.
 use Rattle.std.specs.Prelude.{ℕ, ◌+◌, List, [], ◌∷◌, ◌++◌, slice_index_or}
-use Rattle.mpd_model.specs.Tree.{Tree, simple, branch, repeat, Block, no_more, then_more, block_of, trees, statements, statements_in, numbered}
-use Rattle.mpd_model.specs.Program.{Program}
+use Rattle.mpd_model.specs.script.Tree.{Tree, simple, branch, repeat, Block, no_more, then_more, block_of, trees, statements, statements_in, numbered}
+use Rattle.mpd_model.specs.script.Program.{Program}
 
 -- A block is numbered from a number on, and `behind` is what is left behind it. Behind the body of a `while` stands the `while` again.
 abbrev mutual

@@ -1,6 +1,6 @@
 -- The nodes that a block is lowered to.
 use Rattle.std.specs.Prelude.{ℕ, ◌+◌, List, [], ◌∷◌, ◌++◌}
-use Rattle.mpd_model.specs.Tree.{Tree, simple, branch, repeat, Block, no_more, then_more, statements, statements_in}
+use Rattle.mpd_model.specs.script.Tree.{Tree, simple, branch, repeat, Block, no_more, then_more, statements, statements_in}
 use Rattle.mpd_code.specs.declared.node.Node.{Node}
 use Rattle.mpd_code.specs.declared.node.Action.TheVariants.{Simple, Branch, Repeat}
 

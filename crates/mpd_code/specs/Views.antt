@@ -1,8 +1,8 @@
 -- What lowered code shows to contracts.
 use Rattle.std.specs.Prelude.{ℕ, ℤ, List, Option, refl}
 use Rattle.std.specs.Coded.{Coded, code_by, coded×, coded_ℕ, coded_ℤ, coded_list, coded_option}
-use Rattle.mpd_model.specs.Program.{Program, program_code}
-use Rattle.mpd_model.specs.Term.{Env}
+use Rattle.mpd_model.specs.script.Program.{Program, program_code}
+use Rattle.mpd_model.specs.script.Term.{Env}
 
 pub record CodeView : Type 0 where
   -- what it was lowered from

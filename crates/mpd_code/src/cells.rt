@@ -1,10 +1,9 @@
 //! How many cells declarations have.
 
 ghost use Rattle.std.specs.Prelude.{◌≡◌, ◌≤◌};
-ghost use Rattle.mpd_model.specs.Declaration.{cells_of, variable_cells, handle_cells, variables_in, handles_in};
+ghost use Rattle.mpd_model.specs.script.Declaration.{cells_of, variable_cells, handle_cells, variables_in, handles_in};
 
-use mpd_model::limits::{CELLS_MAX, HANDLES_MAX};
-use mpd_model::place::{Decl, DeclKind};
+use mpd_model::{CELLS_MAX, Decl, DeclKind, HANDLES_MAX};
 
 /// How many cells one name or array has.
 fn cell_count(size: Option<usize>) -> usize

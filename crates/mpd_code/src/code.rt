@@ -3,18 +3,15 @@
 ghost use Rattle.std.specs.Bool.{Decides};
 ghost use Rattle.std.specs.List.{list_all};
 ghost use Rattle.std.specs.Prelude.{◌≡◌, ◌<◌, ◌≤◌, ◌↔◌, [], IsSome, IfSome, IfNone, Some, slice_get};
-ghost use Rattle.mpd_model.specs.Declaration.{variables_in, handles_in};
-ghost use Rattle.mpd_model.specs.Program.{IsBlockOf};
-ghost use Rattle.mpd_model.specs.Tree.{block_of, statements_in, numbered};
+ghost use Rattle.mpd_model.specs.script.Declaration.{variables_in, handles_in};
+ghost use Rattle.mpd_model.specs.script.Program.{IsBlockOf};
+ghost use Rattle.mpd_model.specs.script.Tree.{block_of, statements_in, numbered};
 ghost use Rattle.mpd_code.specs.Left.{left_at};
 ghost use Rattle.mpd_code.specs.Stands.{Stands};
 ghost use Rattle.mpd_code.specs.Versions.{is_of_first};
 
 use crate::node::{Action, Node};
-use mpd_model::limits::{CELLS_MAX, HANDLES_MAX, RANKS_MAX, STATEMENTS_MAX};
-use mpd_model::place::Decl;
-use mpd_model::script::Script;
-use mpd_model::stmt::Simple;
+use mpd_model::{CELLS_MAX, Decl, HANDLES_MAX, RANKS_MAX, STATEMENTS_MAX, Script, Simple};
 use std::marker::Model;
 use std::snapshot::Snapshot;
 
@@ -39,9 +36,9 @@ impl Model for Code {
 
     ghost coded = { code_view_code };
 
-    ghost use Rattle.mpd_model.specs.Declaration.{variables_in, handles_in};
-    ghost use Rattle.mpd_model.specs.Program.{IsLegal};
-    ghost use Rattle.mpd_model.specs.Tree.{block_of, statements_in};
+    ghost use Rattle.mpd_model.specs.script.Declaration.{variables_in, handles_in};
+    ghost use Rattle.mpd_model.specs.script.Program.{IsLegal};
+    ghost use Rattle.mpd_model.specs.script.Tree.{block_of, statements_in};
     ghost use Rattle.mpd_code.specs.Lowered.{lowered};
 
     ghost view = { λ c. record { program = c.script.value } };
@@ -80,7 +77,7 @@ fn are_of_first(nodes: &[Node]) -> bool
 
 impl Code {
     /// The node of a number. There is none at the end, where nothing is left to run.
-    #[tactic(auto, using(crate::proofs::Standing::standing))]
+    #[tactic(auto, using(crate::proofs::NodeLemmas::at_node))]
     pub fn node(&self, number: usize) -> Option<&Node>
         ensures some { IfSome result (λ node. Stands (left_at self.now.program) number node.now) }
         ensures none { IfNone result (left_at self.now.program number ≡ []) }
@@ -90,7 +87,7 @@ impl Code {
     }
 
     /// The number at which a rank starts.
-    #[tactic(auto, using(crate::proofs::Standing::standing))]
+    #[tactic(auto, using(crate::proofs::NodeLemmas::at_node))]
     pub fn start(&self) -> usize
         ensures body { left_at self.now.program result ≡ numbered 0 self.now.program.body }
         ensures bound { result ≤ STATEMENTS_MAX }
@@ -99,7 +96,7 @@ impl Code {
     }
 
     /// How many nodes there are, which is the number of the end.
-    #[tactic(auto, using(crate::proofs::Standing::standing))]
+    #[tactic(auto, using(crate::proofs::NodeLemmas::at_node))]
     pub fn nodes(&self) -> usize
         ensures value { result ≡ statements_in (block_of self.now.program.body) }
         ensures bound { result ≤ STATEMENTS_MAX }

@@ -13,7 +13,7 @@ pub struct Env<'v> {
 }
 
 impl<'v> Model for Env<'v> {
-    ghost use Rattle.mpd_model.specs.Term.{Env};
+    ghost use Rattle.mpd_model.specs.script.Term.{Env};
     ghost use Rattle.mpd_code.specs.Views.{env_code};
 
     ghost Value = { Env };

@@ -4,7 +4,16 @@
 mod cells;
 pub mod code;
 pub mod env;
-pub mod eval;
-pub mod lower;
+pub mod evaluation;
+pub mod lowering;
 pub mod node;
 mod operate;
+
+pub use code::Code;
+pub use env::Env;
+pub use evaluation::{
+    barrier, eval, eval_assign, eval_irecv, eval_isend, eval_issend, eval_recv, eval_send,
+    eval_ssend, eval_wait, eval_waitany,
+};
+pub use lowering::lower;
+pub use node::{Action, Node};

@@ -1,7 +1,6 @@
 //! The nodes of lowered code.
 
-use mpd_model::expr::Expr;
-use mpd_model::stmt::Simple;
+use mpd_model::{Expr, Simple};
 
 /// A statement without the statements inside it.
 #[derive(Drop)]

@@ -1,10 +1,9 @@
 //! What operators make of values.
 
 ghost use Rattle.std.specs.Prelude.{◌≡◌, ◌+ℤ◌, ◌-ℤ◌, ◌*ℤ◌, neg_ℤ, int_div, int_rem};
-ghost use Rattle.mpd_model.specs.Term.{truth, bounded, division, combined, altered, decided};
+ghost use Rattle.mpd_model.specs.script.Term.{truth, bounded, division, combined, altered, decided};
 
-use mpd_model::call::Trap;
-use mpd_model::expr::{BinaryOp, UnaryOp};
+use mpd_model::{BinaryOp, Trap, UnaryOp};
 
 /// 1 where it holds, and 0 where it doesn't.
 fn truth(holds: bool) -> i64

@@ -10,10 +10,10 @@ use Rattle.mpd_model.specs.declared.call.CallKind.TheVariants.{Recv}
 use Rattle.mpd_model.specs.declared.call.MatchSet.{MatchSet}
 use Rattle.mpd_model.specs.declared.call.MatchSet.TheVariants.{Pair, Woke}
 use Rattle.mpd_model.specs.declared.call.MatchSet.TheVariants as set
-use Rattle.mpd_model.specs.World.{World, id_eq, kind_at, partner, eligible, receives, last_call}
-use Rattle.mpd_model.specs.Next.{next, fold}
-use Rattle.mpd_model.specs.Decisions.{takes_any, is_open_match}
-use Rattle.mpd_model.specs.Why.{or_else}
+use Rattle.mpd_model.specs.steps.World.{World, id_eq, kind_at, partner, eligible, receives, last_call}
+use Rattle.mpd_model.specs.steps.Next.{next, fold}
+use Rattle.mpd_model.specs.runs.Decisions.{takes_any, is_open_match}
+use Rattle.mpd_model.specs.steps.Why.{or_else}
 use Rattle.mpd_complete.specs.Same.{Same}
 use Rattle.mpd_complete.specs.CompleteLaws.{Joins, KeepsBuffers}
 use Rattle.mpd_explore.specs.Sleeping.{same_match, is_asleep, put_to_sleep}

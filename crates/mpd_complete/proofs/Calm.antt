@@ -19,11 +19,11 @@ use Rattle.mpd_model.specs.declared.call.Trap.{Trap}
 use Rattle.mpd_model.specs.declared.call.Trap.TheVariants.{Assertion}
 use Rattle.mpd_model.specs.declared.stmt.Simple.{Simple}
 use Rattle.mpd_model.specs.declared.stmt.Simple.TheVariants as st
-use Rattle.mpd_model.specs.Term.{Term, Value, Env, value_of, is_zero}
-use Rattle.mpd_model.specs.Tree.{Tree, simple, branch, repeat, Block, no_more, then_more, block_of, trees, statements, statements_in, numbered}
-use Rattle.mpd_model.specs.Program.{Program, IsTreeOf, IsBlockOf}
-use Rattle.mpd_model.specs.World.{World, RankWorld, start, start_rank, call_id, listed_calls, kind_of, kind_at, last_call}
-use Rattle.mpd_model.specs.Next.{Ran, trapped, printed, assigned, assignment, asserted, issued, chosen, repeated, ran_simple, ran, env_of, local_of, has_buffer, buffered_by, waits, request_handle, held_in, is_complete_some, can_wake_any, woken_any, going_on, next, fold}
+use Rattle.mpd_model.specs.script.Term.{Term, Value, Env, value_of, is_zero}
+use Rattle.mpd_model.specs.script.Tree.{Tree, simple, branch, repeat, Block, no_more, then_more, block_of, trees, statements, statements_in, numbered}
+use Rattle.mpd_model.specs.script.Program.{Program, IsTreeOf, IsBlockOf}
+use Rattle.mpd_model.specs.steps.World.{World, RankWorld, start, start_rank, call_id, listed_calls, kind_of, kind_at, last_call}
+use Rattle.mpd_model.specs.steps.Next.{Ran, trapped, printed, assigned, assignment, asserted, issued, chosen, repeated, ran_simple, ran, env_of, local_of, has_buffer, buffered_by, waits, request_handle, held_in, is_complete_some, can_wake_any, woken_any, going_on, next, fold}
 use Rattle.mpd_complete.specs.CompleteLaws.{HasNoWaitany}
 use Rattle.mpd_laws.proofs.ordered.Splits.{read_written, none_written, same_or_end}
 use Rattle.mpd_laws.proofs.ordered.CallsInOrder.{joined_from}

@@ -9,8 +9,8 @@ use Rattle.mpd_model.specs.declared.step.CallId.{CallId}
 use Rattle.mpd_model.specs.declared.step.Step.{Step}
 use Rattle.mpd_model.specs.declared.step.Step.TheVariants.{Local, Match, Wake, WakeAny, Release}
 use Rattle.mpd_model.specs.declared.call.Call.{Call}
-use Rattle.mpd_model.specs.World.{World, id_eq, eligible, last_call}
-use Rattle.mpd_model.specs.Next.{stepped, waits, can_wake, woken, can_wake_any, woken_any, is_at_barrier, can_release, released, next}
+use Rattle.mpd_model.specs.steps.World.{World, id_eq, eligible, last_call}
+use Rattle.mpd_model.specs.steps.Next.{stepped, waits, can_wake, woken, can_wake_any, woken_any, is_at_barrier, can_release, released, next}
 use Rattle.mpd_complete.specs.CompleteLaws.{apart, Joins, KeepsBuffers}
 use Rattle.mpd_laws.proofs.ordered.CallsInOrder.{chosen}
 use Rattle.mpd_complete.proofs.Worlds.{same_sym, taken}

@@ -16,12 +16,12 @@ use Rattle.mpd_model.specs.declared.call.Trap.{Trap}
 use Rattle.mpd_model.specs.declared.stmt.Simple.{Simple}
 use Rattle.mpd_model.specs.declared.stmt.Simple.TheVariants as st
 use Rattle.mpd_model.specs.declared.stmt.WaitanyStmt.{WaitanyStmt}
-use Rattle.mpd_model.specs.Term.{and_then, target_cell}
-use Rattle.mpd_model.specs.Tree.{Tree, simple}
+use Rattle.mpd_model.specs.script.Term.{and_then, target_cell}
+use Rattle.mpd_model.specs.script.Tree.{Tree, simple}
 use Rattle.mpd_model.specs.declared.call.Mode.{Mode}
-use Rattle.mpd_model.specs.Program.{Program}
-use Rattle.mpd_model.specs.World.{World, RankWorld, start, start_rank, call_id, listed_calls, calls_of, kind_of, kind_at, has_own_step, last_call}
-use Rattle.mpd_model.specs.Next.{Ran, awaiting, handles_at, issued, ran_simple, ran, env_of, local_of, has_buffer, buffered_by, entered, is_blocked, waits, can_wake, request_handle, held_in, any_call, is_complete_some, can_wake_any, going_on, released}
+use Rattle.mpd_model.specs.script.Program.{Program}
+use Rattle.mpd_model.specs.steps.World.{World, RankWorld, start, start_rank, call_id, listed_calls, calls_of, kind_of, kind_at, has_own_step, last_call}
+use Rattle.mpd_model.specs.steps.Next.{Ran, awaiting, handles_at, issued, ran_simple, ran, env_of, local_of, has_buffer, buffered_by, entered, is_blocked, waits, can_wake, request_handle, held_in, any_call, is_complete_some, can_wake_any, going_on, released}
 use Rattle.mpd_meaning.specs.StepLaws.{HasCalls}
 use Rattle.mpd_laws.proofs.ordered.LocalActivity.{call_blocks, BlocksOn}
 use Rattle.mpd_laws.proofs.ordered.Splits.{others_kept, read_written, end_read}

@@ -9,11 +9,11 @@ use Rattle.mpd_model.specs.declared.call.CallKind.{CallKind}
 use Rattle.mpd_model.specs.declared.call.Mode.{Mode}
 use Rattle.mpd_model.specs.declared.call.MatchSet.TheVariants.{Pair, Woke}
 use Rattle.mpd_model.specs.declared.call.MatchSet.TheVariants as set
-use Rattle.mpd_model.specs.Program.{Program}
-use Rattle.mpd_model.specs.World.{World, Board, RankWorld, start, start_rank, id_eq, kind_at, partner, is_limited, eligible, last_call}
-use Rattle.mpd_model.specs.Next.{released, going_on, next, fold}
-use Rattle.mpd_model.specs.Why.{or_else}
-use Rattle.mpd_model.specs.Decisions.{any_rank, is_open_match, takes_any}
+use Rattle.mpd_model.specs.script.Program.{Program}
+use Rattle.mpd_model.specs.steps.World.{World, Board, RankWorld, start, start_rank, id_eq, kind_at, partner, is_limited, eligible, last_call}
+use Rattle.mpd_model.specs.steps.Next.{released, going_on, next, fold}
+use Rattle.mpd_model.specs.steps.Why.{or_else}
+use Rattle.mpd_model.specs.runs.Decisions.{any_rank, is_open_match, takes_any}
 use Rattle.mpd_meaning.specs.StepLaws.{HasCalls}
 use Rattle.mpd_complete.specs.CompleteLaws.{KeepsBuffers}
 use Rattle.mpd_complete.proofs.Sets.{partner_more, else_none, partner_by}

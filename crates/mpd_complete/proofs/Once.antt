@@ -10,10 +10,10 @@ use Rattle.mpd_model.specs.declared.step.Step.TheVariants.{Match}
 use Rattle.mpd_model.specs.declared.call.Mode.{Mode}
 use Rattle.mpd_model.specs.declared.decision.Decision.{Decision}
 use Rattle.mpd_model.specs.declared.decision.Decision.TheVariants.{Forced, Choice, Leaf}
-use Rattle.mpd_model.specs.Program.{Program}
-use Rattle.mpd_model.specs.World.{World, start, partner}
-use Rattle.mpd_model.specs.Next.{next, fold}
-use Rattle.mpd_model.specs.Decisions.{takes_any, is_open_match, decision}
+use Rattle.mpd_model.specs.script.Program.{Program}
+use Rattle.mpd_model.specs.steps.World.{World, start, partner}
+use Rattle.mpd_model.specs.steps.Next.{next, fold}
+use Rattle.mpd_model.specs.runs.Decisions.{takes_any, is_open_match, decision}
 use Rattle.mpd_explore.specs.declared.report.Ending.{Ending}
 use Rattle.mpd_explore.specs.declared.report.Ending.TheVariants.{Ended, Cut}
 use Rattle.mpd_explore.specs.Walk.{Run, here, stepped, chosen, runs_of, stopped}

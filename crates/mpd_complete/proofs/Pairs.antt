@@ -11,10 +11,10 @@ use Rattle.mpd_model.specs.declared.call.CallKind.TheVariants.{Send, Recv, Wait,
 use Rattle.mpd_model.specs.declared.call.Message.{Message}
 use Rattle.mpd_model.specs.declared.call.MatchSet.TheVariants.{Pair, Woke}
 use Rattle.mpd_model.specs.declared.call.MatchSet.TheVariants as set
-use Rattle.mpd_model.specs.World.{World, Board, RankWorld, call_id, id_eq, calls_of, kind_of, kind_at, partner, is_message_kind, is_any_or, fitting, sends_to, receives, eligible, message_of, is_buffered, is_done, awaited_by, awaited, complete_by, has_own_step, last_call}
-use Rattle.mpd_model.specs.Next.{waits, can_wake, writes_of, writes_by, own_writes, woken_rank, wake_writes, wake_clears, woken, any_handle, any_call, is_complete_some, can_wake_any, index_writes, any_writes, woken_any, released, next}
-use Rattle.mpd_model.specs.Decisions.{takes_any}
-use Rattle.mpd_model.specs.Why.{or_else}
+use Rattle.mpd_model.specs.steps.World.{World, Board, RankWorld, call_id, id_eq, calls_of, kind_of, kind_at, partner, is_message_kind, is_any_or, fitting, sends_to, receives, eligible, message_of, is_buffered, is_done, awaited_by, awaited, complete_by, has_own_step, last_call}
+use Rattle.mpd_model.specs.steps.Next.{waits, can_wake, writes_of, writes_by, own_writes, woken_rank, wake_writes, wake_clears, woken, any_handle, any_call, is_complete_some, can_wake_any, index_writes, any_writes, woken_any, released, next}
+use Rattle.mpd_model.specs.runs.Decisions.{takes_any}
+use Rattle.mpd_model.specs.steps.Why.{or_else}
 use Rattle.mpd_complete.specs.Same.{Same}
 use Rattle.mpd_laws.proofs.ordered.Eligible.{free_is_unpaired, known_within, message_known, fitting_send, fitting_recv, agrees, earlier_send_paired, earlier_recv_paired, one_send, eligible_from, clash}
 use Rattle.mpd_complete.proofs.Sets.{partner_more, else_none, partner_by, Disjoint, sets_swapped, barrier_disjoint}

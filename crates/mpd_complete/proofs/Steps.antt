@@ -10,8 +10,8 @@ use Rattle.mpd_model.specs.declared.step.Step.TheVariants.{Local, Match, Wake, W
 use Rattle.mpd_model.specs.declared.call.Call.{Call}
 use Rattle.mpd_model.specs.declared.call.CallKind.{CallKind}
 use Rattle.mpd_model.specs.declared.call.CallKind.TheVariants.{Waitany}
-use Rattle.mpd_model.specs.World.{World, Board, RankWorld, calls_of, kind_at, eligible, is_barrier, has_own_step, last_call}
-use Rattle.mpd_model.specs.Next.{Ran, local, local_at, stepped, is_blocked, waits, can_wake, wake_writes, wake_clears, woken, request_handle, held_in, any_handle, is_complete_some, can_wake_any, any_writes, woken_any, can_release, released, next}
+use Rattle.mpd_model.specs.steps.World.{World, Board, RankWorld, calls_of, kind_at, eligible, is_barrier, has_own_step, last_call}
+use Rattle.mpd_model.specs.steps.Next.{Ran, local, local_at, stepped, is_blocked, waits, can_wake, wake_writes, wake_clears, woken, request_handle, held_in, any_handle, is_complete_some, can_wake_any, any_writes, woken_any, can_release, released, next}
 use Rattle.mpd_laws.proofs.ordered.LocalActivity.{BlocksOn, local_blocks}
 use Rattle.mpd_laws.proofs.ordered.CallsInOrder.{chosen, joined_from}
 use Rattle.mpd_laws.proofs.ordered.Splits.{mapped_from}

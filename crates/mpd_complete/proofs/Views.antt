@@ -8,11 +8,11 @@ use Rattle.mpd_model.specs.declared.call.CallKind.TheVariants.{Recv}
 use Rattle.mpd_model.specs.declared.outcome.Outcome.{Outcome}
 use Rattle.mpd_model.specs.declared.decision.Decision.{Decision}
 use Rattle.mpd_model.specs.declared.decision.Decision.TheVariants.{Forced, Choice, Leaf}
-use Rattle.mpd_model.specs.World.{World, Board, kind_at, receives}
-use Rattle.mpd_model.specs.Next.{next, is_enabled, steps_of, enabled}
-use Rattle.mpd_model.specs.Decisions.{is_local, is_release, is_wake, any_rank, names_source, takes_any, is_named_match, is_open_match, first_enabled, open_matches, is_of, same_rank, any_choices, or_those, chosen_from, decided, decision}
-use Rattle.mpd_model.specs.Why.{first_in, or_else}
-use Rattle.mpd_model.specs.Outcomes.{ending}
+use Rattle.mpd_model.specs.steps.World.{World, Board, kind_at, receives}
+use Rattle.mpd_model.specs.steps.Next.{next, is_enabled, steps_of, enabled}
+use Rattle.mpd_model.specs.runs.Decisions.{is_local, is_release, is_wake, any_rank, names_source, takes_any, is_named_match, is_open_match, first_enabled, open_matches, is_of, same_rank, any_choices, or_those, chosen_from, decided, decision}
+use Rattle.mpd_model.specs.steps.Why.{first_in, or_else}
+use Rattle.mpd_model.specs.steps.Outcomes.{ending}
 use Rattle.mpd_laws.proofs.ordered.Eligible.{agrees, fitting_recv, clash}
 use Rattle.mpd_meaning.proofs.listed.Members.{In, in_filter, filter_from}
 use Rattle.mpd_meaning.proofs.listed.Listed.{listed}

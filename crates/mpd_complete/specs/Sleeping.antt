@@ -3,9 +3,9 @@ use Rattle.std.specs.Prelude.{◌≡◌, ℕ, true, false, List, [], Some}
 use Rattle.std.specs.List.{AllPairs, Contains}
 use Rattle.mpd_model.specs.declared.step.Step.{Step}
 use Rattle.mpd_model.specs.declared.call.Mode.{Mode}
-use Rattle.mpd_model.specs.Program.{Program}
-use Rattle.mpd_model.specs.World.{World, start}
-use Rattle.mpd_model.specs.Next.{fold}
+use Rattle.mpd_model.specs.script.Program.{Program}
+use Rattle.mpd_model.specs.steps.World.{World, start}
+use Rattle.mpd_model.specs.steps.Next.{fold}
 use Rattle.mpd_explore.specs.Walk.{Run, walk}
 use Rattle.mpd_explore.specs.Sleeping.{awake_walk, sleeping_walk}
 use Rattle.mpd_complete.specs.Same.{Same}

@@ -13,13 +13,13 @@ use Rattle.mpd_model.specs.declared.call.Mode.TheVariants.{Rendezvous, Buffered,
 use Rattle.mpd_model.specs.declared.stmt.Simple.TheVariants as st
 use Rattle.mpd_model.specs.declared.outcome.Outcome.{Outcome}
 use Rattle.mpd_model.specs.declared.outcome.Outcome.TheVariants as o
-use Rattle.mpd_model.specs.Term.{Term, lit, own_rank, op2, Target}
-use Rattle.mpd_model.specs.Tree.{Tree, simple, branch, repeat, Block, no_more, then_more, statements_in}
-use Rattle.mpd_model.specs.Program.{Program}
-use Rattle.mpd_model.specs.World.{World, start, call_id, listed_calls, kind_of, is_buffered}
-use Rattle.mpd_model.specs.Next.{next, fold, enabled}
-use Rattle.mpd_model.specs.Outcomes.{ending}
-use Rattle.mpd_model.specs.Decisions.{decision}
+use Rattle.mpd_model.specs.script.Term.{Term, lit, own_rank, op2, Target}
+use Rattle.mpd_model.specs.script.Tree.{Tree, simple, branch, repeat, Block, no_more, then_more, statements_in}
+use Rattle.mpd_model.specs.script.Program.{Program}
+use Rattle.mpd_model.specs.steps.World.{World, start, call_id, listed_calls, kind_of, is_buffered}
+use Rattle.mpd_model.specs.steps.Next.{next, fold, enabled}
+use Rattle.mpd_model.specs.steps.Outcomes.{ending}
+use Rattle.mpd_model.specs.runs.Decisions.{decision}
 use Rattle.mpd_explore.specs.declared.report.Ending.{Ending}
 use Rattle.mpd_explore.specs.declared.report.Ending.TheVariants.{Ended}
 use Rattle.mpd_explore.specs.Walk.{Run, walk}

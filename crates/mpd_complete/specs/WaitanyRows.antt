@@ -12,13 +12,13 @@ use Rattle.mpd_model.specs.declared.call.Trap.TheVariants.{Assertion}
 use Rattle.mpd_model.specs.declared.stmt.Simple.TheVariants as st
 use Rattle.mpd_model.specs.declared.outcome.Outcome.{Outcome}
 use Rattle.mpd_model.specs.declared.outcome.Outcome.TheVariants as o
-use Rattle.mpd_model.specs.Term.{Term, lit, cell, op2, Target}
-use Rattle.mpd_model.specs.Tree.{Tree, simple, repeat, no_more, then_more, block_of, statements_in}
-use Rattle.mpd_model.specs.Program.{Program}
-use Rattle.mpd_model.specs.World.{call_id, start}
-use Rattle.mpd_model.specs.Next.{fold, enabled}
-use Rattle.mpd_model.specs.Outcomes.{ending}
-use Rattle.mpd_model.specs.Decisions.{decision}
+use Rattle.mpd_model.specs.script.Term.{Term, lit, cell, op2, Target}
+use Rattle.mpd_model.specs.script.Tree.{Tree, simple, repeat, no_more, then_more, block_of, statements_in}
+use Rattle.mpd_model.specs.script.Program.{Program}
+use Rattle.mpd_model.specs.steps.World.{call_id, start}
+use Rattle.mpd_model.specs.steps.Next.{fold, enabled}
+use Rattle.mpd_model.specs.steps.Outcomes.{ending}
+use Rattle.mpd_model.specs.runs.Decisions.{decision}
 use Rattle.mpd_explore.specs.declared.report.Ending.{Ending}
 use Rattle.mpd_explore.specs.declared.report.Ending.TheVariants.{Ended}
 use Rattle.mpd_explore.specs.Walk.{Run, walk}

@@ -1,8 +1,8 @@
 -- The steps that lie ahead.
 use Rattle.std.proofs.Common.{◌≡◌, Bool, Option, slice_get, ap, ◌∙◌}
 use Rattle.mpd_model.specs.declared.step.Step.{Step}
-use Rattle.mpd_model.specs.World.{World}
-use Rattle.mpd_model.specs.Trail.{Trail}
+use Rattle.mpd_model.specs.steps.World.{World}
+use Rattle.mpd_model.specs.runs.Trail.{Trail}
 use Rattle.mpd_policy.specs.Single.{only_step}
 use Rattle.mpd_console.specs.Moves.{is_alone, goes_along}
 

@@ -3,8 +3,8 @@ use Rattle.std.proofs.Common.{◌≡◌, ℕ, ◌-◌, ◌<◌, ◌≤◌, Bool,
 use Rattle.std.proofs.lemmas.Bool.Decides.{nat_tests}
 use Rattle.std.specs.Prelude.{option_and_then, IfSome}
 use Rattle.mpd_model.specs.declared.breakpoint.Break.{Break}
-use Rattle.mpd_model.specs.World.{World}
-use Rattle.mpd_model.specs.Trail.{Trail, IsReached, IsRun, kept, world_of}
+use Rattle.mpd_model.specs.steps.World.{World}
+use Rattle.mpd_model.specs.runs.Trail.{Trail, IsReached, IsRun, done_steps, world_of}
 use Rattle.mpd_trail.specs.Views.{DebuggerView, standing_of}
 use Rattle.mpd_explore.specs.declared.report.Leaf.{Leaf}
 use Rattle.mpd_explore.specs.declared.report.Ending.{Ending}
@@ -24,7 +24,7 @@ use Rattle.mpd_fold.specs.Folding.{folded}
 use Rattle.mpd_console.specs.Moves.{doing_of, lead_text, reply_text}
 use Rattle.mpd_console.specs.Looks.{look_text}
 use Rattle.mpd_vocabulary.specs.Reading.{line_of}
-use Rattle.mpd_search.specs.declared.seek.WholeRun.{WholeRun}
+use Rattle.mpd_search.specs.declared.search.WholeRun.{WholeRun}
 use Rattle.mpd_search.specs.declared.way.Way.{Way}
 use Rattle.mpd_search.specs.Runs.{none_line}
 use Rattle.mpd_search.specs.Seek.{found_run, numbered_run, nothing_line, LiesAhead, ahead_line, not_followed_line}
@@ -129,7 +129,7 @@ pub ruleset carrying = (carried, not_carried)
 
 -- ---- runs that lie ahead
 
-pub lies_begins : (t : Trail) (r : WholeRun) → LiesAhead t r → take t.depth r.steps ≡ kept t
+pub lies_begins : (t : Trail) (r : WholeRun) → LiesAhead t r → take t.depth r.steps ≡ done_steps t
 lies_begins t r h = h.begins
 
 pub lies_runs : (t : Trail) (r : WholeRun) → LiesAhead t r → IsRun t.program t.mode r.steps

@@ -4,12 +4,12 @@ use Rattle.std.specs.List.{flat_map, range_with_len}
 use Rattle.mpd_model.specs.declared.limits.TheConstants.{BREAKS_MAX}
 use Rattle.mpd_model.specs.declared.step.CallId.{CallId}
 use Rattle.mpd_model.specs.declared.breakpoint.Break.{Break}
-use Rattle.mpd_model.specs.Declaration.{Declared}
-use Rattle.mpd_model.specs.Program.{Program}
-use Rattle.mpd_model.specs.World.{World, rank_numbers, call_at}
-use Rattle.mpd_model.specs.Trail.{Trail}
-use Rattle.mpd_model.specs.Texts.{line, show_text}
-use Rattle.mpd_model.specs.Breakpoints.{break_at}
+use Rattle.mpd_model.specs.script.Declaration.{Declared}
+use Rattle.mpd_model.specs.script.Program.{Program}
+use Rattle.mpd_model.specs.steps.World.{World, rank_numbers, call_at}
+use Rattle.mpd_model.specs.runs.Trail.{Trail}
+use Rattle.mpd_model.specs.texts.Texts.{line, show_text}
+use Rattle.mpd_model.specs.runs.Breakpoints.{break_at}
 use Rattle.mpd_names.specs.declared.name.Named.{Named}
 use Rattle.mpd_names.specs.Held.{named_line, variables_text}
 use Rattle.mpd_names.specs.Listed.{list_text, about_text}

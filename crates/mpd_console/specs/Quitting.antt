@@ -1,10 +1,10 @@
 -- The word that ends a dialogue, as its bytes are read.
 use Rattle.std.specs.Prelude.{ℕ, suc, ◌+◌, ◌==◌, ◌&&◌, ◌||◌, Bool, false, nat_le, nat_lt, if◌then◌else◌, List, [], ◌∷◌, Option, Some, None, option_map}
 use Rattle.mpd_model.specs.declared.limits.TheConstants.{LINE_MAX}
-use Rattle.mpd_model.specs.Words.{is_blank}
-use Rattle.mpd_console.specs.declared.quitting.Seen.{Seen}
-use Rattle.mpd_console.specs.declared.quitting.Seen.TheVariants.{Blanks, Part, Word, Return, Other}
-use Rattle.mpd_console.specs.declared.quitting.Begun.{Begun}
+use Rattle.mpd_model.specs.texts.Words.{is_blank}
+use Rattle.mpd_console.specs.declared.quit.Seen.{Seen}
+use Rattle.mpd_console.specs.declared.quit.Seen.TheVariants.{Blanks, Part, Word, Return, Other}
+use Rattle.mpd_console.specs.declared.quit.Begun.{Begun}
 
 abbrev pub nothing : Begun
 nothing = record { seen = Blanks; length = 0 }

@@ -3,9 +3,9 @@ use Rattle.std.specs.Prelude.{◌≡◌, ℕ, ◌-◌, ◌⊎◌, Bool, true, fa
 use Rattle.std.specs.Coded.{Coded, code_by, coded×, coded_ℕ, coded_bool, coded_list, coded_option}
 use Rattle.std.specs.Fmt.{decimal}
 use Rattle.mpd_model.specs.declared.limits.TheConstants.{LINE_MAX}
-use Rattle.mpd_model.specs.World.{World}
-use Rattle.mpd_model.specs.Trail.{Trail, world_of}
-use Rattle.mpd_model.specs.Texts.{line}
+use Rattle.mpd_model.specs.steps.World.{World}
+use Rattle.mpd_model.specs.runs.Trail.{Trail, world_of}
+use Rattle.mpd_model.specs.texts.Texts.{line}
 use Rattle.mpd_explore.specs.declared.report.Leaf.{Leaf}
 use Rattle.mpd_explore.specs.declared.report.Ending.{Ending}
 use Rattle.mpd_wire.specs.declared.request.Command.{Command}
@@ -26,7 +26,7 @@ use Rattle.mpd_console.specs.declared.moves.Doing.{Doing}
 use Rattle.mpd_console.specs.declared.moves.Doing.TheVariants.{Asks, Undoes, Seeks, Follows, Looks}
 use Rattle.mpd_console.specs.Moves.{doing_of, lead_text, reply_text}
 use Rattle.mpd_console.specs.Looks.{look_text}
-use Rattle.mpd_search.specs.declared.seek.WholeRun.{WholeRun}
+use Rattle.mpd_search.specs.declared.search.WholeRun.{WholeRun}
 use Rattle.mpd_search.specs.declared.way.Way.{Way}
 use Rattle.mpd_search.specs.Runs.{none_line}
 use Rattle.mpd_search.specs.Seek.{found_run, numbered_run, nothing_line, LiesAhead, ahead_line, not_followed_line}

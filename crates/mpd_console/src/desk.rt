@@ -11,24 +11,18 @@ ghost use Rattle.mpd_console.specs.Says.{Adds, OrElse, Told, Carried, UndoneBy, 
 use crate::looks::push_look;
 use crate::moves::{Doing, doing_of, lead, push_reply};
 use itoa::Buffer;
-use mpd_explore::report::{Ending, Report};
-use mpd_fold::fold::push_folded;
-use mpd_lines::desk::{LineDesk, ROOM};
-use mpd_lines::kept::push_all;
-use mpd_model::limits::LINE_MAX;
-use mpd_search::choice::{last_choice, push_no_choice};
-use mpd_search::runs::push_none;
-use mpd_search::seek::{
-    Search, WholeRun, numbered_run, push_ahead, push_not_followed, seek as seek_run,
+use mpd_explore::{Ending, Report};
+use mpd_fold::push_folded;
+use mpd_lines::{LineDesk, ROOM, push_all};
+use mpd_model::LINE_MAX;
+use mpd_search::{
+    Search, Way, WholeRun, last_choice, numbered_run, push_ahead, push_no_choice, push_none,
+    push_not_followed, seek as seek_run,
 };
-use mpd_search::way::Way;
-use mpd_session::session::Session;
-use mpd_view::standing::push_standing;
-use mpd_vocabulary::read::{Line, line_of};
-use mpd_vocabulary::told::push_fault;
-use mpd_vocabulary::word::{Word, WordFault};
-use mpd_wire::reply::Reply;
-use mpd_wire::request::{Command, Request};
+use mpd_session::Session;
+use mpd_view::push_standing;
+use mpd_vocabulary::{Line, Word, WordFault, line_of, push_fault};
+use mpd_wire::{Command, Reply, Request};
 use std::alloc::{AllocError, Global};
 use std::marker::Model;
 

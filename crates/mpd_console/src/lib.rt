@@ -4,6 +4,11 @@
 pub mod desk;
 mod looks;
 mod moves;
-pub mod open;
-pub mod quitting;
+pub mod opening;
+pub mod quit;
 pub mod run;
+
+pub use desk::ConsoleDesk;
+pub use opening::{OpenFault, Opened, open, open_with};
+pub use quit::UntilQuit;
+pub use run::run_console;

@@ -2,29 +2,24 @@
 
 ghost use Rattle.std.specs.Prelude.{◌≡◌, ◌++◌, OnOk, string_bytes};
 ghost use Rattle.std.specs.List.{flat_map, range_with_len};
-ghost use Rattle.mpd_model.specs.World.{rank_numbers};
+ghost use Rattle.mpd_model.specs.steps.World.{rank_numbers};
 ghost use Rattle.mpd_names.specs.Held.{named_line};
 ghost use Rattle.mpd_console.specs.Looks as spec;
 
 use crate::moves::push_break_line;
-use mpd_core::state::Core;
-use mpd_model::limits::BREAKS_MAX;
-use mpd_model::place::Decl;
-use mpd_model::step::CallId;
-use mpd_names::held::{push_named, push_variables};
-use mpd_names::list::{push_list, push_list_about};
-use mpd_names::name::Named;
-use mpd_picture::draw::push_picture;
-use mpd_policy::breaks::Breaks;
-use mpd_search::runs::push_runs;
-use mpd_trace::show::show;
-use mpd_trail::debugger::Debugger;
-use mpd_view::lost::push_lost;
-use mpd_view::past::{push_history, push_words};
-use mpd_view::shown::{push_calls, push_enabled, push_queues, push_ranks};
-use mpd_view::whys::{push_why, push_why_rank, push_why_ranks};
-use mpd_vocabulary::told::push_help;
-use mpd_vocabulary::word::Word;
+use mpd_core::Core;
+use mpd_model::{BREAKS_MAX, CallId, Decl};
+use mpd_names::{Named, push_list, push_list_about, push_named, push_variables};
+use mpd_picture::push_picture;
+use mpd_policy::Breaks;
+use mpd_search::push_runs;
+use mpd_trace::show;
+use mpd_trail::Debugger;
+use mpd_view::{
+    push_calls, push_enabled, push_history, push_lost, push_queues, push_ranks, push_why,
+    push_why_rank, push_why_ranks, push_words,
+};
+use mpd_vocabulary::{Word, push_help};
 use std::alloc::{AllocError, Global};
 
 /// What is answered to a number of something that isn't there.

@@ -1,29 +1,22 @@
 //! Words that ask the session for something that changes it: what they ask, and what is told of the reply (docs/CONSOLE.md, "Answers").
 
 ghost use Rattle.std.specs.Prelude.{◌≡◌, ◌++◌, IfOk, OnOk, None, Some, slice_get, string_bytes};
-ghost use Rattle.mpd_model.specs.Decisions.{decision};
+ghost use Rattle.mpd_model.specs.runs.Decisions.{decision};
 ghost use Rattle.mpd_policy.specs.Single.{single};
 ghost use Rattle.mpd_names.specs.Called.{break_text};
 ghost use Rattle.mpd_view.specs.Steps.{step_words};
 ghost use Rattle.mpd_view.specs.Standing.{standing_text};
 ghost use Rattle.mpd_console.specs.Moves as spec;
 
-use mpd_core::state::Core;
-use mpd_model::breakpoint::{Break, Cause, Stop};
-use mpd_model::decision::Decision;
-use mpd_model::place::Decl;
-use mpd_model::step::Step;
-use mpd_names::text::push_break;
-use mpd_policy::breaks::Breaks;
-use mpd_policy::decide::{decide, only_step};
-use mpd_search::seek::push_count;
-use mpd_search::way::Way;
-use mpd_trail::debugger::Debugger;
-use mpd_view::standing::{push_standing, sole};
-use mpd_view::steps::push_step;
-use mpd_vocabulary::word::Word;
-use mpd_wire::reply::{Answer, Refusal, Reply};
-use mpd_wire::request::Command;
+use mpd_core::Core;
+use mpd_model::{Break, Cause, Decision, Decl, Step, Stop};
+use mpd_names::push_break;
+use mpd_policy::{Breaks, decide, only_step};
+use mpd_search::{Way, push_count};
+use mpd_trail::Debugger;
+use mpd_view::{push_standing, push_step, sole};
+use mpd_vocabulary::Word;
+use mpd_wire::{Answer, Command, Refusal, Reply};
 use std::alloc::{AllocError, Global};
 
 /// A number of a candidate, from 0, that none has.

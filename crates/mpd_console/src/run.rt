@@ -7,9 +7,9 @@ ghost use Rattle.mpd_lines.specs.Telling.{waiting_below};
 ghost use Rattle.mpd_console.specs.Says.{ConsoleSays};
 
 use crate::desk::ConsoleDesk;
-use mpd_device::device::{Sink, Source};
-use mpd_lines::engine::{EngineFault, run};
-use mpd_model::limits::READS_MAX;
+use mpd_device::{Sink, Source};
+use mpd_lines::{EngineFault, run};
+use mpd_model::READS_MAX;
 use std::alloc::Global;
 
 /// Answers the lines of a source by a console (docs/CONSOLE.md), however they were cut into reads; the answer to each is written before

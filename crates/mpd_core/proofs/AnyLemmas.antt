@@ -5,8 +5,8 @@ use Rattle.std.specs.Option.{option_map}
 use Rattle.mpd_model.specs.declared.call.CallKind.{CallKind}
 use Rattle.mpd_model.specs.declared.call.CallKind.TheVariants.{Waitany}
 use Rattle.mpd_model.specs.declared.step.CallId.{CallId}
-use Rattle.mpd_model.specs.World.{RankWorld, Board, call_id, kind_at, awaited_by, awaited, complete, last_call}
-use Rattle.mpd_model.specs.Next.{own_writes, held_in, is_complete_some}
+use Rattle.mpd_model.specs.steps.World.{RankWorld, Board, call_id, kind_at, awaited_by, awaited, complete, last_call}
+use Rattle.mpd_model.specs.steps.Next.{own_writes, held_in, is_complete_some}
 
 -- ---- the call of a handle
 

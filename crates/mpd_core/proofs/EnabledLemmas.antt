@@ -6,8 +6,8 @@ use Rattle.std.specs.List.{filter, flat_map, range_with_len}
 use Rattle.mpd_model.specs.declared.step.Step.{Step}
 use Rattle.mpd_model.specs.declared.step.Step.TheVariants.{Local, Match, Wake, WakeAny, Release}
 use Rattle.mpd_model.specs.declared.call.MatchSet.TheVariants.{Pair}
-use Rattle.mpd_model.specs.World.{World, Board, call_id, kind_at, last_call, rank_numbers, call_numbers, eligible}
-use Rattle.mpd_model.specs.Next.{is_enabled, enabled, with_set, requests_of, waits, any_call, is_complete_some, woken_any, any_wakes_of, any_wakes_in, matches_with, matches_of, matches_in}
+use Rattle.mpd_model.specs.steps.World.{World, Board, call_id, kind_at, last_call, rank_numbers, call_numbers, eligible}
+use Rattle.mpd_model.specs.steps.Next.{is_enabled, enabled, with_set, requests_of, waits, any_call, is_complete_some, woken_any, any_wakes_of, any_wakes_in, matches_with, matches_of, matches_in}
 use Rattle.mpd_match.specs.Matches as listed
 
 out_of : {A : Type 0} (f : A → Step) (b : Bool) (x : A) (ys : List A) → cond b (f x ∷ map f ys) (map f ys) ≡ map f (cond b (x ∷ ys) ys)

@@ -5,11 +5,11 @@ use Rattle.std.specs.List.{filter, flat_map, list_any, range_with_len}
 use Rattle.mpd_model.specs.declared.step.Step.{Step}
 use Rattle.mpd_model.specs.declared.step.Step.TheVariants.{Local, Match, Wake, Release}
 use Rattle.mpd_model.specs.declared.call.MatchSet.TheVariants.{Pair}
-use Rattle.mpd_model.specs.World.{World, Board, call_id, rank_numbers, call_numbers, eligible}
-use Rattle.mpd_model.specs.Next.{is_enabled, with_set, any_wakes_in, matches_with, matches_of, matches_in, steps_of}
+use Rattle.mpd_model.specs.steps.World.{World, Board, call_id, rank_numbers, call_numbers, eligible}
+use Rattle.mpd_model.specs.steps.Next.{is_enabled, with_set, any_wakes_in, matches_with, matches_of, matches_in, steps_of}
 use Rattle.mpd_model.specs.declared.step.CallId.{CallId}
 use Rattle.mpd_model.specs.declared.outcome.TrappedRank.{TrappedRank}
-use Rattle.mpd_model.specs.Outcomes.{ending_by, ended_with}
+use Rattle.mpd_model.specs.steps.Outcomes.{ending_by, ended_with}
 use Rattle.mpd_core.specs.Listed.{listed_by}
 
 list_any-append : {A : Type 0} (t : A → Bool) (xs ys : List A) → list_any t (xs ++ ys) ≡ list_any t xs || list_any t ys

@@ -5,13 +5,13 @@ use Rattle.std.proofs.lemmas.List.{map-set, map-append, length-map, length-set, 
 use Rattle.std.specs.Option.{option_map}
 use Rattle.std.proofs.lemmas.List.FromFn.{length-range_with_len}
 use Rattle.std.specs.List.{list_all, range_with_len}
-use Rattle.mpd_model.specs.Outcomes.{has_ended}
+use Rattle.mpd_model.specs.steps.Outcomes.{has_ended}
 use Rattle.mpd_model.specs.declared.step.Step.TheVariants.{Local}
-use Rattle.mpd_model.specs.World.{RankWorld, World, Board, calls_of}
-use Rattle.mpd_model.specs.Next.{Ran, next, local, local_at, stepped, put_at, update_at, is_blocked, waits}
+use Rattle.mpd_model.specs.steps.World.{RankWorld, World, Board, calls_of}
+use Rattle.mpd_model.specs.steps.Next.{Ran, next, local, local_at, stepped, put_at, update_at, is_blocked, waits}
 use Rattle.mpd_model.specs.declared.call.Activity.{Activity}
 use Rattle.mpd_model.specs.declared.call.Activity.TheVariants.{Running, Blocked, Trapped}
-use Rattle.mpd_model.specs.Program.{Program}
+use Rattle.mpd_model.specs.script.Program.{Program}
 use Rattle.mpd_rank.specs.Views.{RankView, rank_of}
 use Rattle.mpd_rank.specs.declared.change.WakeRecord.{WakeRecord}
 use Rattle.mpd_rank.specs.Undone.{LocalDone}

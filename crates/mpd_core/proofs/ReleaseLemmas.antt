@@ -6,9 +6,9 @@ use Rattle.mpd_model.specs.declared.step.Step.TheVariants.{Release}
 use Rattle.mpd_model.specs.declared.call.Activity.{Activity}
 use Rattle.mpd_model.specs.declared.call.Activity.TheVariants.{Running, Blocked, Trapped}
 use Rattle.mpd_model.specs.declared.call.MatchSet.TheVariants.{Barrier}
-use Rattle.mpd_model.specs.Program.{Program}
-use Rattle.mpd_model.specs.World.{RankWorld, World, Board, is_barrier, kind_at, last_call}
-use Rattle.mpd_model.specs.Next.{next, with_set, is_blocked, waits, is_at_barrier, can_release, going_on, released}
+use Rattle.mpd_model.specs.script.Program.{Program}
+use Rattle.mpd_model.specs.steps.World.{RankWorld, World, Board, is_barrier, kind_at, last_call}
+use Rattle.mpd_model.specs.steps.Next.{next, with_set, is_blocked, waits, is_at_barrier, can_release, going_on, released}
 use Rattle.mpd_rank.specs.Views.{RankView, rank_of}
 use Rattle.mpd_rank.specs.Undone.{blocked_again}
 use Rattle.mpd_core.specs.Views.{ranks_in, world_in, numbers_in, room_in, writes_in, acting, Holds}

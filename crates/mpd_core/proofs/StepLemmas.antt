@@ -5,11 +5,11 @@ use Rattle.std.proofs.lemmas.List.{length-set}
 use Rattle.mpd_model.specs.declared.call.Activity.{Activity}
 use Rattle.mpd_model.specs.declared.call.Activity.TheVariants.{Running, Blocked, Trapped}
 use Rattle.mpd_model.specs.declared.call.Call.{Call}
-use Rattle.mpd_model.specs.Program.{Program}
-use Rattle.mpd_model.specs.Term.{Env}
-use Rattle.mpd_model.specs.Tree.{Tree}
-use Rattle.mpd_model.specs.World.{RankWorld, Board, calls_of}
-use Rattle.mpd_model.specs.Next.{HasReceiver, local, with_call, with_issued}
+use Rattle.mpd_model.specs.script.Program.{Program}
+use Rattle.mpd_model.specs.script.Term.{Env}
+use Rattle.mpd_model.specs.script.Tree.{Tree}
+use Rattle.mpd_model.specs.steps.World.{RankWorld, Board, calls_of}
+use Rattle.mpd_model.specs.steps.Next.{HasReceiver, local, with_call, with_issued}
 use Rattle.mpd_match.specs.Changes.{without_last_call}
 use Rattle.mpd_rank.specs.declared.plan.LocalPlan.{LocalPlan}
 use Rattle.mpd_rank.specs.declared.plan.Alone.{Alone as Own}

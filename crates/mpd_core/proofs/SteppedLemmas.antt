@@ -1,6 +1,6 @@
 -- A local step of one rank is one of all ranks.
 use Rattle.std.proofs.Common.{◌≡◌, ℕ, ◌<◌, List, Result, Ok, Err, OnErr, length, get_or, set, subst}
-use Rattle.mpd_model.specs.Program.{Program}
+use Rattle.mpd_model.specs.script.Program.{Program}
 use Rattle.mpd_match.specs.Views.{BoardView}
 use Rattle.mpd_rank.specs.Views.{RankView}
 use Rattle.mpd_rank.specs.Undone.{LocalDone, undone_rank}

@@ -8,9 +8,9 @@ use Rattle.mpd_model.specs.declared.call.CallKind.TheVariants.{Send}
 use Rattle.mpd_model.specs.declared.call.Message.{Message}
 use Rattle.mpd_model.specs.declared.call.Mode.{Mode}
 use Rattle.mpd_model.specs.declared.step.CallId.{CallId}
-use Rattle.mpd_model.specs.Program.{Program}
-use Rattle.mpd_model.specs.World.{Board, calls_of, listed_calls, kind_of, kind_at, message_of, buffer, partner, start_board}
-use Rattle.mpd_model.specs.Next.{HasReceiver, has_buffer, buffered_by, entered, with_issued}
+use Rattle.mpd_model.specs.script.Program.{Program}
+use Rattle.mpd_model.specs.steps.World.{Board, calls_of, listed_calls, kind_of, kind_at, message_of, buffer, partner, start_board}
+use Rattle.mpd_model.specs.steps.Next.{HasReceiver, has_buffer, buffered_by, entered, with_issued}
 use Rattle.mpd_match.specs.Changes.{without_last_call}
 use Rattle.mpd_rank.specs.Plans.{HasTag}
 use Rattle.mpd_rank.specs.Views.{RankView}

@@ -4,7 +4,7 @@ use Rattle.mpd_model.specs.declared.call.CallKind.TheVariants.{Send, Recv}
 use Rattle.mpd_model.specs.declared.call.Mode.TheVariants.{Rendezvous}
 use Rattle.mpd_model.specs.declared.step.Step.{Step}
 use Rattle.mpd_model.specs.declared.step.Step.TheVariants.{Local, Match, Wake, WakeAny, Release}
-use Rattle.mpd_model.specs.World.{Board, call_id}
+use Rattle.mpd_model.specs.steps.World.{Board, call_id}
 use Rattle.mpd_core.specs.Looks.{step_looks, most_looks}
 use Rattle.mpd_core.specs.Writes.{most_writes}
 

@@ -2,7 +2,7 @@
 use Rattle.std.specs.Prelude.{ℕ, ◌+◌, cond, length}
 use Rattle.mpd_model.specs.declared.step.Step.{Step}
 use Rattle.mpd_model.specs.declared.step.Step.TheVariants.{Match}
-use Rattle.mpd_model.specs.World.{Board, fits, pending, posted}
+use Rattle.mpd_model.specs.steps.World.{Board, fits, pending, posted}
 use Rattle.mpd_match.specs.Looks.{eligible_looks}
 
 abbrev pub step_looks : Board → Step → ℕ

@@ -2,9 +2,9 @@
 use Rattle.std.specs.Prelude.{◌≡◌, ◌<◌, ℕ, length, Option, Some, None}
 use Rattle.std.specs.Option.{option_map}
 use Rattle.mpd_model.specs.declared.call.Call.{Call}
-use Rattle.mpd_model.specs.Program.{Program}
-use Rattle.mpd_model.specs.World.{RankWorld, Board, calls_of, partner, last_call}
-use Rattle.mpd_model.specs.Next.{Ran, local, with_issued}
+use Rattle.mpd_model.specs.script.Program.{Program}
+use Rattle.mpd_model.specs.steps.World.{RankWorld, Board, calls_of, partner, last_call}
+use Rattle.mpd_model.specs.steps.Next.{Ran, local, with_issued}
 use Rattle.mpd_rank.specs.Views.{RankView, rank_of}
 
 -- the rank and the board after what it did

@@ -3,8 +3,8 @@ use Rattle.std.specs.Prelude.{ℕ, ℤ, List, length, slice_get, Option, Some, o
 use Rattle.std.specs.Option.{option_map}
 use Rattle.mpd_model.specs.declared.step.Step.{Step}
 use Rattle.mpd_model.specs.declared.step.Step.TheVariants as step
-use Rattle.mpd_model.specs.World.{RankWorld, World}
-use Rattle.mpd_model.specs.Next.{wake_writes, wake_clears, any_writes, any_handle}
+use Rattle.mpd_model.specs.steps.World.{RankWorld, World}
+use Rattle.mpd_model.specs.steps.Next.{wake_writes, wake_clears, any_writes, any_handle}
 use Rattle.mpd_match.specs.Changes.{record_of_pair}
 use Rattle.mpd_rank.specs.declared.change.WakeRecord.{WakeRecord}
 use Rattle.mpd_rank.specs.Undone.{LocalDone}

@@ -1,9 +1,9 @@
 -- What a call that takes the local step of a rank comes to, by its result. It is one relation for that rank alone and for all ranks.
 use Rattle.std.specs.Prelude.{◌≡◌, ◌↔◌, ℕ, ◌+◌, ◌≤◌, min, List, Option, Some, None, Result, IfOk, OnOk, OnErr, IsErrOf}
 use Rattle.mpd_model.specs.declared.step.Step.TheVariants.{Local}
-use Rattle.mpd_model.specs.Program.{Program}
-use Rattle.mpd_model.specs.World.{RankWorld, Board}
-use Rattle.mpd_model.specs.Next.{next, update_at}
+use Rattle.mpd_model.specs.script.Program.{Program}
+use Rattle.mpd_model.specs.steps.World.{RankWorld, Board}
+use Rattle.mpd_model.specs.steps.Next.{next, update_at}
 use Rattle.mpd_match.specs.Views.{BoardView}
 use Rattle.mpd_rank.specs.Views.{RankView, rank_of}
 use Rattle.mpd_rank.specs.Undone.{LocalDone, undone_rank}

@@ -1,9 +1,9 @@
 -- What taking a step back makes of a world, and where it can be taken back.
 use Rattle.std.specs.Prelude.{◌≡◌, ℕ, ◌<◌, true, Some, None, length, map}
 use Rattle.mpd_model.specs.declared.call.MatchSet.TheVariants as set
-use Rattle.mpd_model.specs.Program.{Program}
-use Rattle.mpd_model.specs.World.{World, Board, calls_of, partner, last_call}
-use Rattle.mpd_model.specs.Next.{update_at}
+use Rattle.mpd_model.specs.script.Program.{Program}
+use Rattle.mpd_model.specs.steps.World.{World, Board, calls_of, partner, last_call}
+use Rattle.mpd_model.specs.steps.Next.{update_at}
 use Rattle.mpd_match.specs.Changes.{without_last_call, without_last_set, last_set, Recorded, is_woke}
 use Rattle.mpd_rank.specs.declared.change.LocalChange.{LocalChange}
 use Rattle.mpd_rank.specs.declared.change.LocalChange.TheVariants.{Issued}

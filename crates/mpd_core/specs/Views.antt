@@ -5,9 +5,9 @@ use Rattle.std.specs.Coded.{Coded, code_by, coded×, coded_ℕ}
 use Rattle.mpd_model.specs.declared.limits.TheConstants.{RANKS_MAX, TAGS}
 use Rattle.mpd_model.specs.declared.call.Activity.{Activity}
 use Rattle.mpd_model.specs.declared.call.Message.{Message}
-use Rattle.mpd_model.specs.Program.{Program, program_code}
+use Rattle.mpd_model.specs.script.Program.{Program, program_code}
 use Rattle.mpd_model.specs.declared.step.CallId.{CallId}
-use Rattle.mpd_model.specs.World.{RankWorld, World, Board, kind_at, world_code}
+use Rattle.mpd_model.specs.steps.World.{RankWorld, World, Board, kind_at, world_code}
 use Rattle.mpd_rank.specs.Plans.{HasTag}
 use Rattle.mpd_rank.specs.Views.{RankView, rank_of}
 

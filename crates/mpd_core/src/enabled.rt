@@ -3,11 +3,11 @@
 ghost use Rattle.std.specs.Prelude.{◌≡◌, ◌<◌, [], ◌∷◌, ◌++◌, if◌then◌else◌, length, map, IfOk, OnOk, OnErr};
 ghost use Rattle.std.specs.List.{filter};
 ghost use Rattle.mpd_model.specs.declared.step.Step.TheVariants as steps;
-ghost use Rattle.mpd_model.specs.World.{rank_numbers};
-ghost use Rattle.mpd_model.specs.Next.{is_enabled, any_wakes_of, any_wakes_in, enabled};
+ghost use Rattle.mpd_model.specs.steps.World.{rank_numbers};
+ghost use Rattle.mpd_model.specs.steps.Next.{is_enabled, any_wakes_of, any_wakes_in, enabled};
 
 use crate::state::Core;
-use mpd_model::step::Step;
+use mpd_model::Step;
 use std::alloc::{AllocError, Global};
 
 impl<'c> Core<'c> {

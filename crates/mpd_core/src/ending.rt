@@ -3,15 +3,13 @@
 ghost use Rattle.std.specs.Prelude.{◌≡◌, ◌<◌, [], ◌∷◌, ◌++◌, if◌then◌else◌, length, map, slice_get, Some, IfOk, OnOk, OnErr};
 ghost use Rattle.std.specs.List.{filter, flat_map, list_any};
 ghost use Rattle.mpd_model.specs.declared.step.Step.TheVariants as steps;
-ghost use Rattle.mpd_model.specs.World.{rank_numbers, is_free};
-ghost use Rattle.mpd_model.specs.Next.{is_enabled, any_wakes_of, any_wakes_in, matches_of, matches_in, steps_of};
-ghost use Rattle.mpd_model.specs.Outcomes.{traps_at, traps_in, blocked_at, blocked_calls, free_of, free_calls, untrapped, ending, is_stuck, outcome};
+ghost use Rattle.mpd_model.specs.steps.World.{rank_numbers, is_free};
+ghost use Rattle.mpd_model.specs.steps.Next.{is_enabled, any_wakes_of, any_wakes_in, matches_of, matches_in, steps_of};
+ghost use Rattle.mpd_model.specs.steps.Outcomes.{traps_at, traps_in, blocked_at, blocked_calls, free_of, free_calls, untrapped, ending, is_stuck, outcome};
 ghost use Rattle.mpd_core.specs.Listed.{listed};
 
 use crate::state::Core;
-use mpd_model::call::Activity;
-use mpd_model::outcome::{CallList, Outcome, TrapList, TrappedRank};
-use mpd_model::step::{CallId, Step};
+use mpd_model::{Activity, CallId, CallList, Outcome, Step, TrapList, TrappedRank};
 use std::alloc::{AllocError, Global};
 
 impl<'c> Core<'c> {

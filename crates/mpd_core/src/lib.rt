@@ -10,3 +10,8 @@ pub mod state;
 pub mod step;
 pub mod text;
 mod waitany;
+
+pub use fault::StepFault;
+pub use record::{OtherRecord, Record};
+pub use state::Core;
+pub use step::{AnyStep, OtherStep};

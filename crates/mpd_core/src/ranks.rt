@@ -3,10 +3,10 @@
 ghost use Rattle.std.specs.Prelude.{◌≡◌, ◌<◌, ◌≤◌, ◌+◌, ℕ, length, map, slice_get, replicate, vec_len, IfOk, IfSome, IfNone, IsSome, OnOk, OnErr, Some};
 ghost use Rattle.std.specs.Option.{option_map};
 ghost use Rattle.std.specs.List.{list_all, range_with_len};
-ghost use Rattle.mpd_model.specs.Program.{Program};
-ghost use Rattle.mpd_model.specs.World.{calls_of, start_rank};
-ghost use Rattle.mpd_model.specs.Next.{HasReceiver, with_issued, update_at, woken_rank};
-ghost use Rattle.mpd_model.specs.Outcomes.{has_ended};
+ghost use Rattle.mpd_model.specs.script.Program.{Program};
+ghost use Rattle.mpd_model.specs.steps.World.{calls_of, start_rank};
+ghost use Rattle.mpd_model.specs.steps.Next.{HasReceiver, with_issued, update_at, woken_rank};
+ghost use Rattle.mpd_model.specs.steps.Outcomes.{has_ended};
 ghost use Rattle.mpd_match.specs.Changes.{without_last_call};
 ghost use Rattle.mpd_rank.specs.Views.{rank_of};
 ghost use Rattle.mpd_rank.specs.Undone.{undone_rank, unwoken};
@@ -17,12 +17,10 @@ ghost use Rattle.mpd_core.specs.Records.{wake_record_at};
 ghost use Rattle.mpd_core.specs.Stepped.{RankStepped, RanksStepped, Spent, Wrote};
 
 use crate::fault::StepFault;
-use mpd_code::code::Code;
-use mpd_match::board::Board;
-use mpd_model::call::{Activity, Call};
-use mpd_model::limits::RANKS_MAX;
-use mpd_rank::change::{Cells, LocalRecord, WakeRecord};
-use mpd_rank::rank::RankState;
+use mpd_code::Code;
+use mpd_match::Board;
+use mpd_model::{Activity, Call, RANKS_MAX};
+use mpd_rank::{Cells, LocalRecord, RankState, WakeRecord};
 use std::alloc::{AllocError, Global};
 
 /// So many ranks before their first step.

@@ -1,7 +1,7 @@
 //! What takes a step back. No record holds a collection, nor its step.
 
-use mpd_match::record::PairRecord;
-use mpd_rank::change::{LocalRecord, WakeRecord};
+use mpd_match::PairRecord;
+use mpd_rank::{LocalRecord, WakeRecord};
 
 /// What takes a step back that isn't local. It takes 64 bytes.
 #[derive(Clone, Copy)]

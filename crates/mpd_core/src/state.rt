@@ -3,12 +3,12 @@
 ghost use Rattle.std.specs.Prelude.{◌≡◌, ◌↔◌, ◌<◌, ◌≤◌, ◌+◌, ◌∷◌, ℕ, true, length, map, slice_get, IfOk, IfSome, is_some, OnOk, OnErr, IsErrOf, Some, None};
 ghost use Rattle.std.specs.Option.{option_map};
 ghost use Rattle.std.specs.List.{list_all};
-ghost use Rattle.mpd_model.specs.Outcomes.{has_ended, first_number};
+ghost use Rattle.mpd_model.specs.steps.Outcomes.{has_ended, first_number};
 ghost use Rattle.mpd_model.specs.declared.call.MatchSet.TheVariants as sets;
-ghost use Rattle.mpd_model.specs.Program.{Program};
-ghost use Rattle.mpd_model.specs.World.{eligible, start, kind_at, last_call};
-ghost use Rattle.mpd_model.specs.Next as next_specs;
-ghost use Rattle.mpd_model.specs.Next.{next, is_enabled, local_at, update_at, wake_writes, wake_clears, status_writes, can_wake, any_handle, any_call, any_writes, can_wake_any, can_release, is_at_barrier, waits};
+ghost use Rattle.mpd_model.specs.script.Program.{Program};
+ghost use Rattle.mpd_model.specs.steps.World.{eligible, start, kind_at, last_call};
+ghost use Rattle.mpd_model.specs.steps.Next as next_specs;
+ghost use Rattle.mpd_model.specs.steps.Next.{next, is_enabled, local_at, update_at, wake_writes, wake_clears, status_writes, can_wake, any_handle, any_call, any_writes, can_wake_any, can_release, is_at_barrier, waits};
 ghost use Rattle.mpd_core.specs.Views.{IsMessage};
 ghost use Rattle.mpd_rank.specs.Views.{rank_of};
 ghost use Rattle.mpd_rank.specs.Undone.{blocked_again};
@@ -24,15 +24,13 @@ use crate::ranks;
 use crate::record::{OtherRecord, Record};
 use crate::step::{AnyStep, OtherStep};
 use crate::waitany::{Request, own_writes, request_handle, requests_of, with_index};
-use mpd_code::code::Code;
-use mpd_device::steps::Steps;
-use mpd_match::board::Board;
-use mpd_model::call::{Activity, CallKind, Message, Mode, RecvCall};
-use mpd_model::kind::is_barrier;
-use mpd_model::limits::{HANDLES_MAX, RANKS_MAX};
-use mpd_model::step::{CallId, Step};
-use mpd_rank::change::{Cells, LocalChange, LocalRecord};
-use mpd_rank::rank::RankState;
+use mpd_code::Code;
+use mpd_device::Steps;
+use mpd_match::Board;
+use mpd_model::{
+    Activity, CallId, CallKind, HANDLES_MAX, Message, Mode, RANKS_MAX, RecvCall, Step, is_barrier,
+};
+use mpd_rank::{Cells, LocalChange, LocalRecord, RankState};
 use std::alloc::{AllocError, Global};
 use std::marker::Model;
 

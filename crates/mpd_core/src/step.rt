@@ -3,7 +3,7 @@
 ghost use Rattle.std.specs.Prelude.{◌≡◌};
 ghost use Rattle.mpd_core.specs.Steps.{any_step};
 
-use mpd_model::step::{CallId, Step};
+use mpd_model::{CallId, Step};
 
 /// A step that isn't local: it forms a match set.
 #[derive(Clone, Copy)]

@@ -1,12 +1,11 @@
 //! Printed texts of calls, ranks and match sets (docs/FORMATS.md, "Text of show").
 
 ghost use Rattle.std.specs.Prelude.{◌≡◌, ◌++◌, ◌<◌, IfOk, OnOk, OnErr, IfSome, IsSome, length, slice_get, string_bytes};
-ghost use Rattle.mpd_model.specs.World.{call_at};
-ghost use Rattle.mpd_model.specs.Texts.{buffer_text, mark_text, got_text, place_text, call_text, rank_text, set_text};
+ghost use Rattle.mpd_model.specs.steps.World.{call_at};
+ghost use Rattle.mpd_model.specs.texts.Texts.{buffer_text, mark_text, got_text, place_text, call_text, rank_text, set_text};
 
 use crate::state::Core;
-use mpd_model::call::{Activity, CallKind, Message, Mode};
-use mpd_model::step::CallId;
+use mpd_model::{Activity, CallId, CallKind, Message, Mode};
 use std::alloc::AllocError;
 
 /// Adds the value that a receive got.

@@ -1,12 +1,10 @@
 //! What is read off a wait for one of several requests (MPI 4.0, section 3.7.5).
 
 ghost use Rattle.std.specs.Prelude.{◌≡◌, ◌<◌, ◌≤◌, ◌++◌, length, IfSome, IfNone, Some};
-ghost use Rattle.mpd_model.specs.Next as next_specs;
+ghost use Rattle.mpd_model.specs.steps.Next as next_specs;
 
-use mpd_model::call::CallKind;
-use mpd_model::limits::HANDLES_MAX;
-use mpd_model::step::CallId;
-use mpd_rank::change::Cells;
+use mpd_model::{CallId, CallKind, HANDLES_MAX};
+use mpd_rank::Cells;
 
 /// One of the requests: its handle, and the call that this has.
 #[derive(Clone, Copy)]

@@ -8,11 +8,11 @@ use Rattle.mpd_model.specs.declared.call.Issue.{Issue}
 use Rattle.mpd_model.specs.declared.call.Trap.{Trap}
 use Rattle.mpd_model.specs.declared.stmt.Simple.{Simple}
 use Rattle.mpd_model.specs.declared.stmt.Simple.TheVariants as st
-use Rattle.mpd_model.specs.Term.{Env}
-use Rattle.mpd_model.specs.Tree.{Tree, simple, branch, repeat}
-use Rattle.mpd_model.specs.World.{RankWorld, calls_of}
-use Rattle.mpd_model.specs.Next.{Ran, issued, ran_simple, ran, local_of, local, barrier_issue}
-use Rattle.mpd_model.specs.Outcomes.{first_number}
+use Rattle.mpd_model.specs.script.Term.{Env}
+use Rattle.mpd_model.specs.script.Tree.{Tree, simple, branch, repeat}
+use Rattle.mpd_model.specs.steps.World.{RankWorld, calls_of}
+use Rattle.mpd_model.specs.steps.Next.{Ran, issued, ran_simple, ran, local_of, local, barrier_issue}
+use Rattle.mpd_model.specs.steps.Outcomes.{first_number}
 use Rattle.mpd_explain.specs.CallLaws.{next_number, CallsNameTheirStatements}
 
 abbrev Names : ℕ → Ran → Type 0

@@ -8,10 +8,10 @@ use Rattle.mpd_model.specs.declared.step.Step.{Step}
 use Rattle.mpd_model.specs.declared.outcome.Outcome.{Outcome}
 use Rattle.mpd_model.specs.declared.decision.Decision.{Decision}
 use Rattle.mpd_model.specs.declared.decision.Decision.TheVariants.{Forced, Choice, Leaf}
-use Rattle.mpd_model.specs.World.{World}
-use Rattle.mpd_model.specs.Next.{next, fold}
-use Rattle.mpd_model.specs.Decisions.{decision}
-use Rattle.mpd_model.specs.Trail.{Trail, Standing, IsReached, kept}
+use Rattle.mpd_model.specs.steps.World.{World}
+use Rattle.mpd_model.specs.steps.Next.{next, fold}
+use Rattle.mpd_model.specs.runs.Decisions.{decision}
+use Rattle.mpd_model.specs.runs.Trail.{Trail, Standing, IsReached, done_steps}
 use Rattle.mpd_explore.specs.Walk.{Run, stepped, chosen, run_from, run_taken, run_followed, run_stopped, run_at, steps_by}
 use Rattle.mpd_explain.specs.Follow.{Stays, Taken}
 
@@ -106,17 +106,17 @@ fold_taken fuel left w v taken t =
 
 -- ---- what stays
 
-length-kept : (d : Standing) → IsReached d → length (kept d.trail) ≡ d.trail.depth
-length-kept d h = omega (arith, length-take d.trail.depth d.trail.steps, h.within)
+length-done_steps : (d : Standing) → IsReached d → length (done_steps d.trail) ≡ d.trail.depth
+length-done_steps d h = omega (arith, length-take d.trail.depth d.trail.steps, h.within)
 
 -- a step was taken
-pub stays_pushed : (base : ℕ) (d e : Standing) (a : Step) → base ≤ d.trail.depth → IsReached d → kept e.trail ≡ kept d.trail ++ a ∷ [] → e.trail.depth ≡ d.trail.depth + 1 → e.trail.program ≡ d.trail.program → e.trail.mode ≡ d.trail.mode → IsReached e → Stays base d e
-stays_pushed base d e a above there kept_is depth program mode reached = record {
+pub stays_pushed : (base : ℕ) (d e : Standing) (a : Step) → base ≤ d.trail.depth → IsReached d → done_steps e.trail ≡ done_steps d.trail ++ a ∷ [] → e.trail.depth ≡ d.trail.depth + 1 → e.trail.program ≡ d.trail.program → e.trail.mode ≡ d.trail.mode → IsReached e → Stays base d e
+stays_pushed base d e a above there done_steps_are depth program mode reached = record {
   program = program;
   mode = mode;
   reached = reached;
   above = omega (arith, above, depth);
-  below = ap (take base) kept_is ∙ take-append-le base (kept d.trail) (a ∷ []) (omega (arith, above, length-kept d there));
+  below = ap (take base) done_steps_are ∙ take-append-le base (done_steps d.trail) (a ∷ []) (omega (arith, above, length-done_steps d there));
 }
 
 standing_same : (d e : Standing) → e.trail ≡ d.trail → e.world ≡ d.world → d ≡ e
@@ -129,7 +129,7 @@ stays_same base d e above there trail world = record {
   mode = ap (λ (t : Trail). t.mode) trail;
   reached = subst IsReached (standing_same d e trail world) there;
   above = omega (arith, above, ap (λ (t : Trail). t.depth) trail);
-  below = ap (λ (t : Trail). take base (kept t)) trail;
+  below = ap (λ (t : Trail). take base (done_steps t)) trail;
 }
 
 -- one way and then another

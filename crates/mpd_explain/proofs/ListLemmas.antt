@@ -1,7 +1,7 @@
 -- Lists over ranges of numbers, one number at a time.
 use Rattle.std.proofs.Common.{◌≡◌, ℕ, suc, ◌<◌, ◌≤◌, ◌+◌, ◌-◌, Bool, true, false, cond, List, [], ◌∷◌, ◌++◌, map, Option, Some, None, refl, sym, ap, ◌∙◌, arith, append_assoc}
 use Rattle.std.specs.List.{filter, range_with_len}
-use Rattle.mpd_model.specs.Why.{first_in}
+use Rattle.mpd_model.specs.steps.Why.{first_in}
 
 pub mapped_more : {A : Type 0} (f : ℕ → A) (i n : ℕ) (so_far now total : List A) (x : A) → i < n → so_far ++ map f (range_with_len i (n - i)) ≡ total → now ≡ so_far ++ x ∷ [] → x ≡ f i
     → now ++ map f (range_with_len (i + 1) (n - (i + 1))) ≡ total

@@ -1,8 +1,8 @@
 -- Which statement a call names, so which line it has.
 use Rattle.std.specs.Prelude.{◌≡◌, ℕ, Option, Some, None, IfSome, slice_get}
-use Rattle.mpd_model.specs.World.{RankWorld, World}
-use Rattle.mpd_model.specs.Next.{Ran, local_at}
-use Rattle.mpd_model.specs.Outcomes.{first_number}
+use Rattle.mpd_model.specs.steps.World.{RankWorld, World}
+use Rattle.mpd_model.specs.steps.Next.{Ran, local_at}
+use Rattle.mpd_model.specs.steps.Outcomes.{first_number}
 
 -- the number of the statement that a rank is at
 abbrev pub next_number : Option RankWorld → Option ℕ

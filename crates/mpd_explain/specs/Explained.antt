@@ -12,14 +12,14 @@ use Rattle.mpd_model.specs.declared.call.SendCall.{SendCall}
 use Rattle.mpd_model.specs.declared.call.RecvCall.{RecvCall}
 use Rattle.mpd_model.specs.declared.outcome.TrappedRank.{TrappedRank}
 use Rattle.mpd_model.specs.declared.outcome.Outcome.TheVariants.{Done, Leftovers, Deadlock, Trap}
-use Rattle.mpd_model.specs.Program.{Program}
-use Rattle.mpd_model.specs.World.{RankWorld, World, Board, call_at, kind_at, is_barrier, rank_numbers, start}
-use Rattle.mpd_model.specs.Next.{fold, is_at_barrier}
-use Rattle.mpd_model.specs.Outcomes.{first_number, has_ended}
-use Rattle.mpd_model.specs.Texts.{line, id_text, kind_text, trap_name}
+use Rattle.mpd_model.specs.script.Program.{Program}
+use Rattle.mpd_model.specs.steps.World.{RankWorld, World, Board, call_at, kind_at, is_barrier, rank_numbers, start}
+use Rattle.mpd_model.specs.steps.Next.{fold, is_at_barrier}
+use Rattle.mpd_model.specs.steps.Outcomes.{first_number, has_ended}
+use Rattle.mpd_model.specs.texts.Texts.{line, id_text, kind_text, trap_name}
 use Rattle.mpd_explore.specs.declared.report.Ending.{Ending}
 use Rattle.mpd_explore.specs.declared.report.Ending.TheVariants.{Ended, Cut}
-use Rattle.mpd_explain.specs.declared.missed.Miss.{Miss}
+use Rattle.mpd_explain.specs.declared.near_miss.Miss.{Miss}
 use Rattle.mpd_explain.specs.Requests.{requests}
 use Rattle.mpd_explain.specs.Missed.{nearest, miss_text, taken}
 use Rattle.mpd_explain.specs.Waits.{waits_line, cycle_lines}

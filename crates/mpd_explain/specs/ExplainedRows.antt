@@ -6,13 +6,13 @@ use Rattle.mpd_model.specs.declared.expr.BinaryOp.TheVariants.{Equal, Divide}
 use Rattle.mpd_model.specs.declared.call.Mode.TheVariants.{Rendezvous}
 use Rattle.mpd_model.specs.declared.stmt.Simple.TheVariants as st
 use Rattle.mpd_model.specs.declared.outcome.Outcome.TheVariants as o
-use Rattle.mpd_model.specs.Declaration.{Declared}
-use Rattle.mpd_model.specs.Term.{Term, lit, own_rank, op2, Target}
-use Rattle.mpd_model.specs.Tree.{Tree, simple, branch, no_more, then_more}
-use Rattle.mpd_model.specs.Program.{Program}
-use Rattle.mpd_model.specs.World.{call_id, start}
-use Rattle.mpd_model.specs.Decisions.{decision}
-use Rattle.mpd_model.specs.Texts.{line}
+use Rattle.mpd_model.specs.script.Declaration.{Declared}
+use Rattle.mpd_model.specs.script.Term.{Term, lit, own_rank, op2, Target}
+use Rattle.mpd_model.specs.script.Tree.{Tree, simple, branch, no_more, then_more}
+use Rattle.mpd_model.specs.script.Program.{Program}
+use Rattle.mpd_model.specs.steps.World.{call_id, start}
+use Rattle.mpd_model.specs.runs.Decisions.{decision}
+use Rattle.mpd_model.specs.texts.Texts.{line}
 use Rattle.mpd_explore.specs.declared.report.Ending.{Ending}
 use Rattle.mpd_explore.specs.declared.report.Ending.TheVariants.{Ended, Cut}
 use Rattle.mpd_explore.specs.declared.report.Leaf as leaf

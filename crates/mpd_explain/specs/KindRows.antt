@@ -6,9 +6,9 @@ use Rattle.mpd_model.specs.declared.call.Activity.TheVariants.{Blocked}
 use Rattle.mpd_model.specs.declared.call.CallKind.{CallKind}
 use Rattle.mpd_model.specs.declared.call.CallKind.TheVariants.{Send, Recv, Wait, Waitany, Barrier}
 use Rattle.mpd_model.specs.declared.call.Mode.TheVariants.{Rendezvous}
-use Rattle.mpd_model.specs.World.{World, call_id}
-use Rattle.mpd_explain.specs.declared.missed.Miss.{Miss}
-use Rattle.mpd_explain.specs.declared.missed.Miss.TheVariants.{Tag, Source, Destination}
+use Rattle.mpd_model.specs.steps.World.{World, call_id}
+use Rattle.mpd_explain.specs.declared.near_miss.Miss.{Miss}
+use Rattle.mpd_explain.specs.declared.near_miss.Miss.TheVariants.{Tag, Source, Destination}
 use Rattle.mpd_explain.specs.Requests.{requests}
 use Rattle.mpd_explain.specs.Missed.{missing}
 use Rattle.mpd_explain.specs.Waits.{is_partner}

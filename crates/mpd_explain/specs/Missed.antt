@@ -6,10 +6,10 @@ use Rattle.mpd_model.specs.declared.call.CallKind.{CallKind}
 use Rattle.mpd_model.specs.declared.call.CallKind.TheVariants.{Send, Recv}
 use Rattle.mpd_model.specs.declared.call.MatchSet.{MatchSet}
 use Rattle.mpd_model.specs.declared.call.MatchSet.TheVariants.{Pair}
-use Rattle.mpd_model.specs.World.{Board, call_id, kind_at, rank_numbers, call_numbers, is_free, is_any_or, fits}
-use Rattle.mpd_model.specs.Why.{first_in, or_else}
-use Rattle.mpd_explain.specs.declared.missed.Miss.{Miss}
-use Rattle.mpd_explain.specs.declared.missed.Miss.TheVariants.{Tag, Source, Destination}
+use Rattle.mpd_model.specs.steps.World.{Board, call_id, kind_at, rank_numbers, call_numbers, is_free, is_any_or, fits}
+use Rattle.mpd_model.specs.steps.Why.{first_in, or_else}
+use Rattle.mpd_explain.specs.declared.near_miss.Miss.{Miss}
+use Rattle.mpd_explain.specs.declared.near_miss.Miss.TheVariants.{Tag, Source, Destination}
 
 -- ---- near misses
 

@@ -5,7 +5,7 @@ use Rattle.mpd_model.specs.declared.step.CallId.{CallId}
 use Rattle.mpd_model.specs.declared.call.CallKind.{CallKind}
 use Rattle.mpd_model.specs.declared.call.CallKind.TheVariants.{Wait, Waitany}
 use Rattle.mpd_model.specs.declared.call.WaitanyCall.{WaitanyCall}
-use Rattle.mpd_model.specs.World.{RankWorld, World, call_id}
+use Rattle.mpd_model.specs.steps.World.{RankWorld, World, call_id}
 
 -- the call of rank p with that number, where there is a number
 abbrev pub call_of : ℕ → Option ℕ → List CallId

@@ -3,7 +3,7 @@ use Rattle.std.specs.Prelude.{ℕ, suc, Bool, true, false, not, List, [], ◌∷
 use Rattle.std.specs.Fmt.{decimal}
 use Rattle.std.specs.List.{filter, list_any, range_with_len}
 use Rattle.std.specs.Str.{bytes_eq}
-use Rattle.mpd_model.specs.Texts.{line}
+use Rattle.mpd_model.specs.texts.Texts.{line}
 use Rattle.mpd_explore.specs.declared.report.Leaf.{Leaf}
 use Rattle.mpd_explore.specs.ReportText.{leaf_line, ending_text}
 use Rattle.mpd_explore.specs.Printed.{numbered_at, total_line}

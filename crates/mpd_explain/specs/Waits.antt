@@ -5,12 +5,12 @@ use Rattle.std.specs.List.{filter, flat_map, list_all, list_any, range_with_len}
 use Rattle.mpd_model.specs.declared.step.CallId.{CallId}
 use Rattle.mpd_model.specs.declared.call.CallKind.{CallKind}
 use Rattle.mpd_model.specs.declared.call.CallKind.TheVariants.{Send, Recv}
-use Rattle.mpd_model.specs.World.{RankWorld, World, Board, kind_at, is_barrier, rank_numbers, last_call}
-use Rattle.mpd_model.specs.Next.{is_at_barrier, waits}
-use Rattle.mpd_model.specs.Outcomes.{has_ended}
-use Rattle.mpd_model.specs.Breakpoints.{is_number}
-use Rattle.mpd_model.specs.Texts.{line}
-use Rattle.mpd_model.specs.Why.{first_in}
+use Rattle.mpd_model.specs.steps.World.{RankWorld, World, Board, kind_at, is_barrier, rank_numbers, last_call}
+use Rattle.mpd_model.specs.steps.Next.{is_at_barrier, waits}
+use Rattle.mpd_model.specs.steps.Outcomes.{has_ended}
+use Rattle.mpd_model.specs.runs.Breakpoints.{is_number}
+use Rattle.mpd_model.specs.texts.Texts.{line}
+use Rattle.mpd_model.specs.steps.Why.{first_in}
 use Rattle.mpd_explain.specs.Requests.{requests}
 
 -- ---- whom a call waits for

@@ -2,18 +2,16 @@
 
 ghost use Rattle.std.specs.Prelude.{◌≡◌, ◌+◌, ◌≤◌, ◌<◌, IfOk, OnOk, IsSome, Some, length};
 ghost use Rattle.std.specs.List.{All};
-ghost use Rattle.mpd_model.specs.Decisions.{decision};
-ghost use Rattle.mpd_model.specs.Next.{next, fold};
-ghost use Rattle.mpd_model.specs.Trail.{gone_back, forgotten, IsReached};
+ghost use Rattle.mpd_model.specs.runs.Decisions.{decision};
+ghost use Rattle.mpd_model.specs.steps.Next.{next, fold};
+ghost use Rattle.mpd_model.specs.runs.Trail.{gone_back, forgotten, IsReached};
 ghost use Rattle.mpd_trail.specs.Views.{standing_of};
 ghost use Rattle.mpd_explore.specs.Walk.{run_at, steps_by};
 ghost use Rattle.mpd_explain.specs.Follow.{Stays, Taken, Goes};
 
-use mpd_model::decision::{Decision, StepList};
-use mpd_model::limits::STEPS_MAX;
-use mpd_model::step::Step;
-use mpd_policy::decide::{decide, decisions_can_be_followed};
-use mpd_trail::debugger::Debugger;
+use mpd_model::{Decision, STEPS_MAX, Step, StepList};
+use mpd_policy::{decide, decisions_can_be_followed};
+use mpd_trail::Debugger;
 use std::alloc::{AllocError, Global};
 
 /// Takes a step that is enabled.

@@ -1,12 +1,20 @@
 //! Why a run ended in a deadlock or a trap, told for a person; and reports with what is told, or grouped by how runs end.
 #![tactic(auto)]
 
-pub mod explain;
+pub mod explanation;
 mod follow;
 pub mod laws;
 mod list;
-mod missed;
+mod near_miss;
 pub mod print;
-pub mod requests;
-pub mod told;
+pub mod request_calls;
+pub mod sentences;
 mod waits;
+
+pub use explanation::{explain, explain_all};
+pub use laws::calls_name_their_statements;
+pub use print::print_explained;
+pub use request_calls::requests;
+pub use sentences::{
+    issue_line, push_all_absent, push_helps, push_placed, push_told, push_wish, rank_line,
+};

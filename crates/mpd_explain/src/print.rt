@@ -8,9 +8,8 @@ ghost use Rattle.mpd_explore.specs.Printed.{numbered_at, told_text};
 ghost use Rattle.mpd_explain.specs.Told as told;
 
 use crate::list::{push_if, push_text};
-use mpd_explore::print::{push_leaf_text, push_total};
-use mpd_explore::report::{Ending, Leaf, Report};
-use mpd_model::text::print_outcome;
+use mpd_explore::{Ending, Leaf, Report, push_leaf_text, push_total};
+use mpd_model::print_outcome;
 use std::alloc::{AllocError, Global};
 
 /// Adds the line of a leaf.

@@ -2,16 +2,14 @@
 
 ghost use Rattle.std.specs.Prelude.{◌≡◌, ◌++◌, [], ◌∷◌, None, option_and_then, IfOk, OnOk, slice_get, slice_index_or, string_bytes};
 ghost use Rattle.std.specs.List.{filter, flat_map, list_any};
-ghost use Rattle.mpd_model.specs.World.{kind_at, rank_numbers};
-ghost use Rattle.mpd_model.specs.Breakpoints.{is_number as same_number};
+ghost use Rattle.mpd_model.specs.steps.World.{kind_at, rank_numbers};
+ghost use Rattle.mpd_model.specs.runs.Breakpoints.{is_number as same_number};
 ghost use Rattle.mpd_explain.specs.Waits as waits;
 
 use crate::list::push_if;
-use crate::requests::{is_at_barrier, requests};
-use mpd_core::state::Core;
-use mpd_model::call::{Activity, CallKind};
-use mpd_model::kind::is_barrier;
-use mpd_model::step::CallId;
+use crate::request_calls::{is_at_barrier, requests};
+use mpd_core::Core;
+use mpd_model::{Activity, CallId, CallKind, is_barrier};
 use std::alloc::{AllocError, Global};
 
 /// Whether a receive of a rank may get a message of another.

@@ -2,8 +2,8 @@
 use Rattle.std.proofs.Common.{◌≡◌, ℕ, zero, suc, ◌<◌, ◌≤◌, ◌+◌, ◌-◌, List, [], ◌∷◌, ◌++◌, length, take, map, reverse, get_or, Some, refl, sym, ap, ◌∙◌, arith, append-nil}
 use Rattle.std.proofs.lemmas.List.{length-map, take_more, take_all, reverse-append}
 use Rattle.mpd_model.specs.declared.step.Step.{Step}
-use Rattle.mpd_model.specs.World.{World}
-use Rattle.mpd_model.specs.Trail.{Trail, Standing, IsReached, kept, world_of, gone_back, forgotten}
+use Rattle.mpd_model.specs.steps.World.{World}
+use Rattle.mpd_model.specs.runs.Trail.{Trail, Standing, IsReached, done_steps, world_of, gone_back, forgotten}
 use Rattle.mpd_explore.specs.declared.search.Open.{Open}
 use Rattle.mpd_explore.specs.declared.search.Bounds.{Bounds}
 use Rattle.mpd_explore.specs.Walk.{Run, prefixed}
@@ -26,21 +26,21 @@ none_prefixed : (path : List Step) (rs : List Run) → map shown (map (prefixed 
 none_prefixed path [] = refl
 none_prefixed path (r ∷ rs) = ap (λ ls. shown r ∷ ls) (none_prefixed path rs)
 
-pub to_find_is : (b : Bounds) (above : List Step) (d : Standing) (n : ℕ) → b.limit - length (kept d.trail) ≡ n → to_find b above d ≡ map (prefixed [] (kept d.trail)) (awake_walk b.sleeps n above d.world)
+pub to_find_is : (b : Bounds) (above : List Step) (d : Standing) (n : ℕ) → b.limit - length (done_steps d.trail) ≡ n → to_find b above d ≡ map (prefixed [] (done_steps d.trail)) (awake_walk b.sleeps n above d.world)
 to_find_is b above d n left =
-    append-nil (map (prefixed [] (kept d.trail)) (awake_walk b.sleeps (b.limit - length (kept d.trail)) above d.world)) ∙ ap (λ m. map (prefixed [] (kept d.trail)) (awake_walk b.sleeps m above d.world)) left
+    append-nil (map (prefixed [] (done_steps d.trail)) (awake_walk b.sleeps (b.limit - length (done_steps d.trail)) above d.world)) ∙ ap (λ m. map (prefixed [] (done_steps d.trail)) (awake_walk b.sleeps m above d.world)) left
 
-pub found_shown : (b : Bounds) (above : List Step) (d : Standing) (n : ℕ) → b.limit - length (kept d.trail) ≡ n → map shown (to_find b above d) ≡ map shown (awake_walk b.sleeps n above d.world)
-found_shown b above d n left = ap (map shown) (to_find_is b above d n left) ∙ none_prefixed (kept d.trail) (awake_walk b.sleeps n above d.world)
+pub found_shown : (b : Bounds) (above : List Step) (d : Standing) (n : ℕ) → b.limit - length (done_steps d.trail) ≡ n → map shown (to_find b above d) ≡ map shown (awake_walk b.sleeps n above d.world)
+found_shown b above d n left = ap (map shown) (to_find_is b above d n left) ∙ none_prefixed (done_steps d.trail) (awake_walk b.sleeps n above d.world)
 
 -- and where nothing is asleep, that is some
 pub some_to_find : (b : Bounds) (above : List Step) (d : Standing) → AllFollow → above ≡ [] → 0 < length (to_find b above d)
 some_to_find b above d law none =
-    let n : ℕ = b.limit - length (kept d.trail) in
+    let n : ℕ = b.limit - length (done_steps d.trail) in
     omega (
       arith,
       ap length (to_find_is b above d n refl),
-      length-map (awake_walk b.sleeps n above d.world) (prefixed [] (kept d.trail)),
+      length-map (awake_walk b.sleeps n above d.world) (prefixed [] (done_steps d.trail)),
       ap (λ (s : List Step). length (awake_walk b.sleeps n s d.world)) none,
       awake_some b.sleeps n d.world law,
     )
@@ -53,9 +53,9 @@ take_lower (suc m) zero xs h = absurd (omega arith)
 take_lower (suc m) (suc n) [] h = refl
 take_lower (suc m) (suc n) (x ∷ xs) h = ap (λ ys. x ∷ ys) (take_lower m n xs (omega arith))
 
-pub as_found : (d m e : Trail) → length d.steps ≡ d.depth → d.depth ≤ m.depth → m.program ≡ d.program → m.mode ≡ d.mode → take d.depth (kept m) ≡ take d.depth (kept d) → e ≡ forgotten (gone_back m d.depth) → e ≡ d
+pub as_found : (d m e : Trail) → length d.steps ≡ d.depth → d.depth ≤ m.depth → m.program ≡ d.program → m.mode ≡ d.mode → take d.depth (done_steps m) ≡ take d.depth (done_steps d) → e ≡ forgotten (gone_back m d.depth) → e ≡ d
 as_found d m e clean deep program mode below is =
-    let whole : take d.depth (kept d) ≡ d.steps = take_lower d.depth d.depth d.steps (omega arith) ∙ take_all d.depth d.steps (omega (arith, clean)) in
+    let whole : take d.depth (done_steps d) ≡ d.steps = take_lower d.depth d.depth d.steps (omega arith) ∙ take_all d.depth d.steps (omega (arith, clean)) in
     let same : take d.depth m.steps ≡ d.steps = sym (take_lower d.depth m.depth m.steps deep) ∙ below ∙ whole in
     is ∙ λ i. record { program = program i; mode = mode i; steps = same i; depth = d.depth }
 

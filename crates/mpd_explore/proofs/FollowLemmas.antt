@@ -6,9 +6,9 @@ use Rattle.mpd_model.specs.declared.step.Step.{Step}
 use Rattle.mpd_model.specs.declared.outcome.Outcome.{Outcome}
 use Rattle.mpd_model.specs.declared.decision.Decision.{Decision}
 use Rattle.mpd_model.specs.declared.decision.Decision.TheVariants.{Forced, Choice, Leaf}
-use Rattle.mpd_model.specs.World.{World}
-use Rattle.mpd_model.specs.Decisions.{decision}
-use Rattle.mpd_model.specs.Trail.{Standing, kept}
+use Rattle.mpd_model.specs.steps.World.{World}
+use Rattle.mpd_model.specs.runs.Decisions.{decision}
+use Rattle.mpd_model.specs.runs.Trail.{Standing, done_steps}
 use Rattle.mpd_trail.specs.Run.{first_of}
 use Rattle.mpd_explore.specs.declared.search.Bounds.{Bounds}
 use Rattle.mpd_explore.specs.Walk.{Run, stepped, chosen, run_from, run_taken, run_followed, run_stopped, run_at, steps_by}
@@ -52,7 +52,7 @@ forced_followed b left d e a at room forced went some =
       depth = omega (arith, went.depth);
       few = omega arith;
       some = more;
-      same = ap (λ o. kept d.trail ++ steps_by o) is ∙ steps_stepped (kept d.trail) a (ahead b left e) more ∙ ap (λ p. p ++ steps_by (ahead b left e)) (sym went.kept_is);
+      same = ap (λ o. done_steps d.trail ++ steps_by o) is ∙ steps_stepped (done_steps d.trail) a (ahead b left e) more ∙ ap (λ p. p ++ steps_by (ahead b left e)) (sym went.done_steps_are);
     }
 
 -- ---- a choice
@@ -91,7 +91,7 @@ choice_followed b c cs d e candidates a at room choice read went some =
       depth = omega (arith, went.depth);
       few = omega arith;
       some = more;
-      same = ap (λ o. kept d.trail ++ steps_by o) is ∙ steps_chosen (kept d.trail) c a (ahead b cs e) more ∙ ap (λ p. p ++ steps_by (ahead b cs e)) (sym went.kept_is);
+      same = ap (λ o. done_steps d.trail ++ steps_by o) is ∙ steps_chosen (done_steps d.trail) c a (ahead b cs e) more ∙ ap (λ p. p ++ steps_by (ahead b cs e)) (sym went.done_steps_are);
     }
 
 -- ---- the end of a run
@@ -102,8 +102,8 @@ leaf_none run w (c ∷ cs) o = refl
 
 pub leaf_followed : (b : Bounds) (left : List ℕ) (d e : Standing) (o : Outcome) → d.trail.depth < b.limit → decision d.world ≡ Leaf o → e.trail ≡ d.trail → Follows b left d None e
 leaf_followed b left d e o room leaf same =
-    ap kept same ∙ sym (append-nil (kept d.trail))
-    ∙ ap (λ xs. kept d.trail ++ xs) (sym (ap steps_by (ahead_is b left d (Leaf o) room leaf) ∙ leaf_none (run_at (b.limit - suc d.trail.depth)) d.world left o))
+    ap done_steps same ∙ sym (append-nil (done_steps d.trail))
+    ∙ ap (λ xs. done_steps d.trail ++ xs) (sym (ap steps_by (ahead_is b left d (Leaf o) room leaf) ∙ leaf_none (run_at (b.limit - suc d.trail.depth)) d.world left o))
 
 stopped_none : (left : List ℕ) (c : Decision) → steps_by (run_stopped left c) ≡ []
 stopped_none [] (Forced a) = refl

@@ -3,8 +3,8 @@ use Rattle.std.proofs.Common.{◌≡◌, ℕ, zero, suc, ◌<◌, ◌≤◌, ◌
 use Rattle.std.proofs.lemmas.List.{length-append, length-map, take_all}
 use Rattle.std.proofs.Math.Seq.{take-append_seam}
 use Rattle.mpd_model.specs.declared.step.Step.{Step}
-use Rattle.mpd_model.specs.World.{World}
-use Rattle.mpd_model.specs.Trail.{Standing, kept}
+use Rattle.mpd_model.specs.steps.World.{World}
+use Rattle.mpd_model.specs.runs.Trail.{Standing, done_steps}
 use Rattle.mpd_explore.specs.declared.report.Leaf.{Leaf}
 use Rattle.mpd_explore.specs.declared.report.Limits.{Limits}
 use Rattle.mpd_explore.specs.declared.search.Open.{Open}
@@ -50,16 +50,16 @@ gathered_run asked all before rest old leaves texts now r g split pushed added =
 
 -- the leaf at which the debugger stands, with what is behind it
 pub gathered_leaf : (asked : Bool) (first : World) (b : Bounds) (above : List Step) (gs : List Open) (m : Standing) (x : Leaf) (all before rest : List Run) (old leaves : List Leaf) (texts now : List (List ℕ))
-    → Gathered asked all before old texts → before ≡ prefixed (picked gs) (kept m.trail) (here x.ending) ∷ later first b above gs (kept m.trail) → x.choices ≡ picked gs → leaves ≡ old ++ x ∷ []
-    → now ≡ texts ++ (if asked then behind_number (witness_by (kept m.trail) x.ending) ∷ [] else []) → later first b above gs (kept m.trail) ≡ rest → Gathered asked all rest leaves now
+    → Gathered asked all before old texts → before ≡ prefixed (picked gs) (done_steps m.trail) (here x.ending) ∷ later first b above gs (done_steps m.trail) → x.choices ≡ picked gs → leaves ≡ old ++ x ∷ []
+    → now ≡ texts ++ (if asked then behind_number (witness_by (done_steps m.trail) x.ending) ∷ [] else []) → later first b above gs (done_steps m.trail) ≡ rest → Gathered asked all rest leaves now
 gathered_leaf asked first b above gs m x all before rest old leaves texts now g found chosen pushed added behind =
-    let r : Run = record { choices = x.choices; steps = kept m.trail; ending = x.ending } in
-    let same : prefixed (picked gs) (kept m.trail) (here x.ending) ≡ r = prefixed_here (picked gs) (kept m.trail) x.ending ∙ ap (λ cs. record { choices = cs; steps = kept m.trail; ending = x.ending }) (sym chosen) in
-    let split : before ≡ r ∷ rest = found ∙ ap (λ (q : Run). q ∷ later first b above gs (kept m.trail)) same ∙ ap (λ rs. r ∷ rs) behind in
+    let r : Run = record { choices = x.choices; steps = done_steps m.trail; ending = x.ending } in
+    let same : prefixed (picked gs) (done_steps m.trail) (here x.ending) ≡ r = prefixed_here (picked gs) (done_steps m.trail) x.ending ∙ ap (λ cs. record { choices = cs; steps = done_steps m.trail; ending = x.ending }) (sym chosen) in
+    let split : before ≡ r ∷ rest = found ∙ ap (λ (q : Run). q ∷ later first b above gs (done_steps m.trail)) same ∙ ap (λ rs. r ∷ rs) behind in
     gathered_run asked all before rest old leaves texts now r g split pushed added
 
 -- the next candidate was taken
-pub goes_on : (first own : World) (b : Bounds) (above : List Step) (gs hs : List Open) (path : List Step) (e : Standing) (more : Bool) → own ≡ first → more ≡ true → Advanced own b above gs path more hs e → later first b above gs path ≡ to_come first b above hs (kept e.trail) e.world
+pub goes_on : (first own : World) (b : Bounds) (above : List Step) (gs hs : List Open) (path : List Step) (e : Standing) (more : Bool) → own ≡ first → more ≡ true → Advanced own b above gs path more hs e → later first b above gs path ≡ to_come first b above hs (done_steps e.trail) e.world
 goes_on first own b above gs hs path e more own_is is advanced = let h : Advanced first b above gs path true hs e = rw (own_is, is) at advanced in h.1
 
 pub goes_at : (first own : World) (b : Bounds) (above : List Step) (gs hs : List Open) (path : List Step) (e : Standing) (more : Bool) → own ≡ first → more ≡ true → Advanced own b above gs path more hs e → At first b hs e
@@ -178,12 +178,12 @@ lists_asked l all rest leaves texts false g more long good = lists_none l all re
 -- ---- what was found, where the first world is told by the debugger
 
 pub leaf_found : (first own : World) (b : Bounds) (above : List Step) (fs gs : List Open) (d m : Standing) (o : Option Leaf) (x : Leaf) → own ≡ first → o ≡ Some x → FoundLeaf own b above fs d o gs m
-    → At first b gs m × (to_come first b above fs (kept d.trail) d.world ≡ prefixed (picked gs) (kept m.trail) (here x.ending) ∷ later first b above gs (kept m.trail)) × (x.choices ≡ picked gs)
+    → At first b gs m × (to_come first b above fs (done_steps d.trail) d.world ≡ prefixed (picked gs) (done_steps m.trail) (here x.ending) ∷ later first b above gs (done_steps m.trail)) × (x.choices ≡ picked gs)
 leaf_found first own b above fs gs d m o x own_is is found =
     let h : FoundLeaf first b above fs d (Some x) gs m = rw (own_is, is) at found in
     (h.0.0, h.0.1, h.1)
 
-pub no_leaf : (first own : World) (b : Bounds) (above : List Step) (fs gs : List Open) (d m : Standing) (o : Option Leaf) → own ≡ first → o ≡ None → FoundLeaf own b above fs d o gs m → to_come first b above fs (kept d.trail) d.world ≡ []
+pub no_leaf : (first own : World) (b : Bounds) (above : List Step) (fs gs : List Open) (d m : Standing) (o : Option Leaf) → own ≡ first → o ≡ None → FoundLeaf own b above fs d o gs m → to_come first b above fs (done_steps d.trail) d.world ≡ []
 no_leaf first own b above fs gs d m o own_is is found = let h : FoundLeaf first b above fs d None gs m = rw (own_is, is) at found in h
 
 pub more_of : (first own : World) (b : Bounds) (above : List Step) (fs : List Open) (path : List Step) (w : World) (more : Bool) → own ≡ first → IsMore more (to_come own b above fs path w) → IsMore more (to_come first b above fs path w)

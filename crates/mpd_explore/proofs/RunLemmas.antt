@@ -4,9 +4,9 @@ use Rattle.std.proofs.lemmas.List.{length-append, length-map}
 use Rattle.mpd_model.specs.declared.step.Step.{Step}
 use Rattle.mpd_model.specs.declared.decision.Decision.{Decision}
 use Rattle.mpd_model.specs.declared.decision.Decision.TheVariants.{Forced, Choice, Leaf}
-use Rattle.mpd_model.specs.World.{World}
-use Rattle.mpd_model.specs.Next.{next}
-use Rattle.mpd_model.specs.Decisions.{decision, CanFollow}
+use Rattle.mpd_model.specs.steps.World.{World}
+use Rattle.mpd_model.specs.steps.Next.{next}
+use Rattle.mpd_model.specs.runs.Decisions.{decision, CanFollow}
 use Rattle.mpd_explore.specs.declared.report.Ending.{Ending}
 use Rattle.mpd_explore.specs.Walk.{Run, here, stepped, chosen, prefixed, runs_of, branches, followed, stopped, walk}
 use Rattle.mpd_explore.specs.Search.{AllEnabled}

@@ -6,10 +6,10 @@ use Rattle.mpd_model.specs.declared.outcome.Outcome.{Outcome}
 use Rattle.mpd_model.specs.declared.step.Step.{Step}
 use Rattle.mpd_model.specs.declared.decision.Decision.{Decision}
 use Rattle.mpd_model.specs.declared.decision.Decision.TheVariants.{Forced, Choice, Leaf}
-use Rattle.mpd_model.specs.World.{World, start}
-use Rattle.mpd_model.specs.Next.{next, fold}
-use Rattle.mpd_model.specs.Trail.{Trail, Standing, IsReached, kept}
-use Rattle.mpd_model.specs.Decisions.{decision}
+use Rattle.mpd_model.specs.steps.World.{World, start}
+use Rattle.mpd_model.specs.steps.Next.{next, fold}
+use Rattle.mpd_model.specs.runs.Trail.{Trail, Standing, IsReached, done_steps}
+use Rattle.mpd_model.specs.runs.Decisions.{decision}
 use Rattle.mpd_trail.specs.Run.{first_of}
 use Rattle.mpd_explore.specs.declared.report.Ending.{Ending}
 use Rattle.mpd_explore.specs.declared.report.Ending.TheVariants.{Ended}
@@ -69,7 +69,7 @@ base_within first b (f ∷ fs) path h = omega (arith, base_within first b fs (ta
 
 -- a step was taken
 pub record Went (d : Standing) (a : Step) (e : Standing) : Type 0 where
-  pub kept_is : kept e.trail ≡ kept d.trail ++ a ∷ []
+  pub done_steps_are : done_steps e.trail ≡ done_steps d.trail ++ a ∷ []
   pub world : next d.world a ≡ Some e.world
   pub depth : e.trail.depth ≡ d.trail.depth + 1
   pub program : e.trail.program ≡ d.trail.program
@@ -78,7 +78,7 @@ pub record Went (d : Standing) (a : Step) (e : Standing) : Type 0 where
 
 -- steps were taken back
 pub record Came (d : Standing) (n : ℕ) (e : Standing) : Type 0 where
-  pub kept_is : kept e.trail ≡ take n (kept d.trail)
+  pub done_steps_are : done_steps e.trail ≡ take n (done_steps d.trail)
   pub depth : e.trail.depth ≡ n
   pub program : e.trail.program ≡ d.trail.program
   pub mode : e.trail.mode ≡ d.trail.mode
@@ -87,33 +87,33 @@ pub record Came (d : Standing) (n : ℕ) (e : Standing) : Type 0 where
 first_same : (t u : Trail) → u.program ≡ t.program → u.mode ≡ t.mode → first_of u ≡ first_of t
 first_same t u program mode = λ i. start (program i) (mode i)
 
-pub length-kept : (d : Standing) → IsReached d → length (kept d.trail) ≡ d.trail.depth
-length-kept d h = omega (arith, length-take d.trail.depth d.trail.steps, h.within)
+pub length-done_steps : (d : Standing) → IsReached d → length (done_steps d.trail) ≡ d.trail.depth
+length-done_steps d h = omega (arith, length-take d.trail.depth d.trail.steps, h.within)
 
-at_length : (first : World) (b : Bounds) (fs : List Open) (d : Standing) → At first b fs d → length (kept d.trail) ≡ d.trail.depth
-at_length first b fs d h = length-kept d h.reached
+at_length : (first : World) (b : Bounds) (fs : List Open) (d : Standing) → At first b fs d → length (done_steps d.trail) ≡ d.trail.depth
+at_length first b fs d h = length-done_steps d h.reached
 
-at_world : (first : World) (b : Bounds) (fs : List Open) (d : Standing) → At first b fs d → fold first (kept d.trail) ≡ Some d.world
-at_world first b fs d h = ap (λ w. fold w (kept d.trail)) (sym h.first_is) ∙ h.reached.world
+at_world : (first : World) (b : Bounds) (fs : List Open) (d : Standing) → At first b fs d → fold first (done_steps d.trail) ≡ Some d.world
+at_world first b fs d h = ap (λ w. fold w (done_steps d.trail)) (sym h.first_is) ∙ h.reached.world
 
 -- with fuel left, by how much of it is left behind a step
-come_is : (first : World) (b : Bounds) (above : List Step) (fs : List Open) (d : Standing) (n : ℕ) → b.limit - length (kept d.trail) ≡ n → to_come first b above fs (kept d.trail) d.world ≡ map (prefixed (picked fs) (kept d.trail)) (awake_walk b.sleeps n (asleep_below b.sleeps above fs) d.world) ++ later first b above fs (kept d.trail)
-come_is first b above fs d n left = ap (λ m. map (prefixed (picked fs) (kept d.trail)) (awake_walk b.sleeps m (asleep_below b.sleeps above fs) d.world) ++ later first b above fs (kept d.trail)) left
+come_is : (first : World) (b : Bounds) (above : List Step) (fs : List Open) (d : Standing) (n : ℕ) → b.limit - length (done_steps d.trail) ≡ n → to_come first b above fs (done_steps d.trail) d.world ≡ map (prefixed (picked fs) (done_steps d.trail)) (awake_walk b.sleeps n (asleep_below b.sleeps above fs) d.world) ++ later first b above fs (done_steps d.trail)
+come_is first b above fs d n left = ap (λ m. map (prefixed (picked fs) (done_steps d.trail)) (awake_walk b.sleeps m (asleep_below b.sleeps above fs) d.world) ++ later first b above fs (done_steps d.trail)) left
 
-states_come : (first : World) (b : Bounds) (fs : List Open) (d : Standing) (n : ℕ) → b.limit - length (kept d.trail) ≡ n → states_to_come first b fs (kept d.trail) d.world ≡ states n d.world + states_later first b fs (kept d.trail)
-states_come first b fs d n left = ap (λ m. states m d.world + states_later first b fs (kept d.trail)) left
+states_come : (first : World) (b : Bounds) (fs : List Open) (d : Standing) (n : ℕ) → b.limit - length (done_steps d.trail) ≡ n → states_to_come first b fs (done_steps d.trail) d.world ≡ states n d.world + states_later first b fs (done_steps d.trail)
+states_come first b fs d n left = ap (λ m. states m d.world + states_later first b fs (done_steps d.trail)) left
 
-left_some : (first : World) (b : Bounds) (fs : List Open) (d : Standing) → At first b fs d → d.trail.depth < b.limit → b.limit - length (kept d.trail) ≡ suc (b.limit - suc d.trail.depth)
+left_some : (first : World) (b : Bounds) (fs : List Open) (d : Standing) → At first b fs d → d.trail.depth < b.limit → b.limit - length (done_steps d.trail) ≡ suc (b.limit - suc d.trail.depth)
 left_some first b fs d at room = omega (arith, at_length first b fs d at)
 
 -- ---- where a way stops
 
-stop_at : (first : World) (b : Bounds) (above : List Step) (fs : List Open) (d : Standing) (s : Stop) (rs : List Run) → At first b fs d → awake_walk b.sleeps (b.limit - length (kept d.trail)) (asleep_below b.sleeps above fs) d.world ≡ rs → map (prefixed (picked fs) (kept d.trail)) rs ≡ stopped_at fs (kept d.trail) s
+stop_at : (first : World) (b : Bounds) (above : List Step) (fs : List Open) (d : Standing) (s : Stop) (rs : List Run) → At first b fs d → awake_walk b.sleeps (b.limit - length (done_steps d.trail)) (asleep_below b.sleeps above fs) d.world ≡ rs → map (prefixed (picked fs) (done_steps d.trail)) rs ≡ stopped_at fs (done_steps d.trail) s
     → Moved first b above fs d (Some s) fs d
 stop_at first b above fs d s rs at is shown = (
   at,
-  ap (λ xs. map (prefixed (picked fs) (kept d.trail)) xs ++ later first b above fs (kept d.trail)) is ∙ ap (λ xs. xs ++ later first b above fs (kept d.trail)) shown,
-  omega (arith, some_states (b.limit - length (kept d.trail)) d.world),
+  ap (λ xs. map (prefixed (picked fs) (done_steps d.trail)) xs ++ later first b above fs (done_steps d.trail)) is ∙ ap (λ xs. xs ++ later first b above fs (done_steps d.trail)) shown,
+  omega (arith, some_states (b.limit - length (done_steps d.trail)) d.world),
 )
 
 -- a leaf
@@ -125,11 +125,11 @@ leaf_end first b above fs d o at room leaf =
 -- no fuel
 pub fuel_end : (first : World) (b : Bounds) (above : List Step) (fs : List Open) (d : Standing) (c : Decision) (e : Ending) → At first b fs d → d.trail.depth ≡ b.limit → decision d.world ≡ c → stopped c ≡ here e ∷ [] → Moved first b above fs d (Some (stop.Run e)) fs d
 fuel_end first b above fs d c e at empty is stops =
-    let none : b.limit - length (kept d.trail) ≡ zero = omega (arith, at_length first b fs d at) in
+    let none : b.limit - length (done_steps d.trail) ≡ zero = omega (arith, at_length first b fs d at) in
     stop_at first b above fs d (stop.Run e) (here e ∷ []) at (ap (λ m. awake_walk b.sleeps m (asleep_below b.sleeps above fs) d.world) none ∙ awake_empty b.sleeps (asleep_below b.sleeps above fs) d.world c is ∙ stops) refl
 
 choice_is : (first : World) (b : Bounds) (above : List Step) (fs : List Open) (d : Standing) (candidates : List Step) → At first b fs d → d.trail.depth < b.limit → decision d.world ≡ Choice candidates
-    → awake_walk b.sleeps (b.limit - length (kept d.trail)) (asleep_below b.sleeps above fs) d.world ≡ branches_from b.sleeps (b.limit - suc d.trail.depth) d.world (asleep_below b.sleeps above fs) candidates 0
+    → awake_walk b.sleeps (b.limit - length (done_steps d.trail)) (asleep_below b.sleeps above fs) d.world ≡ branches_from b.sleeps (b.limit - suc d.trail.depth) d.world (asleep_below b.sleeps above fs) candidates 0
 choice_is first b above fs d candidates at room choice =
     ap (λ m. awake_walk b.sleeps m (asleep_below b.sleeps above fs) d.world) (left_some first b fs d at room) ∙ awake_is b.sleeps (b.limit - suc d.trail.depth) (asleep_below b.sleeps above fs) d.world (Choice candidates) choice
 
@@ -149,29 +149,29 @@ at_pushed first b fs d e a at room went =
       first_is = first_same d.trail e.trail went.program went.mode ∙ at.first_is;
       reached = went.reached;
       within = omega (arith, went.depth);
-      stands = rw went.kept_is (stands_pushed first b fs (kept d.trail) a at.stands);
+      stands = rw went.done_steps_are (stands_pushed first b fs (done_steps d.trail) a at.stands);
     }
 
-fuel_after : (first : World) (b : Bounds) (fs : List Open) (d e : Standing) (a : Step) → At first b fs d → Went d a e → b.limit - length (kept e.trail) ≡ b.limit - suc d.trail.depth
-fuel_after first b fs d e a at went = omega (arith, length-kept e went.reached, went.depth)
+fuel_after : (first : World) (b : Bounds) (fs : List Open) (d e : Standing) (a : Step) → At first b fs d → Went d a e → b.limit - length (done_steps e.trail) ≡ b.limit - suc d.trail.depth
+fuel_after first b fs d e a at went = omega (arith, length-done_steps e went.reached, went.depth)
 
 -- a forced step
 pub forced_moved : (first : World) (b : Bounds) (above : List Step) (fs : List Open) (d e : Standing) (a : Step) → At first b fs d → d.trail.depth < b.limit → decision d.world ≡ Forced a → Went d a e → Moved first b above fs d None fs e
 forced_moved first b above fs d e a at room forced went =
     let n : ℕ = b.limit - suc d.trail.depth in
     let s : List Step = asleep_below b.sleeps above fs in
-    let left : b.limit - length (kept d.trail) ≡ suc n = left_some first b fs d at room in
-    let after : b.limit - length (kept e.trail) ≡ n = fuel_after first b fs d e a at went in
+    let left : b.limit - length (done_steps d.trail) ≡ suc n = left_some first b fs d at room in
+    let after : b.limit - length (done_steps e.trail) ≡ n = fuel_after first b fs d e a at went in
     let now : awake_walk b.sleeps (suc n) s d.world ≡ map (stepped a) (awake_walk b.sleeps n s e.world) = awake_is b.sleeps n s d.world (Forced a) forced ∙ ap (λ o. map (stepped a) (runs_of (awake_walk b.sleeps n s) o)) went.world in
     let count : states (suc n) d.world ≡ suc (states n e.world) = states_is n d.world (Forced a) forced ∙ ap (λ o. suc (states_of (states n) o)) went.world in
-    let stay : states_later first b fs (kept e.trail) ≡ states_later first b fs (kept d.trail) = ap (states_later first b fs) went.kept_is ∙ states_pushed first b fs (kept d.trail) a at.stands in (
+    let stay : states_later first b fs (done_steps e.trail) ≡ states_later first b fs (done_steps d.trail) = ap (states_later first b fs) went.done_steps_are ∙ states_pushed first b fs (done_steps d.trail) a at.stands in (
       at_pushed first b fs d e a at room went,
       omega (arith, went.depth),
       come_is first b above fs d (suc n) left
-          ∙ ap (λ rs. map (prefixed (picked fs) (kept d.trail)) rs ++ later first b above fs (kept d.trail)) now
-          ∙ ap (λ rs. rs ++ later first b above fs (kept d.trail)) (map_stepped (picked fs) (kept d.trail) a (awake_walk b.sleeps n s e.world))
-          ∙ ap (λ rs. map (prefixed (picked fs) (kept d.trail ++ a ∷ [])) (awake_walk b.sleeps n s e.world) ++ rs) (sym (later_pushed first b above fs (kept d.trail) a at.stands))
-          ∙ ap (λ p. map (prefixed (picked fs) p) (awake_walk b.sleeps n s e.world) ++ later first b above fs p) (sym went.kept_is)
+          ∙ ap (λ rs. map (prefixed (picked fs) (done_steps d.trail)) rs ++ later first b above fs (done_steps d.trail)) now
+          ∙ ap (λ rs. rs ++ later first b above fs (done_steps d.trail)) (map_stepped (picked fs) (done_steps d.trail) a (awake_walk b.sleeps n s e.world))
+          ∙ ap (λ rs. map (prefixed (picked fs) (done_steps d.trail ++ a ∷ [])) (awake_walk b.sleeps n s e.world) ++ rs) (sym (later_pushed first b above fs (done_steps d.trail) a at.stands))
+          ∙ ap (λ p. map (prefixed (picked fs) p) (awake_walk b.sleeps n s e.world) ++ later first b above fs p) (sym went.done_steps_are)
           ∙ sym (come_is first b above fs e n after),
       omega (arith, states_come first b fs d (suc n) left, states_come first b fs e n after, count, stay),
     )
@@ -180,18 +180,18 @@ forced_moved first b above fs d e a at room forced went =
 
 -- an open choice at the end of a path, seen from behind its candidate
 later_open : (first : World) (b : Bounds) (above : List Step) (f : Open) (fs : List Open) (d : Standing) (a : Step) → At first b fs d → f.depth ≡ d.trail.depth
-    → later first b above (f ∷ fs) (kept d.trail ++ a ∷ []) ≡ map (prefixed (picked fs) (kept d.trail)) (branches_from b.sleeps (b.limit - suc d.trail.depth) d.world (asleep_below b.sleeps above fs) f.candidates (suc f.index)) ++ later first b above fs (kept d.trail)
+    → later first b above (f ∷ fs) (done_steps d.trail ++ a ∷ []) ≡ map (prefixed (picked fs) (done_steps d.trail)) (branches_from b.sleeps (b.limit - suc d.trail.depth) d.world (asleep_below b.sleeps above fs) f.candidates (suc f.index)) ++ later first b above fs (done_steps d.trail)
 later_open first b above f fs d a at depth =
-    let path : List Step = kept d.trail in
+    let path : List Step = done_steps d.trail in
     let cut : take f.depth (path ++ a ∷ []) ≡ path = ap (λ m. take m (path ++ a ∷ [])) (depth ∙ sym (at_length first b fs d at)) ∙ take-append_seam path (a ∷ []) in
     ap (λ (p : List Step). map (prefixed (picked fs) p) (others b.sleeps (b.limit - suc f.depth) (asleep_below b.sleeps above fs) (fold first p) f) ++ later first b above fs p) cut
     ∙ ap (λ o. map (prefixed (picked fs) path) (others b.sleeps (b.limit - suc f.depth) (asleep_below b.sleeps above fs) o f) ++ later first b above fs path) (at_world first b fs d at)
     ∙ ap (λ m. map (prefixed (picked fs) path) (branches_from b.sleeps (b.limit - suc m) d.world (asleep_below b.sleeps above fs) f.candidates (suc f.index)) ++ later first b above fs path) depth
 
 states_open : (first : World) (b : Bounds) (f : Open) (fs : List Open) (d : Standing) (a : Step) → At first b fs d → f.depth ≡ d.trail.depth
-    → states_later first b (f ∷ fs) (kept d.trail ++ a ∷ []) ≡ states_by (states (b.limit - suc d.trail.depth)) d.world (drop (suc f.index) f.candidates) + states_later first b fs (kept d.trail)
+    → states_later first b (f ∷ fs) (done_steps d.trail ++ a ∷ []) ≡ states_by (states (b.limit - suc d.trail.depth)) d.world (drop (suc f.index) f.candidates) + states_later first b fs (done_steps d.trail)
 states_open first b f fs d a at depth =
-    let path : List Step = kept d.trail in
+    let path : List Step = done_steps d.trail in
     let cut : take f.depth (path ++ a ∷ []) ≡ path = ap (λ m. take m (path ++ a ∷ [])) (depth ∙ sym (at_length first b fs d at)) ∙ take-append_seam path (a ∷ []) in
     ap (λ (p : List Step). states_beside (b.limit - suc f.depth) (fold first p) f + states_later first b fs p) cut
     ∙ ap (λ o. states_beside (b.limit - suc f.depth) o f + states_later first b fs path) (at_world first b fs d at)
@@ -204,10 +204,10 @@ stands_open first b f fs path w a stands depth room within reached all =
 
 -- the candidate at which an open choice stands is taken, and it is awake
 entered : (first : World) (b : Bounds) (above : List Step) (f : Open) (fs : List Open) (d e : Standing) (a : Step) → At first b fs d → f.depth ≡ d.trail.depth → drop f.index f.candidates ≡ a ∷ drop (suc f.index) f.candidates → is_asleep (put_off b.sleeps f.index f.candidates (asleep_below b.sleeps above fs)) a ≡ false → Went d a e
-    → map (prefixed (picked fs) (kept d.trail)) (branches_from b.sleeps (b.limit - suc d.trail.depth) d.world (asleep_below b.sleeps above fs) f.candidates f.index) ++ later first b above fs (kept d.trail) ≡ to_come first b above (f ∷ fs) (kept e.trail) e.world
+    → map (prefixed (picked fs) (done_steps d.trail)) (branches_from b.sleeps (b.limit - suc d.trail.depth) d.world (asleep_below b.sleeps above fs) f.candidates f.index) ++ later first b above fs (done_steps d.trail) ≡ to_come first b above (f ∷ fs) (done_steps e.trail) e.world
 entered first b above f fs d e a at depth split wakes went =
     let n : ℕ = b.limit - suc d.trail.depth in
-    let path : List Step = kept d.trail in
+    let path : List Step = done_steps d.trail in
     let cs : List ℕ = picked fs in
     let mine : List Run = awake_walk b.sleeps n (asleep_below b.sleeps above (f ∷ fs)) e.world in
     let rest : List Run = branches_from b.sleeps n d.world (asleep_below b.sleeps above fs) f.candidates (suc f.index) in
@@ -216,18 +216,18 @@ entered first b above f fs d e a at depth split wakes went =
     ∙ ap (λ rs. (rs ++ map (prefixed cs path) rest) ++ later first b above fs path) (map_chosen cs path f.index a mine)
     ∙ append_assoc (map (prefixed (cs ++ f.index ∷ []) (path ++ a ∷ [])) mine) (map (prefixed cs path) rest) (later first b above fs path)
     ∙ ap (λ rs. map (prefixed (cs ++ f.index ∷ []) (path ++ a ∷ [])) mine ++ rs) (sym (later_open first b above f fs d a at depth))
-    ∙ ap (λ p. map (prefixed (picked (f ∷ fs)) p) mine ++ later first b above (f ∷ fs) p) (sym went.kept_is)
+    ∙ ap (λ p. map (prefixed (picked (f ∷ fs)) p) mine ++ later first b above (f ∷ fs) p) (sym went.done_steps_are)
     ∙ sym (come_is first b above (f ∷ fs) e n (fuel_after first b fs d e a at went))
 
 entered_states : (first : World) (b : Bounds) (f : Open) (fs : List Open) (d e : Standing) (a : Step) → At first b fs d → f.depth ≡ d.trail.depth → drop f.index f.candidates ≡ a ∷ drop (suc f.index) f.candidates → Went d a e
-    → states_to_come first b (f ∷ fs) (kept e.trail) e.world ≡ states_by (states (b.limit - suc d.trail.depth)) d.world (drop f.index f.candidates) + states_later first b fs (kept d.trail)
+    → states_to_come first b (f ∷ fs) (done_steps e.trail) e.world ≡ states_by (states (b.limit - suc d.trail.depth)) d.world (drop f.index f.candidates) + states_later first b fs (done_steps d.trail)
 entered_states first b f fs d e a at depth split went =
     let n : ℕ = b.limit - suc d.trail.depth in
     let more : ℕ = states_by (states n) d.world (drop (suc f.index) f.candidates) in
     omega (
       arith,
       states_come first b (f ∷ fs) e n (fuel_after first b fs d e a at went),
-      ap (states_later first b (f ∷ fs)) went.kept_is,
+      ap (states_later first b (f ∷ fs)) went.done_steps_are,
       states_open first b f fs d a at depth,
       states_split (states n) d.world e.world a (drop f.index f.candidates) (drop (suc f.index) f.candidates) split went.world,
     )
@@ -237,15 +237,15 @@ pub candidate_taken : (first : World) (b : Bounds) (above : List Step) (f : Open
 candidate_taken first b above f fs d e from a at room all depth skips within read went =
     let n : ℕ = b.limit - suc d.trail.depth in
     let split : drop f.index f.candidates ≡ a ∷ drop (suc f.index) f.candidates = drop_at f.candidates f.index a within read in
-    let long : f.depth ≡ length (kept d.trail) = depth ∙ sym (at_length first b fs d at) in (
+    let long : f.depth ≡ length (done_steps d.trail) = depth ∙ sym (at_length first b fs d at) in (
       record {
         first_is = first_same d.trail e.trail went.program went.mode ∙ at.first_is;
         reached = went.reached;
         within = omega (arith, went.depth);
-        stands = rw went.kept_is (stands_open first b f fs (kept d.trail) d.world a at.stands long (omega (arith, depth)) within (at_world first b fs d at) all);
+        stands = rw went.done_steps_are (stands_open first b f fs (done_steps d.trail) d.world a at.stands long (omega (arith, depth)) within (at_world first b fs d at) all);
       },
       omega (arith, went.depth),
-      ap (λ rs. map (prefixed (picked fs) (kept d.trail)) rs ++ later first b above fs (kept d.trail)) (skips.passes.same (awake_walk b.sleeps n) d.world)
+      ap (λ rs. map (prefixed (picked fs) (done_steps d.trail)) rs ++ later first b above fs (done_steps d.trail)) (skips.passes.same (awake_walk b.sleeps n) d.world)
           ∙ entered first b above f fs d e a at depth split (skips.awake a within read) went,
       omega (arith, entered_states first b f fs d e a at depth split went, states_fewer (states n) d.world from f.index f.candidates skips.passes.low),
     )
@@ -267,7 +267,7 @@ choice_moved first b above fs gs d e candidates taken at room choice on tried =
     let n : ℕ = b.limit - suc d.trail.depth in (
       t.0,
       t.1,
-      ap (λ rs. map (prefixed (picked fs) (kept d.trail)) rs ++ later first b above fs (kept d.trail)) (choice_is first b above fs d candidates at room choice) ∙ t.2,
+      ap (λ rs. map (prefixed (picked fs) (done_steps d.trail)) rs ++ later first b above fs (done_steps d.trail)) (choice_is first b above fs d candidates at room choice) ∙ t.2,
       omega (arith, t.3, states_come first b fs d (suc n) (left_some first b fs d at room), states_is n d.world (Choice candidates) choice),
     )
 
@@ -275,49 +275,49 @@ choice_moved first b above fs gs d e candidates taken at room choice on tried =
 
 pub at_popped : (first : World) (b : Bounds) (f : Open) (fs : List Open) (d e : Standing) → At first b (f ∷ fs) d → Came d f.depth e → At first b fs e
 at_popped first b f fs d e at came =
-    record { first_is = first_same d.trail e.trail came.program came.mode ∙ at.first_is; reached = came.reached; within = omega (arith, came.depth, at.stands.1); stands = rw came.kept_is at.stands.4 }
+    record { first_is = first_same d.trail e.trail came.program came.mode ∙ at.first_is; reached = came.reached; within = omega (arith, came.depth, at.stands.1); stands = rw came.done_steps_are at.stands.4 }
 
 enabled_by : (o : Option World) (w : World) (candidates : List Step) → o ≡ Some w → EnabledAt o candidates → AllEnabled w candidates
 enabled_by o w candidates e h = rw e at h
 
 pub popped_enabled : (first : World) (b : Bounds) (f : Open) (fs : List Open) (d e : Standing) → At first b (f ∷ fs) d → Came d f.depth e → AllEnabled e.world f.candidates
 popped_enabled first b f fs d e at came =
-    enabled_by (fold first (take f.depth (kept d.trail))) e.world f.candidates (ap (fold first) (sym came.kept_is) ∙ at_world first b fs e (at_popped first b f fs d e at came)) at.stands.3
+    enabled_by (fold first (take f.depth (done_steps d.trail))) e.world f.candidates (ap (fold first) (sym came.done_steps_are) ∙ at_world first b fs e (at_popped first b f fs d e at came)) at.stands.3
 
 popped_later : (first : World) (b : Bounds) (above : List Step) (f : Open) (fs : List Open) (d e : Standing) → At first b (f ∷ fs) d → Came d f.depth e
-    → later first b above (f ∷ fs) (kept d.trail) ≡ map (prefixed (picked fs) (kept e.trail)) (branches_from b.sleeps (b.limit - suc e.trail.depth) e.world (asleep_below b.sleeps above fs) f.candidates (suc f.index)) ++ later first b above fs (kept e.trail)
+    → later first b above (f ∷ fs) (done_steps d.trail) ≡ map (prefixed (picked fs) (done_steps e.trail)) (branches_from b.sleeps (b.limit - suc e.trail.depth) e.world (asleep_below b.sleeps above fs) f.candidates (suc f.index)) ++ later first b above fs (done_steps e.trail)
 popped_later first b above f fs d e at came =
-    ap (λ (p : List Step). map (prefixed (picked fs) p) (others b.sleeps (b.limit - suc f.depth) (asleep_below b.sleeps above fs) (fold first p) f) ++ later first b above fs p) (sym came.kept_is)
-    ∙ ap (λ o. map (prefixed (picked fs) (kept e.trail)) (others b.sleeps (b.limit - suc f.depth) (asleep_below b.sleeps above fs) o f) ++ later first b above fs (kept e.trail)) (at_world first b fs e (at_popped first b f fs d e at came))
-    ∙ ap (λ m. map (prefixed (picked fs) (kept e.trail)) (branches_from b.sleeps (b.limit - suc m) e.world (asleep_below b.sleeps above fs) f.candidates (suc f.index)) ++ later first b above fs (kept e.trail)) (sym came.depth)
+    ap (λ (p : List Step). map (prefixed (picked fs) p) (others b.sleeps (b.limit - suc f.depth) (asleep_below b.sleeps above fs) (fold first p) f) ++ later first b above fs p) (sym came.done_steps_are)
+    ∙ ap (λ o. map (prefixed (picked fs) (done_steps e.trail)) (others b.sleeps (b.limit - suc f.depth) (asleep_below b.sleeps above fs) o f) ++ later first b above fs (done_steps e.trail)) (at_world first b fs e (at_popped first b f fs d e at came))
+    ∙ ap (λ m. map (prefixed (picked fs) (done_steps e.trail)) (branches_from b.sleeps (b.limit - suc m) e.world (asleep_below b.sleeps above fs) f.candidates (suc f.index)) ++ later first b above fs (done_steps e.trail)) (sym came.depth)
 
 popped_states : (first : World) (b : Bounds) (f : Open) (fs : List Open) (d e : Standing) → At first b (f ∷ fs) d → Came d f.depth e
-    → states_later first b (f ∷ fs) (kept d.trail) ≡ states_by (states (b.limit - suc e.trail.depth)) e.world (drop (suc f.index) f.candidates) + states_later first b fs (kept e.trail)
+    → states_later first b (f ∷ fs) (done_steps d.trail) ≡ states_by (states (b.limit - suc e.trail.depth)) e.world (drop (suc f.index) f.candidates) + states_later first b fs (done_steps e.trail)
 popped_states first b f fs d e at came =
-    ap (λ (p : List Step). states_beside (b.limit - suc f.depth) (fold first p) f + states_later first b fs p) (sym came.kept_is)
-    ∙ ap (λ o. states_beside (b.limit - suc f.depth) o f + states_later first b fs (kept e.trail)) (at_world first b fs e (at_popped first b f fs d e at came))
-    ∙ ap (λ m. states_by (states (b.limit - suc m)) e.world (drop (suc f.index) f.candidates) + states_later first b fs (kept e.trail)) (sym came.depth)
+    ap (λ (p : List Step). states_beside (b.limit - suc f.depth) (fold first p) f + states_later first b fs p) (sym came.done_steps_are)
+    ∙ ap (λ o. states_beside (b.limit - suc f.depth) o f + states_later first b fs (done_steps e.trail)) (at_world first b fs e (at_popped first b f fs d e at came))
+    ∙ ap (λ m. states_by (states (b.limit - suc m)) e.world (drop (suc f.index) f.candidates) + states_later first b fs (done_steps e.trail)) (sym came.depth)
 
 -- the next candidate that is awake is taken, seen from further back
 pub retaken : (first : World) (b : Bounds) (above : List Step) (f : Open) (before fs gs : List Open) (path : List Step) (d c e : Standing) (from : ℕ) (taken : Bool) → At first b (f ∷ fs) d → Came d f.depth c → from ≡ suc f.index → taken ≡ true → Tried first b above fs c f.candidates from taken gs e
-    → later first b above before path ≡ later first b above (f ∷ fs) (kept d.trail) → states_later first b (f ∷ fs) (kept d.trail) ≤ states_later first b before path → Advanced first b above before path true gs e
+    → later first b above before path ≡ later first b above (f ∷ fs) (done_steps d.trail) → states_later first b (f ∷ fs) (done_steps d.trail) ≤ states_later first b before path → Advanced first b above before path true gs e
 retaken first b above f before fs gs path d c e from taken at came next on tried same less =
     let t : Tried first b above fs c f.candidates (suc f.index) true gs e = rw (next, on) at tried in
     (t.0, same ∙ popped_later first b above f fs d c at came ∙ t.2, omega (arith, t.3, popped_states first b f fs d c at came, less))
 
 -- none is left
 pub exhausted : (first : World) (b : Bounds) (above : List Step) (f : Open) (fs gs : List Open) (d c e : Standing) (from : ℕ) (taken : Bool) → At first b (f ∷ fs) d → Came d f.depth c → from ≡ suc f.index → taken ≡ false → Tried first b above fs c f.candidates from taken gs e
-    → later first b above (f ∷ fs) (kept d.trail) ≡ later first b above gs (kept e.trail)
+    → later first b above (f ∷ fs) (done_steps d.trail) ≡ later first b above gs (done_steps e.trail)
 exhausted first b above f fs gs d c e from taken at came next off tried =
     let t : Tried first b above fs c f.candidates (suc f.index) false gs e = rw (next, off) at tried in
-    popped_later first b above f fs d c at came ∙ ap (λ rs. map (prefixed (picked fs) (kept c.trail)) rs ++ later first b above fs (kept c.trail)) t.2
-    ∙ ap (λ hs. later first b above hs (kept c.trail)) (sym t.0) ∙ ap (λ (s : Standing). later first b above gs (kept s.trail)) (sym t.1)
+    popped_later first b above f fs d c at came ∙ ap (λ rs. map (prefixed (picked fs) (done_steps c.trail)) rs ++ later first b above fs (done_steps c.trail)) t.2
+    ∙ ap (λ hs. later first b above hs (done_steps c.trail)) (sym t.0) ∙ ap (λ (s : Standing). later first b above gs (done_steps s.trail)) (sym t.1)
 
 pub exhausted_states : (first : World) (b : Bounds) (above : List Step) (f : Open) (fs gs : List Open) (d c e : Standing) (from : ℕ) (taken : Bool) → At first b (f ∷ fs) d → Came d f.depth c → taken ≡ false → Tried first b above fs c f.candidates from taken gs e
-    → states_later first b gs (kept e.trail) ≤ states_later first b (f ∷ fs) (kept d.trail)
+    → states_later first b gs (done_steps e.trail) ≤ states_later first b (f ∷ fs) (done_steps d.trail)
 exhausted_states first b above f fs gs d c e from taken at came off tried =
     let t : Tried first b above fs c f.candidates from false gs e = rw off at tried in
-    let same : states_later first b gs (kept e.trail) ≡ states_later first b fs (kept c.trail) = ap (λ hs. states_later first b hs (kept e.trail)) t.0 ∙ ap (λ (s : Standing). states_later first b fs (kept s.trail)) t.1 in
+    let same : states_later first b gs (done_steps e.trail) ≡ states_later first b fs (done_steps c.trail) = ap (λ hs. states_later first b hs (done_steps e.trail)) t.0 ∙ ap (λ (s : Standing). states_later first b fs (done_steps s.trail)) t.1 in
     omega (arith, same, popped_states first b f fs d c at came)
 
 pub exhausted_at : (first : World) (b : Bounds) (above : List Step) (f : Open) (fs gs : List Open) (d c e : Standing) (from : ℕ) (taken : Bool) → At first b (f ∷ fs) d → Came d f.depth c → taken ≡ false → Tried first b above fs c f.candidates from taken gs e → At first b gs e
@@ -327,7 +327,7 @@ exhausted_at first b above f fs gs d c e from taken at came off tried =
 
 -- all three of them, where the first world is told by the debugger
 pub passed_back : (first own : World) (b : Bounds) (above : List Step) (f : Open) (fs gs : List Open) (d c e : Standing) (from : ℕ) (taken : Bool) → own ≡ first → At first b (f ∷ fs) d → Came d f.depth c → from ≡ suc f.index → taken ≡ false → Tried own b above fs c f.candidates from taken gs e
-    → At first b gs e × (later first b above (f ∷ fs) (kept d.trail) ≡ later first b above gs (kept e.trail)) × (states_later first b gs (kept e.trail) ≤ states_later first b (f ∷ fs) (kept d.trail))
+    → At first b gs e × (later first b above (f ∷ fs) (done_steps d.trail) ≡ later first b above gs (done_steps e.trail)) × (states_later first b gs (done_steps e.trail) ≤ states_later first b (f ∷ fs) (done_steps d.trail))
 passed_back first own b above f fs gs d c e from taken own_is at came next off tried =
     let t : Tried first b above fs c f.candidates from taken gs e = rw own_is at tried in (
       exhausted_at first b above f fs gs d c e from taken at came off t,
@@ -343,7 +343,7 @@ safe_pushed first b fs d e a at went =
       program = went.program;
       mode = went.mode;
       reached = went.reached;
-      below = ap (take b.base) went.kept_is ∙ take_pushed b.base (kept d.trail) a (base_within first b fs (kept d.trail) at.stands);
+      below = ap (take b.base) went.done_steps_are ∙ take_pushed b.base (done_steps d.trail) a (base_within first b fs (done_steps d.trail) at.stands);
     }
 
 take_lower : (m n : ℕ) (xs : List Step) → m ≤ n → take m (take n xs) ≡ take m xs
@@ -354,11 +354,11 @@ take_lower (suc m) (suc n) (x ∷ xs) h = ap (λ ys. x ∷ ys) (take_lower m n x
 
 pub safe_popped : (first : World) (b : Bounds) (f : Open) (fs : List Open) (d e : Standing) → At first b (f ∷ fs) d → Came d f.depth e → Safe b.base d e
 safe_popped first b f fs d e at came =
-    let low : b.base ≤ f.depth = omega (arith, base_within first b fs (take f.depth (kept d.trail)) at.stands.4, length-take f.depth (kept d.trail)) in
-    record { program = came.program; mode = came.mode; reached = came.reached; below = ap (take b.base) came.kept_is ∙ take_lower b.base f.depth (kept d.trail) low }
+    let low : b.base ≤ f.depth = omega (arith, base_within first b fs (take f.depth (done_steps d.trail)) at.stands.4, length-take f.depth (done_steps d.trail)) in
+    record { program = came.program; mode = came.mode; reached = came.reached; below = ap (take b.base) came.done_steps_are ∙ take_lower b.base f.depth (done_steps d.trail) low }
 
 pub safe_same : (base : ℕ) (d e : Standing) → e.trail ≡ d.trail → IsReached e → Safe base d e
-safe_same base d e same reached = record { program = ap (λ (t : Trail). t.program) same; mode = ap (λ (t : Trail). t.mode) same; reached = reached; below = ap (λ (t : Trail). take base (kept t)) same }
+safe_same base d e same reached = record { program = ap (λ (t : Trail). t.program) same; mode = ap (λ (t : Trail). t.mode) same; reached = reached; below = ap (λ (t : Trail). take base (done_steps t)) same }
 
 pub safe_then : (base : ℕ) (c d e : Standing) → Safe base c d → Safe base d e → Safe base c e
 safe_then base c d e x y = record { program = y.program ∙ x.program; mode = y.mode ∙ x.mode; reached = y.reached; below = y.below ∙ x.below }
@@ -367,8 +367,8 @@ pub safe_first : (base : ℕ) (c d : Standing) → Safe base c d → first_of d.
 safe_first base c d x = first_same c.trail d.trail x.program x.mode
 
 -- the same seen from further back
-pub moved_then : (first own : World) (b : Bounds) (above : List Step) (fs0 fs gs : List Open) (d0 d : Standing) (s : Stop) → own ≡ first → gs ≡ fs → to_come first b above fs0 (kept d0.trail) d0.world ≡ to_come first b above fs (kept d.trail) d.world
-    → states_to_come first b fs (kept d.trail) d.world ≤ states_to_come first b fs0 (kept d0.trail) d0.world → Moved own b above gs d (Some s) gs d → Moved first b above fs0 d0 (Some s) fs d
+pub moved_then : (first own : World) (b : Bounds) (above : List Step) (fs0 fs gs : List Open) (d0 d : Standing) (s : Stop) → own ≡ first → gs ≡ fs → to_come first b above fs0 (done_steps d0.trail) d0.world ≡ to_come first b above fs (done_steps d.trail) d.world
+    → states_to_come first b fs (done_steps d.trail) d.world ≤ states_to_come first b fs0 (done_steps d0.trail) d0.world → Moved own b above gs d (Some s) gs d → Moved first b above fs0 d0 (Some s) fs d
 moved_then first own b above fs0 fs gs d0 d s own_is gs_is same less m =
     let n : Moved first b above fs d (Some s) fs d = rw (own_is, gs_is) at m in
     (n.0, same ∙ n.1, omega (arith, n.2, less))

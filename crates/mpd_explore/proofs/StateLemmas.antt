@@ -2,9 +2,9 @@
 use Rattle.std.proofs.Common.{◌≡◌, ℕ, zero, suc, ◌<◌, ◌≤◌, ◌+◌, List, [], ◌∷◌, drop, Some, ap, ◌∙◌, arith}
 use Rattle.mpd_model.specs.declared.step.Step.{Step}
 use Rattle.mpd_model.specs.declared.decision.Decision.{Decision}
-use Rattle.mpd_model.specs.World.{World}
-use Rattle.mpd_model.specs.Next.{next}
-use Rattle.mpd_model.specs.Decisions.{decision}
+use Rattle.mpd_model.specs.steps.World.{World}
+use Rattle.mpd_model.specs.steps.Next.{next}
+use Rattle.mpd_model.specs.runs.Decisions.{decision}
 use Rattle.mpd_explore.specs.States.{states_of, states_by, states_behind, states}
 
 pub states_is : (n : ℕ) (w : World) (d : Decision) → decision w ≡ d → states (suc n) w ≡ suc (states_behind (states n) w d)

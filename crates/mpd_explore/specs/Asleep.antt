@@ -2,7 +2,7 @@
 use Rattle.std.specs.Prelude.{◌≡◌, ◌<◌, ◌≤◌, ℕ, Bool, false, List, [], ◌∷◌, length, take, drop, get_or}
 use Rattle.std.specs.List.{list_any}
 use Rattle.mpd_model.specs.declared.step.Step.{Step}
-use Rattle.mpd_model.specs.World.{World}
+use Rattle.mpd_model.specs.steps.World.{World}
 use Rattle.mpd_explore.specs.Walk.{Run}
 use Rattle.mpd_explore.specs.Sleeping.{same_match, is_asleep, awake_branches, put_off}
 use Rattle.mpd_explore.specs.declared.search.Open.{Open}

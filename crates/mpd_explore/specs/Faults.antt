@@ -1,7 +1,7 @@
 -- The numbers and names of what is wrong with a witness.
 use Rattle.std.specs.Prelude.{ℕ, List, codes}
-use Rattle.mpd_explore.specs.declared.verify.WitnessFault.{WitnessFault}
-use Rattle.mpd_explore.specs.declared.verify.WitnessFault.TheVariants.{NoSuchStep, NotStuck, WrongBlocked, Memory}
+use Rattle.mpd_explore.specs.declared.verifier.WitnessFault.{WitnessFault}
+use Rattle.mpd_explore.specs.declared.verifier.WitnessFault.TheVariants.{NoSuchStep, NotStuck, WrongBlocked, Memory}
 
 abbrev pub witness_fault_number : WitnessFault → ℕ
 witness_fault_number (NoSuchStep place) = 32

@@ -1,8 +1,8 @@
 -- What a search has gathered, and what it lists in the end.
 use Rattle.std.specs.Prelude.{◌≡◌, ◌<◌, ℕ, Bool, true, false, List, [], ◌++◌, map, length, take, Option, Some, None}
 use Rattle.mpd_model.specs.declared.step.Step.{Step}
-use Rattle.mpd_model.specs.World.{World}
-use Rattle.mpd_model.specs.Trail.{Standing, kept}
+use Rattle.mpd_model.specs.steps.World.{World}
+use Rattle.mpd_model.specs.runs.Trail.{Standing, done_steps}
 use Rattle.mpd_trail.specs.Run.{first_of}
 use Rattle.mpd_explore.specs.declared.report.Leaf.{Leaf}
 use Rattle.mpd_explore.specs.declared.report.Limits.{Limits}
@@ -16,7 +16,7 @@ use Rattle.mpd_explore.specs.WitnessTexts.{behind_number}
 
 -- what is to come from where a debugger stands, with no open choice
 abbrev pub to_find : Bounds → List Step → Standing → List Run
-to_find b above d = to_come (first_of d.trail) b above [] (kept d.trail) d.world
+to_find b above d = to_come (first_of d.trail) b above [] (done_steps d.trail) d.world
 
 -- whether there are any
 abbrev pub IsMore : Bool → List Run → Type 0

@@ -1,7 +1,7 @@
 -- The text of a report by the texts of its witnesses.
 use Rattle.std.specs.Prelude.{ℕ, suc, Bool, List, [], ◌∷◌, ◌++◌, length, slice_get, Option, Some, None, codes}
 use Rattle.std.specs.Fmt.{decimal}
-use Rattle.mpd_model.specs.Texts.{line}
+use Rattle.mpd_model.specs.texts.Texts.{line}
 use Rattle.mpd_explore.specs.declared.report.Leaf.{Leaf}
 use Rattle.mpd_explore.specs.ReportText.{leaf_line, more_text}
 

@@ -3,9 +3,9 @@
 use Rattle.std.specs.Prelude.{◌≡◌, ℕ, suc, ◌+◌, ◌-◌, ◌<◌, ◌≤◌, Bool, true, false, List, [], ◌∷◌, ◌++◌, map, length, take, drop, Option, Some, None, IsSome}
 use Rattle.std.specs.List.{All}
 use Rattle.mpd_model.specs.declared.step.Step.{Step}
-use Rattle.mpd_model.specs.World.{World}
-use Rattle.mpd_model.specs.Next.{next, fold}
-use Rattle.mpd_model.specs.Trail.{Standing, IsReached, kept}
+use Rattle.mpd_model.specs.steps.World.{World}
+use Rattle.mpd_model.specs.steps.Next.{next, fold}
+use Rattle.mpd_model.specs.runs.Trail.{Standing, IsReached, done_steps}
 use Rattle.mpd_trail.specs.Run.{first_of}
 use Rattle.mpd_explore.specs.declared.report.Ending.{Ending}
 use Rattle.mpd_explore.specs.Walk.{Run, here, prefixed}
@@ -77,7 +77,7 @@ pub record At (first : World) (b : Bounds) (fs : List Open) (d : Standing) : Typ
   pub first_is : first_of d.trail ≡ first
   pub reached : IsReached d
   pub within : d.trail.depth ≤ b.limit
-  pub stands : Stands first b fs (kept d.trail)
+  pub stands : Stands first b fs (done_steps d.trail)
 
 -- the run that ends where a way stops, none where that is a choice whose candidates are all asleep
 abbrev pub stopped_at : List Open → List Step → Stop → List Run
@@ -87,33 +87,33 @@ stopped_at gs path stop.Asleep = []
 -- one step further, or where a way stops
 abbrev pub Moved : World → Bounds → List Step → List Open → Standing → Option Stop → List Open → Standing → Type 0
 Moved first b above fs d None gs e =
-    At first b gs e × (e.trail.depth ≡ suc d.trail.depth) × (to_come first b above fs (kept d.trail) d.world ≡ to_come first b above gs (kept e.trail) e.world)
-    × (states_to_come first b gs (kept e.trail) e.world < states_to_come first b fs (kept d.trail) d.world)
+    At first b gs e × (e.trail.depth ≡ suc d.trail.depth) × (to_come first b above fs (done_steps d.trail) d.world ≡ to_come first b above gs (done_steps e.trail) e.world)
+    × (states_to_come first b gs (done_steps e.trail) e.world < states_to_come first b fs (done_steps d.trail) d.world)
 Moved first b above fs d (Some s) gs e =
-    At first b gs e × (to_come first b above fs (kept d.trail) d.world ≡ stopped_at gs (kept e.trail) s ++ later first b above gs (kept e.trail))
-    × (states_later first b gs (kept e.trail) < states_to_come first b fs (kept d.trail) d.world)
+    At first b gs e × (to_come first b above fs (done_steps d.trail) d.world ≡ stopped_at gs (done_steps e.trail) s ++ later first b above gs (done_steps e.trail))
+    × (states_later first b gs (done_steps e.trail) < states_to_come first b fs (done_steps d.trail) d.world)
 
 -- the first candidate of a choice that is awake, from one on, was taken, or all are asleep, and nothing was done
 abbrev pub Tried : World → Bounds → List Step → List Open → Standing → List Step → ℕ → Bool → List Open → Standing → Type 0
 Tried first b above fs d candidates from true gs e =
     At first b gs e × (e.trail.depth ≡ suc d.trail.depth)
-    × (map (prefixed (picked fs) (kept d.trail)) (branches_from b.sleeps (b.limit - suc d.trail.depth) d.world (asleep_below b.sleeps above fs) candidates from) ++ later first b above fs (kept d.trail) ≡ to_come first b above gs (kept e.trail) e.world)
-    × (states_to_come first b gs (kept e.trail) e.world ≤ states_by (states (b.limit - suc d.trail.depth)) d.world (drop from candidates) + states_later first b fs (kept d.trail))
+    × (map (prefixed (picked fs) (done_steps d.trail)) (branches_from b.sleeps (b.limit - suc d.trail.depth) d.world (asleep_below b.sleeps above fs) candidates from) ++ later first b above fs (done_steps d.trail) ≡ to_come first b above gs (done_steps e.trail) e.world)
+    × (states_to_come first b gs (done_steps e.trail) e.world ≤ states_by (states (b.limit - suc d.trail.depth)) d.world (drop from candidates) + states_later first b fs (done_steps d.trail))
 Tried first b above fs d candidates from false gs e = (gs ≡ fs) × (e ≡ d) × (branches_from b.sleeps (b.limit - suc d.trail.depth) d.world (asleep_below b.sleeps above fs) candidates from ≡ [])
 
 -- the next candidate of an open choice that is awake was taken, or none is left
 abbrev pub Advanced : World → Bounds → List Step → List Open → List Step → Bool → List Open → Standing → Type 0
-Advanced first b above fs path true gs e = At first b gs e × (later first b above fs path ≡ to_come first b above gs (kept e.trail) e.world) × (states_to_come first b gs (kept e.trail) e.world ≤ states_later first b fs path)
+Advanced first b above fs path true gs e = At first b gs e × (later first b above fs path ≡ to_come first b above gs (done_steps e.trail) e.world) × (states_to_come first b gs (done_steps e.trail) e.world ≤ states_later first b fs path)
 Advanced first b above fs path false gs e = later first b above fs path ≡ []
 
 -- the first run to come ends here, or there is none
 abbrev pub Found : World → Bounds → List Step → List Open → Standing → Option Ending → List Open → Standing → Type 0
-Found first b above fs d None gs e = to_come first b above fs (kept d.trail) d.world ≡ []
-Found first b above fs d (Some end) gs e = At first b gs e × (to_come first b above fs (kept d.trail) d.world ≡ prefixed (picked gs) (kept e.trail) (here end) ∷ later first b above gs (kept e.trail))
+Found first b above fs d None gs e = to_come first b above fs (done_steps d.trail) d.world ≡ []
+Found first b above fs d (Some end) gs e = At first b gs e × (to_come first b above fs (done_steps d.trail) d.world ≡ prefixed (picked gs) (done_steps e.trail) (here end) ∷ later first b above gs (done_steps e.trail))
 
 -- what stays of a debugger, whatever was refused: its script, and the steps up to the base
 pub record Safe (base : ℕ) (d e : Standing) : Type 0 where
   pub program : e.trail.program ≡ d.trail.program
   pub mode : e.trail.mode ≡ d.trail.mode
   pub reached : IsReached e
-  pub below : take base (kept e.trail) ≡ take base (kept d.trail)
+  pub below : take base (done_steps e.trail) ≡ take base (done_steps d.trail)

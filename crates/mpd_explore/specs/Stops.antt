@@ -1,12 +1,12 @@
 -- Where the steps of a witness stop.
 use Rattle.std.specs.Prelude.{◌≡◌, ◌<◌, ℕ, suc, List, take, slice_get, Option, None, Some, IsSome}
 use Rattle.mpd_model.specs.declared.step.Step.{Step}
-use Rattle.mpd_model.specs.World.{World}
-use Rattle.mpd_model.specs.Next.{next, fold}
-use Rattle.mpd_model.specs.Outcomes.{outcome}
+use Rattle.mpd_model.specs.steps.World.{World}
+use Rattle.mpd_model.specs.steps.Next.{next, fold}
+use Rattle.mpd_model.specs.steps.Outcomes.{outcome}
 use Rattle.mpd_core.specs.Listed.{listed}
-use Rattle.mpd_explore.specs.declared.verify.WitnessFault.{WitnessFault}
-use Rattle.mpd_explore.specs.declared.verify.WitnessFault.TheVariants.{NoSuchStep}
+use Rattle.mpd_explore.specs.declared.verifier.WitnessFault.{WitnessFault}
+use Rattle.mpd_explore.specs.declared.verifier.WitnessFault.TheVariants.{NoSuchStep}
 
 -- The first step that is not enabled, with its place: those before it can be taken, and with it they can't.
 pub record StopsAt (w : World) (steps : List Step) (e : WitnessFault) : Type 0 where

@@ -5,11 +5,11 @@ use Rattle.mpd_model.specs.declared.step.CallId.{CallId}
 use Rattle.mpd_model.specs.declared.step.Step.{Step}
 use Rattle.mpd_model.specs.declared.outcome.Outcome.{Outcome}
 use Rattle.mpd_model.specs.declared.outcome.Outcome.TheVariants.{Done, Leftovers, Deadlock, Trap}
-use Rattle.mpd_model.specs.Program.{Program}
-use Rattle.mpd_model.specs.World.{World, start}
-use Rattle.mpd_model.specs.Next.{next, fold}
-use Rattle.mpd_model.specs.Outcomes.{outcome}
-use Rattle.mpd_model.specs.Trail.{Standing, kept}
+use Rattle.mpd_model.specs.script.Program.{Program}
+use Rattle.mpd_model.specs.steps.World.{World, start}
+use Rattle.mpd_model.specs.steps.Next.{next, fold}
+use Rattle.mpd_model.specs.steps.Outcomes.{outcome}
+use Rattle.mpd_model.specs.runs.Trail.{Standing, done_steps}
 use Rattle.mpd_trail.specs.Run.{first_of}
 use Rattle.mpd_explore.specs.declared.report.Ending.{Ending}
 use Rattle.mpd_explore.specs.declared.report.Ending.TheVariants.{Ended, Cut}
@@ -18,8 +18,8 @@ use Rattle.mpd_explore.specs.declared.report.Witness.{Witness}
 use Rattle.mpd_explore.specs.declared.search.Bounds.{Bounds}
 use Rattle.mpd_explore.specs.Walk.{Run, run_at, steps_by}
 use Rattle.mpd_explore.specs.Search.{At}
-use Rattle.mpd_explore.specs.declared.verify.WitnessFault.{WitnessFault}
-use Rattle.mpd_explore.specs.declared.verify.WitnessFault.TheVariants.{NoSuchStep, NotStuck, WrongBlocked}
+use Rattle.mpd_explore.specs.declared.verifier.WitnessFault.{WitnessFault}
+use Rattle.mpd_explore.specs.declared.verifier.WitnessFault.TheVariants.{NoSuchStep, NotStuck, WrongBlocked}
 
 -- Its steps lead from here to a deadlock, and what it says is blocked is what is blocked there.
 pub record IsWitnessFrom (w : World) (x : Witness) : Type 0 where
@@ -91,8 +91,8 @@ pub record Followed (b : Bounds) (left : List ℕ) (d : Standing) (taken : ℕ) 
   pub depth : e.trail.depth ≡ suc d.trail.depth
   pub few : taken ≤ length left
   pub some : IsSome (ahead b (drop taken left) e)
-  pub same : kept d.trail ++ steps_by (ahead b left d) ≡ kept e.trail ++ steps_by (ahead b (drop taken left) e)
+  pub same : done_steps d.trail ++ steps_by (ahead b left d) ≡ done_steps e.trail ++ steps_by (ahead b (drop taken left) e)
 
 abbrev pub Follows : Bounds → List ℕ → Standing → Option ℕ → Standing → Type 0
-Follows b left d None e = kept e.trail ≡ kept d.trail ++ steps_by (ahead b left d)
+Follows b left d None e = done_steps e.trail ≡ done_steps d.trail ++ steps_by (ahead b left d)
 Follows b left d (Some taken) e = Followed b left d taken e

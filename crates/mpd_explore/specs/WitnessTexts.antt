@@ -1,8 +1,8 @@
 -- The texts of the witnesses of leaves.
 use Rattle.std.specs.Prelude.{ℕ, Bool, true, false, List, [], ◌∷◌, ◌++◌, map, Option, Some, None}
 use Rattle.mpd_model.specs.declared.step.Step.{Step}
-use Rattle.mpd_model.specs.World.{World}
-use Rattle.mpd_model.specs.Texts.{line, steps_text}
+use Rattle.mpd_model.specs.steps.World.{World}
+use Rattle.mpd_model.specs.texts.Texts.{line, steps_text}
 use Rattle.mpd_explore.specs.declared.report.Leaf.{Leaf}
 use Rattle.mpd_explore.specs.declared.report.Witness.{Witness}
 use Rattle.mpd_explore.specs.Walk.{run_at, steps_by}

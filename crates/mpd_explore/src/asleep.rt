@@ -7,7 +7,7 @@ ghost use Rattle.mpd_explore.specs.Sleeping.{same_match};
 ghost use Rattle.mpd_explore.specs.Asleep.{asleep_below, was_tried, Skips};
 
 use crate::search::Open;
-use mpd_model::step::Step;
+use mpd_model::Step;
 
 /// Whether two steps are one match.
 fn is_same_match(a: Step, b: Step) -> bool

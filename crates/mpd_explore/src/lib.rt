@@ -2,10 +2,17 @@
 #![tactic(auto)]
 
 mod asleep;
-pub mod explore;
+pub mod explorer;
 pub mod print;
 pub mod report;
 mod search;
-pub mod verify;
+pub mod verifier;
 pub mod watch;
 pub mod witness;
+
+pub use explorer::{explore, explore_asleep};
+pub use print::{print_report, push_leaf_text, push_leaves, push_total};
+pub use report::{ChoiceList, Ending, Leaf, Limits, Report, Witness};
+pub use verifier::{WitnessFault, verify, verify_from};
+pub use watch::{Unwatched, Watch};
+pub use witness::witness_of;

@@ -3,17 +3,15 @@
 ghost use Rattle.std.specs.Prelude.{◌≡◌, ◌<◌, ◌+◌, ◌^◌, ◌∷◌, ◌++◌, ℕ, Bool, List, IfOk, OnOk, length, map, slice_get, string_bytes};
 ghost use Rattle.std.specs.Fmt.{decimal};
 ghost use Rattle.mpd_model.specs.declared.step.Step.{Step};
-ghost use Rattle.mpd_model.specs.World.{World};
-ghost use Rattle.mpd_model.specs.Texts.{step_text, steps_text};
+ghost use Rattle.mpd_model.specs.steps.World.{World};
+ghost use Rattle.mpd_model.specs.texts.Texts.{step_text, steps_text};
 ghost use Rattle.mpd_explore.specs.Witness.{witness_by};
 ghost use Rattle.mpd_explore.specs.ReportText.{choices_text, ending_text, leaf_line, leaf_text, report_text};
 ghost use Rattle.mpd_explore.specs.WitnessTexts.{behind_number, witness_texts};
 ghost use Rattle.mpd_explore.specs.Printed.{numbered, numbered_at, lines_told, told_text, total_line};
 
 use crate::report::{Ending, Leaf, Report};
-use mpd_model::outcome::Outcome;
-use mpd_model::step::Step;
-use mpd_model::text::print_outcome;
+use mpd_model::{Outcome, Step, print_outcome};
 use std::alloc::{AllocError, Global};
 
 /// Adds a number. Most ranks and choices have one digit, which is added as it is.

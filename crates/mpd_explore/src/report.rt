@@ -3,8 +3,7 @@
 ghost use Rattle.std.specs.Prelude.{◌≡◌};
 ghost use Rattle.mpd_explore.specs.Report.{is_bad, any_bad};
 
-use mpd_model::decision::StepList;
-use mpd_model::outcome::{CallList, Outcome};
+use mpd_model::{CallList, Outcome, StepList};
 use std::marker::Model;
 
 /// How far an exploration goes, and what is listed.

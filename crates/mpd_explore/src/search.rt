@@ -1,20 +1,18 @@
 //! The search: open choices on a stack, the debugger going forward and back.
 
 ghost use Rattle.std.specs.Prelude.{◌≡◌, true, ◌+◌, ◌<◌, ◌≤◌, [], ◌∷◌, IfOk, OnOk, IsSome, Some, None, length, take, reverse};
-ghost use Rattle.mpd_model.specs.Next.{next};
-ghost use Rattle.mpd_model.specs.Decisions.{decision, CanFollow};
-ghost use Rattle.mpd_model.specs.Trail.{kept, gone_back, IsReached};
+ghost use Rattle.mpd_model.specs.steps.Next.{next};
+ghost use Rattle.mpd_model.specs.runs.Decisions.{decision, CanFollow};
+ghost use Rattle.mpd_model.specs.runs.Trail.{done_steps, gone_back, IsReached};
 ghost use Rattle.mpd_trail.specs.Run.{first_of};
 ghost use Rattle.mpd_trail.specs.Views.{standing_of};
 ghost use Rattle.mpd_explore.specs.Search.{AllEnabled, At, Moved, Advanced, Tried, Found, Safe};
 
 use crate::asleep::first_awake;
 use crate::report::Ending;
-use mpd_model::decision::{Decision, StepList};
-use mpd_model::limits::STEPS_MAX;
-use mpd_model::step::Step;
-use mpd_policy::decide::{decide, decisions_can_be_followed};
-use mpd_trail::debugger::Debugger;
+use mpd_model::{Decision, STEPS_MAX, Step, StepList};
+use mpd_policy::{decide, decisions_can_be_followed};
+use mpd_trail::Debugger;
 use std::alloc::{AllocError, Global};
 
 /// A choice that is open: the depth where it is, its candidates, and the one that is taken. Where candidates that were tried fall asleep,
@@ -47,7 +45,7 @@ pub(crate) enum Stop {
 pub(crate) fn go_back(debugger: &mut Debugger<'_>, depth: usize)
     requires { depth ≤ debugger.old.trail.depth }
     ensures trail { debugger.new.trail ≡ gone_back debugger.old.trail depth }
-    ensures steps { kept debugger.new.trail ≡ take depth (kept debugger.old.trail) }
+    ensures steps { done_steps debugger.new.trail ≡ take depth (done_steps debugger.old.trail) }
     ensures reached { IsReached (standing_of debugger.new) }
 {
     let _ = debugger.undo_to(depth);
@@ -191,7 +189,7 @@ pub(crate) fn advance(
 ) -> Result<bool, AllocError>
     requires at { At (first_of debugger.old.trail) bounds (reverse stack.old.items) (standing_of debugger.old) }
     requires few { bounds.limit ≤ STEPS_MAX }
-    ensures advanced { IfOk result (λ b. Advanced (first_of debugger.old.trail) bounds asleep.now (reverse stack.old.items) (kept debugger.old.trail) b (reverse stack.new.items) (standing_of debugger.new)) }
+    ensures advanced { IfOk result (λ b. Advanced (first_of debugger.old.trail) bounds asleep.now (reverse stack.old.items) (done_steps debugger.old.trail) b (reverse stack.new.items) (standing_of debugger.new)) }
     ensures safe { Safe bounds.base (standing_of debugger.old) (standing_of debugger.new) }
 {
     while let Some(top) = stack.pop() {

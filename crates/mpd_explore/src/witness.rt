@@ -1,22 +1,20 @@
 //! The witness of a leaf: its run is made again, along its choices.
 
 ghost use Rattle.std.specs.Prelude.{◌≡◌, ◌+◌, ◌≤◌, ◌<◌, ◌++◌, [], IfOk, OnOk, OnErr, IsSome, Some, length};
-ghost use Rattle.mpd_model.specs.Trail.{kept, IsReached};
+ghost use Rattle.mpd_model.specs.runs.Trail.{done_steps, IsReached};
 ghost use Rattle.mpd_trail.specs.Run.{first_of};
 ghost use Rattle.mpd_trail.specs.Views.{standing_of};
 ghost use Rattle.mpd_explore.specs.Walk.{run_at, steps_by};
 ghost use Rattle.mpd_explore.specs.Search.{AllEnabled, At, Safe};
-ghost use Rattle.mpd_model.specs.Decisions.{decision};
+ghost use Rattle.mpd_model.specs.runs.Decisions.{decision};
 ghost use Rattle.mpd_explore.specs.Witness.{ahead, Follows, witness_by, IsDeadlock};
 
-use crate::explore::put_back;
+use crate::explorer::put_back;
 use crate::report::{Ending, Leaf, Witness};
 use crate::search::Bounds;
-use mpd_model::decision::{Decision, StepList};
-use mpd_model::limits::STEPS_MAX;
-use mpd_model::outcome::{CallList, Outcome};
-use mpd_policy::decide::{decide, decisions_can_be_followed};
-use mpd_trail::debugger::Debugger;
+use mpd_model::{CallList, Decision, Outcome, STEPS_MAX, StepList};
+use mpd_policy::{decide, decisions_can_be_followed};
+use mpd_trail::Debugger;
 use std::alloc::{AllocError, Global};
 
 /// Takes the candidate that the first of the choices left names.
@@ -80,7 +78,7 @@ fn follow(
     requires at { At (first_of debugger.old.trail) bounds [] (standing_of debugger.old) }
     requires few { bounds.limit ≤ STEPS_MAX }
     requires some { IsSome (ahead bounds choices.now (standing_of debugger.old)) }
-    ensures steps { OnOk result (kept debugger.new.trail ≡ kept debugger.old.trail ++ steps_by (ahead bounds choices.now (standing_of debugger.old))) }
+    ensures steps { OnOk result (done_steps debugger.new.trail ≡ done_steps debugger.old.trail ++ steps_by (ahead bounds choices.now (standing_of debugger.old))) }
     ensures safe { Safe bounds.base (standing_of debugger.old) (standing_of debugger.new) }
 {
     let begun = debugger.depth();
@@ -97,7 +95,7 @@ fn follow(
 
 /// The steps that are not undone.
 fn steps_here(alloc: Global, debugger: &Debugger<'_>) -> Result<StepList, AllocError>
-    ensures { IfOk result (λ steps. steps ≡ kept debugger.now.trail) }
+    ensures { IfOk result (λ steps. steps ≡ done_steps debugger.now.trail) }
 {
     debugger.state_is_reached();
     let depth = debugger.depth();
@@ -116,7 +114,7 @@ fn retrace(
     requires at { At (first_of debugger.old.trail) bounds [] (standing_of debugger.old) }
     requires few { bounds.limit ≤ STEPS_MAX }
     requires some { IsSome (ahead bounds choices.now (standing_of debugger.old)) }
-    ensures steps { IfOk result (λ steps. steps ≡ kept debugger.old.trail ++ steps_by (ahead bounds choices.now (standing_of debugger.old))) }
+    ensures steps { IfOk result (λ steps. steps ≡ done_steps debugger.old.trail ++ steps_by (ahead bounds choices.now (standing_of debugger.old))) }
     ensures safe { Safe bounds.base (standing_of debugger.old) (standing_of debugger.new) }
 {
     follow(alloc, debugger, bounds, choices)?;
@@ -136,7 +134,7 @@ pub fn witness_of(
     requires clean { length debugger.old.trail.steps ≡ debugger.old.trail.depth }
     requires fits { debugger.old.trail.depth + fuel ≤ STEPS_MAX }
     requires listed { IsSome (run_at fuel leaf.now.choices debugger.old.world) }
-    ensures witness { IfOk result (λ o. o ≡ witness_by (kept debugger.old.trail ++ steps_by (run_at fuel leaf.now.choices debugger.old.world)) leaf.now.ending) }
+    ensures witness { IfOk result (λ o. o ≡ witness_by (done_steps debugger.old.trail ++ steps_by (run_at fuel leaf.now.choices debugger.old.world)) leaf.now.ending) }
     ensures trail { debugger.new.trail ≡ debugger.old.trail }
     ensures world { debugger.new.world ≡ debugger.old.world }
     ensures reached { IsReached (standing_of debugger.new) }

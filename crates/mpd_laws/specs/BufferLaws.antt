@@ -8,9 +8,9 @@ use Rattle.mpd_model.specs.declared.call.Mode.TheVariants.{Rendezvous, Buffered,
 use Rattle.mpd_model.specs.declared.call.SendCall.{SendCall}
 use Rattle.mpd_model.specs.declared.step.CallId.{CallId}
 use Rattle.mpd_model.specs.declared.step.Step.{Step}
-use Rattle.mpd_model.specs.Program.{Program}
-use Rattle.mpd_model.specs.World.{World, Board, start, call_id, call_numbers, kind_at, partner, is_done, is_limited, slots_used}
-use Rattle.mpd_model.specs.Next.{fold}
+use Rattle.mpd_model.specs.script.Program.{Program}
+use Rattle.mpd_model.specs.steps.World.{World, Board, start, call_id, call_numbers, kind_at, partner, is_done, is_limited, slots_used}
+use Rattle.mpd_model.specs.steps.Next.{fold}
 
 -- the mode that buffers every standard send
 abbrev pub buffers_all : Mode → Bool

@@ -3,10 +3,10 @@ use Rattle.std.specs.Prelude.{◌≡◌, ℕ, true, List, Some}
 use Rattle.mpd_model.specs.declared.call.Mode.{Mode}
 use Rattle.mpd_model.specs.declared.step.CallId.{CallId}
 use Rattle.mpd_model.specs.declared.step.Step.{Step}
-use Rattle.mpd_model.specs.Program.{Program}
-use Rattle.mpd_model.specs.World.{Board, World, start, call_id, eligible}
-use Rattle.mpd_model.specs.Next.{fold}
-use Rattle.mpd_model.specs.Order.{before, Ordered}
+use Rattle.mpd_model.specs.script.Program.{Program}
+use Rattle.mpd_model.specs.steps.World.{Board, World, start, call_id, eligible}
+use Rattle.mpd_model.specs.steps.Next.{fold}
+use Rattle.mpd_model.specs.steps.Order.{before, Ordered}
 
 -- Of two calls of which one completes before the other, every world that steps lead to has them in that order.
 abbrev pub CallsCompleteInOrder : Type 0

@@ -1,7 +1,7 @@
 //! What holds of the canonical text (docs/LANGUAGE.md, "Canonical text").
 
-ghost use Rattle.mpd_model.specs.Printable as printable;
-ghost use Rattle.mpd_model.specs.ReaderLaws.{WrittenScriptsAreRead, ScriptsAreWritten};
+ghost use Rattle.mpd_model.specs.grammar.Printable as printable;
+ghost use Rattle.mpd_model.specs.grammar.ReaderLaws.{WrittenScriptsAreRead, ScriptsAreWritten};
 
 /// Where what is written as a script is read as that, the canonical text of a printable script is read as that script, with the lines of this text.
 pub fn canonical_is_read_again()

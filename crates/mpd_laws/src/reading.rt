@@ -1,6 +1,6 @@
 //! What holds of the grammar (docs/LANGUAGE.md, "Grammar").
 
-ghost use Rattle.mpd_model.specs.ReaderLaws as law;
+ghost use Rattle.mpd_model.specs.grammar.ReaderLaws as law;
 
 /// What is read as an expression is written so.
 pub fn expressions_are_written()

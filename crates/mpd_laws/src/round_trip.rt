@@ -1,6 +1,6 @@
 //! What holds of reading and printing together.
 
-ghost use Rattle.mpd_model.specs.Printable as printable;
+ghost use Rattle.mpd_model.specs.grammar.Printable as printable;
 
 use crate::canonical;
 use crate::reading::{scripts_are_written, written_scripts_are_read};

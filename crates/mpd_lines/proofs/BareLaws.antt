@@ -1,7 +1,7 @@
 -- A line without what ends it.
 use Rattle.std.proofs.Common.{◌≡◌, ℕ, ◌+◌, ◌<◌, ◌≤◌, Bool, true, false, ◌&&◌, ◌||◌, ◌==◌, if◌then◌else◌, List, [], ◌∷◌, ◌++◌, length, refl, ap, sym, ◌∙◌, append_assoc, arith}
 use Rattle.std.proofs.lemmas.Bool.{and_right, or_from}
-use Rattle.mpd_model.specs.Lines.{bare, is_ending}
+use Rattle.mpd_model.specs.texts.Lines.{bare, is_ending}
 
 -- two bytes at least follow
 ending_not : (y c d : ℕ) (l : List ℕ) → is_ending y (c ∷ d ∷ l) ≡ false

@@ -1,6 +1,6 @@
 -- Lines cut from the front, piece by piece, are the lines cut from the back.
 use Rattle.std.proofs.Common.{◌≡◌, ℕ, Bool, true, false, ◌==◌, if◌then◌else◌, List, [], ◌∷◌, ◌++◌, map, filter, refl, ap, sym, ◌∙◌, append_assoc, append-nil}
-use Rattle.mpd_model.specs.Lines.{raw_lines, bare, lines_of, ended_lines, ends_with_feed}
+use Rattle.mpd_model.specs.texts.Lines.{raw_lines, bare, lines_of, ended_lines, ends_with_feed}
 use Rattle.mpd_laws.proofs.cutting.LineCuts.{is_part, ending_line, part_snoc, raw_part, raw_feed, bare_last, ends_feed, ended_none}
 use Rattle.mpd_lines.specs.Forward.{ended_from, part_from, last_line, lines_from}
 

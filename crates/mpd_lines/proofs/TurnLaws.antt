@@ -1,7 +1,7 @@
 -- Turns, one after another.
 use Rattle.std.proofs.Common.{◌≡◌, ℕ, zero, suc, ◌+◌, ◌<◌, ◌≤◌, List, [], ◌++◌, length, Option, Some, None, Result, Ok, Err, refl, ap, sym, subst, ◌∙◌, append_assoc, append-nil, length-append, arith, inl, inr}
 use Rattle.std.specs.Io.KnownBytes.{Consumes, IsAtEnd, Keeps}
-use Rattle.mpd_model.specs.Lines.{lines_of, ended_lines}
+use Rattle.mpd_model.specs.texts.Lines.{lines_of, ended_lines}
 use Rattle.mpd_device.specs.Seen.{SourceSeen, SinkSeen}
 use Rattle.mpd_device.specs.Ends.{ends_of}
 use Rattle.mpd_device.specs.declared.device.DeviceFault.{DeviceFault}

@@ -1,6 +1,6 @@
 -- Lines as they end one after another, behind the beginning of a line that was there before.
 use Rattle.std.specs.Prelude.{ℕ, ◌==◌, if◌then◌else◌, List, [], ◌∷◌, ◌++◌}
-use Rattle.mpd_model.specs.Lines.{bare}
+use Rattle.mpd_model.specs.texts.Lines.{bare}
 
 -- the lines that end within z
 abbrev pub ended_from : List ℕ → List ℕ → List (List ℕ)

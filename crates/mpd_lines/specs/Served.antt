@@ -1,7 +1,7 @@
 -- What an engine has read and written, by what it answers.
 use Rattle.std.specs.Prelude.{◌≡◌, ℕ, ◌+◌, ◌*◌, ◌≤◌, ◌⊎◌, List, [], ◌++◌, length, Result, Ok, Err}
 use Rattle.std.specs.Io.KnownBytes.{Consumes, IsAtEnd}
-use Rattle.mpd_model.specs.Lines.{lines_of, ended_lines}
+use Rattle.mpd_model.specs.texts.Lines.{lines_of, ended_lines}
 use Rattle.mpd_device.specs.Seen.{SourceSeen, SinkSeen}
 use Rattle.mpd_lines.specs.Telling.{Tells, BreaksOff}
 use Rattle.mpd_lines.specs.declared.engine.EngineFault.{EngineFault}

@@ -1,7 +1,7 @@
 //! What answers lines.
 ghost use Rattle.std.specs.Prelude.{◌≡◌, ℕ, ◌+◌, ◌<◌, ◌≤◌, List, ◌++◌, length, vec_len, vec_capacity};
 
-use mpd_model::limits::LINE_MAX;
+use mpd_model::LINE_MAX;
 
 /// Bytes that a buffer of answers has room for whenever a line is answered.
 pub const ROOM: usize = 64;

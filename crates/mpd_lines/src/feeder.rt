@@ -1,16 +1,16 @@
 //! Cuts what comes in pieces into lines, and asks a desk each of them.
 ghost use Rattle.std.specs.Prelude.{◌≡◌, ◌+◌, ◌<◌, ◌≤◌, [], ◌∷◌, ◌++◌, length, IfOk, OnOk};
-ghost use Rattle.mpd_model.specs.Lines.{bare};
+ghost use Rattle.mpd_model.specs.texts.Lines.{bare};
 ghost use Rattle.mpd_lines.specs.Gathering.{Gathered};
 ghost use Rattle.mpd_lines.specs.Telling.{waiting_below};
 ghost use Rattle.mpd_lines.specs.Forward.{ended_from, part_from, last_line};
 
 use crate::desk::LineDesk;
 use crate::line::without_return;
+use crate::line_bytes::Seen;
 use crate::outbox::Outbox;
-use crate::seen::Seen;
-use mpd_device::device::{DeviceFault, Sink};
-use mpd_model::limits::LINE_MAX;
+use mpd_device::{DeviceFault, Sink};
+use mpd_model::LINE_MAX;
 use std::alloc::{AllocError, Global};
 use std::marker::Model;
 

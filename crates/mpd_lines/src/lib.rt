@@ -4,9 +4,17 @@
 pub mod desk;
 pub mod engine;
 mod feeder;
-pub mod kept;
 pub mod line;
+mod line_bytes;
 pub mod outbox;
-mod seen;
+pub mod room;
 pub mod up_to;
 pub mod verdict;
+
+pub use desk::{LineDesk, ROOM};
+pub use engine::{EngineFault, READ_MAX, run, run_behind};
+pub use line::without_return;
+pub use outbox::write_all;
+pub use room::push_all;
+pub use up_to::read_up_to;
+pub use verdict::Verdict;

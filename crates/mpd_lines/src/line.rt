@@ -1,6 +1,6 @@
 //! Lines and their ends (docs/FORMATS.md, "Lines").
 ghost use Rattle.std.specs.Prelude.{◌≡◌, [], ◌∷◌, ◌++◌};
-ghost use Rattle.mpd_model.specs.Lines.{bare};
+ghost use Rattle.mpd_model.specs.texts.Lines.{bare};
 
 /// The line without one carriage return at its end.
 #[tactic(auto, using(crate::proofs::BareLaws::bare_lines))]

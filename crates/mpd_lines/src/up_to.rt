@@ -3,8 +3,8 @@ ghost use Rattle.std.specs.Prelude.{◌+◌, ◌<◌, ◌^◌, IfOk, IfErr};
 ghost use Rattle.mpd_lines.specs.UpTo.{IsRead, IsUnread};
 
 use crate::engine::{EngineFault, READ_MAX};
-use crate::kept::push_all;
-use mpd_device::device::Source;
+use crate::room::push_all;
+use mpd_device::Source;
 use std::alloc::Global;
 use std::cmp;
 

@@ -6,8 +6,8 @@ use Rattle.mpd_model.specs.declared.step.CallId.{CallId}
 use Rattle.mpd_model.specs.declared.call.Call.{Call}
 use Rattle.mpd_model.specs.declared.call.CallKind.{CallKind}
 use Rattle.mpd_model.specs.declared.call.CallKind.TheVariants.{Send, Recv}
-use Rattle.mpd_model.specs.World.{listed_calls}
-use Rattle.mpd_model.specs.Next.{HasReceiver}
+use Rattle.mpd_model.specs.steps.World.{listed_calls}
+use Rattle.mpd_model.specs.steps.Next.{HasReceiver}
 use Rattle.mpd_match.specs.Views.{SideView, no_side, side_at, calls_in, lines_in, writes_in, room_in}
 use Rattle.mpd_match.specs.Lines.{line_of, mark_in, mark_at}
 

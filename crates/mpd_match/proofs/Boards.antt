@@ -12,7 +12,7 @@ use Rattle.mpd_model.specs.declared.call.CallKind.TheVariants.{Send, Recv}
 use Rattle.mpd_model.specs.declared.call.MatchSet.{MatchSet}
 use Rattle.mpd_model.specs.declared.call.MatchSet.TheVariants.{Pair, Woke}
 use Rattle.mpd_model.specs.declared.call.MatchSet.TheVariants as set
-use Rattle.mpd_model.specs.World.{Board, call_id, listed_calls, calls_of, kind_of, kind_at, partner, is_message_kind, is_free, sends_to, receives, fits, fitting, is_pending, is_posted, pending, posted, eligible, last_call}
+use Rattle.mpd_model.specs.steps.World.{Board, call_id, listed_calls, calls_of, kind_of, kind_at, partner, is_message_kind, is_free, sends_to, receives, fits, fitting, is_pending, is_posted, pending, posted, eligible, last_call}
 use Rattle.mpd_queue.specs.InOrder.{next_of}
 use Rattle.mpd_match.specs.Views.{SideView, no_side, side_at, calls_in, lines_in, board_in}
 use Rattle.mpd_match.specs.Lines.{line_of, is_line, kind_in, mark_in, with_mark, waits, waiting, mark_at, kind_on, waiting_on, with_partner}

@@ -11,8 +11,8 @@ use Rattle.mpd_model.specs.declared.step.CallId.{CallId}
 use Rattle.mpd_model.specs.declared.call.Call.{Call}
 use Rattle.mpd_model.specs.declared.call.CallKind.{CallKind}
 use Rattle.mpd_model.specs.declared.call.CallKind.TheVariants.{Send, Recv}
-use Rattle.mpd_model.specs.World.{Board, call_id, calls_of, kind_of, kind_at, call_numbers, is_free, fits, fitting, sends_to, receives, is_pending, is_posted, pending, posted, eligible}
-use Rattle.mpd_model.specs.Why.{first_in}
+use Rattle.mpd_model.specs.steps.World.{Board, call_id, calls_of, kind_of, kind_at, call_numbers, is_free, fits, fitting, sends_to, receives, is_pending, is_posted, pending, posted, eligible}
+use Rattle.mpd_model.specs.steps.Why.{first_in}
 use Rattle.mpd_queue.specs.InOrder.{places_in}
 use Rattle.mpd_queue.proofs.Places.{places_here, places_same, places_there, places_more}
 use Rattle.mpd_match.specs.Lines.{takes_from, ahead}

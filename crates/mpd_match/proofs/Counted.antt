@@ -10,8 +10,8 @@ use Rattle.mpd_model.specs.declared.call.Mode.{Mode}
 use Rattle.mpd_model.specs.declared.call.MatchSet.{MatchSet}
 use Rattle.mpd_model.specs.declared.call.MatchSet.TheVariants.{Pair, Woke}
 use Rattle.mpd_model.specs.declared.call.MatchSet.TheVariants as set_kind
-use Rattle.mpd_model.specs.World.{Board, call_id, listed_calls, calls_of, kind_of, kind_at, partner, eligible, fits, is_buffered, holds_slot, last_call, slots_used}
-use Rattle.mpd_model.specs.Next.{with_call, with_set}
+use Rattle.mpd_model.specs.steps.World.{Board, call_id, listed_calls, calls_of, kind_of, kind_at, partner, eligible, fits, is_buffered, holds_slot, last_call, slots_used}
+use Rattle.mpd_model.specs.steps.Next.{with_call, with_set}
 use Rattle.mpd_laws.proofs.buffered.Slots.{is_pair, slots_within, slots_with_call, slots_with_lone, slots_with_fitting, slots_with_match}
 use Rattle.mpd_match.specs.Views.{SideView, calls_in, board_in}
 use Rattle.mpd_match.specs.Changes.{issue_writes, unissue_writes, without_last_call, is_lone, last_set}

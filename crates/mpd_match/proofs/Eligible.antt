@@ -7,7 +7,7 @@ use Rattle.mpd_model.specs.declared.call.CallKind.{CallKind}
 use Rattle.mpd_model.specs.declared.call.CallKind.TheVariants.{Send, Recv}
 use Rattle.mpd_model.specs.declared.call.SendCall.{SendCall}
 use Rattle.mpd_model.specs.declared.call.MatchSet.{MatchSet}
-use Rattle.mpd_model.specs.World.{Board, call_id, kind_at, is_free, fits, fitting, pending, posted, eligible}
+use Rattle.mpd_model.specs.steps.World.{Board, call_id, kind_at, is_free, fits, fitting, pending, posted, eligible}
 use Rattle.mpd_match.specs.Views.{SideView, side_at, board_in}
 use Rattle.mpd_match.specs.Lines.{line_of, kind_in, kind_on, mark_in, waiting, fitting_either, passed, has_earlier}
 use Rattle.mpd_match.specs.Looks.{send_looks, recv_looks, has_earlier_send, eligible_looks}

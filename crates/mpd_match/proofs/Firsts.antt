@@ -3,7 +3,7 @@ use Rattle.std.proofs.Common.{◌≡◌, ℕ, ◌+◌, ◌<◌, ◌≤◌, Bool,
 use Rattle.std.proofs.lemmas.Bool.{cases_Bool}
 use Rattle.std.proofs.lemmas.Bool.Decides.{eqb_tells}
 use Rattle.std.specs.List.{filter, list_any}
-use Rattle.mpd_model.specs.Why.{first_in}
+use Rattle.mpd_model.specs.steps.Why.{first_in}
 use Rattle.mpd_queue.specs.InOrder.{places_in, first_of, next_of, HasSpot}
 use Rattle.mpd_queue.proofs.Places.{places_here, places_there, places_more}
 use Rattle.mpd_queue.proofs.Spots.{first_spot, next_spot}

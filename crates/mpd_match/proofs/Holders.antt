@@ -6,8 +6,8 @@ use Rattle.std.specs.List.{filter, flat_map, range_with_len}
 use Rattle.std.specs.Option.{option_map}
 use Rattle.mpd_model.specs.declared.step.CallId.{CallId}
 use Rattle.mpd_model.specs.declared.call.Call.{Call}
-use Rattle.mpd_model.specs.World.{Board, call_id, listed_calls, fits, is_posted, pending, posted}
-use Rattle.mpd_model.specs.Why.{first_in, earlier_send, earlier_recv, holder, why_send, why_from}
+use Rattle.mpd_model.specs.steps.World.{Board, call_id, listed_calls, fits, is_posted, pending, posted}
+use Rattle.mpd_model.specs.steps.Why.{first_in, earlier_send, earlier_recv, holder, why_send, why_from}
 use Rattle.mpd_queue.specs.InOrder.{places_in}
 use Rattle.mpd_match.specs.Firsts.{first_send, first_recv}
 use Rattle.mpd_match.specs.Entries.{partner_entry}

@@ -7,7 +7,7 @@ use Rattle.std.specs.List.{filter, range_with_len}
 use Rattle.mpd_model.specs.declared.step.CallId.{CallId}
 use Rattle.mpd_model.specs.declared.call.Call.{Call}
 use Rattle.mpd_model.specs.declared.call.CallKind.{CallKind}
-use Rattle.mpd_model.specs.World.{kind_of}
+use Rattle.mpd_model.specs.steps.World.{kind_of}
 use Rattle.mpd_queue.specs.InOrder.{places_in, removed}
 use Rattle.mpd_match.specs.Lines.{line_of, is_line, kind_in, mark_in, with_mark, waits, waiting}
 use Rattle.mpd_match.proofs.Passed.{passed_same, places_passed, places_not_passed, passed_removed, places_within, places_past, one_number_more}

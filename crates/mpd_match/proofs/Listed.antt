@@ -6,7 +6,7 @@ use Rattle.std.specs.Option.{option_to_list}
 use Rattle.mpd_model.specs.declared.step.CallId.{CallId}
 use Rattle.mpd_model.specs.declared.step.Step.{Step}
 use Rattle.mpd_model.specs.declared.step.Step.TheVariants.{Match}
-use Rattle.mpd_model.specs.World.{Board, call_id, call_numbers, rank_numbers, is_posted, posted, eligible}
+use Rattle.mpd_model.specs.steps.World.{Board, call_id, call_numbers, rank_numbers, is_posted, posted, eligible}
 use Rattle.mpd_match.specs.Matches.{matches_from, matches_with, matches_at}
 use Rattle.mpd_match.proofs.Passed.{passed_here, passed_there}
 use Rattle.mpd_match.proofs.Matches.{eligible_posted}

@@ -8,7 +8,7 @@ use Rattle.mpd_model.specs.declared.step.CallId.{CallId}
 use Rattle.mpd_model.specs.declared.call.Call.{Call}
 use Rattle.mpd_model.specs.declared.call.CallKind.{CallKind}
 use Rattle.mpd_model.specs.declared.call.CallKind.TheVariants.{Send, Recv}
-use Rattle.mpd_model.specs.World.{Board, call_id, listed_calls, calls_of, kind_of, kind_at, partner, is_message_kind, call_numbers, rank_numbers, is_free, sends_to, receives, fits, fitting, is_pending, is_posted, pending, posted, eligible}
+use Rattle.mpd_model.specs.steps.World.{Board, call_id, listed_calls, calls_of, kind_of, kind_at, partner, is_message_kind, call_numbers, rank_numbers, is_free, sends_to, receives, fits, fitting, is_pending, is_posted, pending, posted, eligible}
 use Rattle.mpd_queue.specs.InOrder.{places_in}
 use Rattle.mpd_match.proofs.Passed.{places_passed, places_not_passed, places_within, places_past}
 

@@ -9,7 +9,7 @@ use Rattle.mpd_model.specs.declared.call.CallKind.TheVariants.{Send, Recv}
 use Rattle.mpd_model.specs.declared.call.MatchSet.{MatchSet}
 use Rattle.mpd_model.specs.declared.call.MatchSet.TheVariants.{Pair, Woke}
 use Rattle.mpd_model.specs.declared.call.MatchSet.TheVariants as set
-use Rattle.mpd_model.specs.World.{id_eq, is_any_or, partner, fitting}
+use Rattle.mpd_model.specs.steps.World.{id_eq, is_any_or, partner, fitting}
 use Rattle.mpd_match.specs.Lines.{line_of, with_partner}
 use Rattle.mpd_match.specs.Pairs.{Paired}
 use Rattle.mpd_match.specs.Changes.{is_lone}

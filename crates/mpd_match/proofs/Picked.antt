@@ -10,9 +10,9 @@ use Rattle.mpd_model.specs.declared.step.Step.{Step}
 use Rattle.mpd_model.specs.declared.step.Step.TheVariants.{Match}
 use Rattle.mpd_model.specs.declared.call.CallKind.{CallKind}
 use Rattle.mpd_model.specs.declared.call.CallKind.TheVariants.{Recv}
-use Rattle.mpd_model.specs.World.{Board, call_id, kind_at, call_numbers, rank_numbers, is_any_or, is_posted, posted}
-use Rattle.mpd_model.specs.Why.{first_in, or_else}
-use Rattle.mpd_model.specs.Decisions.{names_source, takes_any, is_named_match, is_open_match}
+use Rattle.mpd_model.specs.steps.World.{Board, call_id, kind_at, call_numbers, rank_numbers, is_any_or, is_posted, posted}
+use Rattle.mpd_model.specs.steps.Why.{first_in, or_else}
+use Rattle.mpd_model.specs.runs.Decisions.{names_source, takes_any, is_named_match, is_open_match}
 use Rattle.mpd_queue.specs.InOrder.{places_in, first_of, next_of, HasSpot}
 use Rattle.mpd_queue.proofs.Spots.{first_spot, next_spot}
 use Rattle.mpd_match.specs.Lines.{takes_from}

@@ -13,9 +13,9 @@ use Rattle.mpd_model.specs.declared.step.Step.{Step}
 use Rattle.mpd_model.specs.declared.step.Step.TheVariants.{Match}
 use Rattle.mpd_model.specs.declared.call.CallKind.{CallKind}
 use Rattle.mpd_model.specs.declared.call.CallKind.TheVariants.{Send, Recv, Wait, Waitany, Barrier}
-use Rattle.mpd_model.specs.World.{Board, call_id, kind_at, rank_numbers, is_any_or, fitting, eligible}
-use Rattle.mpd_model.specs.Why.{first_in}
-use Rattle.mpd_model.specs.Decisions.{is_named_match}
+use Rattle.mpd_model.specs.steps.World.{Board, call_id, kind_at, rank_numbers, is_any_or, fitting, eligible}
+use Rattle.mpd_model.specs.steps.Why.{first_in}
+use Rattle.mpd_model.specs.runs.Decisions.{is_named_match}
 use Rattle.mpd_queue.specs.InOrder.{places_in, next_of, HasSpot}
 use Rattle.mpd_queue.proofs.Spots.{next_spot}
 use Rattle.mpd_queue.proofs.Places.{places_there}

@@ -9,10 +9,10 @@ use Rattle.mpd_model.specs.declared.call.Mode.TheVariants.{Rendezvous, Buffered}
 use Rattle.mpd_model.specs.declared.call.MatchSet.{MatchSet}
 use Rattle.mpd_model.specs.declared.call.MatchSet.TheVariants.{Pair, Woke}
 use Rattle.mpd_model.specs.declared.call.MatchSet.TheVariants as set
-use Rattle.mpd_model.specs.World.{Board, start_board, call_id, pending, posted, eligible, partner, complete}
-use Rattle.mpd_model.specs.Next.{entered, with_call, with_set}
-use Rattle.mpd_model.specs.Order.{before, is_exit, WentOn, Ordered}
-use Rattle.mpd_model.specs.Why.{why}
+use Rattle.mpd_model.specs.steps.World.{Board, start_board, call_id, pending, posted, eligible, partner, complete}
+use Rattle.mpd_model.specs.steps.Next.{entered, with_call, with_set}
+use Rattle.mpd_model.specs.steps.Order.{before, is_exit, WentOn, Ordered}
+use Rattle.mpd_model.specs.steps.Why.{why}
 use Rattle.mpd_match.specs.Changes.{without_last_call, without_last_set, last_set, issue_writes, unissue_writes}
 use Rattle.mpd_match.specs.OrderRows.{empty_cut, went_nowhere}
 

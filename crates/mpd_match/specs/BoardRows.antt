@@ -4,8 +4,8 @@ use Rattle.mpd_model.specs.declared.call.Call.{Call}
 use Rattle.mpd_model.specs.declared.call.CallKind.TheVariants.{Send, Recv}
 use Rattle.mpd_model.specs.declared.call.Mode.TheVariants.{Rendezvous}
 use Rattle.mpd_model.specs.declared.call.MatchSet.TheVariants.{Pair}
-use Rattle.mpd_model.specs.World.{Board, start_board, call_id, pending, posted, eligible}
-use Rattle.mpd_model.specs.Next.{with_call, with_set}
+use Rattle.mpd_model.specs.steps.World.{Board, start_board, call_id, pending, posted, eligible}
+use Rattle.mpd_model.specs.steps.Next.{with_call, with_set}
 use Rattle.mpd_match.specs.Changes.{without_last_call, without_last_set, last_set, record_of_pair}
 use Rattle.mpd_match.specs.Looks.{eligible_looks}
 

@@ -2,8 +2,8 @@
 use Rattle.std.specs.Prelude.{ℕ, Option}
 use Rattle.std.specs.List.{filter}
 use Rattle.mpd_model.specs.declared.step.CallId.{CallId}
-use Rattle.mpd_model.specs.World.{Board, call_id, fits, pending, posted}
-use Rattle.mpd_model.specs.Why.{first_in}
+use Rattle.mpd_model.specs.steps.World.{Board, call_id, fits, pending, posted}
+use Rattle.mpd_model.specs.steps.Why.{first_in}
 
 -- the first free send of rank p to the receive's rank that fits the receive
 abbrev pub first_send : Board → ℕ → CallId → Option ℕ

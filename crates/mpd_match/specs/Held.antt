@@ -3,7 +3,7 @@ use Rattle.std.specs.Prelude.{◌≡◌, ℕ, suc, ◌<◌, ◌≤◌, Option, S
 use Rattle.mpd_model.specs.declared.step.CallId.{CallId}
 use Rattle.mpd_model.specs.declared.call.Call.{Call}
 use Rattle.mpd_model.specs.declared.limits.TheConstants.{RANKS_MAX}
-use Rattle.mpd_model.specs.World.{Board, kind_at, partner}
+use Rattle.mpd_model.specs.steps.World.{Board, kind_at, partner}
 use Rattle.mpd_queue.specs.InOrder.{list_at}
 use Rattle.mpd_match.specs.Views.{SideView, lines_in}
 use Rattle.mpd_match.specs.Lines.{line_of, kind_in, mark_in, waiting, mark_at}

@@ -5,7 +5,7 @@ use Rattle.mpd_model.specs.declared.step.CallId.{CallId}
 use Rattle.mpd_model.specs.declared.call.Call.{Call}
 use Rattle.mpd_model.specs.declared.call.CallKind.{CallKind}
 use Rattle.mpd_model.specs.declared.call.CallKind.TheVariants.{Send, Recv}
-use Rattle.mpd_model.specs.World.{kind_of, id_eq, is_any_or, fitting}
+use Rattle.mpd_model.specs.steps.World.{kind_of, id_eq, is_any_or, fitting}
 use Rattle.mpd_match.specs.Views.{SideView, side_at}
 
 -- the line of a call, where it has one

@@ -2,7 +2,7 @@
 use Rattle.std.specs.Prelude.{ℕ, ◌+◌, Bool, ◌&&◌, cond, nat_lt, Option, Some, None}
 use Rattle.std.specs.List.{list_any}
 use Rattle.mpd_model.specs.declared.step.CallId.{CallId}
-use Rattle.mpd_model.specs.World.{Board, call_id, kind_at, is_free, fits, pending, posted}
+use Rattle.mpd_model.specs.steps.World.{Board, call_id, kind_at, is_free, fits, pending, posted}
 use Rattle.mpd_match.specs.Lines.{passed, ahead, takes_from}
 use Rattle.mpd_match.specs.Firsts.{first_send}
 

@@ -4,7 +4,7 @@ use Rattle.std.specs.List.{filter, flat_map}
 use Rattle.mpd_model.specs.declared.step.CallId.{CallId}
 use Rattle.mpd_model.specs.declared.step.Step.{Step}
 use Rattle.mpd_model.specs.declared.step.Step.TheVariants.{Match}
-use Rattle.mpd_model.specs.World.{Board, call_id, rank_numbers, call_numbers, eligible}
+use Rattle.mpd_model.specs.steps.World.{Board, call_id, rank_numbers, call_numbers, eligible}
 
 -- of a receive with sends of one rank
 abbrev pub matches_from : Board → CallId → ℕ → List Step

@@ -7,8 +7,8 @@ use Rattle.mpd_model.specs.declared.call.CallKind.TheVariants.{Send, Recv, Wait}
 use Rattle.mpd_model.specs.declared.call.Mode.TheVariants.{Rendezvous}
 use Rattle.mpd_model.specs.declared.call.MatchSet.{MatchSet}
 use Rattle.mpd_model.specs.declared.call.MatchSet.TheVariants.{Pair, Woke}
-use Rattle.mpd_model.specs.World.{Board, call_id}
-use Rattle.mpd_model.specs.Order.{before, WentOn, Ordered}
+use Rattle.mpd_model.specs.steps.World.{Board, call_id}
+use Rattle.mpd_model.specs.steps.Order.{before, WentOn, Ordered}
 
 abbrev pub sends : ℕ → ℕ → Bool → Call
 sends to tag blocks = record { statement = 0; kind = Send (record { to = to; tag = tag; value = pos 40; synchronous = false; blocks = blocks; buffered = false }) }

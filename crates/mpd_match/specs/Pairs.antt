@@ -5,7 +5,7 @@ use Rattle.mpd_model.specs.declared.call.CallKind.{CallKind}
 use Rattle.mpd_model.specs.declared.call.MatchSet.{MatchSet}
 use Rattle.mpd_model.specs.declared.call.MatchSet.TheVariants.{Pair, Woke}
 use Rattle.mpd_model.specs.declared.call.MatchSet.TheVariants as set
-use Rattle.mpd_model.specs.World.{partner, fitting}
+use Rattle.mpd_model.specs.steps.World.{partner, fitting}
 
 abbrev pub Paired : (CallId → Option CallKind) → List MatchSet → Type 0
 Paired kind [] = Unit {0}

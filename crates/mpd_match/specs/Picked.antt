@@ -5,7 +5,7 @@ use Rattle.mpd_model.specs.declared.step.CallId.{CallId}
 use Rattle.mpd_model.specs.declared.step.Step.{Step}
 use Rattle.mpd_model.specs.declared.call.CallKind.{CallKind}
 use Rattle.mpd_model.specs.declared.call.CallKind.TheVariants.{Recv}
-use Rattle.mpd_model.specs.World.{Board, call_id, rank_numbers, call_numbers}
+use Rattle.mpd_model.specs.steps.World.{Board, call_id, rank_numbers, call_numbers}
 use Rattle.mpd_match.specs.Matches.{matches_with}
 
 -- the source that a receive names, if any

@@ -3,7 +3,7 @@ use Rattle.std.specs.Prelude.{◌≡◌, ℕ, ◌==◌, if◌then◌else◌, Opt
 use Rattle.mpd_model.specs.declared.call.CallKind.{CallKind}
 use Rattle.mpd_model.specs.declared.call.MatchSet.{MatchSet}
 use Rattle.mpd_model.specs.declared.call.MatchSet.TheVariants.{Pair}
-use Rattle.mpd_model.specs.World.{Board, kind_at, is_buffered, slots_used}
+use Rattle.mpd_model.specs.steps.World.{Board, kind_at, is_buffered, slots_used}
 
 -- how many slots a call holds while no pair names it: one, where it is a send that was buffered
 abbrev pub slots_of : Option CallKind → ℕ

@@ -3,7 +3,7 @@ use Rattle.std.specs.Prelude.{◌≡◌, ℕ, ◌+◌, ◌*◌, ◌/◌, ◌%◌
 use Rattle.std.specs.Int.{bit_at}
 use Rattle.mpd_model.specs.declared.call.CallKind.{CallKind}
 use Rattle.mpd_model.specs.declared.call.CallKind.TheVariants.{Send, Recv, Wait, Waitany, Barrier}
-use Rattle.mpd_model.specs.World.{Board, call_id, kind_at, is_pending}
+use Rattle.mpd_model.specs.steps.World.{Board, call_id, kind_at, is_pending}
 
 -- the place of a tag of a sender
 abbrev pub tag_place : ℕ → ℕ → ℕ

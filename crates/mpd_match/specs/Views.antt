@@ -4,7 +4,7 @@ use Rattle.mpd_model.specs.declared.step.CallId.{CallId}
 use Rattle.mpd_model.specs.declared.call.Call.{Call}
 use Rattle.mpd_model.specs.declared.call.Mode.{Mode}
 use Rattle.mpd_model.specs.declared.call.MatchSet.{MatchSet}
-use Rattle.mpd_model.specs.World.{Board}
+use Rattle.mpd_model.specs.steps.World.{Board}
 
 -- the calls of one rank, the partner of each, how many lines there are, for how many calls room is kept, and how many
 -- writes there were

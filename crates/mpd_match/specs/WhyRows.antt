@@ -3,8 +3,8 @@ use Rattle.std.specs.Prelude.{◌≡◌, pos, true, false, [], ◌∷◌, Some, 
 use Rattle.mpd_model.specs.declared.call.Call.{Call}
 use Rattle.mpd_model.specs.declared.call.CallKind.TheVariants.{Send, Recv}
 use Rattle.mpd_model.specs.declared.call.Mode.TheVariants.{Rendezvous}
-use Rattle.mpd_model.specs.World.{Board, call_id}
-use Rattle.mpd_model.specs.Why.{why}
+use Rattle.mpd_model.specs.steps.World.{Board, call_id}
+use Rattle.mpd_model.specs.steps.Why.{why}
 
 abbrev pub sent_to_2 : Call
 sent_to_2 = record { statement = 0; kind = Send (record { to = 2; tag = 7; value = pos 40; synchronous = false; blocks = false; buffered = false }) }

@@ -1,17 +1,15 @@
 //! The board: calls, pairs and the lines of free calls.
 ghost use Rattle.std.specs.Prelude.{◌≡◌, ◌+◌, ◌-◌, ◌<◌, ◌≤◌, Some, None, true, length, IfOk, OnOk, OnErr};
-ghost use Rattle.mpd_model.specs.World.{start_board, kind_at, calls_of, partner, eligible, last_call};
-ghost use Rattle.mpd_model.specs.Next.{HasReceiver, with_call, with_issued, entered, has_buffer, with_set};
+ghost use Rattle.mpd_model.specs.steps.World.{start_board, kind_at, calls_of, partner, eligible, last_call};
+ghost use Rattle.mpd_model.specs.steps.Next.{HasReceiver, with_call, with_issued, entered, has_buffer, with_set};
 ghost use Rattle.mpd_match.specs.Slots.{slots_of, slots_paired};
 ghost use Rattle.mpd_match.specs.Changes.{without_last_call, issue_writes, unissue_writes, without_last_set, last_set, record_of_pair, Recorded, is_woke, is_lone};
 
 use crate::record::PairRecord;
 use crate::side::Side;
 use crate::{kinds, sides, slots};
-use mpd_model::call::{Call, MatchSet, Mode};
-use mpd_model::limits::RANKS_MAX;
-use mpd_model::step::CallId;
-use mpd_queue::tape::Tape;
+use mpd_model::{Call, CallId, MatchSet, Mode, RANKS_MAX};
+use mpd_queue::Tape;
 use std::alloc::{AllocError, Global};
 use std::marker::Model;
 

@@ -1,10 +1,10 @@
 //! When calls are complete (MPI 4.0, sections 3.4, 3.7.3, 3.7.5 and 6.3).
 ghost use Rattle.std.specs.Prelude.{◌≡◌};
-ghost use Rattle.mpd_model.specs.World.{is_done, awaited, complete};
+ghost use Rattle.mpd_model.specs.steps.World.{is_done, awaited, complete};
 
 use crate::board::Board;
 use crate::kinds;
-use mpd_model::step::CallId;
+use mpd_model::CallId;
 
 impl Board {
     /// Whether a send or a receive is done: paired, or buffered as it was issued, which no synchronous send is (MPI 4.0,

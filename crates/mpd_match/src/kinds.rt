@@ -1,16 +1,13 @@
 //! What is read off the kinds of calls.
 ghost use Rattle.std.specs.Prelude.{◌≡◌, ◌≤◌, ◌||◌, ℕ, Some};
-ghost use Rattle.mpd_model.specs.World.{is_any_or as any_or, fitting, is_message_kind as message_kind, message_of as message_in, is_buffered as buffered_in, awaited_by as awaited_in, has_own_step as own_step_of};
-ghost use Rattle.mpd_model.specs.Next.{HasReceiver, buffered_by as given_buffer};
+ghost use Rattle.mpd_model.specs.steps.World.{is_any_or as any_or, fitting, is_message_kind as message_kind, message_of as message_in, is_buffered as buffered_in, awaited_by as awaited_in, has_own_step as own_step_of};
+ghost use Rattle.mpd_model.specs.steps.Next.{HasReceiver, buffered_by as given_buffer};
 ghost use Rattle.mpd_match.specs.Changes.{issue_writes};
 ghost use Rattle.mpd_match.specs.Lines.{line_of as line_in, takes_from as taken_from, fitting_either};
-ghost use Rattle.mpd_model.specs.Decisions.{takes_any as taken_from_any};
+ghost use Rattle.mpd_model.specs.runs.Decisions.{takes_any as taken_from_any};
 ghost use Rattle.mpd_match.specs.Picked.{named_source as source_in};
 
-use mpd_model::call::{CallKind, Message, SendCall};
-use mpd_model::kind::is_barrier;
-use mpd_model::limits::RANKS_MAX;
-use mpd_model::step::CallId;
+use mpd_model::{CallId, CallKind, Message, RANKS_MAX, SendCall, is_barrier};
 
 /// The line of a side that a call waits in while it is free, where it waits in one.
 pub(crate) fn line_of(kind: CallKind) -> Option<usize>

@@ -2,17 +2,21 @@
 #![tactic(auto)]
 
 pub mod board;
-mod chosen;
+mod choices;
 mod complete;
 mod kinds;
 mod listing;
-mod looked;
+mod lookup;
 mod order;
 pub mod record;
 mod release;
-mod seen;
 mod side;
 mod sides;
 mod slots;
+mod tag_bits;
 mod walk;
 pub mod why;
+
+pub use board::Board;
+pub use record::PairRecord;
+pub use why::Why;

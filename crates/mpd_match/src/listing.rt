@@ -3,8 +3,8 @@ ghost use Rattle.std.specs.Prelude.{◌≡◌, ◌++◌, ◌<◌, length, OnOk, 
 ghost use Rattle.mpd_match.specs.Matches as listed;
 
 use crate::board::Board;
-use mpd_device::steps::Steps;
-use mpd_model::step::{CallId, Step};
+use mpd_device::Steps;
+use mpd_model::{CallId, Step};
 use std::alloc::AllocError;
 
 impl Board {

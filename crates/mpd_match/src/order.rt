@@ -2,16 +2,14 @@
 ghost use Rattle.std.specs.Prelude.{◌≡◌, ℕ, true, List, Some};
 ghost use Rattle.mpd_model.specs.declared.call.Mode.{Mode};
 ghost use Rattle.mpd_model.specs.declared.step.Step.{Step};
-ghost use Rattle.mpd_model.specs.Program.{Program};
-ghost use Rattle.mpd_model.specs.World.{World, start};
-ghost use Rattle.mpd_model.specs.Next.{fold};
-ghost use Rattle.mpd_model.specs.Order.{same_envelope_as, covers_number as covering_number, is_covered_by, matches_first as first_of_two, waits_for as awaiting, blocks_rank, before, Ordered};
+ghost use Rattle.mpd_model.specs.script.Program.{Program};
+ghost use Rattle.mpd_model.specs.steps.World.{World, start};
+ghost use Rattle.mpd_model.specs.steps.Next.{fold};
+ghost use Rattle.mpd_model.specs.steps.Order.{same_envelope_as, covers_number as covering_number, is_covered_by, matches_first as first_of_two, waits_for as awaiting, blocks_rank, before, Ordered};
 
 use crate::board::Board;
 use mpd_laws::ordering;
-use mpd_model::call::{CallKind, RecvCall, SendCall};
-use mpd_model::kind::blocks;
-use mpd_model::step::CallId;
+use mpd_model::{CallId, CallKind, RecvCall, SendCall, blocks};
 
 /// Whether the other call is a send of the same destination and tag.
 fn is_same_envelope(send: SendCall, other: Option<CallKind>) -> bool

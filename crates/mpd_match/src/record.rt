@@ -1,6 +1,6 @@
 //! What taking a pair back needs.
 
-use mpd_queue::lists::Spot;
+use mpd_queue::Spot;
 
 /// Where the calls of a pair stood before it, in the lists of free calls. It takes eight bytes.
 #[derive(Clone, Copy)]

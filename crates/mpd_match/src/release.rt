@@ -1,10 +1,10 @@
 //! Leaving a barrier (MPI 4.0, section 6.3).
 ghost use Rattle.std.specs.Prelude.{◌≡◌, ◌+◌, ◌≤◌, Some};
-ghost use Rattle.mpd_model.specs.Next.{with_set};
+ghost use Rattle.mpd_model.specs.steps.Next.{with_set};
 ghost use Rattle.mpd_match.specs.Changes.{without_last_set, last_set};
 
 use crate::board::Board;
-use mpd_model::call::MatchSet;
+use mpd_model::MatchSet;
 
 impl Board {
     /// All ranks left the barrier that they were blocked on (MPI 4.0, section 6.3). No call is paired by it, and none leaves

@@ -5,12 +5,9 @@ ghost use Rattle.mpd_match.specs.Lines.{line_of as line_in, kind_in, mark_in, wi
 ghost use Rattle.mpd_match.specs.Changes.{issue_writes, unissue_writes};
 
 use crate::kinds;
-use mpd_device::steps::Steps;
-use mpd_model::call::{Call, CallKind};
-use mpd_model::limits::RANKS_MAX;
-use mpd_model::step::CallId;
-use mpd_queue::lists::{Lists, Spot};
-use mpd_queue::tape::Tape;
+use mpd_device::Steps;
+use mpd_model::{Call, CallId, CallKind, RANKS_MAX};
+use mpd_queue::{Lists, Spot, Tape};
 use std::alloc::{AllocError, Global};
 use std::marker::Model;
 

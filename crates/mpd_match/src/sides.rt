@@ -1,17 +1,15 @@
 //! One of several sides is changed, or all of them.
 ghost use Rattle.std.specs.Prelude.{◌≡◌, ℕ, suc, ◌+◌, ◌-◌, ◌<◌, ◌≤◌, Some, None, is_none, false, [], ◌∷◌, ◌++◌, length, replicate, slice_get, slice_set, take, vec_len, IfOk, OnOk, OnErr};
 ghost use Rattle.mpd_queue.specs.InOrder.{next_of};
-ghost use Rattle.mpd_model.specs.World.{listed_calls};
-ghost use Rattle.mpd_model.specs.Next.{HasReceiver};
+ghost use Rattle.mpd_model.specs.steps.World.{listed_calls};
+ghost use Rattle.mpd_model.specs.steps.Next.{HasReceiver};
 ghost use Rattle.mpd_match.specs.Views.{side_at, calls_in, lines_in, room_in, writes_in};
 ghost use Rattle.mpd_match.specs.Lines.{line_of as line_in, with_mark, waiting, mark_in, mark_at, kind_on, waiting_on, with_partner};
 ghost use Rattle.mpd_match.specs.Changes.{issue_writes, unissue_writes};
 
 use crate::side::Side;
-use mpd_model::call::{Call, CallKind};
-use mpd_model::limits::RANKS_MAX;
-use mpd_model::step::CallId;
-use mpd_queue::lists::Spot;
+use mpd_model::{Call, CallId, CallKind, RANKS_MAX};
+use mpd_queue::Spot;
 use std::alloc::{AllocError, Global};
 
 /// What a call is, where it exists.

@@ -3,8 +3,8 @@ ghost use Rattle.std.specs.Prelude.{◌≡◌, ℕ, ◌+◌, ◌<◌, ◌≤◌,
 ghost use Rattle.mpd_match.specs.Slots.{slots_of, held_in, at_rank};
 
 use crate::kinds;
-use mpd_model::call::CallKind;
-use mpd_queue::tape::Tape;
+use mpd_model::CallKind;
+use mpd_queue::Tape;
 
 /// A rank holds a slot more, where a call of this kind holds one. One write at most.
 pub(crate) fn take_slot(slots: &mut Tape<usize>, rank: usize, kind: Option<CallKind>)

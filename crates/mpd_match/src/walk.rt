@@ -3,7 +3,7 @@ ghost use Rattle.std.specs.Prelude.{◌≡◌, ℕ, ◌+◌, ◌<◌, ◌≤◌,
 ghost use Rattle.std.specs.List.{list_any, filter};
 ghost use Rattle.std.specs.Option.{option_to_list};
 ghost use Rattle.mpd_queue.specs.InOrder.{first_of, next_of};
-ghost use Rattle.mpd_model.specs.World.{call_id, call_numbers, rank_numbers, fits, is_free as is_free_on, is_pending, is_posted, pending, posted, eligible as eligible_on};
+ghost use Rattle.mpd_model.specs.steps.World.{call_id, call_numbers, rank_numbers, fits, is_free as is_free_on, is_pending, is_posted, pending, posted, eligible as eligible_on};
 ghost use Rattle.mpd_match.specs.Lines.{kind_in, mark_in, waiting, fitting_either, passed, ahead, has_earlier as has_earlier_in};
 ghost use Rattle.mpd_match.specs.Firsts.{first_send as first_send_on, first_recv as first_recv_on};
 ghost use Rattle.mpd_match.specs.Looks.{eligible_looks, candidate_looks};
@@ -11,10 +11,9 @@ ghost use Rattle.mpd_match.specs.Looks.{eligible_looks, candidate_looks};
 use crate::board::Board;
 use crate::kinds;
 use crate::side::Side;
-use mpd_device::steps::Steps;
+use mpd_device::Steps;
 use mpd_laws::ordering;
-use mpd_model::call::CallKind;
-use mpd_model::step::CallId;
+use mpd_model::{CallId, CallKind};
 
 impl Side {
     /// Whether a call of the line before this one fits the other call. One look, and one for each call before this one up

@@ -1,14 +1,13 @@
 //! Why a call waits: the free calls that it could be paired with, and what holds each back.
 ghost use Rattle.std.specs.Prelude.{◌≡◌, ◌++◌, ◌<◌, length, IfOk, OnOk, OnErr};
-ghost use Rattle.mpd_model.specs.World.{kind_at};
-ghost use Rattle.mpd_model.specs.Why.{earlier_send as earlier_send_on, earlier_recv as earlier_recv_on, holder as holder_on, why_send, why_from, why_recv, why_by, why as why_on};
+ghost use Rattle.mpd_model.specs.steps.World.{kind_at};
+ghost use Rattle.mpd_model.specs.steps.Why.{earlier_send as earlier_send_on, earlier_recv as earlier_recv_on, holder as holder_on, why_send, why_from, why_recv, why_by, why as why_on};
 ghost use Rattle.mpd_match.specs.Entries.{partner_entry};
 
 use crate::board::Board;
 use crate::kinds;
-use mpd_device::steps::Steps;
-use mpd_model::call::CallKind;
-use mpd_model::step::CallId;
+use mpd_device::Steps;
+use mpd_model::{CallId, CallKind};
 use std::alloc::{AllocError, Global};
 use std::marker::Model;
 

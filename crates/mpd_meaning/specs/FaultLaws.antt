@@ -4,10 +4,10 @@ use Rattle.std.specs.List.{All, Contains}
 use Rattle.mpd_model.specs.declared.read_fault.FaultCode.{FaultCode}
 use Rattle.mpd_model.specs.declared.read_fault.FaultCode.TheVariants.{TooLong, TooDeep, TooMany, BadRanks, NotInVersion}
 use Rattle.mpd_model.specs.declared.read_fault.ReadFault.{ReadFault}
-use Rattle.mpd_model.specs.Grammar.{max_text, is_text, reading}
-use Rattle.mpd_model.specs.Program.{Program}
-use Rattle.mpd_model.specs.Tokens.{Spot, tokens}
-use Rattle.mpd_model.specs.Written.{WrittenScript}
+use Rattle.mpd_model.specs.grammar.Grammar.{max_text, is_text, reading}
+use Rattle.mpd_model.specs.script.Program.{Program}
+use Rattle.mpd_model.specs.grammar.Tokens.{Spot, tokens}
+use Rattle.mpd_model.specs.grammar.Written.{WrittenScript}
 use Rattle.mpd_meaning.specs.ReadingLaws.{IsWrittenWithin}
 
 -- A text may be no longer, and have no other bytes.

@@ -8,12 +8,12 @@ use Rattle.mpd_model.specs.declared.read_fault.ReadFault.{ReadFault}
 use Rattle.mpd_model.specs.declared.token.Mark.TheVariants as m
 use Rattle.mpd_model.specs.declared.token.Token.{Token}
 use Rattle.mpd_model.specs.declared.token.Token.TheVariants.{Is}
-use Rattle.mpd_model.specs.Faults.{fault}
-use Rattle.mpd_model.specs.Grammar.{reading, script, header, version, ranks, decls, decls_from, decl, declarator, single, array_size, body, stmts, stmt, block, if_statement, otherwise, while_statement, target, statement_place, source, status, assignment, expr, level, chain, atom, place_inside, bracket, rounds, unary}
-use Rattle.mpd_model.specs.Input.{count, spend, seek, slot_in, fresh, add, expect, after, sees, same_mark, advanced, place, spelling, token, refusal}
-use Rattle.mpd_model.specs.Program.{Program}
-use Rattle.mpd_model.specs.Tokens.{Spot, tokens, tokens_after, front, sign, word, number}
-use Rattle.mpd_model.specs.Written.{WrittenScript}
+use Rattle.mpd_model.specs.grammar.Faults.{fault}
+use Rattle.mpd_model.specs.grammar.Grammar.{reading, script, header, version, ranks, decls, decls_from, decl, declarator, single, array_size, body, stmts, stmt, block, if_statement, otherwise, while_statement, target, statement_place, source, status, assignment, expr, level, chain, atom, place_inside, bracket, rounds, unary}
+use Rattle.mpd_model.specs.grammar.Input.{count, spend, seek, slot_in, fresh, add, expect, after, sees, same_mark, advanced, place, spelling, token, refusal}
+use Rattle.mpd_model.specs.script.Program.{Program}
+use Rattle.mpd_model.specs.grammar.Tokens.{Spot, tokens, tokens_after, front, sign, word, number}
+use Rattle.mpd_model.specs.grammar.Written.{WrittenScript}
 use Rattle.mpd_meaning.specs.FaultLaws.{IsText, IsLimit}
 
 -- Some tokens behind these make of them a script that the grammar writes, however large.

@@ -1,13 +1,13 @@
 -- What a text is read as, without a reader.
 use Rattle.std.specs.Prelude.{◌≡◌, ◌↔◌, ℕ, ◌≤◌, true, List, length, Ok}
 use Rattle.std.specs.List.{All}
-use Rattle.mpd_model.specs.Costs.{blocks_in, dearest_script}
-use Rattle.mpd_model.specs.Grammar.{max_blocks, max_text, is_text, reading}
-use Rattle.mpd_model.specs.Input.{max_budget}
-use Rattle.mpd_model.specs.Program.{Program, IsLegal}
-use Rattle.mpd_model.specs.Tokens.{tokens}
-use Rattle.mpd_model.specs.Tree.{block_of}
-use Rattle.mpd_model.specs.Written.{WrittenScript}
+use Rattle.mpd_model.specs.grammar.Costs.{blocks_in, dearest_script}
+use Rattle.mpd_model.specs.grammar.Grammar.{max_blocks, max_text, is_text, reading}
+use Rattle.mpd_model.specs.grammar.Input.{max_budget}
+use Rattle.mpd_model.specs.script.Program.{Program, IsLegal}
+use Rattle.mpd_model.specs.grammar.Tokens.{tokens}
+use Rattle.mpd_model.specs.script.Tree.{block_of}
+use Rattle.mpd_model.specs.grammar.Written.{WrittenScript}
 
 -- The tokens of the text write the program, and both are within the limits. Brackets and operators are counted as they stand in the text.
 pub record IsWrittenWithin (text : List ℕ) (p : Program) : Type 0 where

@@ -7,11 +7,11 @@ use Rattle.mpd_model.specs.declared.call.Mode.TheVariants.{Rendezvous}
 use Rattle.mpd_model.specs.declared.stmt.Simple.TheVariants as st
 use Rattle.mpd_model.specs.declared.step.Step.{Step}
 use Rattle.mpd_model.specs.declared.step.Step.TheVariants.{Local}
-use Rattle.mpd_model.specs.Next.{next, fold, enabled}
-use Rattle.mpd_model.specs.Outcomes.{ending, outcome}
-use Rattle.mpd_model.specs.Program.{Program}
-use Rattle.mpd_model.specs.Tree.{simple}
-use Rattle.mpd_model.specs.World.{World, start, start_board}
+use Rattle.mpd_model.specs.steps.Next.{next, fold, enabled}
+use Rattle.mpd_model.specs.steps.Outcomes.{ending, outcome}
+use Rattle.mpd_model.specs.script.Program.{Program}
+use Rattle.mpd_model.specs.script.Tree.{simple}
+use Rattle.mpd_model.specs.steps.World.{World, start, start_board}
 
 -- No rank is without a list of calls. The list of enabled steps goes by the lists of calls, so the steps of a rank without one would not be in it.
 abbrev pub HasCalls : World → Type 0

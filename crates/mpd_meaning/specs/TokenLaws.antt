@@ -1,7 +1,7 @@
 -- Where the tokens of a text stand.
 use Rattle.std.specs.Prelude.{◌≡◌, ℕ, ◌+◌, ◌<◌, ◌==◌, List, length, take, drop}
 use Rattle.std.specs.List.{All, count_by}
-use Rattle.mpd_model.specs.Tokens.{Spot, tokens}
+use Rattle.mpd_model.specs.grammar.Tokens.{Spot, tokens}
 
 -- A token stands in the text at its place, and its line is 1 plus the line feeds before that.
 pub record IsPlacedIn (text : List ℕ) (s : Spot) : Type 0 where

@@ -1,6 +1,6 @@
 -- What cutting into lines keeps.
 use Rattle.std.proofs.Common.{◌≡◌, ℕ, Bool, true, false, ◌==◌, if◌then◌else◌, List, [], ◌∷◌, ap, ◌∙◌, refl}
-use Rattle.mpd_model.specs.Lines.{raw_lines, joined, grow}
+use Rattle.mpd_model.specs.texts.Lines.{raw_lines, joined, grow}
 
 joined_grow : (b : ℕ) (ls : List (List ℕ)) → joined (grow b ls) ≡ b ∷ joined ls
 joined_grow b [] = refl

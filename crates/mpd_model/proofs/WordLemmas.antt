@@ -1,7 +1,7 @@
 -- Words, cut off one by one.
 use Rattle.std.proofs.Common.{◌≡◌, ℕ, zero, suc, ◌<◌, ◌≤◌, ◌≢◌, Bool, true, false, not, List, [], ◌∷◌, length, take, drop, if◌then◌else◌, Option, Some, None, refl, ap, sym, ◌∙◌, arith}
 use Rattle.std.specs.Prelude.{filter, option_map}
-use Rattle.mpd_model.specs.Words.{is_blank, is_no_blank, is_dot, stop_len, with_byte, put_before, pieces, has_some, words, cut_at_dot, number_of, call_with, call_of}
+use Rattle.mpd_model.specs.texts.Words.{is_blank, is_no_blank, is_dot, stop_len, with_byte, put_before, pieces, has_some, words, cut_at_dot, number_of, call_with, call_of}
 
 -- ---- the first piece
 

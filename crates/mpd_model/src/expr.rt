@@ -1,7 +1,7 @@
 //! Expressions.
 
 ghost use Rattle.std.specs.Prelude.{◌≡◌, IfOk};
-ghost use Rattle.mpd_model.specs.Term.{element, op1, op2};
+ghost use Rattle.mpd_model.specs.script.Term.{element, op1, op2};
 
 use crate::place::Place;
 use std::alloc::{AllocError, Global};
@@ -63,15 +63,15 @@ pub enum ExprNode {
 }
 
 impl Model for Expr {
-    ghost use Rattle.mpd_model.specs.Term.{Term};
-    ghost use Rattle.mpd_model.specs.TermCode.{coded_term};
+    ghost use Rattle.mpd_model.specs.script.Term.{Term};
+    ghost use Rattle.mpd_model.specs.script.TermCode.{coded_term};
 
     ghost Value = { Term };
 
     ghost coded = { coded_term };
 
-    ghost use Rattle.mpd_model.specs.Term.{nodes};
-    ghost use Rattle.mpd_model.specs.TermOf.{term_of};
+    ghost use Rattle.mpd_model.specs.script.Term.{nodes};
+    ghost use Rattle.mpd_model.specs.script.TermOf.{term_of};
 
     ghost view = { λ t. term_of t.node };
 

@@ -1,8 +1,8 @@
 //! What is read off the kind of a call.
 
 ghost use Rattle.std.specs.Prelude.{◌≡◌};
-ghost use Rattle.mpd_model.specs.World.{is_barrier};
-ghost use Rattle.mpd_model.specs.Next.{blocks};
+ghost use Rattle.mpd_model.specs.steps.World.{is_barrier};
+ghost use Rattle.mpd_model.specs.steps.Next.{blocks};
 
 use crate::call::CallKind;
 

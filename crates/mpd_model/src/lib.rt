@@ -19,3 +19,31 @@ pub mod stmt;
 pub mod text;
 pub mod token;
 pub mod words;
+
+pub use breakpoint::{Break, Cause, Stop};
+pub use call::{
+    Activity, Call, CallKind, Issue, MatchSet, Message, Mode, RecvCall, SendCall, StatusCells,
+    Trap, WaitCall, WaitanyCall,
+};
+pub use decision::{Decision, StepList};
+pub use expr::{BinaryOp, Expr, ExprNode, UnaryOp};
+pub use kind::{blocks, is_barrier};
+pub use limits::{
+    BLOCKS_MAX, BREAKS_MAX, CELLS_MAX, HANDLES_MAX, LANGUAGE_MAX, LINE_MAX, NAME_MAX, NESTING_MAX,
+    RANKS_MAX, READS_MAX, SCRIPT_MAX, SLOTS_MAX, STATEMENTS_MAX, STEPS_MAX, TAGS,
+};
+pub use lines::lines_lose_nothing;
+pub use mode::mode_of;
+pub use outcome::{CallList, Outcome, TrapList, TrappedRank};
+pub use place::{Decl, DeclKind, Place};
+pub use read_fault::{FaultCode, ReadFault};
+pub use script::Script;
+pub use slot::Slot;
+pub use step::{CallId, Step};
+pub use stmt::{
+    AssignStmt, IrecvStmt, IsendStmt, RecvStmt, SendStmt, Simple, StatusStmt, Stmt, StmtNode,
+    Target, WaitanyStmt,
+};
+pub use text::{print_outcome, print_step};
+pub use token::{Class, Mark, RESERVED, Token};
+pub use words::{TraceWord, has_word, step_of, trace_word_of};

@@ -1,7 +1,7 @@
 //! The modes as words (docs/FORMATS.md, "Modes").
 
 ghost use Rattle.std.specs.Prelude.{◌≡◌};
-ghost use Rattle.mpd_model.specs.Modes.{limited_of, mode_of, slots_of};
+ghost use Rattle.mpd_model.specs.texts.Modes.{limited_of, mode_of, slots_of};
 
 use crate::call::Mode;
 use crate::limits::SLOTS_MAX;

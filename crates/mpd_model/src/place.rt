@@ -25,7 +25,7 @@ pub struct Decl {
 
 impl Model for Decl {
     ghost use Rattle.std.specs.Prelude.{string_bytes};
-    ghost use Rattle.mpd_model.specs.Declaration.{Declared, declared_code};
+    ghost use Rattle.mpd_model.specs.script.Declaration.{Declared, declared_code};
 
     ghost Value = { Declared };
 

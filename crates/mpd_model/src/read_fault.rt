@@ -1,8 +1,8 @@
 //! Why a text is refused.
 
 ghost use Rattle.std.specs.Prelude.{◌≡◌};
-ghost use Rattle.mpd_model.specs.FaultText.{read_fault_text};
-ghost use Rattle.mpd_model.specs.Faults.{fault_name, fault_number, memory};
+ghost use Rattle.mpd_model.specs.texts.FaultText.{read_fault_text};
+ghost use Rattle.mpd_model.specs.grammar.Faults.{fault_name, fault_number, memory};
 
 use std::alloc::{AllocError, AllocFailed};
 use std::error::Error;

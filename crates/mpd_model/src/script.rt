@@ -19,8 +19,8 @@ pub struct Script {
 }
 
 impl Model for Script {
-    ghost use Rattle.mpd_model.specs.Program.{Program, program_code};
-    ghost use Rattle.mpd_model.specs.Printable.{IsPrintable};
+    ghost use Rattle.mpd_model.specs.script.Program.{Program, program_code};
+    ghost use Rattle.mpd_model.specs.grammar.Printable.{IsPrintable};
 
     ghost Value = { Program };
 

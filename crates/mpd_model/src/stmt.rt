@@ -13,8 +13,8 @@ pub struct Target {
 }
 
 impl Model for Target {
-    ghost use Rattle.mpd_model.specs.Term.{Target};
-    ghost use Rattle.mpd_model.specs.TermCode.{target_code};
+    ghost use Rattle.mpd_model.specs.script.Term.{Target};
+    ghost use Rattle.mpd_model.specs.script.TermCode.{target_code};
 
     ghost Value = { Target };
 
@@ -123,21 +123,21 @@ pub enum StmtNode {
 }
 
 impl Model for Stmt {
-    ghost use Rattle.mpd_model.specs.Tree.{Tree};
-    ghost use Rattle.mpd_model.specs.TreeCode.{coded_tree};
+    ghost use Rattle.mpd_model.specs.script.Tree.{Tree};
+    ghost use Rattle.mpd_model.specs.script.TreeCode.{coded_tree};
 
     ghost Value = { Tree };
 
     ghost coded = { coded_tree };
 
-    ghost use Rattle.mpd_model.specs.Tree.{statements};
-    ghost use Rattle.mpd_model.specs.TreeOf.{tree_of};
+    ghost use Rattle.mpd_model.specs.script.Tree.{statements};
+    ghost use Rattle.mpd_model.specs.script.TreeOf.{tree_of};
 
     ghost view = { λ s. tree_of s.node };
 
     ghost size = { statements };
 
-    ghost use Rattle.mpd_model.specs.TreeFalls.{tree_falls};
+    ghost use Rattle.mpd_model.specs.script.TreeFalls.{tree_falls};
 
     ghost size_decreases = { λ a h. tree_falls a.node };
 }

@@ -1,7 +1,7 @@
 //! Printed texts that need no state (docs/FORMATS.md, "Text of show").
 
 ghost use Rattle.std.specs.Prelude.{◌≡◌, ◌++◌, IfOk, OnOk, string_bytes, codes};
-ghost use Rattle.mpd_model.specs.Texts.{id_text, step_text, send_word, recv_word, kind_text, any_text, trap_name, set_text, trapped_text, outcome_text, spaced};
+ghost use Rattle.mpd_model.specs.texts.Texts.{id_text, step_text, send_word, recv_word, kind_text, any_text, trap_name, set_text, trapped_text, outcome_text, spaced};
 
 use crate::call::{CallKind, MatchSet, Trap};
 use crate::outcome::{Outcome, TrappedRank};

@@ -1,13 +1,13 @@
 //! Trace words: steps and commands as text (docs/FORMATS.md, "Trace words").
 
 ghost use Rattle.std.specs.Prelude.{◌≡◌, ◌≤◌, ◌∷◌, [], length, MatchOption};
-ghost use Rattle.mpd_model.specs.Words.{words, has_word, is_dot, is_blank, is_no_blank, stop_len, number_of, call_of, only_number, two_calls, two_numbers, alone, step_named, step_of, command_named, command_of};
+ghost use Rattle.mpd_model.specs.texts.Words.{words, has_word, is_dot, is_blank, is_no_blank, stop_len, number_of, call_of, only_number, two_calls, two_numbers, alone, step_named, step_of, trace_word_named, trace_word_of};
 
 use crate::step::{CallId, Step};
 
 /// What a line of trace words asks for.
 #[derive(Clone, Copy)]
-pub enum Command {
+pub enum TraceWord {
     /// Take a step.
     Step(Step),
     /// Undo the last step.
@@ -31,11 +31,11 @@ pub fn step_of(text: &str) -> Option<Step>
 }
 
 /// Reads a line without its end: a step, `back`, `redo`, `goto N`, `enabled` or `show`. `None` where it is none of these.
-pub fn command_of(line: &[u8]) -> Option<Command>
-    ensures { result ≡ command_of line.now }
+pub fn trace_word_of(line: &[u8]) -> Option<TraceWord>
+    ensures { result ≡ trace_word_of line.now }
 {
     let (name, rest) = next_word(line)?;
-    command_named(name, rest)
+    trace_word_named(name, rest)
 }
 
 /// Whether a line has a word at all.
@@ -190,7 +190,7 @@ fn step_named(name: &[u8], rest: &[u8]) -> Option<Step>
 }
 
 /// The command, where no word is left.
-fn alone(command: Command, rest: &[u8]) -> Option<Command>
+fn alone(command: TraceWord, rest: &[u8]) -> Option<TraceWord>
     ensures { result ≡ alone command (words rest.now) }
 {
     if has_word(rest) {
@@ -200,23 +200,23 @@ fn alone(command: Command, rest: &[u8]) -> Option<Command>
 }
 
 /// The command of a name and the words behind it.
-fn command_named(name: &[u8], rest: &[u8]) -> Option<Command>
-    ensures { result ≡ command_named name.now (words rest.now) }
+fn trace_word_named(name: &[u8], rest: &[u8]) -> Option<TraceWord>
+    ensures { result ≡ trace_word_named name.now (words rest.now) }
 {
     if name == b"back".as_slice() {
-        return alone(Command::Back, rest);
+        return alone(TraceWord::Back, rest);
     }
     if name == b"redo".as_slice() {
-        return alone(Command::Redo, rest);
+        return alone(TraceWord::Redo, rest);
     }
     if name == b"goto".as_slice() {
-        return Some(Command::Goto(only_number(rest)?));
+        return Some(TraceWord::Goto(only_number(rest)?));
     }
     if name == b"enabled".as_slice() {
-        return alone(Command::Enabled, rest);
+        return alone(TraceWord::Enabled, rest);
     }
     if name == b"show".as_slice() {
-        return alone(Command::Show, rest);
+        return alone(TraceWord::Show, rest);
     }
-    Some(Command::Step(step_named(name, rest)?))
+    Some(TraceWord::Step(step_named(name, rest)?))
 }

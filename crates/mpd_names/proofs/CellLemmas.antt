@@ -3,7 +3,7 @@ use Rattle.std.proofs.Common.{◌≡◌, ℕ, zero, suc, ◌+◌, ◌≤◌, Lis
 use Rattle.mpd_model.specs.declared.place.DeclKind.{DeclKind}
 use Rattle.mpd_model.specs.declared.place.DeclKind.TheVariants.{Variable, Handle}
 use Rattle.mpd_model.specs.declared.limits.TheConstants.{CELLS_MAX, HANDLES_MAX}
-use Rattle.mpd_model.specs.Declaration.{Declared, cells_of, variable_cells, handle_cells, variables_in, handles_in}
+use Rattle.mpd_model.specs.script.Declaration.{Declared, cells_of, variable_cells, handle_cells, variables_in, handles_in}
 use Rattle.mpd_names.specs.Cells.{kind_cells, cells_in}
 
 -- ---- all cells of a kind

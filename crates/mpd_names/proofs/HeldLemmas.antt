@@ -4,8 +4,8 @@ use Rattle.std.specs.Result.{is_ok}
 use Rattle.std.proofs.lemmas.Bool.Decides.{nat_tests}
 use Rattle.std.proofs.lemmas.List.{drop_more}
 use Rattle.std.proofs.lemmas.Option.{slice_get_past}
-use Rattle.mpd_model.specs.Declaration.{Declared}
-use Rattle.mpd_model.specs.World.{World}
+use Rattle.mpd_model.specs.script.Declaration.{Declared}
+use Rattle.mpd_model.specs.steps.World.{World}
 use Rattle.mpd_names.specs.Held.{begun, assigned, names_or_none, printed_line}
 
 -- ---- a rank that isn't there

@@ -1,7 +1,7 @@
 -- A text, line by line, and lines without what ends them.
 use Rattle.std.proofs.Common.{◌≡◌, ℕ, suc, ◌+◌, ◌<◌, Bool, true, false, ◌&&◌, ◌||◌, ◌==◌, if◌then◌else◌, List, [], ◌∷◌, ◌++◌, length, take, drop, refl, ap, sym, ◌∙◌, append_assoc, arith}
 use Rattle.std.proofs.lemmas.Bool.Decides.{nat_tests}
-use Rattle.mpd_model.specs.Lines.{raw_lines, grow, bare, is_ending, is_feed, is_none}
+use Rattle.mpd_model.specs.texts.Lines.{raw_lines, grow, bare, is_ending, is_feed, is_none}
 use Rattle.mpd_names.specs.Cuts.{line_len}
 
 -- ---- the first line

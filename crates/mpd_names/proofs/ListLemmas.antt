@@ -4,9 +4,9 @@ use Rattle.std.specs.Char.{encode_utf8}
 use Rattle.std.specs.Fmt.{decimal, styled_decimal, padded_integral, char_count, format_spec}
 use Rattle.std.specs.List.{flat_map, list_any, range_with_len, repeat}
 use Rattle.std.proofs.lemmas.Str.{encode_ascii}
-use Rattle.mpd_model.specs.Program.{Program}
-use Rattle.mpd_model.specs.World.{World}
-use Rattle.mpd_model.specs.Lines.{raw_lines, lines_of, bare}
+use Rattle.mpd_model.specs.script.Program.{Program}
+use Rattle.mpd_model.specs.steps.World.{World}
+use Rattle.mpd_model.specs.texts.Lines.{raw_lines, lines_of, bare}
 use Rattle.mpd_names.specs.Held.{begun}
 use Rattle.mpd_names.specs.Listed.{column, list_line_if, list_lines}
 

@@ -1,6 +1,6 @@
 -- A line of a text, behind so many others.
 use Rattle.std.proofs.Common.{◌≡◌, ℕ, zero, suc, ◌+◌, ◌-◌, ◌<◌, ◌≤◌, List, [], ◌∷◌, ◌++◌, map, Option, Some, None, slice_get, refl, sym, ap, ◌∙◌, arith, append-nil}
-use Rattle.mpd_model.specs.Lines.{raw_lines, lines_of, bare}
+use Rattle.mpd_model.specs.texts.Lines.{raw_lines, lines_of, bare}
 use Rattle.mpd_names.specs.Sources.{source, source_line, numbered}
 
 -- ---- walking

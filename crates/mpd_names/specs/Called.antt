@@ -5,7 +5,7 @@ use Rattle.mpd_model.specs.declared.place.DeclKind.{DeclKind}
 use Rattle.mpd_model.specs.declared.place.DeclKind.TheVariants.{Variable, Handle}
 use Rattle.mpd_model.specs.declared.breakpoint.Break.{Break}
 use Rattle.mpd_model.specs.declared.breakpoint.Break.TheVariants as on
-use Rattle.mpd_model.specs.Declaration.{Declared}
+use Rattle.mpd_model.specs.script.Declaration.{Declared}
 use Rattle.mpd_names.specs.Cells.{kind_cells}
 
 -- `x`, or `a[2]`

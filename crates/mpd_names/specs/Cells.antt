@@ -2,7 +2,7 @@
 use Rattle.std.specs.Prelude.{ℕ, ◌+◌, List, [], ◌∷◌, take}
 use Rattle.mpd_model.specs.declared.place.DeclKind.{DeclKind}
 use Rattle.mpd_model.specs.declared.place.DeclKind.TheVariants.{Variable, Handle}
-use Rattle.mpd_model.specs.Declaration.{Declared, cells_of, variable_cells, handle_cells}
+use Rattle.mpd_model.specs.script.Declaration.{Declared, cells_of, variable_cells, handle_cells}
 use Rattle.mpd_names.specs.declared.name.Named.{Named}
 
 -- how many cells of a kind a declaration has

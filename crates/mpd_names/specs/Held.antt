@@ -3,10 +3,10 @@ use Rattle.std.specs.Prelude.{ℕ, ℤ, ◌+◌, nat_lt, if◌then◌else◌, Li
 use Rattle.std.specs.Fmt.{decimal, signed_decimal}
 use Rattle.mpd_model.specs.declared.place.DeclKind.{DeclKind}
 use Rattle.mpd_model.specs.declared.place.DeclKind.TheVariants.{Variable, Handle}
-use Rattle.mpd_model.specs.Declaration.{Declared}
-use Rattle.mpd_model.specs.Program.{Program}
-use Rattle.mpd_model.specs.World.{RankWorld, World, Board, call_id}
-use Rattle.mpd_model.specs.Texts.{line, spaced, id_text}
+use Rattle.mpd_model.specs.script.Declaration.{Declared}
+use Rattle.mpd_model.specs.script.Program.{Program}
+use Rattle.mpd_model.specs.steps.World.{RankWorld, World, Board, call_id}
+use Rattle.mpd_model.specs.texts.Texts.{line, spaced, id_text}
 use Rattle.mpd_explain.specs.Explained.{placed}
 use Rattle.mpd_names.specs.declared.name.Named.{Named}
 use Rattle.mpd_names.specs.Cells.{whole}

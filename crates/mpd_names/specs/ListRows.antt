@@ -9,10 +9,10 @@ use Rattle.mpd_model.specs.declared.call.CallKind.TheVariants.{Recv}
 use Rattle.mpd_model.specs.declared.call.Mode.TheVariants.{Rendezvous}
 use Rattle.mpd_model.specs.declared.call.Trap.TheVariants.{ZeroDivisor}
 use Rattle.mpd_model.specs.declared.stmt.Simple.TheVariants as st
-use Rattle.mpd_model.specs.Tree.{Tree, simple}
-use Rattle.mpd_model.specs.Program.{Program}
-use Rattle.mpd_model.specs.World.{RankWorld, World}
-use Rattle.mpd_model.specs.Texts.{line}
+use Rattle.mpd_model.specs.script.Tree.{Tree, simple}
+use Rattle.mpd_model.specs.script.Program.{Program}
+use Rattle.mpd_model.specs.steps.World.{RankWorld, World}
+use Rattle.mpd_model.specs.texts.Texts.{line}
 use Rattle.mpd_names.specs.NameRows.{five}
 use Rattle.mpd_names.specs.Held.{short_request, short_cells, variables_text}
 use Rattle.mpd_names.specs.Listed.{is_shown, list_text, about_text}

@@ -5,11 +5,11 @@ use Rattle.std.specs.Option.{option_map}
 use Rattle.std.specs.List.{flat_map, list_any}
 use Rattle.mpd_model.specs.declared.call.Activity.{Activity}
 use Rattle.mpd_model.specs.declared.call.Activity.TheVariants.{Running, Blocked, Trapped}
-use Rattle.mpd_model.specs.Program.{Program}
-use Rattle.mpd_model.specs.World.{RankWorld, World, rank_numbers}
-use Rattle.mpd_model.specs.Breakpoints.{is_number}
-use Rattle.mpd_model.specs.Lines.{lines_of}
-use Rattle.mpd_model.specs.Texts.{line}
+use Rattle.mpd_model.specs.script.Program.{Program}
+use Rattle.mpd_model.specs.steps.World.{RankWorld, World, rank_numbers}
+use Rattle.mpd_model.specs.runs.Breakpoints.{is_number}
+use Rattle.mpd_model.specs.texts.Lines.{lines_of}
+use Rattle.mpd_model.specs.texts.Texts.{line}
 use Rattle.mpd_names.specs.Held.{begun}
 use Rattle.mpd_names.specs.Stand.{rank_ended, stand}
 
@@ -23,16 +23,16 @@ mark (Some Blocked) = codes " blocked"
 mark (Some (Trapped t)) = codes " trapped"
 
 -- `rank 0 blocked`
-abbrev pub standing_words : World → ℕ → List ℕ
-standing_words w p = codes "rank " ++ decimal p ++ mark (option_map (λ (r : RankWorld). r.activity) (slice_get w.ranks p))
+abbrev pub named_rank : World → ℕ → List ℕ
+named_rank w p = codes "rank " ++ decimal p ++ mark (option_map (λ (r : RankWorld). r.activity) (slice_get w.ranks p))
 
 -- that, where the rank stands at line n
-abbrev pub standing_at : Program → World → ℕ → ℕ → List (List ℕ)
-standing_at s w n p = if is_number (stand s w p) n then standing_words w p ∷ [] else []
+abbrev pub rank_at_line : Program → World → ℕ → ℕ → List (List ℕ)
+rank_at_line s w n p = if is_number (stand s w p) n then named_rank w p ∷ [] else []
 
 -- `  <- rank 0, rank 1 blocked`
-abbrev pub standing_text : Program → World → ℕ → List ℕ
-standing_text s w n = begun (codes "  <- ") (flat_map (standing_at s w n) (rank_numbers w.board))
+abbrev pub ranks_at_line : Program → World → ℕ → List ℕ
+ranks_at_line s w n = begun (codes "  <- ") (flat_map (rank_at_line s w n) (rank_numbers w.board))
 
 -- ---- lines
 
@@ -46,7 +46,7 @@ shown b = if nat_lt b 128 then b else 63
 
 -- the line of number n, which has this text
 abbrev pub list_line : Program → World → ℕ → List ℕ → List ℕ
-list_line s w n l = line (column n ++ codes "  " ++ map shown l ++ standing_text s w n)
+list_line s w n l = line (column n ++ codes "  " ++ map shown l ++ ranks_at_line s w n)
 
 -- whether a line is shown: each, or those about one, from four above to four below
 abbrev pub is_shown : Option ℕ → ℕ → Bool

@@ -1,8 +1,8 @@
 -- What a word `NAME` or `NAME[INDEX]` means.
 use Rattle.std.specs.Prelude.{ℕ, suc, ◌+◌, not, nat_lt, bytes_eq, if◌then◌else◌, List, [], ◌∷◌, take, drop, slice_get, Option, Some, None, Result, Ok, Err, ◌==◌, codes}
 use Rattle.std.specs.Char.{is_ascii_digit}
-use Rattle.mpd_model.specs.Declaration.{Declared}
-use Rattle.mpd_model.specs.Words.{stop_len, number_of}
+use Rattle.mpd_model.specs.script.Declaration.{Declared}
+use Rattle.mpd_model.specs.texts.Words.{stop_len, number_of}
 use Rattle.mpd_names.specs.declared.name.Named.{Named}
 use Rattle.mpd_names.specs.declared.name.NameFault.{NameFault}
 use Rattle.mpd_names.specs.declared.name.NameFault.TheVariants.{Unknown, NoSuchCell}

@@ -1,7 +1,7 @@
 -- Lines of the script, as a list shows them, without ranks.
 use Rattle.std.specs.Prelude.{ℕ, zero, suc, List, [], ◌∷◌, ◌++◌, map, slice_get, Option, Some, None, codes}
-use Rattle.mpd_model.specs.Lines.{lines_of}
-use Rattle.mpd_model.specs.Texts.{line}
+use Rattle.mpd_model.specs.texts.Lines.{lines_of}
+use Rattle.mpd_model.specs.texts.Texts.{line}
 use Rattle.mpd_names.specs.Listed.{column, shown}
 
 -- the line of number n, which has this text, where there is such a line

@@ -2,9 +2,9 @@
 use Rattle.std.specs.Prelude.{ℕ, Bool, false, if◌then◌else◌, List, Option, Some, None, slice_get}
 use Rattle.mpd_model.specs.declared.call.Activity.{Activity}
 use Rattle.mpd_model.specs.declared.call.Activity.TheVariants.{Running, Blocked, Trapped}
-use Rattle.mpd_model.specs.Program.{Program}
-use Rattle.mpd_model.specs.World.{RankWorld, World, Board, call_at, last_call}
-use Rattle.mpd_model.specs.Outcomes.{has_ended}
+use Rattle.mpd_model.specs.script.Program.{Program}
+use Rattle.mpd_model.specs.steps.World.{RankWorld, World, Board, call_at, last_call}
+use Rattle.mpd_model.specs.steps.Outcomes.{has_ended}
 use Rattle.mpd_explain.specs.Explained.{issue_line, rank_line}
 
 abbrev pub ended_by : Option RankWorld → Bool

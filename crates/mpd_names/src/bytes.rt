@@ -1,7 +1,7 @@
 //! Bytes of a word.
 
 ghost use Rattle.std.specs.Prelude.{◌≡◌, ◌≤◌, length, MatchOption, Some, None};
-ghost use Rattle.mpd_model.specs.Words.{stop_len, number_of};
+ghost use Rattle.mpd_model.specs.texts.Words.{stop_len, number_of};
 ghost use Rattle.mpd_names.specs.Names as names;
 
 /// A number of 1 to 9 digits.

@@ -1,13 +1,12 @@
 //! The cells of declarations, by their kind.
 
 ghost use Rattle.std.specs.Prelude.{◌≡◌, ◌≤◌, ◌+◌, Some, take, slice_get};
-ghost use Rattle.mpd_model.specs.Declaration.{cells_of, variables_in, handles_in};
+ghost use Rattle.mpd_model.specs.script.Declaration.{cells_of, variables_in, handles_in};
 ghost use Rattle.mpd_names.specs.Cells as counted;
 
 use crate::name::Named;
-use mpd_code::code::Code;
-use mpd_model::limits::{CELLS_MAX, HANDLES_MAX};
-use mpd_model::place::{Decl, DeclKind};
+use mpd_code::Code;
+use mpd_model::{CELLS_MAX, Decl, DeclKind, HANDLES_MAX};
 
 /// How many cells one name or array has.
 fn cell_count(size: Option<usize>) -> usize

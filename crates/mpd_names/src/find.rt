@@ -1,15 +1,14 @@
 //! What a word means that names cells.
 
 ghost use Rattle.std.specs.Prelude.{◌≡◌, ◌≤◌, ◌+◌, slice_get};
-ghost use Rattle.mpd_model.specs.Declaration.{cells_of};
+ghost use Rattle.mpd_model.specs.script.Declaration.{cells_of};
 ghost use Rattle.mpd_names.specs.Names as names;
 
 use crate::bytes::{digits_of, name_len, number_of};
 use crate::cells::whole;
 use crate::name::{NameFault, Named};
-use mpd_code::code::Code;
-use mpd_model::limits::CELLS_MAX;
-use mpd_model::place::Decl;
+use mpd_code::Code;
+use mpd_model::{CELLS_MAX, Decl};
 
 /// The number of the declaration of a name, where there is one.
 fn declaration_of(decls: &[Decl], name: &[u8]) -> Option<usize>
@@ -72,7 +71,7 @@ fn meant(code: &Code, number: usize, behind: &[u8]) -> Result<Named, NameFault>
 
 /// What a word means, `NAME` or `NAME[INDEX]`: all cells of a declaration, or one of an array. Where what stands behind the name is no
 /// index, no such name is declared.
-pub fn named(code: &Code, word: &[u8]) -> Result<Named, NameFault>
+pub fn find_named(code: &Code, word: &[u8]) -> Result<Named, NameFault>
     ensures { result ≡ names.named code.now.program.decls word.now }
 {
     let (name, behind) = word.split_at(name_len(word));

@@ -1,7 +1,7 @@
 //! A text, line by line.
 
 ghost use Rattle.std.specs.Prelude.{◌≡◌, ◌≤◌, ◌<◌, ◌∷◌, ◌++◌, [], IfSome, MatchOption, length};
-ghost use Rattle.mpd_model.specs.Lines.{raw_lines, bare};
+ghost use Rattle.mpd_model.specs.texts.Lines.{raw_lines, bare};
 ghost use Rattle.mpd_names.specs.Cuts.{line_len};
 
 /// How many bytes the first line of a text has, with its line feed.

@@ -2,17 +2,17 @@
 
 ghost use Rattle.std.specs.Prelude.{◌≡◌, ◌<◌, ◌++◌, ℕ, List, IfOk, OnOk, map, string_bytes};
 ghost use Rattle.std.specs.List.{list_any};
-ghost use Rattle.mpd_model.specs.World.{rank_numbers};
-ghost use Rattle.mpd_model.specs.Breakpoints.{is_number as same_number};
-ghost use Rattle.mpd_model.specs.Lines.{lines_of};
+ghost use Rattle.mpd_model.specs.steps.World.{rank_numbers};
+ghost use Rattle.mpd_model.specs.runs.Breakpoints.{is_number as same_number};
+ghost use Rattle.mpd_model.specs.texts.Lines.{lines_of};
 ghost use Rattle.mpd_names.specs.Held.{begun};
 ghost use Rattle.mpd_names.specs.Stand.{rank_ended};
 ghost use Rattle.mpd_names.specs.Listed as listed;
 
 use crate::lines::{bare, cut};
 use crate::stand::{has_ended, stand};
-use mpd_core::state::Core;
-use mpd_model::call::Activity;
+use mpd_core::Core;
+use mpd_model::Activity;
 use std::alloc::AllocError;
 
 /// Whether it is this number.
@@ -38,13 +38,13 @@ fn mark(activity: Option<Activity>) -> &'static str
 }
 
 /// Adds a rank, and whether it runs, behind this.
-fn push_standing(
+fn push_named_rank(
     core: &Core<'_>,
     out: &mut String,
     before: &str,
     rank: usize,
 ) -> Result<(), AllocError>
-    ensures { OnOk result (string_bytes out.new ≡ string_bytes out.old ++ (before.now ++ listed.standing_words core.now.world rank)) }
+    ensures { OnOk result (string_bytes out.new ≡ string_bytes out.old ++ (before.now ++ listed.named_rank core.now.world rank)) }
 {
     out.push_str(before)?;
     let mark = mark(core.activity(rank));
@@ -53,30 +53,30 @@ fn push_standing(
 
 /// Adds a rank that stands at a line, behind this, and nothing where it doesn't. It answers what stands before the next.
 #[tactic(auto, using(crate::proofs::ListLemmas::beginning))]
-fn push_standing_at(
+fn push_rank_at(
     core: &Core<'_>,
     out: &mut String,
     before: &'static str,
     line: usize,
     rank: usize,
 ) -> Result<&'static str, AllocError>
-    ensures { IfOk result (λ next. (ts : List (List ℕ)) → string_bytes out.new ++ begun next.now ts ≡ string_bytes out.old ++ begun before.now (listed.standing_at core.now.program core.now.world line rank ++ ts)) }
+    ensures { IfOk result (λ next. (ts : List (List ℕ)) → string_bytes out.new ++ begun next.now ts ≡ string_bytes out.old ++ begun before.now (listed.rank_at_line core.now.program core.now.world line rank ++ ts)) }
 {
     if !is_number(stand(core, rank), line) {
         return Ok(before);
     }
-    push_standing(core, out, before, rank)?;
+    push_named_rank(core, out, before, rank)?;
     Ok(", ")
 }
 
 /// Adds the ranks that stand at a line.
-fn push_all_standing(core: &Core<'_>, out: &mut String, line: usize) -> Result<(), AllocError>
-    ensures { OnOk result (string_bytes out.new ≡ string_bytes out.old ++ listed.standing_text core.now.program core.now.world line) }
+fn push_ranks_at(core: &Core<'_>, out: &mut String, line: usize) -> Result<(), AllocError>
+    ensures { OnOk result (string_bytes out.new ≡ string_bytes out.old ++ listed.ranks_at_line core.now.program core.now.world line) }
 {
     let mut before = "  <- ";
     let count = core.rank_count();
     for rank in 0..count {
-        before = push_standing_at(core, out, before, line, rank)?;
+        before = push_rank_at(core, out, before, line, rank)?;
     }
     Ok(())
 }
@@ -118,7 +118,7 @@ fn push_line(
     push_column(out, number)?;
     out.push_str("  ")?;
     push_shown(out, line)?;
-    push_all_standing(core, out, number)?;
+    push_ranks_at(core, out, number)?;
     out.push('\n')
 }
 

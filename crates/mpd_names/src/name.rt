@@ -1,6 +1,6 @@
 //! What a name means.
 
-use mpd_model::place::DeclKind;
+use mpd_model::DeclKind;
 
 /// What a name means: all cells of a declaration, or one of an array.
 #[derive(Clone, Copy)]

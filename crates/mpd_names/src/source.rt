@@ -1,7 +1,7 @@
 //! Lines of the script that something is about.
 
 ghost use Rattle.std.specs.Prelude.{◌≡◌, ◌++◌, OnOk, MatchOption, None, Some, slice_get, string_bytes};
-ghost use Rattle.mpd_model.specs.Lines.{lines_of};
+ghost use Rattle.mpd_model.specs.texts.Lines.{lines_of};
 ghost use Rattle.mpd_names.specs.Sources as spec;
 
 use crate::lines::{bare, cut};

@@ -3,9 +3,9 @@
 ghost use Rattle.std.specs.Prelude.{◌≡◌, slice_get};
 ghost use Rattle.mpd_names.specs.Stand as standing;
 
-use mpd_core::state::Core;
-use mpd_explain::told::{issue_line, rank_line};
-use mpd_model::call::Activity;
+use mpd_core::Core;
+use mpd_explain::{issue_line, rank_line};
+use mpd_model::Activity;
 
 /// Whether a rank is there, and has ended.
 #[tactic(auto, using(crate::proofs::StandLemmas::absent))]

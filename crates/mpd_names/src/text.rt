@@ -4,8 +4,7 @@ ghost use Rattle.std.specs.Prelude.{◌≡◌, ◌++◌, OnOk, string_bytes};
 ghost use Rattle.mpd_names.specs.Called as called;
 
 use crate::cells::kind_cells;
-use mpd_model::breakpoint::Break;
-use mpd_model::place::{Decl, DeclKind};
+use mpd_model::{Break, Decl, DeclKind};
 use std::alloc::AllocError;
 
 /// Adds the name of a cell of a declaration, with its index where it is an array.

@@ -3,3 +3,6 @@
 
 pub mod command;
 pub mod options;
+
+pub use command::Topic;
+pub use options::{CheckOptions, Options, UsageFault, read_options};

@@ -13,8 +13,8 @@ use Rattle.mpd_model.specs.declared.call.CallKind.TheVariants.{Send, Recv, Wait,
 use Rattle.mpd_model.specs.declared.call.MatchSet.{MatchSet}
 use Rattle.mpd_model.specs.declared.call.MatchSet.TheVariants.{Pair, Woke}
 use Rattle.mpd_model.specs.declared.call.MatchSet.TheVariants as set
-use Rattle.mpd_model.specs.World.{World, Board, call_id, rank_numbers, start, last_call, eligible, is_free, kind_at}
-use Rattle.mpd_model.specs.Next.{Ran, next, fold, local_at, stepped, with_issued, with_set, can_wake, can_wake_any, can_release, woken, woken_any, released, waits}
+use Rattle.mpd_model.specs.steps.World.{World, Board, call_id, rank_numbers, start, last_call, eligible, is_free, kind_at}
+use Rattle.mpd_model.specs.steps.Next.{Ran, next, fold, local_at, stepped, with_issued, with_set, can_wake, can_wake_any, can_release, woken, woken_any, released, waits}
 use Rattle.mpd_picture.specs.declared.mark.Mark.{Mark}
 use Rattle.mpd_picture.specs.declared.mark.Event.{Event}
 use Rattle.mpd_picture.specs.declared.mark.Event.TheVariants.{Issued, Paired, WentOn, Released}

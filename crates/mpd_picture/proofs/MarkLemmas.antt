@@ -4,9 +4,9 @@ use Rattle.std.proofs.lemmas.List.{drop_more, take_all, length-take-le}
 use Rattle.std.proofs.lemmas.Option.{slice_get_within, slice_get-get_or, get_or_from_slice_get}
 use Rattle.mpd_model.specs.declared.step.Step.{Step}
 use Rattle.mpd_model.specs.declared.step.Step.TheVariants.{Release}
-use Rattle.mpd_model.specs.World.{World, start}
-use Rattle.mpd_model.specs.Next.{next}
-use Rattle.mpd_model.specs.Trail.{Trail, IsReached, kept, world_of, gone_back, forgotten}
+use Rattle.mpd_model.specs.steps.World.{World, start}
+use Rattle.mpd_model.specs.steps.Next.{next}
+use Rattle.mpd_model.specs.runs.Trail.{Trail, IsReached, done_steps, world_of, gone_back, forgotten}
 use Rattle.mpd_picture.specs.declared.mark.Mark.{Mark}
 use Rattle.mpd_picture.specs.Marks.{calls_before, step_marks, row_behind, led, marks_behind, marks_of}
 
@@ -46,10 +46,10 @@ inside : (w v : World) → Some w ≡ Some v → w ≡ v
 inside w v h = cc
 
 -- Where a trail without undone steps is gone back to its start, all its steps are ahead.
-pub again : (t u : Trail) (w : World) → length t.steps ≡ t.depth → u ≡ gone_back t 0 → IsReached (record { trail = u; world = w }) → marks_behind w 0 u.steps ≡ marks_of t.program t.mode (kept t)
+pub again : (t u : Trail) (w : World) → length t.steps ≡ t.depth → u ≡ gone_back t 0 → IsReached (record { trail = u; world = w }) → marks_behind w 0 u.steps ≡ marks_of t.program t.mode (done_steps t)
 again t u w clean e reached =
     let first : w ≡ start t.program t.mode = sym (inside (start t.program t.mode) w (ap world_of (sym e) ∙ reached.world)) in
-    let whole : kept t ≡ t.steps = take_all t.depth t.steps (omega (arith, clean)) in
+    let whole : done_steps t ≡ t.steps = take_all t.depth t.steps (omega (arith, clean)) in
     ap (λ (x : World). marks_behind x 0 u.steps) first ∙ ap (λ (x : Trail). marks_of t.program t.mode x.steps) e ∙ sym (ap (marks_of t.program t.mode) whole)
 
 pub back_there : (t u : Trail) → u ≡ gone_back t 0 → u.depth ≡ 0

@@ -5,7 +5,7 @@ use Rattle.std.proofs.lemmas.Option.{slice_get_past}
 use Rattle.mpd_model.specs.declared.call.Activity.{Activity}
 use Rattle.mpd_model.specs.declared.call.Activity.TheVariants.{Running, Blocked, Trapped}
 use Rattle.mpd_model.specs.declared.call.Trap.{Trap}
-use Rattle.mpd_model.specs.World.{RankWorld, World}
+use Rattle.mpd_model.specs.steps.World.{RankWorld, World}
 use Rattle.mpd_picture.specs.declared.svg.Finish.{Finish}
 use Rattle.mpd_picture.specs.declared.svg.Finish.TheVariants as finish
 use Rattle.mpd_picture.specs.Svg.{finish_by, finish_of}

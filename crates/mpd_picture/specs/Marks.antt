@@ -4,9 +4,9 @@ use Rattle.std.specs.List.{flat_map}
 use Rattle.mpd_model.specs.declared.step.Step.{Step}
 use Rattle.mpd_model.specs.declared.step.Step.TheVariants.{Local, Match, Wake, WakeAny, Release}
 use Rattle.mpd_model.specs.declared.call.Mode.{Mode}
-use Rattle.mpd_model.specs.Program.{Program}
-use Rattle.mpd_model.specs.World.{World, Board, call_id, calls_of, last_call, rank_numbers, start}
-use Rattle.mpd_model.specs.Next.{next}
+use Rattle.mpd_model.specs.script.Program.{Program}
+use Rattle.mpd_model.specs.steps.World.{World, Board, call_id, calls_of, last_call, rank_numbers, start}
+use Rattle.mpd_model.specs.steps.Next.{next}
 use Rattle.mpd_picture.specs.declared.mark.Mark.{Mark}
 use Rattle.mpd_picture.specs.declared.mark.Event.{Event}
 use Rattle.mpd_picture.specs.declared.mark.Event.TheVariants.{Issued, Paired, WentOn, Released}

@@ -5,16 +5,16 @@ use Rattle.std.specs.List.{flat_map}
 use Rattle.mpd_model.specs.declared.call.Mode.{Mode}
 use Rattle.mpd_model.specs.declared.call.Mode.TheVariants.{Rendezvous, Buffered, Slots}
 use Rattle.mpd_model.specs.declared.outcome.Outcome.{Outcome}
-use Rattle.mpd_model.specs.Modes.{rendezvous_word, buffered_word, slots_word}
-use Rattle.mpd_model.specs.Program.{Program}
-use Rattle.mpd_model.specs.World.{World, Board}
-use Rattle.mpd_model.specs.Outcomes.{outcome}
-use Rattle.mpd_model.specs.Texts.{line, outcome_text}
-use Rattle.mpd_model.specs.Trail.{Trail, kept}
+use Rattle.mpd_model.specs.texts.Modes.{rendezvous_word, buffered_word, slots_word}
+use Rattle.mpd_model.specs.script.Program.{Program}
+use Rattle.mpd_model.specs.steps.World.{World, Board}
+use Rattle.mpd_model.specs.steps.Outcomes.{outcome}
+use Rattle.mpd_model.specs.texts.Texts.{line, outcome_text}
+use Rattle.mpd_model.specs.runs.Trail.{Trail, done_steps}
 use Rattle.mpd_picture.specs.declared.mark.Mark.{Mark}
 use Rattle.mpd_picture.specs.declared.shape.Shape.{Shape}
 use Rattle.mpd_picture.specs.declared.style.TheConstants.{OPENED, STYLE, LEGEND}
-use Rattle.mpd_picture.specs.declared.draw.TheConstants.{MARKS_MAX}
+use Rattle.mpd_picture.specs.declared.drawing.TheConstants.{MARKS_MAX}
 use Rattle.mpd_picture.specs.Marks.{marks_of}
 use Rattle.mpd_picture.specs.Shapes.{rows_of, shapes_of}
 use Rattle.mpd_picture.specs.Svg.{column_x, row_y, attribute, text_element, opened, shape_elements}
@@ -80,7 +80,7 @@ abbrev pub few : List Mark → Bool
 few marks = nat_le (length marks) MARKS_MAX
 
 abbrev pub trail_marks : Trail → List Mark
-trail_marks t = marks_of t.program t.mode (kept t)
+trail_marks t = marks_of t.program t.mode (done_steps t)
 
 -- The picture of the steps of a trail that are not undone, which lead to this world; none where they show too much.
 abbrev pub picture_svg : Trail → World → Option (List ℕ)

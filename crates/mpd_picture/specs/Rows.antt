@@ -5,9 +5,9 @@ use Rattle.std.specs.List.{flat_map}
 use Rattle.mpd_model.specs.declared.step.CallId.{CallId}
 use Rattle.mpd_model.specs.declared.call.CallKind.{CallKind}
 use Rattle.mpd_model.specs.declared.call.CallKind.TheVariants.{Send, Recv, Wait, Waitany, Barrier}
-use Rattle.mpd_model.specs.Program.{Program}
-use Rattle.mpd_model.specs.World.{World, Board, call_at, kind_at, is_free, rank_numbers}
-use Rattle.mpd_model.specs.Texts.{line, id_text, kind_text}
+use Rattle.mpd_model.specs.script.Program.{Program}
+use Rattle.mpd_model.specs.steps.World.{World, Board, call_at, kind_at, is_free, rank_numbers}
+use Rattle.mpd_model.specs.texts.Texts.{line, id_text, kind_text}
 use Rattle.mpd_explain.specs.Explained.{issue_line}
 use Rattle.mpd_picture.specs.declared.shape.Shape.{Shape}
 use Rattle.mpd_picture.specs.declared.shape.Shape.TheVariants.{Arrow, Bar}

@@ -4,8 +4,8 @@ use Rattle.std.specs.List.{flat_map}
 use Rattle.mpd_model.specs.declared.step.CallId.{CallId}
 use Rattle.mpd_model.specs.declared.call.CallKind.{CallKind}
 use Rattle.mpd_model.specs.declared.call.CallKind.TheVariants.{Send, Recv}
-use Rattle.mpd_model.specs.World.{World, Board, id_eq, kind_at, is_free, last_call, rank_numbers}
-use Rattle.mpd_model.specs.Next.{waits}
+use Rattle.mpd_model.specs.steps.World.{World, Board, id_eq, kind_at, is_free, last_call, rank_numbers}
+use Rattle.mpd_model.specs.steps.Next.{waits}
 use Rattle.mpd_picture.specs.declared.mark.Mark.{Mark}
 use Rattle.mpd_picture.specs.declared.mark.Event.{Event}
 use Rattle.mpd_picture.specs.declared.mark.Event.TheVariants.{Issued, Paired, WentOn, Released}

@@ -7,10 +7,10 @@ use Rattle.mpd_model.specs.declared.call.CallKind.{CallKind}
 use Rattle.mpd_model.specs.declared.call.CallKind.TheVariants.{Send, Recv, Wait, Waitany, Barrier}
 use Rattle.mpd_model.specs.declared.call.Activity.{Activity}
 use Rattle.mpd_model.specs.declared.call.Activity.TheVariants.{Running, Blocked, Trapped}
-use Rattle.mpd_model.specs.Program.{Program}
-use Rattle.mpd_model.specs.World.{RankWorld, World, Board, call_at, kind_at}
-use Rattle.mpd_model.specs.Outcomes.{has_ended}
-use Rattle.mpd_model.specs.Texts.{id_text, send_word, recv_word, call_text, trap_name}
+use Rattle.mpd_model.specs.script.Program.{Program}
+use Rattle.mpd_model.specs.steps.World.{RankWorld, World, Board, call_at, kind_at}
+use Rattle.mpd_model.specs.steps.Outcomes.{has_ended}
+use Rattle.mpd_model.specs.texts.Texts.{id_text, send_word, recv_word, call_text, trap_name}
 use Rattle.mpd_explain.specs.Explained.{issue_line, rank_line}
 use Rattle.mpd_picture.specs.declared.shape.Shape.{Shape}
 use Rattle.mpd_picture.specs.declared.shape.Shape.TheVariants.{Lane, Waiting, Posted, Arrow, Bar, Stub, End}

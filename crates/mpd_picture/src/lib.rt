@@ -1,7 +1,7 @@
 //! Pictures of a run: a space-time diagram as SVG, and the same as text (docs/PICTURES.md).
 #![tactic(auto)]
 
-pub mod draw;
+pub mod drawing;
 mod elements;
 pub mod laws;
 mod mark;
@@ -12,3 +12,6 @@ mod shape;
 mod shapes;
 mod style;
 mod svg;
+
+pub use drawing::{DrawFault, MARKS_MAX, draw, push_picture};
+pub use laws::arrows_are_pairs;

@@ -1,6 +1,6 @@
 //! What the steps of a run show (docs/PICTURES.md, "Rows").
 
-use mpd_model::step::CallId;
+use mpd_model::CallId;
 
 /// What is shown.
 #[derive(Clone, Copy)]

@@ -2,15 +2,15 @@
 
 ghost use Rattle.std.specs.Prelude.{◌≡◌, ◌++◌, ◌<◌, ◌≤◌, ◌+◌, ◌∷◌, [], IfOk, OnOk, Some, length, drop, slice_get};
 ghost use Rattle.std.specs.List.{flat_map};
-ghost use Rattle.mpd_model.specs.Next.{next};
-ghost use Rattle.mpd_model.specs.World.{rank_numbers, start};
-ghost use Rattle.mpd_model.specs.Trail.{kept, redone};
+ghost use Rattle.mpd_model.specs.steps.Next.{next};
+ghost use Rattle.mpd_model.specs.steps.World.{rank_numbers, start};
+ghost use Rattle.mpd_model.specs.runs.Trail.{done_steps, redone};
 ghost use Rattle.mpd_picture.specs.Marks as spec;
 
 use crate::mark::{Event, Mark};
-use mpd_core::state::Core;
-use mpd_model::step::{CallId, Step};
-use mpd_trail::debugger::Debugger;
+use mpd_core::Core;
+use mpd_model::{CallId, Step};
+use mpd_trail::Debugger;
 use std::alloc::{AllocError, Global};
 
 /// Adds what is shown.
@@ -175,7 +175,7 @@ fn take_all(debugger: &mut Debugger<'_>, marks: &mut Vec<Mark>) -> Result<(), Al
 #[tactic(auto, using(crate::proofs::MarkLemmas::going_back))]
 fn marks_again(alloc: Global, debugger: &mut Debugger<'_>) -> Result<Vec<Mark>, AllocError>
     requires { length debugger.old.trail.steps ≡ debugger.old.trail.depth }
-    ensures { IfOk result (λ marks. marks.items ≡ spec.marks_of debugger.old.trail.program debugger.old.trail.mode (kept debugger.old.trail)) }
+    ensures { IfOk result (λ marks. marks.items ≡ spec.marks_of debugger.old.trail.program debugger.old.trail.mode (done_steps debugger.old.trail)) }
 {
     let mut marks = Vec::new(alloc);
     let _ = debugger.undo_to(0);
@@ -186,7 +186,7 @@ fn marks_again(alloc: Global, debugger: &mut Debugger<'_>) -> Result<Vec<Mark>, 
 /// What the steps show that are not undone. An `Err` is want of memory.
 #[tactic(auto, using(crate::proofs::MarkLemmas::going_back))]
 pub(crate) fn marks_of(alloc: Global, debugger: &Debugger<'_>) -> Result<Vec<Mark>, AllocError>
-    ensures { IfOk result (λ marks. marks.items ≡ spec.marks_of debugger.now.trail.program debugger.now.trail.mode (kept debugger.now.trail)) }
+    ensures { IfOk result (λ marks. marks.items ≡ spec.marks_of debugger.now.trail.program debugger.now.trail.mode (done_steps debugger.now.trail)) }
 {
     match debugger.copy() {
         Err(_) => Err(AllocError),

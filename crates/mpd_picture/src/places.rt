@@ -3,7 +3,7 @@
 ghost use Rattle.std.specs.Prelude.{◌≡◌, ◌≤◌};
 ghost use Rattle.mpd_picture.specs.Svg as spec;
 
-use mpd_core::state::Core;
+use mpd_core::Core;
 
 /// The lane of a rank.
 pub(crate) fn lane_x(rank: usize) -> usize

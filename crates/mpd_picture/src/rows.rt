@@ -2,16 +2,15 @@
 
 ghost use Rattle.std.specs.Prelude.{◌≡◌, ◌++◌, OnOk, string_bytes};
 ghost use Rattle.std.specs.List.{flat_map};
-ghost use Rattle.mpd_model.specs.World.{rank_numbers};
+ghost use Rattle.mpd_model.specs.steps.World.{rank_numbers};
 ghost use Rattle.mpd_picture.specs.Rows as spec;
 
 use crate::shape::Shape;
 use crate::style::LETTERS;
 use crate::svg::{Finish, finish_of, word_of};
-use mpd_core::state::Core;
-use mpd_explain::told::issue_line;
-use mpd_model::call::CallKind;
-use mpd_model::step::CallId;
+use mpd_core::Core;
+use mpd_explain::issue_line;
+use mpd_model::{CallId, CallKind};
 use std::alloc::AllocError;
 
 // ---- the sign in each lane

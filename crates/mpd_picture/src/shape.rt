@@ -1,6 +1,6 @@
 //! The shapes of a picture, by ranks and rows (docs/PICTURES.md, "Shapes").
 
-use mpd_model::step::CallId;
+use mpd_model::CallId;
 
 /// A shape. Ranks are lanes from left to right, and rows count from 0 downwards.
 #[derive(Clone, Copy)]

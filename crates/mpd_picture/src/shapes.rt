@@ -2,15 +2,14 @@
 
 ghost use Rattle.std.specs.Prelude.{◌≡◌, ◌++◌, ◌∷◌, [], if◌then◌else◌, IfOk, OnOk, slice_get};
 ghost use Rattle.std.specs.List.{flat_map};
-ghost use Rattle.mpd_model.specs.World.{kind_at, rank_numbers};
-ghost use Rattle.mpd_model.specs.Next.{waits as waits_in};
+ghost use Rattle.mpd_model.specs.steps.World.{kind_at, rank_numbers};
+ghost use Rattle.mpd_model.specs.steps.Next.{waits as waits_in};
 ghost use Rattle.mpd_picture.specs.Shapes as spec;
 
 use crate::mark::{Event, Mark};
 use crate::shape::Shape;
-use mpd_core::state::Core;
-use mpd_model::call::{Activity, CallKind};
-use mpd_model::step::CallId;
+use mpd_core::Core;
+use mpd_model::{Activity, CallId, CallKind};
 use std::alloc::{AllocError, Global};
 
 /// Adds a shape.

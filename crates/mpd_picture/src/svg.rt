@@ -2,17 +2,16 @@
 
 ghost use Rattle.std.specs.Prelude.{◌≡◌, ◌++◌, ◌≤◌, OnOk, IfOk, IfSome, slice_get, string_bytes};
 ghost use Rattle.std.specs.List.{flat_map};
-ghost use Rattle.mpd_model.specs.World.{kind_at};
-ghost use Rattle.mpd_model.specs.Texts.{send_word, recv_word};
+ghost use Rattle.mpd_model.specs.steps.World.{kind_at};
+ghost use Rattle.mpd_model.specs.texts.Texts.{send_word, recv_word};
 ghost use Rattle.mpd_picture.specs.Svg as spec;
 
 use crate::elements::{push_group, push_group_end, push_line, push_path, push_text};
 use crate::places::{column_x, lane_x, row_y};
 use crate::shape::Shape;
-use mpd_core::state::Core;
-use mpd_explain::told::{issue_line, rank_line};
-use mpd_model::call::{Activity, CallKind, Trap};
-use mpd_model::step::CallId;
+use mpd_core::Core;
+use mpd_explain::{issue_line, rank_line};
+use mpd_model::{Activity, CallId, CallKind, Trap};
 use std::alloc::{AllocError, Global};
 
 /// How a rank is at the end of a run.

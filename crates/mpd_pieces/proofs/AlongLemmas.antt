@@ -7,13 +7,13 @@ use Rattle.mpd_model.specs.declared.step.Step.{Step}
 use Rattle.mpd_model.specs.declared.outcome.Outcome.{Outcome}
 use Rattle.mpd_model.specs.declared.decision.Decision.{Decision}
 use Rattle.mpd_model.specs.declared.decision.Decision.TheVariants.{Forced, Choice, Leaf}
-use Rattle.mpd_model.specs.World.{World}
-use Rattle.mpd_model.specs.Next.{next}
-use Rattle.mpd_model.specs.Decisions.{decision}
-use Rattle.mpd_model.specs.Trail.{Standing, IsReached, kept}
+use Rattle.mpd_model.specs.steps.World.{World}
+use Rattle.mpd_model.specs.steps.Next.{next}
+use Rattle.mpd_model.specs.runs.Decisions.{decision}
+use Rattle.mpd_model.specs.runs.Trail.{Standing, IsReached, done_steps}
 use Rattle.mpd_explore.specs.Walk.{Run, stepped, chosen, prefixed, runs_of, run_from, run_taken, run_at}
 use Rattle.mpd_explore.specs.Sleeping.{is_asleep, put_off, awake_runs, awake_walk}
-use Rattle.mpd_explore.proofs.SearchLemmas.{Went, length-kept, awake_is}
+use Rattle.mpd_explore.proofs.SearchLemmas.{Went, length-done_steps, awake_is}
 use Rattle.mpd_explore.proofs.WitnessLemmas.{run_is}
 use Rattle.mpd_pieces.specs.Pieces.{led_by, cut_by, pieces, runs_by, beginning, walk_from, InState, ByCandidate, BeginsSo, Reaches}
 use Rattle.mpd_pieces.specs.Along.{lists_by, longer_by, longer, runs_on, sleeping_behind, Along, Beyond, Going}
@@ -190,26 +190,26 @@ reaches_no_leaf n c cs w o leaf h = reaches_is n c cs w (Leaf o) leaf h
 -- ---- a debugger
 
 pub beyond_same : (d e : Standing) → e.trail ≡ d.trail → IsReached e → Beyond d e
-beyond_same d e same reached = record { program = ap (λ t. t.program) same; mode = ap (λ t. t.mode) same; reached = reached; path = []; kept_is = ap kept same ∙ sym (append-nil (kept d.trail)) }
+beyond_same d e same reached = record { program = ap (λ t. t.program) same; mode = ap (λ t. t.mode) same; reached = reached; path = []; done_steps_are = ap done_steps same ∙ sym (append-nil (done_steps d.trail)) }
 
 abbrev pub beyond_then : (c d e : Standing) → Beyond c d → Beyond d e → Beyond c e
 beyond_then c d e x y =
-    record { program = y.program ∙ x.program; mode = y.mode ∙ x.mode; reached = y.reached; path = x.path ++ y.path; kept_is = y.kept_is ∙ ap (λ p. p ++ y.path) x.kept_is ∙ append_assoc (kept c.trail) x.path y.path }
+    record { program = y.program ∙ x.program; mode = y.mode ∙ x.mode; reached = y.reached; path = x.path ++ y.path; done_steps_are = y.done_steps_are ∙ ap (λ p. p ++ y.path) x.done_steps_are ∙ append_assoc (done_steps c.trail) x.path y.path }
 
 abbrev pub beyond_went : (d e : Standing) (a : Step) → Went d a e → Beyond d e
-beyond_went d e a went = record { program = went.program; mode = went.mode; reached = went.reached; path = a ∷ []; kept_is = went.kept_is }
+beyond_went d e a went = record { program = went.program; mode = went.mode; reached = went.reached; path = a ∷ []; done_steps_are = went.done_steps_are }
 
 pub beyond_depth : (d e : Standing) → IsReached d → Beyond d e → d.trail.depth ≤ e.trail.depth
-beyond_depth d e reached h = omega (arith, length-kept d reached, length-kept e h.reached, ap length h.kept_is, length-append (kept d.trail) h.path)
+beyond_depth d e reached h = omega (arith, length-done_steps d reached, length-done_steps e h.reached, ap length h.done_steps_are, length-append (done_steps d.trail) h.path)
 
-pub beyond_below : (d e : Standing) → IsReached d → Beyond d e → take d.trail.depth (kept e.trail) ≡ take d.trail.depth (kept d.trail)
-beyond_below d e reached h = ap (take d.trail.depth) h.kept_is ∙ take-append-le d.trail.depth (kept d.trail) h.path (omega (arith, length-kept d reached))
+pub beyond_below : (d e : Standing) → IsReached d → Beyond d e → take d.trail.depth (done_steps e.trail) ≡ take d.trail.depth (done_steps d.trail)
+beyond_below d e reached h = ap (take d.trail.depth) h.done_steps_are ∙ take-append-le d.trail.depth (done_steps d.trail) h.path (omega (arith, length-done_steps d reached))
 
 -- ---- and one that goes along choices
 
 pub going_none : (sleeps : Bool) (s : Option (List Step)) (fuel : ℕ) (choices : List ℕ) (d : Standing) → IsReached d → Reaches fuel choices d.world → Going sleeps fuel choices s d choices s d
 going_none sleeps s fuel choices d reached h =
-    record { beyond = record { program = refl; mode = refl; reached = reached; path = []; kept_is = sym (append-nil (kept d.trail)) }; taken = []; joined = refl; rest = fuel; spent = refl; along = along_none sleeps fuel s d.world; reaches = h }
+    record { beyond = record { program = refl; mode = refl; reached = reached; path = []; done_steps_are = sym (append-nil (done_steps d.trail)) }; taken = []; joined = refl; rest = fuel; spent = refl; along = along_none sleeps fuel s d.world; reaches = h }
 
 fuel_left : (limit : ℕ) (d : Standing) → 0 < limit - d.trail.depth → limit - d.trail.depth ≡ suc (limit - suc d.trail.depth)
 fuel_left limit d room = omega arith

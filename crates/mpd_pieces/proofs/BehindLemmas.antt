@@ -6,9 +6,9 @@ use Rattle.std.proofs.lemmas.List.{length-map, take-map, take_all, drop_all}
 use Rattle.std.proofs.Math.ListN.{set}
 use Rattle.mpd_model.specs.declared.call.Mode.{Mode}
 use Rattle.mpd_model.specs.declared.step.Step.{Step}
-use Rattle.mpd_model.specs.Program.{Program}
-use Rattle.mpd_model.specs.World.{World}
-use Rattle.mpd_model.specs.Trail.{Trail, Standing, IsReached, kept, gone_back, forgotten}
+use Rattle.mpd_model.specs.script.Program.{Program}
+use Rattle.mpd_model.specs.steps.World.{World}
+use Rattle.mpd_model.specs.runs.Trail.{Trail, Standing, IsReached, done_steps, gone_back, forgotten}
 use Rattle.mpd_explore.specs.declared.report.Leaf as leaf
 use Rattle.mpd_explore.specs.declared.report.Limits.{Limits}
 use Rattle.mpd_explore.specs.Walk.{Run, prefixed, run_at, steps_by}
@@ -114,15 +114,15 @@ no_part l choices d e h = ap (λ (rs : List Run). listed l (map shown rs)) (no_w
 pub none_left_out : (l : Limits) (choices : List ℕ) (d e : Standing) → Going l.ends l.fuel choices (Some []) d [] None e → part_left l choices d.world ≡ false
 none_left_out l choices d e h = ap (λ (rs : List Run). left_out l (map shown rs)) (no_walk l choices d e h) ∙ none_out l [] (omega arith) (omega arith)
 
-pub no_witnesses : (d : Standing) (fuel : ℕ) (ls : List leaf.Leaf) → ls ≡ [] → AllByRecursion (HasWitness d.trail.program d.trail.mode (kept d.trail) fuel d.world) ls
+pub no_witnesses : (d : Standing) (fuel : ℕ) (ls : List leaf.Leaf) → ls ≡ [] → AllByRecursion (HasWitness d.trail.program d.trail.mode (done_steps d.trail) fuel d.world) ls
 no_witnesses d fuel ls none = rw none tt
 
 blank_texts : (asked : Bool) (path : List Step) (n : ℕ) (w : World) → [] ≡ witness_texts asked path n w []
 blank_texts false path n w = refl
 blank_texts true path n w = refl
 
-pub no_texts : (asked : Bool) (d : Standing) (fuel : ℕ) (ls : List leaf.Leaf) (texts : List (List ℕ)) → ls ≡ [] → texts ≡ [] → texts ≡ witness_texts asked (kept d.trail) fuel d.world ls
-no_texts asked d fuel ls texts none empty = empty ∙ blank_texts asked (kept d.trail) fuel d.world ∙ ap (witness_texts asked (kept d.trail) fuel d.world) (sym none)
+pub no_texts : (asked : Bool) (d : Standing) (fuel : ℕ) (ls : List leaf.Leaf) (texts : List (List ℕ)) → ls ≡ [] → texts ≡ [] → texts ≡ witness_texts asked (done_steps d.trail) fuel d.world ls
+no_texts asked d fuel ls texts none empty = empty ∙ blank_texts asked (done_steps d.trail) fuel d.world ∙ ap (witness_texts asked (done_steps d.trail) fuel d.world) (sym none)
 
 -- ---- and their witnesses
 
@@ -132,53 +132,53 @@ run_behind sleeps near far fuel n choices x d e h left =
     ∙ ap (λ cs. option_map (prefixed cs h.beyond.path) (run_at h.rest x e.world)) (all_made sleeps near far fuel choices d e h)
     ∙ ap (λ m. option_map (prefixed choices h.beyond.path) (run_at m x e.world)) left
 
-witness_behind : (sleeps : Bool) (near far : Option (List Step)) (fuel n : ℕ) (choices : List ℕ) (d e : Standing) (s : Program) (mode : Mode) (l : leaf.Leaf) (h : Going sleeps fuel choices near d [] far e) → h.rest ≡ n → HasWitness s mode (kept e.trail) n e.world l → HasWitness s mode (kept d.trail) fuel d.world (behind choices l)
+witness_behind : (sleeps : Bool) (near far : Option (List Step)) (fuel n : ℕ) (choices : List ℕ) (d e : Standing) (s : Program) (mode : Mode) (l : leaf.Leaf) (h : Going sleeps fuel choices near d [] far e) → h.rest ≡ n → HasWitness s mode (done_steps e.trail) n e.world l → HasWitness s mode (done_steps d.trail) fuel d.world (behind choices l)
 witness_behind sleeps near far fuel n choices d e s mode l h left x =
     record {
       run = prefixed choices h.beyond.path x.run;
       by = run_behind sleeps near far fuel n choices l.choices d e h left ∙ ap (option_map (prefixed choices h.beyond.path)) x.by;
       ending = x.ending;
-      witness = subst (λ (p : List Step). WitnessBy s mode p l.ending) (ap (λ p. p ++ x.run.steps) h.beyond.kept_is ∙ append_assoc (kept d.trail) h.beyond.path x.run.steps) x.witness;
+      witness = subst (λ (p : List Step). WitnessBy s mode p l.ending) (ap (λ p. p ++ x.run.steps) h.beyond.done_steps_are ∙ append_assoc (done_steps d.trail) h.beyond.path x.run.steps) x.witness;
     }
 
-all_behind : (sleeps : Bool) (near far : Option (List Step)) (fuel n : ℕ) (choices : List ℕ) (d e : Standing) (s : Program) (mode : Mode) (ls : List leaf.Leaf) (h : Going sleeps fuel choices near d [] far e) → h.rest ≡ n → AllByRecursion (HasWitness s mode (kept e.trail) n e.world) ls → AllByRecursion (HasWitness s mode (kept d.trail) fuel d.world) (map (behind choices) ls)
+all_behind : (sleeps : Bool) (near far : Option (List Step)) (fuel n : ℕ) (choices : List ℕ) (d e : Standing) (s : Program) (mode : Mode) (ls : List leaf.Leaf) (h : Going sleeps fuel choices near d [] far e) → h.rest ≡ n → AllByRecursion (HasWitness s mode (done_steps e.trail) n e.world) ls → AllByRecursion (HasWitness s mode (done_steps d.trail) fuel d.world) (map (behind choices) ls)
 all_behind sleeps near far fuel n choices d e s mode [] h left x = tt
 all_behind sleeps near far fuel n choices d e s mode (l ∷ ls) h left x = (witness_behind sleeps near far fuel n choices d e s mode l h left x.0, all_behind sleeps near far fuel n choices d e s mode ls h left x.1)
 
-pub witnesses_behind : (sleeps : Bool) (near far : Option (List Step)) (fuel n : ℕ) (choices : List ℕ) (d e : Standing) (ls now : List leaf.Leaf) (h : Going sleeps fuel choices near d [] far e) → h.rest ≡ n → now ≡ map (behind choices) ls → AllByRecursion (HasWitness e.trail.program e.trail.mode (kept e.trail) n e.world) ls
-    → AllByRecursion (HasWitness d.trail.program d.trail.mode (kept d.trail) fuel d.world) now
+pub witnesses_behind : (sleeps : Bool) (near far : Option (List Step)) (fuel n : ℕ) (choices : List ℕ) (d e : Standing) (ls now : List leaf.Leaf) (h : Going sleeps fuel choices near d [] far e) → h.rest ≡ n → now ≡ map (behind choices) ls → AllByRecursion (HasWitness e.trail.program e.trail.mode (done_steps e.trail) n e.world) ls
+    → AllByRecursion (HasWitness d.trail.program d.trail.mode (done_steps d.trail) fuel d.world) now
 witnesses_behind sleeps near far fuel n choices d e ls now h left is x =
-    let own : AllByRecursion (HasWitness d.trail.program d.trail.mode (kept e.trail) n e.world) ls = rw (h.beyond.program, h.beyond.mode) at x in
+    let own : AllByRecursion (HasWitness d.trail.program d.trail.mode (done_steps e.trail) n e.world) ls = rw (h.beyond.program, h.beyond.mode) at x in
     rw is (all_behind sleeps near far fuel n choices d e d.trail.program d.trail.mode ls h left own)
 
 -- ---- and the texts of these
 
-text_behind : (sleeps : Bool) (near far : Option (List Step)) (fuel n : ℕ) (choices : List ℕ) (d e : Standing) (s : Program) (mode : Mode) (l : leaf.Leaf) (h : Going sleeps fuel choices near d [] far e) → h.rest ≡ n → HasWitness s mode (kept e.trail) n e.world l → witness_text (kept e.trail) n e.world l ≡ witness_text (kept d.trail) fuel d.world (behind choices l)
+text_behind : (sleeps : Bool) (near far : Option (List Step)) (fuel n : ℕ) (choices : List ℕ) (d e : Standing) (s : Program) (mode : Mode) (l : leaf.Leaf) (h : Going sleeps fuel choices near d [] far e) → h.rest ≡ n → HasWitness s mode (done_steps e.trail) n e.world l → witness_text (done_steps e.trail) n e.world l ≡ witness_text (done_steps d.trail) fuel d.world (behind choices l)
 text_behind sleeps near far fuel n choices d e s mode l h left x =
-    let here : kept e.trail ++ steps_by (run_at n l.choices e.world) ≡ kept d.trail ++ (h.beyond.path ++ x.run.steps) =
-    ap (λ o. kept e.trail ++ steps_by o) x.by ∙ ap (λ p. p ++ x.run.steps) h.beyond.kept_is ∙ append_assoc (kept d.trail) h.beyond.path x.run.steps in
+    let here : done_steps e.trail ++ steps_by (run_at n l.choices e.world) ≡ done_steps d.trail ++ (h.beyond.path ++ x.run.steps) =
+    ap (λ o. done_steps e.trail ++ steps_by o) x.by ∙ ap (λ p. p ++ x.run.steps) h.beyond.done_steps_are ∙ append_assoc (done_steps d.trail) h.beyond.path x.run.steps in
     let there : steps_by (run_at fuel (choices ++ l.choices) d.world) ≡ h.beyond.path ++ x.run.steps = ap steps_by (run_behind sleeps near far fuel n choices l.choices d e h left ∙ ap (option_map (prefixed choices h.beyond.path)) x.by) in
-    ap (λ p. behind_number (witness_by p l.ending)) (here ∙ ap (λ p. kept d.trail ++ p) (sym there))
+    ap (λ p. behind_number (witness_by p l.ending)) (here ∙ ap (λ p. done_steps d.trail ++ p) (sym there))
 
-each_behind : (sleeps : Bool) (near far : Option (List Step)) (fuel n : ℕ) (choices : List ℕ) (d e : Standing) (s : Program) (mode : Mode) (ls : List leaf.Leaf) (h : Going sleeps fuel choices near d [] far e) → h.rest ≡ n → AllByRecursion (HasWitness s mode (kept e.trail) n e.world) ls
-    → map (witness_text (kept e.trail) n e.world) ls ≡ map (witness_text (kept d.trail) fuel d.world) (map (behind choices) ls)
+each_behind : (sleeps : Bool) (near far : Option (List Step)) (fuel n : ℕ) (choices : List ℕ) (d e : Standing) (s : Program) (mode : Mode) (ls : List leaf.Leaf) (h : Going sleeps fuel choices near d [] far e) → h.rest ≡ n → AllByRecursion (HasWitness s mode (done_steps e.trail) n e.world) ls
+    → map (witness_text (done_steps e.trail) n e.world) ls ≡ map (witness_text (done_steps d.trail) fuel d.world) (map (behind choices) ls)
 each_behind sleeps near far fuel n choices d e s mode [] h left x = refl
 each_behind sleeps near far fuel n choices d e s mode (l ∷ ls) h left x = λ i. text_behind sleeps near far fuel n choices d e s mode l h left x.0 i ∷ each_behind sleeps near far fuel n choices d e s mode ls h left x.1 i
 
-texts_by : (sleeps : Bool) (near far : Option (List Step)) (asked : Bool) (fuel n : ℕ) (choices : List ℕ) (d e : Standing) (s : Program) (mode : Mode) (ls : List leaf.Leaf) (h : Going sleeps fuel choices near d [] far e) → h.rest ≡ n → AllByRecursion (HasWitness s mode (kept e.trail) n e.world) ls
-    → witness_texts asked (kept e.trail) n e.world ls ≡ witness_texts asked (kept d.trail) fuel d.world (map (behind choices) ls)
+texts_by : (sleeps : Bool) (near far : Option (List Step)) (asked : Bool) (fuel n : ℕ) (choices : List ℕ) (d e : Standing) (s : Program) (mode : Mode) (ls : List leaf.Leaf) (h : Going sleeps fuel choices near d [] far e) → h.rest ≡ n → AllByRecursion (HasWitness s mode (done_steps e.trail) n e.world) ls
+    → witness_texts asked (done_steps e.trail) n e.world ls ≡ witness_texts asked (done_steps d.trail) fuel d.world (map (behind choices) ls)
 texts_by sleeps near far false fuel n choices d e s mode ls h left x = refl
 texts_by sleeps near far true fuel n choices d e s mode ls h left x = each_behind sleeps near far fuel n choices d e s mode ls h left x
 
 pub texts_behind : (sleeps : Bool) (near far : Option (List Step)) (asked : Bool) (fuel n : ℕ) (choices : List ℕ) (d e : Standing) (s : Program) (mode : Mode) (ls now : List leaf.Leaf) (texts : List (List ℕ)) (h : Going sleeps fuel choices near d [] far e) → h.rest ≡ n → now ≡ map (behind choices) ls
-    → AllByRecursion (HasWitness s mode (kept e.trail) n e.world) ls → texts ≡ witness_texts asked (kept e.trail) n e.world ls → texts ≡ witness_texts asked (kept d.trail) fuel d.world now
+    → AllByRecursion (HasWitness s mode (done_steps e.trail) n e.world) ls → texts ≡ witness_texts asked (done_steps e.trail) n e.world ls → texts ≡ witness_texts asked (done_steps d.trail) fuel d.world now
 texts_behind sleeps near far asked fuel n choices d e s mode ls now texts h left is x told =
-    told ∙ texts_by sleeps near far asked fuel n choices d e s mode ls h left x ∙ ap (witness_texts asked (kept d.trail) fuel d.world) (sym is)
+    told ∙ texts_by sleeps near far asked fuel n choices d e s mode ls h left x ∙ ap (witness_texts asked (done_steps d.trail) fuel d.world) (sym is)
 
-forgotten_on : (sleeps : Bool) (near far : Option (List Step)) (fuel : ℕ) (choices : List ℕ) (d e f : Standing) → Going sleeps fuel choices near d [] far e → f.trail ≡ forgotten e.trail → f.world ≡ e.world → kept f.trail ≡ kept e.trail → IsReached f → Going sleeps fuel choices near d [] far f
+forgotten_on : (sleeps : Bool) (near far : Option (List Step)) (fuel : ℕ) (choices : List ℕ) (d e f : Standing) → Going sleeps fuel choices near d [] far e → f.trail ≡ forgotten e.trail → f.world ≡ e.world → done_steps f.trail ≡ done_steps e.trail → IsReached f → Going sleeps fuel choices near d [] far f
 forgotten_on sleeps near far fuel choices d e f h trail world same reached =
     record {
-      beyond = record { program = ap (λ (t : Trail). t.program) trail ∙ h.beyond.program; mode = ap (λ (t : Trail). t.mode) trail ∙ h.beyond.mode; reached = reached; path = h.beyond.path; kept_is = same ∙ h.beyond.kept_is };
+      beyond = record { program = ap (λ (t : Trail). t.program) trail ∙ h.beyond.program; mode = ap (λ (t : Trail). t.mode) trail ∙ h.beyond.mode; reached = reached; path = h.beyond.path; done_steps_are = same ∙ h.beyond.done_steps_are };
       taken = h.taken;
       joined = h.joined;
       rest = h.rest;
@@ -188,7 +188,7 @@ forgotten_on sleeps near far fuel choices d e f h trail world same reached =
     }
 
 -- the same where undone steps are forgotten
-pub going_forgotten : (sleeps : Bool) (near far : Option (List Step)) (fuel m : ℕ) (choices : List ℕ) (d e f : Standing) → m ≡ fuel → Going sleeps m choices near d [] far e → f.trail ≡ forgotten e.trail → f.world ≡ e.world → kept f.trail ≡ kept e.trail → IsReached f → Going sleeps fuel choices near d [] far f
+pub going_forgotten : (sleeps : Bool) (near far : Option (List Step)) (fuel m : ℕ) (choices : List ℕ) (d e f : Standing) → m ≡ fuel → Going sleeps m choices near d [] far e → f.trail ≡ forgotten e.trail → f.world ≡ e.world → done_steps f.trail ≡ done_steps e.trail → IsReached f → Going sleeps fuel choices near d [] far f
 going_forgotten sleeps near far fuel m choices d e f is h trail world same reached = forgotten_on sleeps near far fuel choices d e f (rw is at h) trail world same reached
 
 -- ---- as found

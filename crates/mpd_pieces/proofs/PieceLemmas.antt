@@ -8,9 +8,9 @@ use Rattle.mpd_model.specs.declared.step.Step.{Step}
 use Rattle.mpd_model.specs.declared.outcome.Outcome.{Outcome}
 use Rattle.mpd_model.specs.declared.decision.Decision.{Decision}
 use Rattle.mpd_model.specs.declared.decision.Decision.TheVariants.{Forced, Choice, Leaf}
-use Rattle.mpd_model.specs.World.{World}
-use Rattle.mpd_model.specs.Next.{next}
-use Rattle.mpd_model.specs.Decisions.{decision, CanFollow}
+use Rattle.mpd_model.specs.steps.World.{World}
+use Rattle.mpd_model.specs.steps.Next.{next}
+use Rattle.mpd_model.specs.runs.Decisions.{decision, CanFollow}
 use Rattle.mpd_explore.specs.declared.report.Leaf as leaf
 use Rattle.mpd_explore.specs.declared.report.Limits.{Limits}
 use Rattle.mpd_explore.specs.Walk.{Run, stepped, chosen, runs_of}
@@ -24,7 +24,7 @@ use Rattle.mpd_explore.proofs.WitnessLemmas.{AllFollow}
 use Rattle.mpd_explore.proofs.ListedLemmas.{neither, not_less, up_few, up_whole, listed_few, listed_whole, ended_twice}
 use Rattle.mpd_pieces.specs.Pieces.{led_by, branched, cut_by, pieces, numbered, walk_from, walk_at, InState, ByCandidate, BeginsSo, Reaches, part, split_report, split_more}
 use Rattle.mpd_pieces.specs.Along.{counted, longer, runs_on, sleeping_behind, Adds, choices_of}
-use Rattle.mpd_pieces.specs.declared.split.Piece.{Piece}
+use Rattle.mpd_pieces.specs.declared.splitter.Piece.{Piece}
 use Rattle.mpd_pieces.proofs.AlongLemmas.{walk_whole, walk_forced, walk_chosen, longer_none, longer_forced, longer_chosen, pieces_is, reaches_none}
 
 -- ---- lists

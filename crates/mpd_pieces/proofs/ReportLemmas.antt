@@ -8,9 +8,9 @@ use Rattle.std.proofs.lemmas.Grind.{flat_map-append}
 use Rattle.mpd_model.specs.declared.step.Step.{Step}
 use Rattle.mpd_model.specs.declared.decision.Decision.{Decision}
 use Rattle.mpd_model.specs.declared.decision.Decision.TheVariants.{Forced, Choice, Leaf}
-use Rattle.mpd_model.specs.World.{World}
-use Rattle.mpd_model.specs.Next.{next}
-use Rattle.mpd_model.specs.Decisions.{decision}
+use Rattle.mpd_model.specs.steps.World.{World}
+use Rattle.mpd_model.specs.steps.Next.{next}
+use Rattle.mpd_model.specs.runs.Decisions.{decision}
 use Rattle.mpd_explore.specs.declared.report.Leaf as leaf
 use Rattle.mpd_explore.specs.declared.report.Limits.{Limits}
 use Rattle.mpd_explore.specs.Walk.{Run, stepped, chosen, runs_of}
@@ -22,7 +22,7 @@ use Rattle.mpd_explore.proofs.AwakeLemmas.{awake_some}
 use Rattle.mpd_explore.proofs.WitnessLemmas.{AllFollow}
 use Rattle.mpd_explore.proofs.ListedLemmas.{is_less, is_not_less, not_less, not_both, both_true, bad_behind, up_behind, up_none, up_has, listed_up, listed_few, ended_same}
 use Rattle.mpd_explore.proofs.GatherLemmas.{texts_join}
-use Rattle.mpd_pieces.specs.declared.split.Piece.{Piece}
+use Rattle.mpd_pieces.specs.declared.splitter.Piece.{Piece}
 use Rattle.mpd_pieces.specs.Pieces.{pieces, numbered, runs_by, beginning, walk_from, walk_at, InState, ByCandidate, BeginsSo, Reaches, part, part_left, split_report, split_more}
 use Rattle.mpd_pieces.specs.Along.{choices_of, parts, has_more, have_run, walks, report_of, more_of}
 use Rattle.mpd_pieces.proofs.PieceLemmas.{if_same, pieces_join}

@@ -6,10 +6,10 @@ use Rattle.std.proofs.lemmas.List.Folds.{flat_map-map, length-flat_map-take}
 use Rattle.std.proofs.lemmas.List.FromFn.{map-range_with_len_more, length-range_with_len}
 use Rattle.std.proofs.lemmas.Grind.{flat_map-append}
 use Rattle.mpd_model.specs.declared.step.Step.{Step}
-use Rattle.mpd_model.specs.World.{World}
-use Rattle.mpd_model.specs.Trail.{Standing}
+use Rattle.mpd_model.specs.steps.World.{World}
+use Rattle.mpd_model.specs.runs.Trail.{Standing}
 use Rattle.mpd_explore.proofs.WitnessLemmas.{AllFollow}
-use Rattle.mpd_pieces.specs.declared.split.Piece.{Piece}
+use Rattle.mpd_pieces.specs.declared.splitter.Piece.{Piece}
 use Rattle.mpd_pieces.specs.Pieces.{pieces, numbered, Reaches}
 use Rattle.mpd_pieces.specs.Along.{Going, counted, longer, Adds, all_longer, choices_of}
 use Rattle.mpd_pieces.proofs.AlongLemmas.{longer_none}

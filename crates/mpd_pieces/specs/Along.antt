@@ -5,15 +5,15 @@ use Rattle.std.specs.Option.{option_map}
 use Rattle.mpd_model.specs.declared.step.Step.{Step}
 use Rattle.mpd_model.specs.declared.decision.Decision.{Decision}
 use Rattle.mpd_model.specs.declared.decision.Decision.TheVariants.{Forced, Choice, Leaf}
-use Rattle.mpd_model.specs.World.{World}
-use Rattle.mpd_model.specs.Next.{next}
-use Rattle.mpd_model.specs.Decisions.{decision}
-use Rattle.mpd_model.specs.Trail.{Standing, kept, IsReached}
+use Rattle.mpd_model.specs.steps.World.{World}
+use Rattle.mpd_model.specs.steps.Next.{next}
+use Rattle.mpd_model.specs.runs.Decisions.{decision}
+use Rattle.mpd_model.specs.runs.Trail.{Standing, done_steps, IsReached}
 use Rattle.mpd_explore.specs.declared.report.Leaf as leaf
 use Rattle.mpd_explore.specs.declared.report.Limits.{Limits}
 use Rattle.mpd_explore.specs.Walk.{Run, prefixed, runs_of, run_at}
 use Rattle.mpd_explore.specs.Report.{ended_by}
-use Rattle.mpd_pieces.specs.declared.split.Piece.{Piece}
+use Rattle.mpd_pieces.specs.declared.splitter.Piece.{Piece}
 use Rattle.mpd_explore.specs.Sleeping.{is_asleep, put_off}
 use Rattle.mpd_pieces.specs.Pieces.{led_by, pieces, numbered, walk_from, walk_at, Reaches, part, part_left}
 
@@ -64,7 +64,7 @@ pub record Beyond (d e : Standing) : Type 0 where
   pub mode : e.trail.mode ≡ d.trail.mode
   pub reached : IsReached e
   pub path : List Step
-  pub kept_is : kept e.trail ≡ kept d.trail ++ path
+  pub done_steps_are : done_steps e.trail ≡ done_steps d.trail ++ path
 
 -- One that has gone on along some choices, of which these are still to be made.
 pub record Going (sleeps : Bool) (fuel : ℕ) (choices : List ℕ) (here : Option (List Step)) (d : Standing) (left : List ℕ) (there : Option (List Step)) (e : Standing) : Type 0 where

@@ -4,11 +4,11 @@ use Rattle.mpd_model.specs.declared.place.DeclKind.TheVariants.{Variable}
 use Rattle.mpd_model.specs.declared.expr.BinaryOp.TheVariants.{Less, Remainder}
 use Rattle.mpd_model.specs.declared.call.Mode.TheVariants.{Rendezvous}
 use Rattle.mpd_model.specs.declared.stmt.Simple.TheVariants as st
-use Rattle.mpd_model.specs.Term.{Term, lit, own_rank, op2, Target}
-use Rattle.mpd_model.specs.Tree.{simple, branch, no_more, then_more}
-use Rattle.mpd_model.specs.Program.{Program}
-use Rattle.mpd_model.specs.World.{start}
-use Rattle.mpd_model.specs.Decisions.{decision}
+use Rattle.mpd_model.specs.script.Term.{Term, lit, own_rank, op2, Target}
+use Rattle.mpd_model.specs.script.Tree.{simple, branch, no_more, then_more}
+use Rattle.mpd_model.specs.script.Program.{Program}
+use Rattle.mpd_model.specs.steps.World.{start}
+use Rattle.mpd_model.specs.runs.Decisions.{decision}
 use Rattle.mpd_explore.specs.declared.report.Leaf as leaf
 use Rattle.mpd_explore.specs.declared.report.Limits.{Limits}
 use Rattle.mpd_explore.specs.Walk.{Run, walk}

@@ -1,7 +1,7 @@
 -- The number and the name of why a script is not split.
 use Rattle.std.specs.Prelude.{ℕ, List, codes}
-use Rattle.mpd_pieces.specs.declared.split.SplitFault.{SplitFault}
-use Rattle.mpd_pieces.specs.declared.split.SplitFault.TheVariants.{TooManyPieces, Memory}
+use Rattle.mpd_pieces.specs.declared.splitter.SplitFault.{SplitFault}
+use Rattle.mpd_pieces.specs.declared.splitter.SplitFault.TheVariants.{TooManyPieces, Memory}
 
 abbrev pub split_fault_number : SplitFault → ℕ
 split_fault_number TooManyPieces = 31

@@ -1,7 +1,7 @@
 -- What the pieces of a walk say of the whole.
 use Rattle.std.specs.Prelude.{◌≡◌, ℕ, flat_map, map, false}
 use Rattle.std.specs.List.{AllByRecursion}
-use Rattle.mpd_model.specs.World.{World}
+use Rattle.mpd_model.specs.steps.World.{World}
 use Rattle.mpd_explore.specs.declared.report.Limits.{Limits}
 use Rattle.mpd_explore.specs.Sleeping.{walk_of}
 use Rattle.mpd_explore.specs.Report.{shown, listed, left_out}

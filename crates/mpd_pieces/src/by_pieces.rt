@@ -2,20 +2,19 @@
 
 ghost use Rattle.std.specs.Prelude.{◌≡◌, ◌+◌, ◌<◌, ◌≤◌, ◌++◌, ◌||◌, ◌&&◌, nat_lt, false, map, drop, IfOk, OnOk, IsErrOf, length, string_bytes};
 ghost use Rattle.std.specs.List.{AllByRecursion};
-ghost use Rattle.mpd_model.specs.Trail.{kept, IsReached};
+ghost use Rattle.mpd_model.specs.runs.Trail.{done_steps, IsReached};
 ghost use Rattle.mpd_trail.specs.Views.{standing_of};
 ghost use Rattle.mpd_explore.specs.Report.{any_bad};
 ghost use Rattle.mpd_explore.specs.WitnessTexts.{witness_texts};
 ghost use Rattle.mpd_pieces.specs.Pieces.{Reaches, pieces, walk_at, part, part_left, split_report, split_more};
 ghost use Rattle.mpd_pieces.specs.Along.{choices_of, have_run, report_of, more_of};
 
-use crate::explore_at::explore_at;
-use crate::split::{PIECES_MAX, Piece, SplitFault, split};
-use mpd_explore::report::{Limits, Report};
-use mpd_explore::watch::{Unwatched, Watch};
-use mpd_model::limits::STEPS_MAX;
-use mpd_policy::decide::decisions_can_be_followed;
-use mpd_trail::debugger::Debugger;
+use crate::piece_explorer::explore_at;
+use crate::splitter::{PIECES_MAX, Piece, SplitFault, split};
+use mpd_explore::{Limits, Report, Unwatched, Watch};
+use mpd_model::STEPS_MAX;
+use mpd_policy::decisions_can_be_followed;
+use mpd_trail::Debugger;
 use std::alloc::{AllocError, Global};
 
 /// Whether a report is to end behind what was found.
@@ -56,7 +55,7 @@ fn add_part<W: Watch>(
     requires reaches { Reaches limits.fuel piece.now.choices debugger.old.world }
     ensures leaves { OnOk result (report.new.leaves.items ≡ report.old.leaves.items ++ part limits piece.now.choices debugger.old.world) }
     ensures more { OnOk result (report.new.more ≡ (report.old.more || part_left limits piece.now.choices debugger.old.world)) }
-    ensures texts { OnOk result (map string_bytes report.new.witnesses.items ≡ map string_bytes report.old.witnesses.items ++ witness_texts limits.witnesses (kept debugger.old.trail) limits.fuel debugger.old.world (part limits piece.now.choices debugger.old.world)) }
+    ensures texts { OnOk result (map string_bytes report.new.witnesses.items ≡ map string_bytes report.old.witnesses.items ++ witness_texts limits.witnesses (done_steps debugger.old.trail) limits.fuel debugger.old.world (part limits piece.now.choices debugger.old.world)) }
     ensures last { IfOk result (λ last. last ≡ (limits.until_bad && any_bad (part limits piece.now.choices debugger.old.world))) }
     ensures trail { debugger.new.trail ≡ debugger.old.trail }
     ensures world { debugger.new.world ≡ debugger.old.world }
@@ -178,7 +177,7 @@ fn explore_pieces<W: Watch>(
     requires reaches { AllByRecursion (λ cs. Reaches limits.fuel cs debugger.old.world) (choices_of pieces.now) }
     ensures leaves { IfOk result (λ r. r.leaves.items ≡ report_of limits debugger.old.world pieces.now) }
     ensures more { IfOk result (λ r. r.more ≡ more_of limits debugger.old.world pieces.now) }
-    ensures texts { IfOk result (λ r. map string_bytes r.witnesses.items ≡ witness_texts limits.witnesses (kept debugger.old.trail) limits.fuel debugger.old.world r.leaves.items) }
+    ensures texts { IfOk result (λ r. map string_bytes r.witnesses.items ≡ witness_texts limits.witnesses (done_steps debugger.old.trail) limits.fuel debugger.old.world r.leaves.items) }
     ensures trail { debugger.new.trail ≡ debugger.old.trail }
     ensures world { debugger.new.world ≡ debugger.old.world }
     ensures reached { IsReached (standing_of debugger.new) }
@@ -217,7 +216,7 @@ pub fn explore_by_pieces<W: Watch>(
     requires fits { debugger.old.trail.depth + limits.fuel ≤ STEPS_MAX }
     ensures leaves { IfOk result (λ r. r.leaves.items ≡ split_report choices limits debugger.old.world) }
     ensures more { IfOk result (λ r. r.more ≡ split_more choices limits debugger.old.world) }
-    ensures texts { IfOk result (λ r. map string_bytes r.witnesses.items ≡ witness_texts limits.witnesses (kept debugger.old.trail) limits.fuel debugger.old.world r.leaves.items) }
+    ensures texts { IfOk result (λ r. map string_bytes r.witnesses.items ≡ witness_texts limits.witnesses (done_steps debugger.old.trail) limits.fuel debugger.old.world r.leaves.items) }
     ensures few { OnOk result (length (pieces choices limits.fuel debugger.old.world) ≤ PIECES_MAX) }
     ensures many { IsErrOf result SplitFault.TooManyPieces → PIECES_MAX < length (pieces choices limits.fuel debugger.old.world) }
     ensures trail { debugger.new.trail ≡ debugger.old.trail }

@@ -1,8 +1,8 @@
 //! Following choices from where a debugger stands, and coming back.
 
 ghost use Rattle.std.specs.Prelude.{◌≡◌, ◌+◌, ◌-◌, ◌<◌, ◌≤◌, IfOk, OnOk, OnErr, [], length, drop};
-ghost use Rattle.mpd_model.specs.Decisions.{decision};
-ghost use Rattle.mpd_model.specs.Trail.{gone_back, forgotten, IsReached};
+ghost use Rattle.mpd_model.specs.runs.Decisions.{decision};
+ghost use Rattle.mpd_model.specs.runs.Trail.{gone_back, forgotten, IsReached};
 ghost use Rattle.mpd_trail.specs.Views.{standing_of};
 ghost use Rattle.mpd_explore.specs.Search.{AllEnabled};
 ghost use Rattle.mpd_pieces.specs.Pieces.{Reaches};
@@ -10,10 +10,9 @@ ghost use Rattle.mpd_pieces.specs.Along.{Beyond, Going};
 ghost use Rattle.mpd_pieces.specs.Slept.{asleep_there};
 
 use crate::sleep::Sleep;
-use mpd_model::decision::{Decision, StepList};
-use mpd_model::limits::STEPS_MAX;
-use mpd_policy::decide::{decide, decisions_can_be_followed};
-use mpd_trail::debugger::Debugger;
+use mpd_model::{Decision, STEPS_MAX, StepList};
+use mpd_policy::{decide, decisions_can_be_followed};
+use mpd_trail::Debugger;
 use std::alloc::{AllocError, Global};
 
 /// Takes steps back down to a depth, and keeps no undone step.

@@ -6,7 +6,7 @@ ghost use Rattle.mpd_explore.specs.Sleeping.{same_match};
 ghost use Rattle.mpd_pieces.specs.Along.{sleeping_behind};
 ghost use Rattle.mpd_pieces.specs.Slept.{asleep_there};
 
-use mpd_model::step::Step;
+use mpd_model::Step;
 use std::alloc::{AllocError, Global};
 
 /// The matches that are asleep, those of the last choice last, and whether a match was taken that was asleep: then no run goes there.

@@ -5,11 +5,11 @@ use Rattle.mpd_model.specs.declared.breakpoint.Break.{Break}
 use Rattle.mpd_model.specs.declared.breakpoint.Stop.{Stop}
 use Rattle.mpd_model.specs.declared.breakpoint.Cause.{Cause}
 use Rattle.mpd_model.specs.declared.breakpoint.Cause.TheVariants as for
-use Rattle.mpd_model.specs.Program.{Program}
-use Rattle.mpd_model.specs.World.{World}
-use Rattle.mpd_model.specs.Trail.{Trail, Standing, IsReached, taken_back, gone_back, world_of}
-use Rattle.mpd_model.specs.Breakpoints.{break_at, lowest_mark}
-use Rattle.mpd_model.specs.Running.{world_at, mark_of, mark_at, one_back, ran_back}
+use Rattle.mpd_model.specs.script.Program.{Program}
+use Rattle.mpd_model.specs.steps.World.{World}
+use Rattle.mpd_model.specs.runs.Trail.{Trail, Standing, IsReached, taken_back, gone_back, world_of}
+use Rattle.mpd_model.specs.runs.Breakpoints.{break_at, lowest_mark}
+use Rattle.mpd_model.specs.runs.Running.{world_at, mark_of, mark_at, one_back, ran_back}
 use Rattle.mpd_policy.specs.declared.marks.Watched.{Watched}
 use Rattle.mpd_policy.specs.declared.marks.Watched.TheVariants.{Nothing}
 use Rattle.mpd_policy.specs.Places.{watched_at, lowest_told, lowest_changed, lower}

@@ -6,11 +6,11 @@ use Rattle.mpd_model.specs.declared.step.Step.{Step}
 use Rattle.mpd_model.specs.declared.call.CallKind.{CallKind}
 use Rattle.mpd_model.specs.declared.call.CallKind.TheVariants.{Recv}
 use Rattle.mpd_model.specs.declared.decision.Decision.TheVariants.{Leaf}
-use Rattle.mpd_model.specs.World.{World, Board, call_id, kind_at, call_numbers, rank_numbers, is_free, receives}
-use Rattle.mpd_model.specs.Next.{next, is_enabled, enabled, steps_of}
-use Rattle.mpd_model.specs.Outcomes.{ending, is_stuck, outcome}
-use Rattle.mpd_model.specs.Why.{first_in, or_else}
-use Rattle.mpd_model.specs.Decisions.{is_local, is_release, is_wake, any_rank, is_of, names_source, takes_any, is_named_match, is_open_match, first_enabled, forced_step, open_matches, any_choices, or_those, choices, chosen_from, decided, decision, CanFollow}
+use Rattle.mpd_model.specs.steps.World.{World, Board, call_id, kind_at, call_numbers, rank_numbers, is_free, receives}
+use Rattle.mpd_model.specs.steps.Next.{next, is_enabled, enabled, steps_of}
+use Rattle.mpd_model.specs.steps.Outcomes.{ending, is_stuck, outcome}
+use Rattle.mpd_model.specs.steps.Why.{first_in, or_else}
+use Rattle.mpd_model.specs.runs.Decisions.{is_local, is_release, is_wake, any_rank, is_of, names_source, takes_any, is_named_match, is_open_match, first_enabled, forced_step, open_matches, any_choices, or_those, choices, chosen_from, decided, decision, CanFollow}
 use Rattle.mpd_match.specs.Matches.{matches_with, matches_at, matches_on}
 use Rattle.mpd_match.specs.Picked.{picked_with, picked_at}
 use Rattle.std.proofs.lemmas.Bool.{cases_Bool as bool_tells}

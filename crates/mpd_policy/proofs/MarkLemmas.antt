@@ -11,10 +11,10 @@ use Rattle.mpd_model.specs.declared.call.Activity.TheVariants.{Running, Blocked,
 use Rattle.mpd_model.specs.declared.step.Step.{Step}
 use Rattle.mpd_model.specs.declared.step.CallId.{CallId}
 use Rattle.mpd_model.specs.declared.call.Call.{Call}
-use Rattle.mpd_model.specs.Program.{Program}
-use Rattle.mpd_model.specs.World.{World, RankWorld, Board, call_at}
-use Rattle.mpd_model.specs.Outcomes.{first_number}
-use Rattle.mpd_model.specs.Breakpoints.{is_number, on_line, is_running, comes_at, held_at, cell_at, same_value, call_held, handle_at, same_number, issued_on, line_marks, match_marks, marked_by, break_at, lowest_mark}
+use Rattle.mpd_model.specs.script.Program.{Program}
+use Rattle.mpd_model.specs.steps.World.{World, RankWorld, Board, call_at}
+use Rattle.mpd_model.specs.steps.Outcomes.{first_number}
+use Rattle.mpd_model.specs.runs.Breakpoints.{is_number, on_line, is_running, comes_at, held_at, cell_at, same_value, call_held, handle_at, same_number, issued_on, line_marks, match_marks, marked_by, break_at, lowest_mark}
 use Rattle.mpd_match.proofs.Matches.{any_from, any_on, any_now}
 use Rattle.mpd_rank.specs.Views.{RankView, rank_of}
 use Rattle.mpd_policy.specs.declared.marks.Watched.{Watched}

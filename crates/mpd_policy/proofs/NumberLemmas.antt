@@ -4,11 +4,11 @@ use Rattle.std.proofs.lemmas.Bool.{lt-ltb, le-ltb}
 use Rattle.std.specs.List.{filter, range_with_len}
 use Rattle.mpd_model.specs.declared.step.Step.{Step}
 use Rattle.mpd_model.specs.declared.breakpoint.Break.{Break}
-use Rattle.mpd_model.specs.Program.{Program}
-use Rattle.mpd_model.specs.World.{World}
-use Rattle.mpd_model.specs.Breakpoints.{break_at, marked_by, lowest_mark}
-use Rattle.mpd_model.specs.Running.{mark_of}
-use Rattle.mpd_model.specs.Why.{first_in}
+use Rattle.mpd_model.specs.script.Program.{Program}
+use Rattle.mpd_model.specs.steps.World.{World}
+use Rattle.mpd_model.specs.runs.Breakpoints.{break_at, marked_by, lowest_mark}
+use Rattle.mpd_model.specs.runs.Running.{mark_of}
+use Rattle.mpd_model.specs.steps.Why.{first_in}
 use Rattle.mpd_policy.specs.Places.{lower}
 
 abbrev pub number_from : (ℕ → Bool) → ℕ → ℕ → Option ℕ

@@ -4,7 +4,7 @@ use Rattle.std.proofs.lemmas.List.{get_or_past, set_past, get_or-set_other, get_
 use Rattle.std.proofs.lemmas.Bool.{cases_lt}
 use Rattle.mpd_model.specs.declared.limits.TheConstants.{BREAKS_MAX}
 use Rattle.mpd_model.specs.declared.breakpoint.Break.{Break}
-use Rattle.mpd_model.specs.Breakpoints.{no_breaks, break_at}
+use Rattle.mpd_model.specs.runs.Breakpoints.{no_breaks, break_at}
 use Rattle.mpd_policy.specs.Places.{Uses}
 
 none_there : (n : ℕ) → break_at no_breaks n ≡ None

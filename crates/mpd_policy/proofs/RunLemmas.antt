@@ -12,19 +12,19 @@ use Rattle.mpd_model.specs.declared.breakpoint.Stop.{Stop}
 use Rattle.mpd_model.specs.declared.breakpoint.Cause.{Cause}
 use Rattle.mpd_model.specs.declared.breakpoint.Cause.TheVariants as for
 use Rattle.mpd_model.specs.declared.call.Mode.{Mode}
-use Rattle.mpd_model.specs.Program.{Program}
-use Rattle.mpd_model.specs.World.{World}
-use Rattle.mpd_model.specs.Next.{next, fold}
-use Rattle.mpd_model.specs.Outcomes.{is_stuck}
-use Rattle.mpd_model.specs.Trail.{Trail, Standing, IsReached, IsRun, applied, kept, gone_back, forgotten, with_steps, world_of}
-use Rattle.mpd_model.specs.Decisions.{forced_step, choices, chosen_from, CanFollow}
-use Rattle.mpd_model.specs.Breakpoints.{lowest_mark}
-use Rattle.mpd_model.specs.Running.{Ran, ran_along, ran_by, ran_taking, at_most, stopped, behind, stop_of, all_applied}
+use Rattle.mpd_model.specs.script.Program.{Program}
+use Rattle.mpd_model.specs.steps.World.{World}
+use Rattle.mpd_model.specs.steps.Next.{next, fold}
+use Rattle.mpd_model.specs.steps.Outcomes.{is_stuck}
+use Rattle.mpd_model.specs.runs.Trail.{Trail, Standing, IsReached, IsRun, applied, done_steps, gone_back, forgotten, with_steps, world_of}
+use Rattle.mpd_model.specs.runs.Decisions.{forced_step, choices, chosen_from, CanFollow}
+use Rattle.mpd_model.specs.runs.Breakpoints.{lowest_mark}
+use Rattle.mpd_model.specs.runs.Running.{Ran, ran_along, ran_by, ran_taking, at_most, stopped, behind, stop_of, all_applied}
 use Rattle.mpd_trail.proofs.KeptLemmas.{fold-append}
-use Rattle.mpd_policy.specs.declared.run.Ahead.{Ahead}
-use Rattle.mpd_policy.specs.declared.run.Ahead.TheVariants.{Take, Halt}
-use Rattle.mpd_policy.specs.declared.run.Taking.{Taking}
-use Rattle.mpd_policy.specs.declared.run.Taking.TheVariants as taking
+use Rattle.mpd_policy.specs.declared.runs.Ahead.{Ahead}
+use Rattle.mpd_policy.specs.declared.runs.Ahead.TheVariants.{Take, Halt}
+use Rattle.mpd_policy.specs.declared.runs.Taking.{Taking}
+use Rattle.mpd_policy.specs.declared.runs.Taking.TheVariants as taking
 use Rattle.mpd_policy.specs.Ahead.{comes, forced_in, ahead_of, Lists, Wants, ran_from, Ended, Broken}
 use Rattle.mpd_policy.proofs.StepKinds.{decided_none}
 use Rattle.mpd_policy.proofs.Followed.{leaf_where, nothing_enabled, enabled_where, stuck_where}
@@ -166,7 +166,7 @@ pub record Going (t : Taking) (places : List (Option Break)) (max : ℕ) (old no
   pub trail : now.trail ≡ all_applied old.trail taken
   pub world : fold old.world taken ≡ Some now.world
   pub total : ran_from t places max old ≡ behind_all taken (ran_along (comes t) old.trail.program places (max - made) now.trail.depth now.world)
-  pub begins : take old.trail.depth (kept now.trail) ≡ kept old.trail
+  pub begins : take old.trail.depth (done_steps now.trail) ≡ done_steps old.trail
   pub deeper : old.trail.depth ≤ now.trail.depth
   pub program : now.trail.program ≡ old.trail.program
   pub mode : now.trail.mode ≡ old.trail.mode
@@ -213,11 +213,11 @@ total_more t places max old now new made a x mark g lt is takes leads marks =
 kept_more : (n : ℕ) (xs ys total : List Step) (a : Step) → n ≤ length xs → take n xs ≡ total → ys ≡ xs ++ a ∷ [] → take n ys ≡ total
 kept_more n xs ys total a le e more = ap (take n) more ∙ take-append-le n xs (a ∷ []) le ∙ e
 
-kept_long : (s : Standing) → IsReached s → length (kept s.trail) ≡ s.trail.depth
-kept_long s r = omega (arith, length-take s.trail.depth s.trail.steps, r.within)
+done_steps_long : (s : Standing) → IsReached s → length (done_steps s.trail) ≡ s.trail.depth
+done_steps_long s r = omega (arith, length-take s.trail.depth s.trail.steps, r.within)
 
 pub going_more : (t : Taking) (places : List (Option Break)) (max : ℕ) (old now new : Standing) (made : ℕ) (a : Step) (x : Ahead) (mark : Option ℕ) → Going t places max old now made → IsReached now → made < max
-    → x ≡ ahead_of now.trail.depth (comes t now.world) → x ≡ Take a → new.trail ≡ applied now.trail a → next now.world a ≡ Some new.world → kept new.trail ≡ kept now.trail ++ a ∷ []
+    → x ≡ ahead_of now.trail.depth (comes t now.world) → x ≡ Take a → new.trail ≡ applied now.trail a → next now.world a ≡ Some new.world → done_steps new.trail ≡ done_steps now.trail ++ a ∷ []
     → mark ≡ lowest_mark now.trail.program places now.world a new.world → mark ≡ None → Going t places max old new (made + 1)
 going_more t places max old now new made a x mark g r lt is takes notes leads steps marks none =
     let s : Program = old.trail.program in
@@ -234,7 +234,7 @@ going_more t places max old now new made a x mark g r lt is takes notes leads st
           ∙ ap (λ (xs : List Step). made_of xs (ran_along (comes t) s places (max - (made + 1)) (now.trail.depth + 1) new.world).cause)
           (sym (append_assoc g.taken (a ∷ []) (ran_along (comes t) s places (max - (made + 1)) (now.trail.depth + 1) new.world).steps))
           ∙ ap (λ (d : ℕ). behind_all (g.taken ++ a ∷ []) (ran_along (comes t) s places (max - (made + 1)) d new.world)) (sym deep);
-      begins = kept_more old.trail.depth (kept now.trail) (kept new.trail) (kept old.trail) a (omega (arith, kept_long now r, g.deeper)) g.begins steps;
+      begins = kept_more old.trail.depth (done_steps now.trail) (done_steps new.trail) (done_steps old.trail) a (omega (arith, done_steps_long now r, g.deeper)) g.begins steps;
       deeper = omega (arith, g.deeper, deep);
       program = ap (λ (t : Trail). t.program) notes ∙ g.program;
       mode = ap (λ (t : Trail). t.mode) notes ∙ g.mode;
@@ -310,7 +310,7 @@ wants_listed taking.Single n w h = inr h
 pub going_broken : (t : Taking) (places : List (Option Break)) (max : ℕ) (old now new : Standing) (made : ℕ) (a : Step) (x : Ahead) → Going t places max old now made → made < max → x ≡ ahead_of now.trail.depth (comes t now.world) → x ≡ Take a
     → new.trail ≡ now.trail → Broken t places max old new
 going_broken t places max old now new made a x g lt is takes same = record {
-  begins = ap (λ (t : Trail). take old.trail.depth (kept t)) same ∙ g.begins;
+  begins = ap (λ (t : Trail). take old.trail.depth (done_steps t)) same ∙ g.begins;
   deeper = subst (λ (t : Trail). old.trail.depth ≤ t.depth) (sym same) g.deeper;
   program = ap (λ (t : Trail). t.program) same ∙ g.program;
   mode = ap (λ (t : Trail). t.mode) same ∙ g.mode;
@@ -341,7 +341,7 @@ take_less (suc n) zero xs le = absurd (omega (arith, le))
 take_less (suc n) (suc m) [] le = refl
 take_less (suc n) (suc m) (x ∷ xs) le = ap (λ ys. x ∷ ys) (take_less n m xs (omega (arith, le)))
 
-pub back_begins : (t : Taking) (places : List (Option Break)) (max : ℕ) (old now : Standing) (steps : List Step) → Broken t places max old now → steps ≡ old.trail.steps → take old.trail.depth steps ≡ take old.trail.depth (kept now.trail)
+pub back_begins : (t : Taking) (places : List (Option Break)) (max : ℕ) (old now : Standing) (steps : List Step) → Broken t places max old now → steps ≡ old.trail.steps → take old.trail.depth steps ≡ take old.trail.depth (done_steps now.trail)
 back_begins t places max old now steps b same = ap (take old.trail.depth) same ∙ sym b.begins
 
 pub back_run : (t : Taking) (places : List (Option Break)) (max : ℕ) (old now : Standing) (steps : List Step) → Broken t places max old now → IsReached old → steps ≡ old.trail.steps → IsRun now.trail.program now.trail.mode steps
@@ -373,10 +373,10 @@ pub ruleset going = (going_begins, going_more, going_marked, going_halted, going
 
 -- ---- what was set aside
 
-pub saved_begins : {V : Type 0} (t : Taking) (places : List (Option Break)) (max : ℕ) (f : V → List Step) (old now : Standing) (d : ℕ) (o : Option V) → d ≡ old.trail.depth → Broken t places max old now → IfSome o (λ v. f v ≡ old.trail.steps) → IfSome o (λ v. take d (f v) ≡ take d (kept now.trail))
+pub saved_begins : {V : Type 0} (t : Taking) (places : List (Option Break)) (max : ℕ) (f : V → List Step) (old now : Standing) (d : ℕ) (o : Option V) → d ≡ old.trail.depth → Broken t places max old now → IfSome o (λ v. f v ≡ old.trail.steps) → IfSome o (λ v. take d (f v) ≡ take d (done_steps now.trail))
 saved_begins t places max f old now d None e b h = tt
 saved_begins t places max f old now d (Some v) e b h =
-    ap (λ (n : ℕ). take n (f v)) e ∙ back_begins t places max old now (f v) b h ∙ ap (λ (n : ℕ). take n (kept now.trail)) (sym e)
+    ap (λ (n : ℕ). take n (f v)) e ∙ back_begins t places max old now (f v) b h ∙ ap (λ (n : ℕ). take n (done_steps now.trail)) (sym e)
 
 pub saved_run : {V : Type 0} (t : Taking) (places : List (Option Break)) (max : ℕ) (f : V → List Step) (old now : Standing) (o : Option V) → Broken t places max old now → IsReached old → IfSome o (λ v. f v ≡ old.trail.steps) → IfSome o (λ v. IsRun now.trail.program now.trail.mode (f v))
 saved_run t places max f old now None b r h = tt

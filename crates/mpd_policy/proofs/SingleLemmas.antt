@@ -3,11 +3,11 @@ use Rattle.std.proofs.Common.{◌≡◌, ◌≢◌, Option, Some, None, List, []
 use Rattle.mpd_model.specs.declared.step.Step.{Step}
 use Rattle.mpd_model.specs.declared.decision.Decision.{Decision}
 use Rattle.mpd_model.specs.declared.decision.Decision.TheVariants.{Forced, Choice, Leaf}
-use Rattle.mpd_model.specs.World.{World}
-use Rattle.mpd_model.specs.Outcomes.{ending}
-use Rattle.mpd_model.specs.Decisions.{forced_step, choices, chosen_from, decided, decision, CanFollow}
-use Rattle.mpd_policy.specs.declared.run.Taking.{Taking}
-use Rattle.mpd_policy.specs.declared.run.Taking.TheVariants as taking
+use Rattle.mpd_model.specs.steps.World.{World}
+use Rattle.mpd_model.specs.steps.Outcomes.{ending}
+use Rattle.mpd_model.specs.runs.Decisions.{forced_step, choices, chosen_from, decided, decision, CanFollow}
+use Rattle.mpd_policy.specs.declared.runs.Taking.{Taking}
+use Rattle.mpd_policy.specs.declared.runs.Taking.TheVariants as taking
 use Rattle.mpd_policy.specs.Single.{sole, single, only_step, forced_or}
 use Rattle.mpd_policy.specs.Ahead.{comes, forced_in}
 use Rattle.mpd_policy.proofs.StepKinds.{decided_some, decided_none}

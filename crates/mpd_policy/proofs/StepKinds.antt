@@ -7,11 +7,11 @@ use Rattle.mpd_model.specs.declared.step.CallId.{CallId}
 use Rattle.mpd_model.specs.declared.step.Step.{Step}
 use Rattle.mpd_model.specs.declared.step.Step.TheVariants.{Local, Match, Wake, WakeAny, Release}
 use Rattle.mpd_model.specs.declared.outcome.Outcome.{Outcome}
-use Rattle.mpd_model.specs.World.{World, Board, call_id, kind_at, last_call, call_numbers, rank_numbers, eligible}
-use Rattle.mpd_model.specs.Next.{is_enabled, enabled, requests_of}
-use Rattle.mpd_model.specs.Outcomes.{ending}
-use Rattle.mpd_model.specs.Why.{first_in, or_else}
-use Rattle.mpd_model.specs.Decisions.{is_local, is_release, is_wake, any_rank, is_of, is_named_match, is_open_match, first_enabled, forced_step, open_matches, any_choices, or_those, choices, chosen_from, decided, decision}
+use Rattle.mpd_model.specs.steps.World.{World, Board, call_id, kind_at, last_call, call_numbers, rank_numbers, eligible}
+use Rattle.mpd_model.specs.steps.Next.{is_enabled, enabled, requests_of}
+use Rattle.mpd_model.specs.steps.Outcomes.{ending}
+use Rattle.mpd_model.specs.steps.Why.{first_in, or_else}
+use Rattle.mpd_model.specs.runs.Decisions.{is_local, is_release, is_wake, any_rank, is_of, is_named_match, is_open_match, first_enabled, forced_step, open_matches, any_choices, or_those, choices, chosen_from, decided, decision}
 use Rattle.mpd_model.specs.declared.decision.Decision.{Decision}
 use Rattle.mpd_model.specs.declared.decision.Decision.TheVariants.{Forced, Choice, Leaf}
 use Rattle.mpd_match.specs.Matches.{matches_from, matches_with, matches_at, matches_on}

@@ -6,16 +6,16 @@ use Rattle.mpd_model.specs.declared.decision.Decision.TheVariants as next_is
 use Rattle.mpd_model.specs.declared.breakpoint.Break.{Break}
 use Rattle.mpd_model.specs.declared.breakpoint.Stop.{Stop}
 use Rattle.mpd_model.specs.declared.breakpoint.Cause.TheVariants as for
-use Rattle.mpd_model.specs.World.{World}
+use Rattle.mpd_model.specs.steps.World.{World}
 use Rattle.mpd_model.specs.declared.step.Step.{Step}
-use Rattle.mpd_model.specs.Next.{fold}
-use Rattle.mpd_model.specs.Decisions.{forced_step, choices, decision}
-use Rattle.mpd_model.specs.Trail.{Standing, kept}
-use Rattle.mpd_model.specs.Running.{Ran, ran_along, stop_of, all_applied}
-use Rattle.mpd_policy.specs.declared.run.Ahead.{Ahead}
-use Rattle.mpd_policy.specs.declared.run.Ahead.TheVariants.{Take, Halt}
-use Rattle.mpd_policy.specs.declared.run.Taking.{Taking}
-use Rattle.mpd_policy.specs.declared.run.Taking.TheVariants as taking
+use Rattle.mpd_model.specs.steps.Next.{fold}
+use Rattle.mpd_model.specs.runs.Decisions.{forced_step, choices, decision}
+use Rattle.mpd_model.specs.runs.Trail.{Standing, done_steps}
+use Rattle.mpd_model.specs.runs.Running.{Ran, ran_along, stop_of, all_applied}
+use Rattle.mpd_policy.specs.declared.runs.Ahead.{Ahead}
+use Rattle.mpd_policy.specs.declared.runs.Ahead.TheVariants.{Take, Halt}
+use Rattle.mpd_policy.specs.declared.runs.Taking.{Taking}
+use Rattle.mpd_policy.specs.declared.runs.Taking.TheVariants as taking
 use Rattle.mpd_policy.specs.Single.{narrowed}
 
 -- what comes next, by what a run takes
@@ -55,7 +55,7 @@ pub record Ended (t : Taking) (places : List (Option Break)) (max : ℕ) (old ne
 
 -- a run that was refused memory on its way: the steps before it still stand, and it was to make a step at least, or to list candidates
 pub record Broken (t : Taking) (places : List (Option Break)) (max : ℕ) (old new : Standing) : Type 0 where
-  pub begins : take old.trail.depth (kept new.trail) ≡ kept old.trail
+  pub begins : take old.trail.depth (done_steps new.trail) ≡ done_steps old.trail
   pub deeper : old.trail.depth ≤ new.trail.depth
   pub program : new.trail.program ≡ old.trail.program
   pub mode : new.trail.mode ≡ old.trail.mode

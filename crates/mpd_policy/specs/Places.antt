@@ -6,10 +6,10 @@ use Rattle.mpd_model.specs.declared.limits.TheConstants.{BREAKS_MAX}
 use Rattle.mpd_model.specs.declared.step.Step.{Step}
 use Rattle.mpd_model.specs.declared.breakpoint.Break.{Break}
 use Rattle.mpd_model.specs.declared.breakpoint.Break.TheVariants.{Line, Change, Handle, Match}
-use Rattle.mpd_model.specs.Program.{Program}
-use Rattle.mpd_model.specs.World.{World}
-use Rattle.mpd_model.specs.Why.{first_in}
-use Rattle.mpd_model.specs.Breakpoints.{break_at, cell_at, handle_at, line_marks, match_marks}
+use Rattle.mpd_model.specs.script.Program.{Program}
+use Rattle.mpd_model.specs.steps.World.{World}
+use Rattle.mpd_model.specs.steps.Why.{first_in}
+use Rattle.mpd_model.specs.runs.Breakpoints.{break_at, cell_at, handle_at, line_marks, match_marks}
 use Rattle.mpd_policy.specs.declared.marks.Watched.{Watched}
 use Rattle.mpd_policy.specs.declared.marks.Watched.TheVariants.{Nothing, Value, Call}
 

@@ -4,10 +4,10 @@ use Rattle.mpd_model.specs.declared.step.Step.{Step}
 use Rattle.mpd_model.specs.declared.decision.Decision.{Decision}
 use Rattle.mpd_model.specs.declared.decision.Decision.TheVariants.{Forced, Choice, Leaf}
 use Rattle.mpd_model.specs.declared.breakpoint.Break.{Break}
-use Rattle.mpd_model.specs.Program.{Program}
-use Rattle.mpd_model.specs.World.{World}
-use Rattle.mpd_model.specs.Decisions.{decision}
-use Rattle.mpd_model.specs.Running.{Ran, ran_along}
+use Rattle.mpd_model.specs.script.Program.{Program}
+use Rattle.mpd_model.specs.steps.World.{World}
+use Rattle.mpd_model.specs.runs.Decisions.{decision}
+use Rattle.mpd_model.specs.runs.Running.{Ran, ran_along}
 
 -- the step of a list of one
 abbrev pub sole : List Step → Option Step

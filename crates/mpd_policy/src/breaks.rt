@@ -1,10 +1,9 @@
 //! Breakpoints in numbered places.
 
 ghost use Rattle.std.specs.Prelude.{◌≡◌, ℕ, ◌<◌, ◌≤◌, length, IfSome, IfNone, Some, None, true, is_some, slice_set};
-ghost use Rattle.mpd_model.specs.Breakpoints.{no_breaks, break_at, lowest_free};
+ghost use Rattle.mpd_model.specs.runs.Breakpoints.{no_breaks, break_at, lowest_free};
 
-use mpd_model::breakpoint::Break;
-use mpd_model::limits::BREAKS_MAX;
+use mpd_model::{BREAKS_MAX, Break};
 use std::marker::Model;
 
 /// 64 places, numbered from 0, each with a breakpoint or free; contracts see them as a list.

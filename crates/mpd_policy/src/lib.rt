@@ -2,6 +2,10 @@
 #![tactic(auto)]
 
 pub mod breaks;
-pub mod decide;
+pub mod decisions;
 mod marks;
-pub mod run;
+pub mod runs;
+
+pub use breaks::Breaks;
+pub use decisions::{decide, decisions_can_be_followed, forced_step, only_step};
+pub use runs::{run, run_back, run_on};

@@ -1,18 +1,15 @@
 //! Which breakpoint marks a step.
 
 ghost use Rattle.std.specs.Prelude.{◌≡◌, ℕ, slice_get, slice_index_or, not};
-ghost use Rattle.mpd_model.specs.Breakpoints as points;
-ghost use Rattle.mpd_model.specs.Breakpoints.{break_at, comes_at, cell_at, handle_at, line_marks, match_marks};
+ghost use Rattle.mpd_model.specs.runs.Breakpoints as points;
+ghost use Rattle.mpd_model.specs.runs.Breakpoints.{break_at, comes_at, cell_at, handle_at, line_marks, match_marks};
 ghost use Rattle.mpd_policy.specs.Places.{of_value, of_call, watched_by, watched_at, same_watched, told_by, changed_by, lowest_told, lowest_changed, lower};
 ghost use Rattle.mpd_policy.specs.declared.marks.Watched.TheVariants.{Nothing};
 
 use crate::breaks::Breaks;
-use mpd_code::code::Code;
-use mpd_core::state::Core;
-use mpd_model::breakpoint::Break;
-use mpd_model::call::Activity;
-use mpd_model::limits::BREAKS_MAX;
-use mpd_model::step::{CallId, Step};
+use mpd_code::Code;
+use mpd_core::Core;
+use mpd_model::{Activity, BREAKS_MAX, Break, CallId, Step};
 
 /// What a breakpoint watches.
 #[derive(Clone, Copy)]

@@ -4,7 +4,7 @@ use denote.Ref.{NamedLft}
 use Rattle.std.proofs.Crossing.{crosses}
 use Rattle.atomic_blocks.proofs.rows.shared.Seat.TheSendSync as seat
 use Rattle.mpd_device.specs.contracts.steps.Steps as Steps
-use Rattle.mpd_queue.specs.contracts.shown.Shown as Shown
+use Rattle.mpd_queue.specs.contracts.snapshot.Shown as Shown
 use Rattle.mpd_queue.specs.contracts.lists.Lists as Lists
 use Rattle.mpd_match.specs.contracts.side.Side as Side
 use Rattle.mpd_match.specs.contracts.board.Board as Board

@@ -1,9 +1,9 @@
 -- Reports in the places of their pieces.
 use Rattle.std.proofs.Common.{◌≡◌, ℕ, zero, suc, ◌<◌, List, [], ◌∷◌, ◌++◌, length, set, get_or, Option, Some, None, Result, Ok, Err, IfSome, IfOk, sym, subst, arith}
-use Rattle.mpd_model.specs.Trail.{Standing}
+use Rattle.mpd_model.specs.runs.Trail.{Standing}
 use Rattle.mpd_explore.specs.declared.report.Limits.{Limits}
 use Rattle.mpd_explore.specs.declared.report.Report.{Report}
-use Rattle.mpd_pieces.specs.declared.split.Piece.{Piece}
+use Rattle.mpd_pieces.specs.declared.splitter.Piece.{Piece}
 use Rattle.mpd_pool.specs.Parts.{IsPart, AtNumber, Filled, AllNone}
 
 -- ---- at a number

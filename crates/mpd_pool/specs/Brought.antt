@@ -3,10 +3,10 @@ use Rattle.std.specs.Prelude.{◌≡◌, true, false, List, [], ◌∷◌, lengt
 use Rattle.std.specs.declared.alloc.Global.{Global}
 use Rattle.atomic_blocks.specs.Lent.{RowsId}
 use Rattle.crossbeam_deque.specs.Handles.{view, IsPassOf}
-use Rattle.mpd_model.specs.Trail.{Standing}
+use Rattle.mpd_model.specs.runs.Trail.{Standing}
 use Rattle.mpd_trail.specs.Views.{standing_of}
 use Rattle.mpd_explore.specs.declared.report.Limits.{Limits}
-use Rattle.mpd_pieces.specs.declared.split.Piece.{Piece}
+use Rattle.mpd_pieces.specs.declared.splitter.Piece.{Piece}
 use Rattle.mpd_pool.specs.declared.work.Brought.{Brought}
 use Rattle.mpd_pool.specs.declared.work.Job.{Job}
 use Rattle.mpd_pool.specs.declared.work.Batch.{Batch}

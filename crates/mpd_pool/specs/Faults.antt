@@ -1,7 +1,7 @@
 -- The number and the name of why there is no report.
 use Rattle.std.specs.Prelude.{ℕ, List, codes}
-use Rattle.mpd_pool.specs.declared.check.PoolFault.{PoolFault}
-use Rattle.mpd_pool.specs.declared.check.PoolFault.TheVariants.{BadWorkers, TooManyPieces, Memory}
+use Rattle.mpd_pool.specs.declared.pool.PoolFault.{PoolFault}
+use Rattle.mpd_pool.specs.declared.pool.PoolFault.TheVariants.{BadWorkers, TooManyPieces, Memory}
 
 abbrev pub pool_fault_number : PoolFault → ℕ
 pool_fault_number BadWorkers = 35

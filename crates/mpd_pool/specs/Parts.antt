@@ -2,14 +2,14 @@
 use Rattle.std.specs.Prelude.{◌≡◌, ◌≤◌, ℕ, zero, suc, ◌+◌, Bool, true, false, List, [], ◌∷◌, length, take, map, string_bytes, Option, Some, None}
 use Rattle.std.specs.List.{AllByRecursion}
 use Rattle.mpd_model.specs.declared.limits.TheConstants.{STEPS_MAX}
-use Rattle.mpd_model.specs.Trail.{Standing, kept}
+use Rattle.mpd_model.specs.runs.Trail.{Standing, done_steps}
 use Rattle.mpd_explore.specs.declared.report.Limits.{Limits}
 use Rattle.mpd_explore.specs.declared.report.Leaf as leaf
 use Rattle.mpd_explore.specs.declared.report.Report.{Report}
 use Rattle.mpd_explore.specs.Report.{any_bad}
 use Rattle.mpd_explore.specs.Witness.{HasWitness}
 use Rattle.mpd_explore.specs.WitnessTexts.{witness_texts}
-use Rattle.mpd_pieces.specs.declared.split.Piece.{Piece}
+use Rattle.mpd_pieces.specs.declared.splitter.Piece.{Piece}
 use Rattle.mpd_pieces.specs.Pieces.{Reaches, part, part_left}
 use Rattle.mpd_pieces.specs.Along.{choices_of, parts, has_more, report_of, more_of}
 
@@ -27,11 +27,11 @@ CanExplore d l ps = CanBegin d l × AllByRecursion (λ cs. Reaches l.fuel cs d.w
 
 -- each leaf has a witness, from where the debugger stands
 abbrev pub HaveWitnesses : Standing → Limits → List leaf.Leaf → Type 0
-HaveWitnesses d l ls = AllByRecursion (HasWitness d.trail.program d.trail.mode (kept d.trail) l.fuel d.world) ls
+HaveWitnesses d l ls = AllByRecursion (HasWitness d.trail.program d.trail.mode (done_steps d.trail) l.fuel d.world) ls
 
 -- and these are their texts, where they are asked for
 abbrev pub HaveTexts : Standing → Limits → List leaf.Leaf → List (List ℕ) → Type 0
-HaveTexts d l ls texts = texts ≡ witness_texts l.witnesses (kept d.trail) l.fuel d.world ls
+HaveTexts d l ls texts = texts ≡ witness_texts l.witnesses (done_steps d.trail) l.fuel d.world ls
 
 -- the report of the runs that begin with these choices
 abbrev pub IsPart : Standing → Limits → List ℕ → Report → Type 0

@@ -1,18 +1,17 @@
 //! The reports of all pieces joined in their order.
 ghost use Rattle.std.specs.Prelude.{◌≡◌, ◌<◌, ◌+◌, ◌++◌, ◌||◌, List, [], length, map, IfOk, OnOk, IfSome, take, string_bytes};
-ghost use Rattle.mpd_model.specs.Trail.{Standing};
+ghost use Rattle.mpd_model.specs.runs.Trail.{Standing};
 ghost use Rattle.mpd_trail.specs.Views.{standing_of};
 ghost use Rattle.mpd_explore.specs.declared.report.Limits.{Limits};
-ghost use Rattle.mpd_pieces.specs.declared.split.Piece.{Piece};
+ghost use Rattle.mpd_pieces.specs.declared.splitter.Piece.{Piece};
 ghost use Rattle.mpd_pool.specs.Parts.{AtNumber, CanExplore, Filled, IsJoined, IsReport, Added};
 
 use crate::gate::Gate;
 use crate::work::{compute, ends_with};
-use mpd_explore::report::{Limits, Report};
-use mpd_pieces::by_pieces::{is_left, is_more};
-use mpd_pieces::split::Piece;
-use mpd_policy::decide::decisions_can_be_followed;
-use mpd_trail::debugger::Debugger;
+use mpd_explore::{Limits, Report};
+use mpd_pieces::{Piece, is_left, is_more};
+use mpd_policy::decisions_can_be_followed;
+use mpd_trail::Debugger;
 use std::alloc::{AllocError, Global};
 
 /// Takes what is in a place.

@@ -2,13 +2,12 @@
 ghost use Rattle.std.specs.Prelude.{◌≡◌, ◌<◌, ◌+◌, ◌^◌, ◌++◌, ℕ, Bool, List, length, map, IfOk, string_bytes};
 ghost use Rattle.std.specs.Thread.{IsSync};
 ghost use Rattle.mpd_model.specs.declared.step.Step.{Step};
-ghost use Rattle.mpd_model.specs.World.{World};
+ghost use Rattle.mpd_model.specs.steps.World.{World};
 ghost use Rattle.mpd_explore.specs.Printed.{lines_told, told_text};
 ghost use Rattle.mpd_explore.specs.ReportText.{report_text};
 ghost use Rattle.mpd_explore.specs.WitnessTexts.{witness_texts};
 
-use mpd_explore::print::{push_leaves, push_total};
-use mpd_explore::report::{Leaf, Report};
+use mpd_explore::{Leaf, Report, push_leaves, push_total};
 use std::alloc::{AllocError, Global};
 use std::marker::Sync;
 use std::thread::{Threads, join};

@@ -1,15 +1,15 @@
 //! A place for the report of each piece, by its number.
 ghost use Rattle.std.specs.Prelude.{◌≡◌, ◌<◌, true, List, All, IfOk, length};
 ghost use Rattle.crossbeam_deque.specs.Handles.{IsPassOf, worker_deque, worker_view};
-ghost use Rattle.mpd_model.specs.Trail.{Standing};
+ghost use Rattle.mpd_model.specs.runs.Trail.{Standing};
 ghost use Rattle.mpd_explore.specs.declared.report.Limits.{Limits};
-ghost use Rattle.mpd_pieces.specs.declared.split.Piece.{Piece};
+ghost use Rattle.mpd_pieces.specs.declared.splitter.Piece.{Piece};
 ghost use Rattle.mpd_pool.specs.Parts.{AtNumber, Filled, AllNone};
 ghost use Rattle.mpd_pool.specs.Brought.{AllRight};
 
 use crate::deque::{Given, Owner};
 use crate::work::{Batch, Brought};
-use mpd_explore::report::Report;
+use mpd_explore::Report;
 use std::alloc::{AllocError, Global};
 
 /// A place for the report of each piece, none of which is there.

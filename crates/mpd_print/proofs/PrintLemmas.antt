@@ -1,8 +1,8 @@
 -- What the loops that print go on with.
 use Rattle.std.proofs.Common.{◌≡◌, ℕ, zero, suc, ◌+◌, ◌-◌, ◌<◌, ◌≤◌, List, [], ◌∷◌, ◌++◌, length, get_or, append_assoc, refl, ap, sym, ◌∙◌, arith}
 use Rattle.std.specs.Prelude.{codes}
-use Rattle.mpd_model.specs.Tree.{Tree, block_of, statements, statements_in}
-use Rattle.mpd_model.specs.Canonical.{indent, else_text}
+use Rattle.mpd_model.specs.script.Tree.{Tree, block_of, statements, statements_in}
+use Rattle.mpd_model.specs.grammar.Canonical.{indent, else_text}
 
 -- no statement of a block has more statements than the block
 pub statements_at : (ts : List Tree) (i : ℕ) (d : Tree) → i < length ts → statements (get_or ts i d) ≤ statements_in (block_of ts)

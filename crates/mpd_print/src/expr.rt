@@ -1,12 +1,10 @@
 //! Prints expressions and places.
 
 ghost use Rattle.std.specs.Prelude.{◌≡◌, ◌≤◌, ◌++◌, OnOk, string_bytes};
-ghost use Rattle.mpd_model.specs.Written.{left_level};
-ghost use Rattle.mpd_model.specs.Canonical.{name_text, below, op_text, sign_text, term_text, whole_text, index_text, target_text};
+ghost use Rattle.mpd_model.specs.grammar.Written.{left_level};
+ghost use Rattle.mpd_model.specs.grammar.Canonical.{name_text, below, op_text, sign_text, term_text, whole_text, index_text, target_text};
 
-use mpd_model::expr::{BinaryOp, Expr, ExprNode, UnaryOp};
-use mpd_model::place::{Decl, Place};
-use mpd_model::stmt::Target;
+use mpd_model::{BinaryOp, Decl, Expr, ExprNode, Place, Target, UnaryOp};
 use std::alloc::AllocError;
 
 /// The level of an expression that stands in no other, of an index, and of what stands in parentheses: that of `||`.

@@ -2,11 +2,10 @@
 
 ghost use Rattle.std.specs.Prelude.{◌≡◌, ◌++◌, IfOk, OnOk, string_bytes};
 ghost use Rattle.std.specs.List.{flat_map};
-ghost use Rattle.mpd_model.specs.Canonical.{kind_word, size_text, decl_text, canonical};
+ghost use Rattle.mpd_model.specs.grammar.Canonical.{kind_word, size_text, decl_text, canonical};
 
 use crate::stmt::push_stmts;
-use mpd_model::place::{Decl, DeclKind};
-use mpd_model::script::Script;
+use mpd_model::{Decl, DeclKind, Script};
 use std::alloc::{AllocError, Global};
 
 /// The canonical text of a script. An `Err` is want of memory.

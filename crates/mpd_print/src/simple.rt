@@ -2,14 +2,13 @@
 
 ghost use Rattle.std.specs.Prelude.{◌≡◌, [], ◌∷◌, ◌++◌, Some, OnOk, string_bytes, codes};
 ghost use Rattle.mpd_model.specs.declared.stmt.Simple.TheVariants as st;
-ghost use Rattle.mpd_model.specs.Canonical.{whole_text, part_text, parts_text};
-ghost use Rattle.mpd_model.specs.Parts.{parts_of, send_parts, source_part, status_parts, recv_parts};
+ghost use Rattle.mpd_model.specs.grammar.Canonical.{whole_text, part_text, parts_text};
+ghost use Rattle.mpd_model.specs.script.Parts.{parts_of, send_parts, source_part, status_parts, recv_parts};
 
 use crate::expr::{push_expr, push_name, push_target};
-use mpd_model::expr::Expr;
-use mpd_model::place::Decl;
-use mpd_model::stmt::{
-    AssignStmt, IrecvStmt, IsendStmt, RecvStmt, SendStmt, Simple, StatusStmt, WaitanyStmt,
+use mpd_model::{
+    AssignStmt, Decl, Expr, IrecvStmt, IsendStmt, RecvStmt, SendStmt, Simple, StatusStmt,
+    WaitanyStmt,
 };
 use std::alloc::AllocError;
 

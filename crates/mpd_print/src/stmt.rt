@@ -2,14 +2,12 @@
 
 ghost use Rattle.std.specs.Prelude.{◌≡◌, ◌<◌, ◌≤◌, ◌+◌, ◌++◌, OnOk, string_bytes, codes};
 ghost use Rattle.mpd_model.specs.declared.limits.TheConstants.{STATEMENTS_MAX};
-ghost use Rattle.mpd_model.specs.Tree.{statements, statements_in, block_of};
-ghost use Rattle.mpd_model.specs.Canonical.{whole_text, indent, else_text, tree_text, block_text};
+ghost use Rattle.mpd_model.specs.script.Tree.{statements, statements_in, block_of};
+ghost use Rattle.mpd_model.specs.grammar.Canonical.{whole_text, indent, else_text, tree_text, block_text};
 
 use crate::expr::push_expr;
 use crate::simple::push_simple;
-use mpd_model::expr::Expr;
-use mpd_model::place::Decl;
-use mpd_model::stmt::{Stmt, StmtNode};
+use mpd_model::{Decl, Expr, Stmt, StmtNode};
 use std::alloc::AllocError;
 
 /// Adds two spaces for each open block.

@@ -2,9 +2,9 @@
 use Rattle.std.specs.Prelude.{ℕ, ◌+◌, List, Option, Some, None}
 use Rattle.mpd_queue.specs.InOrder.{empty_lists, with_inserted, with_removed}
 use Rattle.mpd_queue.specs.History.{History}
-use Rattle.mpd_queue.specs.declared.shown.Change.{Change}
-use Rattle.mpd_queue.specs.declared.shown.Change.TheVariants.{Inserted, Removed}
-use Rattle.mpd_queue.specs.declared.shown.Moment.TheInside.{Inside}
+use Rattle.mpd_queue.specs.declared.snapshot.Change.{Change}
+use Rattle.mpd_queue.specs.declared.snapshot.Change.TheVariants.{Inserted, Removed}
+use Rattle.mpd_queue.specs.declared.snapshot.Moment.TheInside.{Inside}
 
 abbrev pub changed : Change → List (List ℕ) → List (List ℕ)
 changed (Inserted list item next) lists = with_inserted lists list item next

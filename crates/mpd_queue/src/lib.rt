@@ -4,5 +4,8 @@
 mod link;
 mod links;
 pub mod lists;
-mod shown;
+mod snapshot;
 pub mod tape;
+
+pub use lists::{Lists, Spot};
+pub use tape::Tape;

@@ -4,7 +4,7 @@ ghost use Rattle.mpd_queue.specs.Chained.{written, HasCell};
 ghost use Rattle.mpd_queue.specs.Cells.{next_at, previous_at};
 
 use crate::link::Link;
-use mpd_device::steps::Steps;
+use mpd_device::Steps;
 
 /// The neighbours of an item in its list. Eight bytes.
 #[derive(Clone, Copy)]

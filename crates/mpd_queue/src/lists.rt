@@ -4,8 +4,8 @@ ghost use Rattle.mpd_queue.specs.InOrder.{list_at, places_in, places, first_of, 
 
 use crate::link::Link;
 use crate::links::{Cell, Ends, Links};
-use crate::shown::{Change, Shown};
-use mpd_device::steps::Steps;
+use crate::snapshot::{Change, Shown};
+use mpd_device::Steps;
 use std::alloc::{AllocError, Global};
 use std::marker::Model;
 

@@ -1,7 +1,7 @@
 //! A list that grows and shrinks at its end, and counts its writes.
 ghost use Rattle.std.specs.Prelude.{◌≡◌, ℕ, ◌+◌, ◌<◌, ◌≤◌, [], ◌∷◌, ◌++◌, length, option_to_list, replicate, slice_get, slice_set, IsOk, IfOk, IfSome, IfNone, OnOk, OnErr};
 
-use mpd_device::steps::Steps;
+use mpd_device::Steps;
 use std::alloc::{AllocError, Global};
 use std::marker::Model;
 

@@ -13,11 +13,11 @@ use Rattle.mpd_model.specs.declared.stmt.WaitanyStmt.{WaitanyStmt}
 use Rattle.mpd_model.specs.declared.call.CallKind.{CallKind}
 use Rattle.mpd_model.specs.declared.limits.TheConstants.{TAGS}
 use Rattle.mpd_model.specs.declared.call.Trap.TheVariants.{BadRank, BadTag}
-use Rattle.mpd_model.specs.Term.{Term, Target, Value, Env, and_then, value_of, checked, target_cell, is_zero}
-use Rattle.mpd_model.specs.Tree.{Tree, Block, repeat, trees, statements_in, numbered}
-use Rattle.mpd_model.specs.Program.{Program}
-use Rattle.mpd_model.specs.World.{RankWorld}
-use Rattle.mpd_model.specs.Next.{HasReceiver, alone, local, env_of, ran, ran_simple, printed, issued, assigned, asserted, chosen, repeated, send_issue, ssend_issue, recv_issue, isend_issue, issend_issue, irecv_issue, wait_issue, waitany_issue, barrier_issue, assignment, rank_value, tag_value, source_value, any_tag_value, status_cells, send_kind, recv_kind, wait_kind, waitany_kind, awaiting}
+use Rattle.mpd_model.specs.script.Term.{Term, Target, Value, Env, and_then, value_of, checked, target_cell, is_zero}
+use Rattle.mpd_model.specs.script.Tree.{Tree, Block, repeat, trees, statements_in, numbered}
+use Rattle.mpd_model.specs.script.Program.{Program}
+use Rattle.mpd_model.specs.steps.World.{RankWorld}
+use Rattle.mpd_model.specs.steps.Next.{HasReceiver, alone, local, env_of, ran, ran_simple, printed, issued, assigned, asserted, chosen, repeated, send_issue, ssend_issue, recv_issue, isend_issue, issend_issue, irecv_issue, wait_issue, waitany_issue, barrier_issue, assignment, rank_value, tag_value, source_value, any_tag_value, status_cells, send_kind, recv_kind, wait_kind, waitany_kind, awaiting}
 use Rattle.mpd_code.specs.declared.node.Node.{Node}
 use Rattle.mpd_code.specs.declared.node.Action.{Action}
 use Rattle.mpd_code.specs.declared.node.Action.TheVariants as a

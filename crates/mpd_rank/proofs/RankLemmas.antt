@@ -2,10 +2,10 @@
 use Rattle.std.proofs.Common.{◌≡◌, ◌≤◌, ◌+◌, ℕ, zero, suc, List, [], ◌∷◌, ◌++◌, length, Option, Some, None, ℤ, refl, sym, ap, subst, ◌∙◌, slice_get, slice_set, arith}
 use Rattle.std.proofs.lemmas.List.{append-nil, append_assoc}
 use Rattle.std.specs.Option.{option_map}
-use Rattle.mpd_model.specs.Next.{write_cells, requested, woken_rank}
+use Rattle.mpd_model.specs.steps.Next.{write_cells, requested, woken_rank}
 use Rattle.mpd_model.specs.declared.call.Activity.TheVariants.{Running, Blocked}
-use Rattle.mpd_model.specs.Program.{Program}
-use Rattle.mpd_model.specs.World.{RankWorld}
+use Rattle.mpd_model.specs.script.Program.{Program}
+use Rattle.mpd_model.specs.steps.World.{RankWorld}
 use Rattle.mpd_code.specs.Left.{left_at}
 use Rattle.mpd_rank.specs.declared.change.WakeRecord.{WakeRecord}
 use Rattle.mpd_rank.specs.Views.{RankView, rank_of, listed}

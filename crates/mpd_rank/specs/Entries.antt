@@ -3,7 +3,7 @@ use Rattle.std.specs.Prelude.{◌≡◌, ℕ, ◌<◌, ◌≤◌, ℤ, pos, Bool
 use Rattle.std.proofs.Common.{inl, inr, sym, ap, ◌∙◌}
 use Rattle.std.proofs.lemmas.Bool.Decides.{eqb_tells}
 use Rattle.mpd_model.specs.declared.limits.TheConstants.{CELLS_MAX, HANDLES_MAX}
-use Rattle.mpd_rank.specs.declared.standing.Standing.{Standing}
+use Rattle.mpd_rank.specs.declared.control.Control.{Control}
 use Rattle.mpd_rank.specs.declared.change.OldHandle.TheInside as handle
 
 -- a number below 4294967295, or none
@@ -75,9 +75,9 @@ handle_back a h =
     let back = handle_numbers_back a.handle a.call h in
     (λ i. record { handle = back.0 i; call = back.1 i })
 
--- what the tapes of a rank keep: one standing, few cells and handles, and small numbers of calls
-pub record KeepsSmall (standing : List Standing) (vars : List ℤ) (handles : List (Option ℕ)) : Type 0 where
-  pub one : length standing ≡ 1
+-- what the tapes of a rank keep: one control, few cells and handles, and small numbers of calls
+pub record KeepsSmall (control : List Control) (vars : List ℤ) (handles : List (Option ℕ)) : Type 0 where
+  pub one : length control ≡ 1
   pub cells : length vars ≤ CELLS_MAX
   pub few : length handles ≤ HANDLES_MAX
   pub calls : All IsSmall handles

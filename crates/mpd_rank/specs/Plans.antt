@@ -9,10 +9,10 @@ use Rattle.mpd_model.specs.declared.call.Trap.{Trap as Reason}
 use Rattle.mpd_model.specs.declared.call.Trap.TheVariants.{Assertion}
 use Rattle.mpd_model.specs.declared.stmt.Simple.{Simple}
 use Rattle.mpd_model.specs.declared.stmt.Simple.TheVariants as st
-use Rattle.mpd_model.specs.Term.{Value, Env, value_of, is_zero}
-use Rattle.mpd_model.specs.Program.{Program}
-use Rattle.mpd_model.specs.World.{RankWorld}
-use Rattle.mpd_model.specs.Next.{Ran, HasReceiver, trapped, requested, activity_after, send_issue, ssend_issue, recv_issue, isend_issue, issend_issue, irecv_issue, wait_issue, waitany_issue, barrier_issue, assignment}
+use Rattle.mpd_model.specs.script.Term.{Value, Env, value_of, is_zero}
+use Rattle.mpd_model.specs.script.Program.{Program}
+use Rattle.mpd_model.specs.steps.World.{RankWorld}
+use Rattle.mpd_model.specs.steps.Next.{Ran, HasReceiver, trapped, requested, activity_after, send_issue, ssend_issue, recv_issue, isend_issue, issend_issue, irecv_issue, wait_issue, waitany_issue, barrier_issue, assignment}
 use Rattle.mpd_code.specs.declared.node.Action.{Action}
 use Rattle.mpd_code.specs.declared.node.Action.TheVariants as a
 use Rattle.mpd_code.specs.Left.{left_at}

@@ -6,11 +6,11 @@ use Rattle.mpd_model.specs.declared.call.Issue.{Issue}
 use Rattle.mpd_model.specs.declared.call.Trap.{Trap as Reason}
 use Rattle.mpd_model.specs.declared.stmt.Simple.{Simple}
 use Rattle.mpd_model.specs.declared.stmt.Simple.TheVariants as st
-use Rattle.mpd_model.specs.Term.{Value, Env, value_of, is_zero}
-use Rattle.mpd_model.specs.Tree.{Tree, simple, branch, repeat}
-use Rattle.mpd_model.specs.Program.{Program}
-use Rattle.mpd_model.specs.World.{RankWorld}
-use Rattle.mpd_model.specs.Next.{local, env_of, send_issue, ssend_issue, recv_issue, isend_issue, issend_issue, irecv_issue, wait_issue, waitany_issue, barrier_issue, assignment}
+use Rattle.mpd_model.specs.script.Term.{Value, Env, value_of, is_zero}
+use Rattle.mpd_model.specs.script.Tree.{Tree, simple, branch, repeat}
+use Rattle.mpd_model.specs.script.Program.{Program}
+use Rattle.mpd_model.specs.steps.World.{RankWorld}
+use Rattle.mpd_model.specs.steps.Next.{local, env_of, send_issue, ssend_issue, recv_issue, isend_issue, issend_issue, irecv_issue, wait_issue, waitany_issue, barrier_issue, assignment}
 use Rattle.mpd_rank.specs.declared.change.LocalChange.{LocalChange}
 use Rattle.mpd_rank.specs.declared.change.LocalChange.TheVariants.{Moved, Printed, Issued, Trapped}
 use Rattle.mpd_rank.specs.declared.change.WakeRecord.{WakeRecord}

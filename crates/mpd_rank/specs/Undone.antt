@@ -3,9 +3,9 @@ use Rattle.std.specs.Prelude.{ℕ, ◌-◌, ℤ, List, [], ◌∷◌, ◌++◌, 
 use Rattle.std.specs.Coded.{Coded, code_by, coded×, coded_ℕ}
 use Rattle.std.specs.Option.{option_map}
 use Rattle.mpd_model.specs.declared.call.Activity.TheVariants.{Running, Blocked}
-use Rattle.mpd_model.specs.Program.{Program}
-use Rattle.mpd_model.specs.World.{RankWorld}
-use Rattle.mpd_model.specs.Next.{write_cells}
+use Rattle.mpd_model.specs.script.Program.{Program}
+use Rattle.mpd_model.specs.steps.World.{RankWorld}
+use Rattle.mpd_model.specs.steps.Next.{write_cells}
 use Rattle.mpd_code.specs.Left.{left_at}
 use Rattle.mpd_rank.specs.declared.change.LocalChange.{LocalChange}
 use Rattle.mpd_rank.specs.declared.change.LocalChange.TheVariants.{Moved, Assigned, Printed, Issued, Trapped}

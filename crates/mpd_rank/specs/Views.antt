@@ -4,10 +4,10 @@ use Rattle.std.specs.Coded.{Coded, code_by, coded×, coded_ℕ, coded_ℤ, coded
 use Rattle.mpd_model.specs.declared.call.Activity.{Activity}
 use Rattle.mpd_model.specs.declared.call.Activity.TheVariants.{Running}
 use Rattle.mpd_model.specs.contracts.call.Activity as activity_row
-use Rattle.mpd_model.specs.Program.{Program}
-use Rattle.mpd_model.specs.World.{RankWorld}
+use Rattle.mpd_model.specs.script.Program.{Program}
+use Rattle.mpd_model.specs.steps.World.{RankWorld}
 use Rattle.mpd_code.specs.Left.{left_at}
-use Rattle.mpd_rank.specs.declared.standing.Standing.{Standing}
+use Rattle.mpd_rank.specs.declared.control.Control.{Control}
 
 -- a list of one cell at most
 abbrev pub listed : Option (ℕ × ℤ) → List (ℕ × ℤ)
@@ -18,9 +18,9 @@ abbrev pub cells_code : Coded (List (ℕ × ℤ))
 cells_code = coded_list (coded× coded_ℕ coded_ℤ)
 
 -- the one that a tape of one holds
-abbrev pub standing_in : List Standing → Standing
-standing_in [] = record { node = 0; activity = Running }
-standing_in (s ∷ ss) = s
+abbrev pub control_in : List Control → Control
+control_in [] = record { node = 0; activity = Running }
+control_in (s ∷ ss) = s
 
 pub record RankView : Type 0 where
   -- which rank it is, from 0

@@ -2,6 +2,13 @@
 #![tactic(auto)]
 
 pub mod change;
+pub mod control;
 pub mod plan;
 pub mod rank;
-pub mod standing;
+
+pub use change::{
+    Cells, LocalChange, LocalKind, LocalRecord, OldCell, OldCells, OldHandle, WakeRecord,
+};
+pub use control::Control;
+pub use plan::{Alone, LocalPlan};
+pub use rank::RankState;

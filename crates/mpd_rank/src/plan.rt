@@ -3,14 +3,11 @@
 ghost use Rattle.std.specs.Prelude.{◌≡◌, IfSome};
 ghost use Rattle.mpd_rank.specs.Plans.{plan_call, plan_of, simple_plan, print_plan, assign_plan, issue_plan, assert_plan, choice_plan};
 
-use mpd_code::env::Env;
-use mpd_code::eval::{
-    barrier, eval, eval_assign, eval_irecv, eval_isend, eval_issend, eval_recv, eval_send,
-    eval_ssend, eval_wait, eval_waitany,
+use mpd_code::{
+    Action, Env, Node, barrier, eval, eval_assign, eval_irecv, eval_isend, eval_issend, eval_recv,
+    eval_send, eval_ssend, eval_wait, eval_waitany,
 };
-use mpd_code::node::{Action, Node};
-use mpd_model::call::{Call, Issue, Trap};
-use mpd_model::stmt::Simple;
+use mpd_model::{Call, Issue, Simple, Trap};
 
 /// What a local step does that issues no call.
 #[derive(Clone, Copy)]

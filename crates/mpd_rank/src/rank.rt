@@ -2,21 +2,17 @@
 
 ghost use Rattle.std.specs.Prelude.{◌≡◌, ◌<◌, ◌≤◌, ◌+◌, IfOk, IfSome, IfNone, [], OnOk, OnErr, is_some, IsSome, ℕ, Some, None, length, slice_index_or, slice_set};
 ghost use Rattle.std.specs.Option.{option_map};
-ghost use Rattle.mpd_model.specs.Program.{Program};
+ghost use Rattle.mpd_model.specs.script.Program.{Program};
 ghost use Rattle.mpd_rank.specs.Entries.{IsSmall};
 ghost use Rattle.mpd_code.specs.Left.{left_at};
 ghost use Rattle.mpd_code.specs.Stands.{Stands};
 
 use crate::change::{Cells, LocalKind, LocalRecord, OldCell, OldCells, OldHandle, WakeRecord};
+use crate::control::Control;
 use crate::plan::{Alone, LocalPlan, plan_alone, plan_node};
-use crate::standing::Standing;
-use mpd_code::code::Code;
-use mpd_code::env::Env;
-use mpd_code::node::Node;
-use mpd_model::call::{Activity, Issue};
-use mpd_model::kind::blocks;
-use mpd_model::limits::HANDLES_MAX;
-use mpd_queue::tape::Tape;
+use mpd_code::{Code, Env, Node};
+use mpd_model::{Activity, HANDLES_MAX, Issue, blocks};
+use mpd_queue::Tape;
 use std::alloc::{AllocError, Global};
 use std::marker::Model;
 
@@ -26,7 +22,7 @@ use std::marker::Model;
 pub struct RankState {
     rank: u32,
     /// Of one item.
-    standing: Tape<Standing>,
+    control: Tape<Control>,
     vars: Tape<i64>,
     handles: Tape<Option<usize>>,
     out: Tape<i64>,
@@ -34,7 +30,7 @@ pub struct RankState {
 
 impl Model for RankState {
     ghost use Rattle.std.specs.Prelude.{◌≡◌, ◌+◌, length};
-    ghost use Rattle.mpd_rank.specs.Views.{RankView, rank_view_code, standing_in};
+    ghost use Rattle.mpd_rank.specs.Views.{RankView, rank_view_code, control_in};
 
     ghost Value = { RankView };
 
@@ -42,24 +38,24 @@ impl Model for RankState {
 
     ghost view = { λ r. record {
       rank = r.rank;
-      node = (standing_in r.standing.items).node;
-      activity = (standing_in r.standing.items).activity;
+      node = (control_in r.control.items).node;
+      activity = (control_in r.control.items).activity;
       vars = r.vars.items;
       handles = r.handles.items;
       out = r.out.items;
       room = r.out.room;
-      writes = r.standing.writes + r.vars.writes + r.handles.writes + r.out.writes;
+      writes = r.control.writes + r.vars.writes + r.handles.writes + r.out.writes;
     } };
 
     ghost use Rattle.mpd_rank.specs.Entries.{KeepsSmall};
 
-    ghost invariant = { λ r. KeepsSmall r.standing.items r.vars.items r.handles.items };
+    ghost invariant = { λ r. KeepsSmall r.control.items r.vars.items r.handles.items };
 }
 
 impl RankState {
-    ghost use Rattle.mpd_model.specs.World.{start_rank};
-    ghost use Rattle.mpd_model.specs.Outcomes.{has_ended, first_number};
-    ghost use Rattle.mpd_model.specs.Next.{env_of, local, woken_rank, going_on, write_cells, requested, activity_after};
+    ghost use Rattle.mpd_model.specs.steps.World.{start_rank};
+    ghost use Rattle.mpd_model.specs.steps.Outcomes.{has_ended, first_number};
+    ghost use Rattle.mpd_model.specs.steps.Next.{env_of, local, woken_rank, going_on, write_cells, requested, activity_after};
     ghost use Rattle.mpd_rank.specs.Views.{rank_of, listed};
     ghost use Rattle.mpd_rank.specs.Plans.{planned, planned_alone, plan_ran, HasPlannedReceiver};
     ghost use Rattle.mpd_rank.specs.Undone.{IsOwn, undone_rank, unwoken, blocked_again, entry_at, entries_before, handle_entry, put_entry};
@@ -71,13 +67,13 @@ impl RankState {
         ensures rank { IfOk result (λ r. r.rank ≡ rank) }
         ensures writes { IfOk result (λ r. r.writes ≡ 0) }
     {
-        let standing = Standing {
+        let control = Control {
             node: code.start() as u32,
             activity: Activity::Running,
         };
         Ok(RankState {
             rank,
-            standing: Tape::filled(alloc, 1, standing)?,
+            control: Tape::filled(alloc, 1, control)?,
             vars: Tape::filled(alloc, code.cells(), 0)?,
             handles: Tape::filled(alloc, code.handles(), None)?,
             out: Tape::new(alloc),
@@ -96,17 +92,17 @@ impl RankState {
     }
 
     /// What it is at.
-    fn standing(&self) -> Standing
+    fn control(&self) -> Control
         ensures { result ≡ record { node = self.now.node; activity = self.now.activity } }
     {
-        self.standing.items()[0]
+        self.control.items()[0]
     }
 
     /// Puts it at a node. One write.
-    fn stand(&mut self, node: u32, activity: Activity)
+    fn move_to(&mut self, node: u32, activity: Activity)
         ensures after { self.new ≡ record self.old { node = node; activity = activity; writes = self.old.writes + 1 } }
     {
-        self.standing.set(0, Standing { node, activity });
+        self.control.set(0, Control { node, activity });
     }
 
     /// The node of its next statement, where it is running and has one.
@@ -115,7 +111,7 @@ impl RankState {
         ensures some { IfSome result (λ node. Stands (left_at code.now.program) self.now.node node.now) }
         ensures none { IfNone result (self.now.activity ≡ Activity.Running → left_at code.now.program self.now.node ≡ []) }
     {
-        let Standing { node, activity } = self.standing();
+        let Control { node, activity } = self.control();
         match activity {
             Activity::Running => code.node(node as usize),
             Activity::Blocked | Activity::Trapped(_) => None,
@@ -263,8 +259,8 @@ impl RankState {
         ensures rises { self.old.writes + 1 ≤ self.new.writes }
         ensures few { self.new.writes ≤ self.old.writes + 2 }
     {
-        let Standing { node, activity } = self.standing();
-        self.stand(next, activity);
+        let Control { node, activity } = self.control();
+        self.move_to(next, activity);
         if into >= self.vars.len() {
             return LocalRecord::plain(node, LocalKind::Moved);
         }
@@ -287,20 +283,20 @@ impl RankState {
         ensures rises { self.old.writes + 1 ≤ self.new.writes }
         ensures few { self.new.writes ≤ self.old.writes + 2 }
     {
-        let Standing { node, activity } = self.standing();
+        let Control { node, activity } = self.control();
         match plan {
             Alone::Move { next } => {
-                self.stand(next, activity);
+                self.move_to(next, activity);
                 LocalRecord::plain(node, LocalKind::Moved)
             }
             Alone::Print { value, next } => {
                 self.out.push_kept(value);
-                self.stand(next, activity);
+                self.move_to(next, activity);
                 LocalRecord::plain(node, LocalKind::Printed)
             }
             Alone::Assign { cell, value, next } => self.assign(cell, value, next),
             Alone::Trap(trap) => {
-                self.stand(node, Activity::Trapped(trap));
+                self.move_to(node, Activity::Trapped(trap));
                 LocalRecord::plain(node, LocalKind::Trapped)
             }
         }
@@ -334,14 +330,14 @@ impl RankState {
         ensures rises { self.old.writes + 1 ≤ self.new.writes }
         ensures few { self.new.writes ≤ self.old.writes + 2 }
     {
-        let from = self.standing().node;
+        let from = self.control().node;
         let handle = self.request(issue.handle, Some(call));
         let activity = if blocks(issue.kind) {
             Activity::Blocked
         } else {
             Activity::Running
         };
-        self.stand(next, activity);
+        self.move_to(next, activity);
         LocalRecord::issued(from, handle)
     }
 
@@ -357,10 +353,10 @@ impl RankState {
         ensures rises { self.old.writes + 1 ≤ self.new.writes }
         ensures few { self.new.writes ≤ self.old.writes + 6 }
     {
-        let node = self.standing().node;
+        let node = self.control().node;
         let cells = self.write_all(writes);
         let handle = self.request(handle, None);
-        self.stand(node, Activity::Running);
+        self.move_to(node, Activity::Running);
         WakeRecord { cells, handle }
     }
 
@@ -384,10 +380,10 @@ impl RankState {
         ensures rises { self.old.writes + 1 ≤ self.new.writes }
         ensures few { self.new.writes ≤ self.old.writes + 6 }
     {
-        let node = self.standing().node;
+        let node = self.control().node;
         let _ = self.write_all(done.cells.cells());
         self.put_handle(done.handle);
-        self.stand(node, Activity::Blocked);
+        self.move_to(node, Activity::Blocked);
     }
 
     /// Takes a local step of the rank back. It can't be refused memory. One or two writes.
@@ -409,15 +405,15 @@ impl RankState {
             LocalKind::Issued => self.put_handle(done.old_handle()),
             LocalKind::Moved | LocalKind::Trapped => {}
         }
-        self.stand(done.from, Activity::Running);
+        self.move_to(done.from, Activity::Running);
     }
 
     /// Does this from here on, at the node that it is at. One write.
     fn act(&mut self, activity: Activity)
         ensures { self.new ≡ record self.old { activity = activity; writes = self.old.writes + 1 } }
     {
-        let node = self.standing().node;
-        self.stand(node, activity);
+        let node = self.control().node;
+        self.move_to(node, activity);
     }
 
     /// Goes on at a release, from the barrier that it was blocked on. It takes no memory, and none of the room that was kept. One
@@ -443,7 +439,7 @@ impl RankState {
     pub fn can_step(&self, code: &Code) -> bool
         ensures { (rank size count : ℕ) → result ≡ is_some (local rank size count (rank_of code.now.program self.now)) }
     {
-        let Standing { node, activity } = self.standing();
+        let Control { node, activity } = self.control();
         match activity {
             Activity::Running => code.node(node as usize).is_some(),
             Activity::Blocked | Activity::Trapped(_) => false,
@@ -454,7 +450,7 @@ impl RankState {
     pub fn has_ended(&self, code: &Code) -> bool
         ensures { result ≡ has_ended (rank_of code.now.program self.now) }
     {
-        let Standing { node, activity } = self.standing();
+        let Control { node, activity } = self.control();
         match activity {
             Activity::Running => code.node(node as usize).is_none(),
             Activity::Blocked | Activity::Trapped(_) => false,
@@ -466,7 +462,7 @@ impl RankState {
         ensures statement { result ≡ first_number (left_at code.now.program self.now.node) }
         ensures node { IfSome result (λ number. number ≡ self.now.node) }
     {
-        let node = self.standing().node as usize;
+        let node = self.control().node as usize;
         match code.node(node) {
             Some(_) => Some(node),
             None => None,
@@ -525,7 +521,7 @@ impl RankState {
     pub fn activity(&self) -> Activity
         ensures { result ≡ self.now.activity }
     {
-        self.standing().activity
+        self.control().activity
     }
 
     /// The same rank, in memory of its own. It counts its writes from 0. An `Err` is want of memory.
@@ -536,7 +532,7 @@ impl RankState {
     {
         Ok(RankState {
             rank: self.rank,
-            standing: self.standing.copy()?,
+            control: self.control.copy()?,
             vars: self.vars.copy()?,
             handles: self.handles.copy()?,
             out: self.out.copy()?,

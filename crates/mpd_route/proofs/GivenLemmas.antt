@@ -3,8 +3,8 @@ use Rattle.std.proofs.Common.{◌≡◌, ℕ, ◌<◌, ◌+◌, List, [], ◌∷
 use Rattle.std.proofs.lemmas.List.{take_more}
 use Rattle.std.specs.Option.{option_and_then}
 use Rattle.mpd_model.specs.declared.step.Step.{Step}
-use Rattle.mpd_model.specs.World.{World}
-use Rattle.mpd_model.specs.Next.{next, fold}
+use Rattle.mpd_model.specs.steps.World.{World}
+use Rattle.mpd_model.specs.steps.Next.{next, fold}
 use Rattle.mpd_route.specs.Given.{StopsAt}
 
 fold_on : (steps : List Step) (a : Step) (u : World) → fold u (steps ++ a ∷ []) ≡ option_and_then (λ w. fold w (a ∷ [])) (fold u steps)

@@ -1,7 +1,7 @@
 -- The lines of a text as steps, one line at a time.
 use Rattle.std.proofs.Common.{◌≡◌, ℕ, suc, ◌+◌, List, [], ◌∷◌, ◌++◌, Option, Some, None, Result, Ok, Err, map, refl, sym, ap, ◌∙◌, arith, append_assoc, append-nil}
 use Rattle.mpd_model.specs.declared.step.Step.{Step}
-use Rattle.mpd_model.specs.Lines.{raw_lines, lines_of, bare}
+use Rattle.mpd_model.specs.texts.Lines.{raw_lines, lines_of, bare}
 use Rattle.mpd_route.specs.Read.{behind, with_step, line_step, steps_in}
 
 behind_two : (xs ys : List Step) (r : Result (List Step) ℕ) → behind (xs ++ ys) r ≡ behind xs (behind ys r)

@@ -1,17 +1,17 @@
 -- Steps as a text, a trace word on each line (docs/PICTURES.md, "Which run").
 use Rattle.std.specs.Prelude.{ℕ, suc, List, [], ◌∷◌, ◌++◌, Option, Some, None, Result, Ok, Err}
 use Rattle.mpd_model.specs.declared.step.Step.{Step}
-use Rattle.mpd_model.specs.declared.words.Command.{Command}
-use Rattle.mpd_model.specs.declared.words.Command.TheVariants as command
-use Rattle.mpd_model.specs.Words.{command_of}
+use Rattle.mpd_model.specs.declared.words.TraceWord.{TraceWord}
+use Rattle.mpd_model.specs.declared.words.TraceWord.TheVariants as trace_word
+use Rattle.mpd_model.specs.texts.Words.{trace_word_of}
 
 -- a line that is no step is none
-abbrev pub step_by : Option Command → Option Step
-step_by (Some (command.Step a)) = Some a
+abbrev pub step_by : Option TraceWord → Option Step
+step_by (Some (trace_word.Step a)) = Some a
 step_by c = None
 
 abbrev pub line_step : List ℕ → Option Step
-line_step l = step_by (command_of l)
+line_step l = step_by (trace_word_of l)
 
 abbrev pub behind : List Step → Result (List Step) ℕ → Result (List Step) ℕ
 behind steps (Ok more) = Ok (steps ++ more)

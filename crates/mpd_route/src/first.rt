@@ -1,16 +1,14 @@
 //! The run of the first candidates.
 
 ghost use Rattle.std.specs.Prelude.{◌≡◌, ◌≤◌, ◌<◌, ◌+◌, ◌-◌, ◌++◌, ◌∷◌, [], OnOk, IfOk, None, Some, true, false};
-ghost use Rattle.mpd_model.specs.Decisions.{decision};
-ghost use Rattle.mpd_model.specs.Next.{next};
-ghost use Rattle.mpd_model.specs.Trail.{kept};
+ghost use Rattle.mpd_model.specs.runs.Decisions.{decision};
+ghost use Rattle.mpd_model.specs.steps.Next.{next};
+ghost use Rattle.mpd_model.specs.runs.Trail.{done_steps};
 ghost use Rattle.mpd_route.specs.First as spec;
 
-use mpd_model::decision::Decision;
-use mpd_model::limits::STEPS_MAX;
-use mpd_model::step::Step;
-use mpd_policy::decide::decide;
-use mpd_trail::debugger::Debugger;
+use mpd_model::{Decision, STEPS_MAX, Step};
+use mpd_policy::decide;
+use mpd_trail::Debugger;
 use std::alloc::{AllocError, Global};
 
 /// The first of some steps.
@@ -48,7 +46,7 @@ fn next_first(alloc: Global, debugger: &Debugger<'_>) -> Result<Option<Step>, Al
 /// Takes a step.
 fn take_one(debugger: &mut Debugger<'_>, step: Step) -> Result<(), AllocError>
     ensures leads { OnOk result (next debugger.old.world step ≡ Some debugger.new.world) }
-    ensures steps { OnOk result (kept debugger.new.trail ≡ kept debugger.old.trail ++ step ∷ []) }
+    ensures steps { OnOk result (done_steps debugger.new.trail ≡ done_steps debugger.old.trail ++ step ∷ []) }
 {
     match debugger.apply(step) {
         Ok(()) => Ok(()),
@@ -60,7 +58,7 @@ fn take_one(debugger: &mut Debugger<'_>, step: Step) -> Result<(), AllocError>
 /// together. An `Err` is want of memory; the debugger then stands somewhere on that run.
 #[tactic(auto, using(crate::proofs::FirstLemmas::leading))]
 pub fn lead_first(alloc: Global, debugger: &mut Debugger<'_>, fuel: usize) -> Result<(), AllocError>
-    ensures { OnOk result (kept debugger.new.trail ≡ kept debugger.old.trail ++ spec.first_steps fuel debugger.old.world) }
+    ensures { OnOk result (done_steps debugger.new.trail ≡ done_steps debugger.old.trail ++ spec.first_steps fuel debugger.old.world) }
 {
     for taken in 0..fuel {
         let Some(step) = next_first(alloc, debugger)? else {

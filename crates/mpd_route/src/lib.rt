@@ -5,3 +5,7 @@
 pub mod first;
 pub mod steps;
 pub mod words;
+
+pub use first::lead_first;
+pub use steps::{StepsFault, take_steps};
+pub use words::{ReadFault, steps_of};

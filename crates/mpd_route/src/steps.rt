@@ -1,12 +1,12 @@
 //! Steps that are given.
 
 ghost use Rattle.std.specs.Prelude.{◌≡◌, ◌++◌, ◌∷◌, [], ℕ, Some, None, OnOk, IsErrOf};
-ghost use Rattle.mpd_model.specs.Next.{next};
-ghost use Rattle.mpd_model.specs.Trail.{kept};
+ghost use Rattle.mpd_model.specs.steps.Next.{next};
+ghost use Rattle.mpd_model.specs.runs.Trail.{done_steps};
 ghost use Rattle.mpd_route.specs.Given.{StopsAt};
 
-use mpd_model::step::Step;
-use mpd_trail::debugger::{ApplyFault, Debugger};
+use mpd_model::Step;
+use mpd_trail::{ApplyFault, Debugger};
 
 /// Why steps aren't taken.
 #[derive(Clone, Copy)]
@@ -22,7 +22,7 @@ pub enum StepsFault {
 /// Takes the step at a place.
 fn take_at(debugger: &mut Debugger<'_>, place: usize, step: Step) -> Result<(), StepsFault>
     ensures leads { OnOk result (next debugger.old.world step ≡ Some debugger.new.world) }
-    ensures steps { OnOk result (kept debugger.new.trail ≡ kept debugger.old.trail ++ step ∷ []) }
+    ensures steps { OnOk result (done_steps debugger.new.trail ≡ done_steps debugger.old.trail ++ step ∷ []) }
     ensures at { (other : ℕ) → IsErrOf result (StepsFault.NotEnabled other) → other ≡ place }
     ensures not_enabled { (other : ℕ) → IsErrOf result (StepsFault.NotEnabled other) → next debugger.old.world step ≡ None }
 {
@@ -38,7 +38,7 @@ fn take_at(debugger: &mut Debugger<'_>, place: usize, step: Step) -> Result<(), 
 /// that were.
 #[tactic(auto, using(crate::proofs::GivenLemmas::taking))]
 pub fn take_steps(debugger: &mut Debugger<'_>, steps: &[Step]) -> Result<(), StepsFault>
-    ensures taken { OnOk result (kept debugger.new.trail ≡ kept debugger.old.trail ++ steps.now) }
+    ensures taken { OnOk result (done_steps debugger.new.trail ≡ done_steps debugger.old.trail ++ steps.now) }
     ensures not_enabled { (place : ℕ) → IsErrOf result (StepsFault.NotEnabled place) → StopsAt debugger.old.world steps.now place }
 {
     let mut place = 0;

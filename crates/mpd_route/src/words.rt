@@ -1,12 +1,11 @@
 //! Steps as a text of trace words.
 
 ghost use Rattle.std.specs.Prelude.{◌≡◌, ◌∷◌, [], ◌++◌, ℕ, Ok, Err, IfOk, OnOk, IsErrOf};
-ghost use Rattle.mpd_model.specs.Lines.{lines_of};
+ghost use Rattle.mpd_model.specs.texts.Lines.{lines_of};
 ghost use Rattle.mpd_route.specs.Read as spec;
 
-use mpd_model::step::Step;
-use mpd_model::words::{Command, command_of};
-use mpd_names::lines::{bare, cut};
+use mpd_model::{Step, TraceWord, trace_word_of};
+use mpd_names::{bare, cut};
 use std::alloc::{AllocError, Global};
 
 /// Why a text is no list of steps.
@@ -22,8 +21,8 @@ pub enum ReadFault {
 fn line_step(line: &[u8]) -> Option<Step>
     ensures { result ≡ spec.line_step line.now }
 {
-    match command_of(line) {
-        Some(Command::Step(step)) => Some(step),
+    match trace_word_of(line) {
+        Some(TraceWord::Step(step)) => Some(step),
         _ => None,
     }
 }

@@ -8,14 +8,14 @@ use Rattle.mpd_model.specs.declared.step.Step.{Step}
 use Rattle.mpd_model.specs.declared.outcome.Outcome.{Outcome}
 use Rattle.mpd_model.specs.declared.decision.Decision.{Decision}
 use Rattle.mpd_model.specs.declared.decision.Decision.TheVariants.{Forced, Choice, Leaf}
-use Rattle.mpd_model.specs.World.{World}
-use Rattle.mpd_model.specs.Decisions.{decision}
-use Rattle.mpd_model.specs.Trail.{Trail, Standing, IsReached, kept, gone_back, forgotten}
+use Rattle.mpd_model.specs.steps.World.{World}
+use Rattle.mpd_model.specs.runs.Decisions.{decision}
+use Rattle.mpd_model.specs.runs.Trail.{Trail, Standing, IsReached, done_steps, gone_back, forgotten}
 use Rattle.mpd_explore.specs.declared.report.Ending.{Ending}
 use Rattle.mpd_explore.specs.declared.report.Ending.TheVariants.{Ended}
 use Rattle.mpd_explore.specs.Walk.{Run, here, stepped, chosen, prefixed, run_from, run_taken, run_stopped, run_at}
 use Rattle.mpd_explore.proofs.RunLemmas.{prefixed_here}
-use Rattle.mpd_explore.proofs.SearchLemmas.{Went, length-kept}
+use Rattle.mpd_explore.proofs.SearchLemmas.{Went, length-done_steps}
 use Rattle.mpd_explore.proofs.WitnessLemmas.{run_is}
 use Rattle.mpd_explore.proofs.CollectLemmas.{as_found}
 use Rattle.mpd_sample.specs.Drawn.{drawn_from, drawn_by, led, drawn_choice, drawn_followed, drawn}
@@ -24,20 +24,20 @@ use Rattle.mpd_sample.specs.Drawing.{Beyond, Drawing, Ends, Goes, Drew}
 -- ---- a debugger that goes on
 
 pub beyond_same : (d e : Standing) → e.trail ≡ d.trail → IsReached e → Beyond d e
-beyond_same d e same reached = record { program = ap (λ (t : Trail). t.program) same; mode = ap (λ (t : Trail). t.mode) same; reached = reached; path = []; kept_is = ap kept same ∙ sym (append-nil (kept d.trail)) }
+beyond_same d e same reached = record { program = ap (λ (t : Trail). t.program) same; mode = ap (λ (t : Trail). t.mode) same; reached = reached; path = []; done_steps_are = ap done_steps same ∙ sym (append-nil (done_steps d.trail)) }
 
 pub beyond_then : (c d e : Standing) → Beyond c d → Beyond d e → Beyond c e
 beyond_then c d e x y =
-    record { program = y.program ∙ x.program; mode = y.mode ∙ x.mode; reached = y.reached; path = x.path ++ y.path; kept_is = y.kept_is ∙ ap (λ p. p ++ y.path) x.kept_is ∙ append_assoc (kept c.trail) x.path y.path }
+    record { program = y.program ∙ x.program; mode = y.mode ∙ x.mode; reached = y.reached; path = x.path ++ y.path; done_steps_are = y.done_steps_are ∙ ap (λ p. p ++ y.path) x.done_steps_are ∙ append_assoc (done_steps c.trail) x.path y.path }
 
 pub beyond_went : (d e : Standing) (a : Step) → Went d a e → Beyond d e
-beyond_went d e a went = record { program = went.program; mode = went.mode; reached = went.reached; path = a ∷ []; kept_is = went.kept_is }
+beyond_went d e a went = record { program = went.program; mode = went.mode; reached = went.reached; path = a ∷ []; done_steps_are = went.done_steps_are }
 
 pub beyond_depth : (d e : Standing) → IsReached d → Beyond d e → d.trail.depth ≤ e.trail.depth
-beyond_depth d e reached h = omega (arith, length-kept d reached, length-kept e h.reached, ap length h.kept_is, length-append (kept d.trail) h.path)
+beyond_depth d e reached h = omega (arith, length-done_steps d reached, length-done_steps e h.reached, ap length h.done_steps_are, length-append (done_steps d.trail) h.path)
 
-beyond_below : (d e : Standing) → IsReached d → Beyond d e → take d.trail.depth (kept e.trail) ≡ take d.trail.depth (kept d.trail)
-beyond_below d e reached h = ap (take d.trail.depth) h.kept_is ∙ take-append-le d.trail.depth (kept d.trail) h.path (omega (arith, length-kept d reached))
+beyond_below : (d e : Standing) → IsReached d → Beyond d e → take d.trail.depth (done_steps e.trail) ≡ take d.trail.depth (done_steps d.trail)
+beyond_below d e reached h = ap (take d.trail.depth) h.done_steps_are ∙ take-append-le d.trail.depth (done_steps d.trail) h.path (omega (arith, length-done_steps d reached))
 
 pub trail_found : (d m e : Standing) → IsReached d → length d.trail.steps ≡ d.trail.depth → Beyond d m → e.trail ≡ forgotten (gone_back m.trail d.trail.depth) → e.trail ≡ d.trail
 trail_found d m e reached clean h is = as_found d.trail m.trail e.trail clean (beyond_depth d m reached h) h.program h.mode (beyond_below d m reached h) is
@@ -60,7 +60,7 @@ option_same (Some x) = refl
 
 pub drawing_none : (n : ℕ) (d : Standing) (s : Stream) (choices : List ℕ) → Drawing n d s choices n choices d s
 drawing_none n d s choices =
-    record { taken = []; joined = sym (append-nil choices); path = []; kept_is = sym (append-nil (kept d.trail)); runs = λ x. sym (option_same (run_at n x d.world)); drawn_is = refl }
+    record { taken = []; joined = sym (append-nil choices); path = []; done_steps_are = sym (append-nil (done_steps d.trail)); runs = λ x. sym (option_same (run_at n x d.world)); drawn_is = refl }
 
 pub drawing_forced : (d e : Standing) (s : Stream) (a : Step) (choices : List ℕ) → decision d.world ≡ Forced a → Went d a e → (n : ℕ) → Drawing (suc n) d s choices n choices e s
 drawing_forced d e s a choices forced went n =
@@ -68,7 +68,7 @@ drawing_forced d e s a choices forced went n =
       taken = [];
       joined = sym (append-nil choices);
       path = a ∷ [];
-      kept_is = went.kept_is;
+      done_steps_are = went.done_steps_are;
       runs = λ x. run_is n x d.world (Forced a) forced ∙ ap (λ o. option_map (stepped a) (run_from (run_at n x) o)) went.world;
       drawn_is = drawn_is n d.world s (Forced a) forced ∙ ap (λ o. drawn_from (drawn n) o s) went.world;
     }
@@ -80,7 +80,7 @@ drawing_chosen d e s t candidates c a old new choice draws read went pushed n =
       taken = c ∷ [];
       joined = pushed;
       path = a ∷ [];
-      kept_is = went.kept_is;
+      done_steps_are = went.done_steps_are;
       runs = λ x. run_is n (c ∷ x) d.world (Choice candidates) choice ∙ ap (run_taken (run_at n x) d.world c) read ∙ ap (λ o. option_map (chosen c a) (run_from (run_at n x) o)) went.world;
       drawn_is = drawn_is n d.world s (Choice candidates) choice ∙ ap (drawn_choice (drawn n) d.world candidates) (sym draws)
           ∙ ap (λ o. led c (drawn_by (drawn n) d.world o t)) read ∙ ap (λ o. led c (drawn_from (drawn n) o t)) went.world;
@@ -101,7 +101,7 @@ drawing_then n k m c d e r s t old choices new x y =
       taken = x.taken ++ y.taken;
       joined = y.joined ∙ ap (λ l. l ++ y.taken) x.joined ∙ append_assoc old x.taken y.taken;
       path = x.path ++ y.path;
-      kept_is = y.kept_is ∙ ap (λ p. p ++ y.path) x.kept_is ∙ append_assoc (kept c.trail) x.path y.path;
+      done_steps_are = y.done_steps_are ∙ ap (λ p. p ++ y.path) x.done_steps_are ∙ append_assoc (done_steps c.trail) x.path y.path;
       runs = λ z. ap (λ l. run_at n l c.world) (append_assoc x.taken y.taken z) ∙ x.runs (y.taken ++ z) ∙ ap (option_map (prefixed x.taken x.path)) (y.runs z) ∙ option_twice x.taken y.taken x.path y.path (run_at m z e.world);
       drawn_is = x.drawn_is ∙ ap (λ (p : List ℕ × Stream). (x.taken ++ p.0, p.1)) y.drawn_is ∙ ap (λ (l : List ℕ). (l, (drawn m e.world t).1)) (sym (append_assoc x.taken y.taken (drawn m e.world t).0));
     }
@@ -131,7 +131,7 @@ drew n m d e s t new end h x =
     let whole : h.taken ++ [] ≡ new = append-nil h.taken ∙ all in
     record {
       path = h.path;
-      kept_is = h.kept_is;
+      done_steps_are = h.done_steps_are;
       run = ap (λ l. run_at n l d.world) (sym whole) ∙ h.runs [] ∙ ap (option_map (prefixed h.taken h.path)) x.run ∙ ap Some (prefixed_here h.taken h.path end) ∙ ap (λ (l : List ℕ). Some (record { choices = l; steps = h.path; ending = end })) all;
       drawn_is = h.drawn_is ∙ ap (λ (p : List ℕ × Stream). (h.taken ++ p.0, p.1)) (x.drawn_is t) ∙ ap (λ (l : List ℕ). (l, t)) whole;
     }

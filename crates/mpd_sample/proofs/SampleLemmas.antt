@@ -7,10 +7,10 @@ use Rattle.std.proofs.lemmas.List.{length-map, take_all}
 use Rattle.rand_core.specs.Stream.{Stream}
 use Rattle.mpd_model.specs.declared.call.Mode.{Mode}
 use Rattle.mpd_model.specs.declared.step.Step.{Step}
-use Rattle.mpd_model.specs.Program.{Program}
-use Rattle.mpd_model.specs.World.{World, start}
-use Rattle.mpd_model.specs.Next.{fold}
-use Rattle.mpd_model.specs.Trail.{Standing, kept}
+use Rattle.mpd_model.specs.script.Program.{Program}
+use Rattle.mpd_model.specs.steps.World.{World, start}
+use Rattle.mpd_model.specs.steps.Next.{fold}
+use Rattle.mpd_model.specs.runs.Trail.{Standing, done_steps}
 use Rattle.mpd_explore.specs.declared.report.Leaf.{Leaf}
 use Rattle.mpd_explore.specs.declared.report.Limits.{Limits}
 use Rattle.mpd_explore.specs.Walk.{Run, walk, run_at, steps_by}
@@ -115,7 +115,7 @@ sample_rises lists n w leaves is = rw is (rises_leaves (sampled lists n w) (IsSt
 
 -- the leaf of a run that was drawn
 pub adds_leaf : (l : Limits) (d e : Standing) (s t : Stream) (x : Leaf) (old new : List Leaf) (texts now : List (List ℕ)) (last : Bool) → Drew l.fuel d s x.choices x.ending e t → last ≡ (l.until_bad && is_bad x.ending) → new ≡ with_leaf x old
-    → ((text : Leaf → List ℕ) → text x ≡ behind_number (witness_by (kept e.trail) x.ending) → TextsAre l.witnesses text old texts → TextsAre l.witnesses text new now) → Adds l d s old texts last new now t
+    → ((text : Leaf → List ℕ) → text x ≡ behind_number (witness_by (done_steps e.trail) x.ending) → TextsAre l.witnesses text old texts → TextsAre l.witnesses text new now) → Adds l d s old texts last new now t
 adds_leaf l d e s t x old new texts now last h is_last pushed told =
     record {
       run = record { choices = x.choices; steps = h.path; ending = x.ending };
@@ -123,7 +123,7 @@ adds_leaf l d e s t x old new texts now last h is_last pushed told =
       drawn_is = h.drawn_is;
       leaves_are = pushed;
       last_is = is_last;
-      texts_are = told (witness_text (kept d.trail) l.fuel d.world) (ap (λ (o : Option Run). behind_number (witness_by (kept d.trail ++ steps_by o) x.ending)) h.run ∙ ap (λ p. behind_number (witness_by p x.ending)) (sym h.kept_is));
+      texts_are = told (witness_text (done_steps d.trail) l.fuel d.world) (ap (λ (o : Option Run). behind_number (witness_by (done_steps d.trail ++ steps_by o) x.ending)) h.run ∙ ap (λ p. behind_number (witness_by p x.ending)) (sym h.done_steps_are));
     }
 
 draws_more : (u : Bool) (n k : ℕ) (w : World) (s : Stream) → draws u n (suc k) w s ≡ (drawn n w s).0 ∷ (if u && is_bad_run (run_at n (drawn n w s).0 w) then [] else draws u n k w (drawn n w s).1)
@@ -188,8 +188,8 @@ runs_more : (n : ℕ) (w : World) (lists : List (List ℕ)) (r : Run) → AllByR
 runs_more n w [] r h by = (record { run = r; by = by; same = refl }, tt)
 runs_more n w (cs ∷ lists) r h by = (h.0, runs_more n w lists r h.1 by)
 
-pub sampling_more : (l : Limits) (d : Standing) (first s t : Stream) (count k : ℕ) (old new : List Leaf) (texts now : List (List ℕ)) (last : Bool) → Sampling l (kept d.trail) d.world first count (suc k) s old texts → Adds l d s old texts last new now t → last ≡ false
-    → Sampling l (kept d.trail) d.world first (count + 1) k t new now
+pub sampling_more : (l : Limits) (d : Standing) (first s t : Stream) (count k : ℕ) (old new : List Leaf) (texts now : List (List ℕ)) (last : Bool) → Sampling l (done_steps d.trail) d.world first count (suc k) s old texts → Adds l d s old texts last new now t → last ≡ false
+    → Sampling l (done_steps d.trail) d.world first (count + 1) k t new now
 sampling_more l d first s t count k old new texts now last g a off =
     let next : draws l.until_bad l.fuel (suc k) d.world s ≡ a.run.choices ∷ draws l.until_bad l.fuel k d.world t =
     draws_next l.until_bad l.fuel k d.world s t a.run last a.drawn_is a.by a.last_is ∙ ap (λ b. a.run.choices ∷ (if b then [] else draws l.until_bad l.fuel k d.world t)) off in
@@ -213,8 +213,8 @@ sampling_left l before w first count k m s leaves texts is h = rw is at h
 
 -- ---- in the end
 
-pub samples_last : (l : Limits) (d : Standing) (first s t : Stream) (count k : ℕ) (old new : List Leaf) (texts now : List (List ℕ)) (last : Bool) → Sampling l (kept d.trail) d.world first count (suc k) s old texts → Adds l d s old texts last new now t → last ≡ true → count < l.runs
-    → Samples l (kept d.trail) d.world first new now
+pub samples_last : (l : Limits) (d : Standing) (first s t : Stream) (count k : ℕ) (old new : List Leaf) (texts now : List (List ℕ)) (last : Bool) → Sampling l (done_steps d.trail) d.world first count (suc k) s old texts → Adds l d s old texts last new now t → last ≡ true → count < l.runs
+    → Samples l (done_steps d.trail) d.world first new now
 samples_last l d first s t count k old new texts now last g a on within =
     let next : draws l.until_bad l.fuel (suc k) d.world s ≡ a.run.choices ∷ [] =
     draws_next l.until_bad l.fuel k d.world s t a.run last a.drawn_is a.by a.last_is ∙ ap (λ b. a.run.choices ∷ (if b then [] else draws l.until_bad l.fuel k d.world t)) on in

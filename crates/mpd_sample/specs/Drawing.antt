@@ -6,8 +6,8 @@ use Rattle.std.specs.List.{AllByRecursion}
 use Rattle.std.specs.Option.{option_map}
 use Rattle.rand_core.specs.Stream.{Stream}
 use Rattle.mpd_model.specs.declared.step.Step.{Step}
-use Rattle.mpd_model.specs.World.{World}
-use Rattle.mpd_model.specs.Trail.{Standing, IsReached, kept}
+use Rattle.mpd_model.specs.steps.World.{World}
+use Rattle.mpd_model.specs.runs.Trail.{Standing, IsReached, done_steps}
 use Rattle.mpd_explore.specs.declared.report.Ending.{Ending}
 use Rattle.mpd_explore.specs.declared.report.Leaf.{Leaf}
 use Rattle.mpd_explore.specs.declared.report.Limits.{Limits}
@@ -25,7 +25,7 @@ pub record Beyond (d e : Standing) : Type 0 where
   pub mode : e.trail.mode ≡ d.trail.mode
   pub reached : IsReached e
   pub path : List Step
-  pub kept_is : kept e.trail ≡ kept d.trail ++ path
+  pub done_steps_are : done_steps e.trail ≡ done_steps d.trail ++ path
 
 -- A run is drawn with so much fuel, and so much is left. What begins at e with whatever choices is what begins at d with those that were
 -- drawn in front, and what is drawn at d is these, and what is drawn at e.
@@ -33,7 +33,7 @@ pub record Drawing (n : ℕ) (d : Standing) (s : Stream) (old : List ℕ) (m : �
   pub taken : List ℕ
   pub joined : new ≡ old ++ taken
   pub path : List Step
-  pub kept_is : kept e.trail ≡ kept d.trail ++ path
+  pub done_steps_are : done_steps e.trail ≡ done_steps d.trail ++ path
   pub runs : (x : List ℕ) → run_at n (taken ++ x) d.world ≡ option_map (prefixed taken path) (run_at m x e.world)
   pub drawn_is : drawn n d.world s ≡ (taken ++ (drawn m e.world t).0, (drawn m e.world t).1)
 
@@ -50,7 +50,7 @@ Goes d s old (Some end) new e t = (new ≡ old) × (e ≡ d) × (t ≡ s) × ((n
 -- A run was drawn, which ends so.
 pub record Drew (n : ℕ) (d : Standing) (s : Stream) (choices : List ℕ) (ending : Ending) (e : Standing) (t : Stream) : Type 0 where
   pub path : List Step
-  pub kept_is : kept e.trail ≡ kept d.trail ++ path
+  pub done_steps_are : done_steps e.trail ≡ done_steps d.trail ++ path
   pub run : run_at n choices d.world ≡ Some (record { choices = choices; steps = path; ending = ending })
   pub drawn_is : drawn n d.world s ≡ (choices, t)
 
@@ -86,7 +86,7 @@ pub record Adds (l : Limits) (d : Standing) (s : Stream) (old : List Leaf) (text
   pub drawn_is : drawn l.fuel d.world s ≡ (run.choices, t)
   pub leaves_are : new ≡ with_leaf (shown run) old
   pub last_is : last ≡ (l.until_bad && is_bad run.ending)
-  pub texts_are : TextsAre l.witnesses (witness_text (kept d.trail) l.fuel d.world) old texts → TextsAre l.witnesses (witness_text (kept d.trail) l.fuel d.world) new now
+  pub texts_are : TextsAre l.witnesses (witness_text (done_steps d.trail) l.fuel d.world) old texts → TextsAre l.witnesses (witness_text (done_steps d.trail) l.fuel d.world) new now
 
 -- choices that tell a run, which has them
 pub record TellsRun (n : ℕ) (w : World) (choices : List ℕ) : Type 0 where

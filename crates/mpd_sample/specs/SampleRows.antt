@@ -10,11 +10,11 @@ use Rattle.mpd_model.specs.declared.place.DeclKind.TheVariants.{Variable}
 use Rattle.mpd_model.specs.declared.expr.BinaryOp.TheVariants.{Less as less, Remainder}
 use Rattle.mpd_model.specs.declared.call.Mode.TheVariants.{Rendezvous}
 use Rattle.mpd_model.specs.declared.stmt.Simple.TheVariants as st
-use Rattle.mpd_model.specs.Term.{Term, lit, own_rank, op2, Target}
-use Rattle.mpd_model.specs.Tree.{simple, branch, no_more, then_more}
-use Rattle.mpd_model.specs.Program.{Program}
-use Rattle.mpd_model.specs.World.{start}
-use Rattle.mpd_model.specs.Decisions.{decision}
+use Rattle.mpd_model.specs.script.Term.{Term, lit, own_rank, op2, Target}
+use Rattle.mpd_model.specs.script.Tree.{simple, branch, no_more, then_more}
+use Rattle.mpd_model.specs.script.Program.{Program}
+use Rattle.mpd_model.specs.steps.World.{start}
+use Rattle.mpd_model.specs.runs.Decisions.{decision}
 use Rattle.mpd_explore.specs.Walk.{Run, walk, run_at}
 use Rattle.mpd_sample.specs.Order.{order}
 use Rattle.mpd_sample.specs.Drawn.{seeded, drawn, draws, sampled}

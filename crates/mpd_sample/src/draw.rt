@@ -2,15 +2,14 @@
 
 ghost use Rattle.std.specs.Prelude.{◌≡◌, ℕ, suc, ◌+◌, ◌<◌, ◌≤◌, [], IfOk, OnOk};
 ghost use Rattle.rand.specs.Uniform.{usize_single};
-ghost use Rattle.mpd_model.specs.Decisions.{decision, CanFollow};
+ghost use Rattle.mpd_model.specs.runs.Decisions.{decision, CanFollow};
 ghost use Rattle.mpd_trail.specs.Views.{standing_of};
 ghost use Rattle.mpd_sample.specs.Drawing.{Beyond, Drawing, Ends, Goes, Drew};
 
-use mpd_explore::report::{ChoiceList, Ending, Leaf};
-use mpd_model::decision::{Decision, StepList};
-use mpd_model::limits::STEPS_MAX;
-use mpd_policy::decide::{decide, decisions_can_be_followed};
-use mpd_trail::debugger::Debugger;
+use mpd_explore::{ChoiceList, Ending, Leaf};
+use mpd_model::{Decision, STEPS_MAX, StepList};
+use mpd_policy::{decide, decisions_can_be_followed};
+use mpd_trail::Debugger;
 use rand::{Rng, RngExt};
 use std::alloc::{AllocError, Global};
 

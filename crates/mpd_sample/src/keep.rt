@@ -3,7 +3,7 @@
 ghost use Rattle.std.specs.Prelude.{◌≡◌, true, ◌+◌, ◌≤◌, ℕ, List, drop, if◌then◌else◌, length, map, IfOk, OnOk, string_bytes};
 ghost use Rattle.std.specs.List.{insert};
 ghost use Rattle.std.specs.Ordering.{is_lt, is_eq};
-ghost use Rattle.mpd_model.specs.Trail.{kept};
+ghost use Rattle.mpd_model.specs.runs.Trail.{done_steps};
 ghost use Rattle.mpd_explore.specs.declared.report.Leaf as leaves;
 ghost use Rattle.mpd_explore.specs.Witness.{witness_by};
 ghost use Rattle.mpd_explore.specs.WitnessTexts.{behind_number};
@@ -11,8 +11,8 @@ ghost use Rattle.mpd_sample.specs.Order.{order, Rises, with_leaf};
 ghost use Rattle.mpd_sample.specs.Drawing.{IsPlace, begins_with, TextsAre, IsEven};
 
 use crate::text::witness_text;
-use mpd_explore::report::{Ending, Leaf, Report};
-use mpd_trail::debugger::Debugger;
+use mpd_explore::{Ending, Leaf, Report};
+use mpd_trail::Debugger;
 use std::alloc::{AllocError, Global};
 use std::cmp::Ordering;
 
@@ -77,7 +77,7 @@ fn witness_here(
     debugger: &Debugger<'_>,
     ending: &Ending,
 ) -> Result<String, AllocError>
-    ensures { IfOk result (λ t. string_bytes t ≡ behind_number (witness_by (kept debugger.now.trail) ending.now)) }
+    ensures { IfOk result (λ t. string_bytes t ≡ behind_number (witness_by (done_steps debugger.now.trail) ending.now)) }
 {
     debugger.state_is_reached();
     let depth = debugger.depth();
@@ -95,7 +95,7 @@ fn add_text(
     texts: &mut Vec<String>,
 ) -> Result<(), AllocError>
     requires within { asked ≡ true → place ≤ length texts.old.items }
-    ensures { OnOk result (map string_bytes texts.new.items ≡ (if asked then insert (map string_bytes texts.old.items) place (behind_number (witness_by (kept debugger.now.trail) ending.now)) else map string_bytes texts.old.items)) }
+    ensures { OnOk result (map string_bytes texts.new.items ≡ (if asked then insert (map string_bytes texts.old.items) place (behind_number (witness_by (done_steps debugger.now.trail) ending.now)) else map string_bytes texts.old.items)) }
 {
     if !asked {
         return Ok(());
@@ -117,7 +117,7 @@ pub(crate) fn keep_leaf(
     requires rises { Rises report.old.leaves.items }
     requires even { IsEven asked report.old.leaves.items (map string_bytes report.old.witnesses.items) }
     ensures leaves { OnOk result (report.new.leaves.items ≡ with_leaf leaf report.old.leaves.items) }
-    ensures texts { OnOk result ((text : leaves.Leaf → List ℕ) → text leaf ≡ behind_number (witness_by (kept debugger.now.trail) leaf.ending) → TextsAre asked text report.old.leaves.items (map string_bytes report.old.witnesses.items) → TextsAre asked text report.new.leaves.items (map string_bytes report.new.witnesses.items)) }
+    ensures texts { OnOk result ((text : leaves.Leaf → List ℕ) → text leaf ≡ behind_number (witness_by (done_steps debugger.now.trail) leaf.ending) → TextsAre asked text report.old.leaves.items (map string_bytes report.old.witnesses.items) → TextsAre asked text report.new.leaves.items (map string_bytes report.new.witnesses.items)) }
 {
     let place = place_of(&report.leaves, &leaf.choices.items);
     if is_there(&report.leaves, place, &leaf.choices.items) {

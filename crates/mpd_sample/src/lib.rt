@@ -3,5 +3,7 @@
 
 mod draw;
 mod keep;
-pub mod sample;
+pub mod sampler;
 mod text;
+
+pub use sampler::sample;

@@ -1,13 +1,12 @@
 //! The text of a witness (docs/FORMATS.md, "Reports").
 
 ghost use Rattle.std.specs.Prelude.{◌≡◌, ◌++◌, IfOk, OnOk, string_bytes};
-ghost use Rattle.mpd_model.specs.Texts.{steps_text};
+ghost use Rattle.mpd_model.specs.texts.Texts.{steps_text};
 ghost use Rattle.mpd_explore.specs.Witness.{witness_by};
 ghost use Rattle.mpd_explore.specs.WitnessTexts.{behind_number};
 
-use mpd_explore::report::Ending;
-use mpd_model::outcome::Outcome;
-use mpd_model::step::Step;
+use mpd_explore::Ending;
+use mpd_model::{Outcome, Step};
 use std::alloc::{AllocError, Global};
 
 /// Adds steps: a space before the first, a comma and a space between two.

@@ -4,7 +4,7 @@ use Rattle.std.proofs.lemmas.Bool.{cases_Bool}
 use Rattle.std.proofs.lemmas.Bool.Decides.{nat_tests}
 use Rattle.std.specs.List.{prefix_len}
 use Rattle.std.specs.Result.{MatchResult, IsOk}
-use Rattle.mpd_model.specs.Grammar.{is_text}
+use Rattle.mpd_model.specs.grammar.Grammar.{is_text}
 
 text_byte : (b : ℕ) → is_text b ≡ true → b < 128
 text_byte b h = grind (arith, nat_tests)

@@ -1,10 +1,10 @@
 -- One step of each recursion of statements and declarations.
 use Rattle.std.proofs.Common.{◌≡◌, ℕ, suc, ◌+◌, ◌-◌, ◌<◌, ◌≤◌, Err, refl, arith, List, [], ◌∷◌, ◌++◌, Bool, true, if◌then◌else◌}
-use Rattle.mpd_model.specs.Tree.{Tree}
+use Rattle.mpd_model.specs.script.Tree.{Tree}
 use Rattle.mpd_model.specs.declared.read_fault.FaultCode.TheVariants.{TooDeep}
 use Rattle.mpd_model.specs.declared.token.Mark.TheVariants as m
-use Rattle.mpd_model.specs.Input.{Parser, Input, token, sees, fail, refuse, refusal, ◌>>=◌, ◌>>◌, pure, expect}
-use Rattle.mpd_model.specs.Grammar.{stmt, stmts, body, closes, block, declares, decls_by, decls_from}
+use Rattle.mpd_model.specs.grammar.Input.{Parser, Input, token, sees, fail, refuse, refusal, ◌>>=◌, ◌>>◌, pure, expect}
+use Rattle.mpd_model.specs.grammar.Grammar.{stmt, stmts, body, closes, block, declares, decls_by, decls_from}
 use Rattle.mpd_laws.proofs.complete.Turns.{body_turns, decls_turns}
 
 stmts_none : (b : Parser (List Tree)) (inside : Bool) (n : ℕ) (found : List Tree) (i : Input) → n ≡ 0 → stmts b inside n found i ≡ Err (refusal i)

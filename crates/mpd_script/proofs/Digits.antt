@@ -1,5 +1,5 @@
 use Rattle.std.proofs.Common.{ℕ, ◌+◌, ◌-◌, ◌*◌, ◌≤◌, List, [], ◌∷◌, arith}
-use Rattle.mpd_model.specs.Tokens.{decimal_after}
+use Rattle.mpd_model.specs.grammar.Tokens.{decimal_after}
 
 -- more digits make no smaller number
 pub le-decimal_after : (n : ℕ) (ds : List ℕ) → n ≤ decimal_after n ds

@@ -4,9 +4,9 @@ use Rattle.std.proofs.lemmas.List.{at_drop_more, drop-drop}
 use Rattle.std.proofs.lemmas.Bool.{or_parts}
 use Rattle.mpd_model.specs.declared.token.Class.TheVariants as class
 use Rattle.mpd_model.specs.declared.token.Token.{Token}
-use Rattle.mpd_model.specs.Input.{token_of, text_of, place_of, first_line, behind}
+use Rattle.mpd_model.specs.grammar.Input.{token_of, text_of, place_of, first_line, behind}
 use Rattle.mpd_script.specs.Cursor.{first}
-use Rattle.mpd_model.specs.Tokens.{Spot, tokens_after, tokens_at, front, spot, is_blank, is_gap, run_len, feeds}
+use Rattle.mpd_model.specs.grammar.Tokens.{Spot, tokens_after, tokens_at, front, spot, is_blank, is_gap, run_len, feeds}
 
 pub tokens_after-drop : (n p l : ℕ) (z : List ℕ) → tokens_after n p l z ≡ tokens_at (p + n) l (drop n z)
 unfolding tokens_after

@@ -8,8 +8,8 @@ use Rattle.std.specs.Str.{bytes_eq}
 use Rattle.std.proofs.lemmas.Slice.Eq.{bytes_eq-Decides}
 use Rattle.mpd_model.specs.declared.place.DeclKind.{DeclKind}
 use Rattle.mpd_model.specs.declared.slot.Slot.{Slot}
-use Rattle.mpd_model.specs.Declaration.{Declared, variable_cells, handle_cells, variables_in, handles_in}
-use Rattle.mpd_model.specs.Input.{first_of, slot_from, slot_in}
+use Rattle.mpd_model.specs.script.Declaration.{Declared, variable_cells, handle_cells, variables_in, handles_in}
+use Rattle.mpd_model.specs.grammar.Input.{first_of, slot_from, slot_in}
 
 abbrev slot_of : ℕ → ℕ → ℕ → Declared → Slot
 slot_of n v h d = record { kind = d.kind; declaration = n; first = first_of d.kind v h; size = d.size }

@@ -1,9 +1,9 @@
 -- One step of each recursion on a number, at a number that the code counts down.
 use Rattle.std.proofs.Common.{◌≡◌, ℕ, suc, ◌+◌, ◌-◌, ◌<◌, ◌≤◌, Ok, refl, arith}
-use Rattle.mpd_model.specs.Term.{Term}
+use Rattle.mpd_model.specs.script.Term.{Term}
 use Rattle.mpd_model.specs.declared.read_fault.FaultCode.TheVariants.{TooDeep}
-use Rattle.mpd_model.specs.Input.{Parser, Input, and_then, token, fail}
-use Rattle.mpd_model.specs.Grammar.{chain, chain_by, operator_at, turns, level, atom, expr}
+use Rattle.mpd_model.specs.grammar.Input.{Parser, Input, and_then, token, fail}
+use Rattle.mpd_model.specs.grammar.Grammar.{chain, chain_by, operator_at, turns, level, atom, expr}
 
 chain_none : (p : Parser Term) (k n : ℕ) (left : Term) (i : Input) → n ≡ 0 → chain p k n left i ≡ Ok (left, i)
 unfolding chain

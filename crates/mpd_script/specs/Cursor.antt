@@ -4,9 +4,9 @@ use Rattle.std.specs.BTreeMap.{get_by}
 use Rattle.std.specs.Cmp.Lexicographic.{slice_cmp}
 use Rattle.std.specs.Ordering.{nat_cmp}
 use Rattle.mpd_model.specs.declared.limits.TheConstants.{CELLS_MAX, HANDLES_MAX, STATEMENTS_MAX}
-use Rattle.mpd_model.specs.Declaration.{variables_in, handles_in}
-use Rattle.mpd_model.specs.Input.{Input, slot_in}
-use Rattle.mpd_model.specs.Tokens.{front, tokens_at, is_gap}
+use Rattle.mpd_model.specs.script.Declaration.{variables_in, handles_in}
+use Rattle.mpd_model.specs.grammar.Input.{Input, slot_in}
+use Rattle.mpd_model.specs.grammar.Tokens.{front, tokens_at, is_gap}
 use Rattle.mpd_model.specs.declared.token.Token.{Token}
 use Rattle.mpd_model.specs.declared.token.Token.TheVariants.{End}
 use Rattle.mpd_script.specs.declared.cursor.Tokens.TheInside.{Inside}

@@ -5,8 +5,8 @@ use Rattle.mpd_model.specs.declared.stmt.SendStmt.{SendStmt}
 use Rattle.mpd_model.specs.declared.stmt.Simple.{Simple}
 use Rattle.mpd_model.specs.declared.stmt.Simple.TheVariants as st
 use Rattle.mpd_model.specs.declared.token.Mark.TheVariants as m
-use Rattle.mpd_model.specs.Parts.{Hole, mark_hole, term_hole, source_hole, status_hole}
-use Rattle.mpd_model.specs.Term.{Target}
+use Rattle.mpd_model.specs.script.Parts.{Hole, mark_hole, term_hole, source_hole, status_hole}
+use Rattle.mpd_model.specs.script.Term.{Target}
 
 abbrev pub send_of : Bool → Option Target → SendStmt → Simple
 send_of false None s = st.Send s

@@ -3,19 +3,18 @@
 ghost use Rattle.std.specs.Prelude.{◌≡◌, ◌≢◌, ◌+◌, ◌<◌, ◌≤◌, ◌^◌, ◌∷◌, ◌++◌, IfSome, IsAscii, None, Ok, OnOk, [], length, vec_capacity, vec_len};
 ghost use Rattle.mpd_model.specs.declared.limits.TheConstants.{CELLS_MAX, HANDLES_MAX, STATEMENTS_MAX};
 ghost use Rattle.mpd_model.specs.declared.read_fault.FaultCode.TheVariants.{Memory};
-ghost use Rattle.mpd_model.specs.Declaration.{handle_cells, handles_in, variable_cells, variables_in};
-ghost use Rattle.mpd_model.specs.Faults.{fault};
-ghost use Rattle.mpd_model.specs.Grammar.{written_in};
-ghost use Rattle.mpd_model.specs.Input as spec;
-ghost use Rattle.mpd_model.specs.Input.{Reads, first_line};
+ghost use Rattle.mpd_model.specs.script.Declaration.{handle_cells, handles_in, variable_cells, variables_in};
+ghost use Rattle.mpd_model.specs.grammar.Faults.{fault};
+ghost use Rattle.mpd_model.specs.grammar.Grammar.{written_in};
+ghost use Rattle.mpd_model.specs.grammar.Input as spec;
+ghost use Rattle.mpd_model.specs.grammar.Input.{Reads, first_line};
 ghost use Rattle.mpd_script.specs.Cursor.{first};
 
 use crate::lex;
-use mpd_model::limits::{CELLS_MAX, HANDLES_MAX, NESTING_MAX, STATEMENTS_MAX};
-use mpd_model::place::{Decl, DeclKind};
-use mpd_model::read_fault::{FaultCode, ReadFault};
-use mpd_model::slot::Slot;
-use mpd_model::token::{Mark, Token};
+use mpd_model::{
+    CELLS_MAX, Decl, DeclKind, FaultCode, HANDLES_MAX, Mark, NESTING_MAX, ReadFault,
+    STATEMENTS_MAX, Slot, Token,
+};
 use std::alloc::Global;
 use std::collections::BTreeMap;
 use std::marker::Model;
@@ -47,7 +46,7 @@ pub struct Tokens<'a> {
 }
 
 impl<'a> Model for Tokens<'a> {
-    ghost use Rattle.mpd_model.specs.Input.{Input, input_code};
+    ghost use Rattle.mpd_model.specs.grammar.Input.{Input, input_code};
 
     ghost Value = { Input };
 
@@ -73,7 +72,7 @@ fn first(ahead: &[u8]) -> (Token, usize)
     }
 }
 
-#[tactic(auto, unfolding(mpd_model::specs::Input::refusal, mpd_model::specs::Input::sees, mpd_model::specs::Input::after, mpd_model::specs::Input::expect, mpd_model::specs::Input::spend, mpd_model::specs::Input::count, mpd_model::specs::Input::seek))]
+#[tactic(auto, unfolding(mpd_model::specs::grammar::Input::refusal, mpd_model::specs::grammar::Input::sees, mpd_model::specs::grammar::Input::after, mpd_model::specs::grammar::Input::expect, mpd_model::specs::grammar::Input::spend, mpd_model::specs::grammar::Input::count, mpd_model::specs::grammar::Input::seek))]
 impl<'a> Tokens<'a> {
     /// The first token of a text.
     #[tactic(auto, using(crate::proofs::Slots::none_found))]
@@ -225,7 +224,7 @@ impl<'a> Tokens<'a> {
     }
 
     /// Takes a bracket or an operator.
-    #[tactic(auto, unfolding(mpd_model::specs::Input::spend, mpd_model::specs::Input::advanced))]
+    #[tactic(auto, unfolding(mpd_model::specs::grammar::Input::spend, mpd_model::specs::grammar::Input::advanced))]
     pub(crate) fn spend(&mut self) -> Result<(), ReadFault>
         ensures { Reads (spec.spend self.old) result self.new }
     {
@@ -266,7 +265,7 @@ impl<'a> Tokens<'a> {
     }
 
     /// What the name that comes next was declared as.
-    #[tactic(auto, unfolding(mpd_model::specs::Input::seek))]
+    #[tactic(auto, unfolding(mpd_model::specs::grammar::Input::seek))]
     pub(crate) fn seek(&self, kind: DeclKind) -> Result<Slot, ReadFault>
         ensures { Reads (spec.seek kind self.now) result self.now }
     {
@@ -277,7 +276,7 @@ impl<'a> Tokens<'a> {
     }
 
     /// The name that comes next is new.
-    #[tactic(auto, unfolding(mpd_model::specs::Input::fresh))]
+    #[tactic(auto, unfolding(mpd_model::specs::grammar::Input::fresh))]
     pub(crate) fn fresh(&self) -> Result<(), ReadFault>
         ensures value { Reads (spec.fresh self.now) result self.now }
         ensures new { OnOk result (spec.slot_in self.now.decls (spec.spelling self.now) ≡ None) }
@@ -289,7 +288,7 @@ impl<'a> Tokens<'a> {
     }
 
     /// Declares a name, or a fault at a place.
-    #[tactic(auto, unfolding(mpd_model::specs::Input::add))]
+    #[tactic(auto, unfolding(mpd_model::specs::grammar::Input::add))]
     pub(crate) fn add(
         &mut self,
         kind: DeclKind,
@@ -398,7 +397,7 @@ fn is_mark(mark: Mark, token: Token) -> bool
     }
 }
 
-#[tactic(auto, unfolding(mpd_model::specs::Input::same_mark))]
+#[tactic(auto, unfolding(mpd_model::specs::grammar::Input::same_mark))]
 fn same_mark(a: Mark, b: Mark) -> bool
     ensures { result ≡ spec.same_mark a b }
 {

@@ -1,17 +1,15 @@
 //! Expressions, a level of operators after the other (docs/LANGUAGE.md, "Expressions").
 
 ghost use Rattle.std.specs.Prelude.{◌≡◌, ◌≤◌, ◌-◌};
-ghost use Rattle.mpd_model.specs.Grammar as spec;
-ghost use Rattle.mpd_model.specs.Input.{Reads};
+ghost use Rattle.mpd_model.specs.grammar.Grammar as spec;
+ghost use Rattle.mpd_model.specs.grammar.Input.{Reads};
 ghost use Rattle.mpd_model.specs.declared.token.Token.TheVariants.{Is};
 
 use crate::cursor::Tokens;
 use crate::place::{bracket, place_of};
-use mpd_model::expr::{BinaryOp, Expr, ExprNode, UnaryOp};
-use mpd_model::limits::NESTING_MAX;
-use mpd_model::place::DeclKind;
-use mpd_model::read_fault::{FaultCode, ReadFault};
-use mpd_model::token::{Mark, Token};
+use mpd_model::{
+    BinaryOp, DeclKind, Expr, ExprNode, FaultCode, Mark, NESTING_MAX, ReadFault, Token, UnaryOp,
+};
 use std::alloc::Global;
 
 /// The level of `*`, `/` and `%`, which bind most closely.
@@ -150,7 +148,7 @@ fn chain(
 }
 
 #[cycle(expr)]
-#[tactic(auto, unfolding(mpd_model::specs::Grammar::atom))]
+#[tactic(auto, unfolding(mpd_model::specs::grammar::Grammar::atom))]
 fn atom(alloc: Global, tokens: &mut Tokens<'_>, depth: usize) -> Result<Expr, ReadFault>
     ensures { Reads (spec.atom (spec.expr depth) tokens.old) result tokens.new }
 {
@@ -183,7 +181,7 @@ fn atom(alloc: Global, tokens: &mut Tokens<'_>, depth: usize) -> Result<Expr, Re
 
 /// A variable, with its index where it is an array.
 #[cycle(expr)]
-#[tactic(auto, unfolding(mpd_model::specs::Grammar::place_inside))]
+#[tactic(auto, unfolding(mpd_model::specs::grammar::Grammar::place_inside))]
 fn place_inside(alloc: Global, tokens: &mut Tokens<'_>, depth: usize) -> Result<Expr, ReadFault>
     ensures { Reads (spec.place_inside (spec.expr depth) tokens.old) result tokens.new }
 {
@@ -202,7 +200,7 @@ fn place_inside(alloc: Global, tokens: &mut Tokens<'_>, depth: usize) -> Result<
 
 /// An expression between round brackets, which leave no trace in it.
 #[cycle(expr)]
-#[tactic(auto, unfolding(mpd_model::specs::Grammar::rounds))]
+#[tactic(auto, unfolding(mpd_model::specs::grammar::Grammar::rounds))]
 fn rounds(alloc: Global, tokens: &mut Tokens<'_>, depth: usize) -> Result<Expr, ReadFault>
     ensures { Reads (spec.rounds (spec.expr depth) tokens.old) result tokens.new }
 {
@@ -214,7 +212,7 @@ fn rounds(alloc: Global, tokens: &mut Tokens<'_>, depth: usize) -> Result<Expr, 
 
 /// An operator before its operand, which binds more closely than any between two.
 #[cycle(expr)]
-#[tactic(auto, unfolding(mpd_model::specs::Grammar::unary))]
+#[tactic(auto, unfolding(mpd_model::specs::grammar::Grammar::unary))]
 fn unary(
     alloc: Global,
     tokens: &mut Tokens<'_>,

@@ -1,10 +1,9 @@
 //! Cuts the token at the front of a text, and the blanks and comments before it (docs/LANGUAGE.md, "Tokens").
 
 ghost use Rattle.std.specs.Prelude.{ℕ, ◌≡◌, ◌≢◌, ◌<◌, ◌≤◌, ◌+◌, map, length, slice_index, drop, true, false};
-ghost use Rattle.mpd_model.specs.Tokens as spec;
+ghost use Rattle.mpd_model.specs.grammar.Tokens as spec;
 
-use mpd_model::limits::NAME_MAX;
-use mpd_model::token::{Class, Mark, RESERVED, Token};
+use mpd_model::{Class, Mark, NAME_MAX, RESERVED, Token};
 
 fn is_in(class: Class, b: u8) -> bool
     ensures { result ≡ spec.is_in class b }
@@ -58,7 +57,7 @@ fn word_in(mut table: &[(&[u8], Mark)], word: &[u8]) -> Token
     }
 }
 
-#[tactic(auto, unfolding(mpd_model::specs::Tokens::word))]
+#[tactic(auto, unfolding(mpd_model::specs::grammar::Tokens::word))]
 fn word(word: &[u8]) -> Token
     ensures { result ≡ spec.word word.now }
 {
@@ -75,7 +74,7 @@ fn two(is_long: bool, long: Mark, short: Mark) -> (Token, usize)
     }
 }
 
-#[tactic(auto, unfolding(mpd_model::specs::Tokens::sign))]
+#[tactic(auto, unfolding(mpd_model::specs::grammar::Tokens::sign))]
 fn sign(b: u8, next: u8) -> (Token, usize)
     ensures value { result ≡ spec.sign b next }
     ensures within { (1 ≤ result.1) × (result.1 ≤ 2) × (next ≡ 0 → result.1 ≡ 1) }
@@ -110,7 +109,7 @@ fn begins_name(b: u8) -> bool
 }
 
 /// The token at the front, and its length.
-#[tactic(auto, unfolding(mpd_model::specs::Tokens::front))]
+#[tactic(auto, unfolding(mpd_model::specs::grammar::Tokens::front))]
 pub(crate) fn front(z: &[u8]) -> (Token, usize)
     requires { 0 < length z.now }
     ensures value { result ≡ spec.front z.now }

@@ -1,16 +1,12 @@
 //! Places: variables and handles, and arrays at an index (docs/LANGUAGE.md, "Grammar").
 
 ghost use Rattle.std.specs.Prelude.{◌≡◌};
-ghost use Rattle.mpd_model.specs.Grammar as spec;
-ghost use Rattle.mpd_model.specs.Input.{Reads};
+ghost use Rattle.mpd_model.specs.grammar.Grammar as spec;
+ghost use Rattle.mpd_model.specs.grammar.Input.{Reads};
 
 use crate::cursor::Tokens;
 use crate::expr::expression;
-use mpd_model::place::{DeclKind, Place};
-use mpd_model::read_fault::ReadFault;
-use mpd_model::slot::Slot;
-use mpd_model::stmt::Target;
-use mpd_model::token::{Mark, Token};
+use mpd_model::{DeclKind, Mark, Place, ReadFault, Slot, Target, Token};
 use std::alloc::Global;
 
 /// What a name stands for.
@@ -25,7 +21,7 @@ pub(crate) fn place_of(slot: Slot) -> Place
 }
 
 /// The bracket before the index of a place in an expression, which takes one of its budget.
-#[tactic(auto, unfolding(mpd_model::specs::Grammar::bracket))]
+#[tactic(auto, unfolding(mpd_model::specs::grammar::Grammar::bracket))]
 pub(crate) fn bracket(tokens: &mut Tokens<'_>) -> Result<(), ReadFault>
     ensures { Reads (spec.bracket tokens.old) result tokens.new }
 {
@@ -58,7 +54,7 @@ pub(crate) fn index_outside(
 }
 
 /// The place of the kind whose name comes next.
-#[tactic(auto, unfolding(mpd_model::specs::Grammar::target))]
+#[tactic(auto, unfolding(mpd_model::specs::grammar::Grammar::target))]
 fn target(alloc: Global, tokens: &mut Tokens<'_>, kind: DeclKind) -> Result<Target, ReadFault>
     ensures { Reads (spec.target kind tokens.old) result tokens.new }
 {
@@ -68,7 +64,7 @@ fn target(alloc: Global, tokens: &mut Tokens<'_>, kind: DeclKind) -> Result<Targ
 }
 
 /// The place of the kind that a statement names behind its word.
-#[tactic(auto, unfolding(mpd_model::specs::Grammar::statement_place))]
+#[tactic(auto, unfolding(mpd_model::specs::grammar::Grammar::statement_place))]
 pub(crate) fn statement_place(
     alloc: Global,
     tokens: &mut Tokens<'_>,
@@ -83,7 +79,7 @@ pub(crate) fn statement_place(
 }
 
 /// The declaration of the kind whose name comes next: the name stands for all of it.
-#[tactic(auto, unfolding(mpd_model::specs::Grammar::statement_name))]
+#[tactic(auto, unfolding(mpd_model::specs::grammar::Grammar::statement_name))]
 pub(crate) fn statement_name(tokens: &mut Tokens<'_>, kind: DeclKind) -> Result<Place, ReadFault>
     ensures { Reads (spec.statement_name kind tokens.old) result tokens.new }
 {

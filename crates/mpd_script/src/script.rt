@@ -4,21 +4,20 @@ ghost use Rattle.std.specs.Prelude.{◌≡◌, ◌≢◌, ◌≤◌, IfErr, IfOk
 ghost use Rattle.std.specs.List.{prefix_len};
 ghost use Rattle.mpd_model.specs.declared.limits.TheConstants.{RANKS_MAX, LANGUAGE_MAX};
 ghost use Rattle.mpd_model.specs.declared.read_fault.FaultCode.TheVariants.{Memory};
-ghost use Rattle.mpd_model.specs.Grammar as spec;
-ghost use Rattle.mpd_model.specs.Input.{Fails, Reads, slot_in};
-ghost use Rattle.mpd_model.specs.Printable.{IsPrintable};
-ghost use Rattle.mpd_model.specs.Program.{Program, IsBlockOf, IsLegal};
-ghost use Rattle.mpd_model.specs.Tree.{block_of};
+ghost use Rattle.mpd_model.specs.grammar.Grammar as spec;
+ghost use Rattle.mpd_model.specs.grammar.Input.{Fails, Reads, slot_in};
+ghost use Rattle.mpd_model.specs.grammar.Printable.{IsPrintable};
+ghost use Rattle.mpd_model.specs.script.Program.{Program, IsBlockOf, IsLegal};
+ghost use Rattle.mpd_model.specs.script.Tree.{block_of};
 
 use crate::cursor::Tokens;
 use crate::stmt::body;
 use mpd_laws::reading::scripts_are_of_version;
 use mpd_laws::round_trip::read_scripts_are_printable;
-use mpd_model::limits::{BLOCKS_MAX, LANGUAGE_MAX, RANKS_MAX, SCRIPT_MAX};
-use mpd_model::place::DeclKind;
-use mpd_model::read_fault::{FaultCode, ReadFault};
-use mpd_model::script::Script;
-use mpd_model::token::{Mark, Token};
+use mpd_model::{
+    BLOCKS_MAX, DeclKind, FaultCode, LANGUAGE_MAX, Mark, RANKS_MAX, ReadFault, SCRIPT_MAX, Script,
+    Token,
+};
 use std::alloc::Global;
 
 /// A version of the language, if it is one.
@@ -33,7 +32,7 @@ fn version_in(value: i64) -> Option<usize>
 }
 
 /// The number after `mpd`. What follows is in that version.
-#[tactic(auto, unfolding(mpd_model::specs::Grammar::version))]
+#[tactic(auto, unfolding(mpd_model::specs::grammar::Grammar::version))]
 fn version(tokens: &mut Tokens<'_>) -> Result<(), ReadFault>
     ensures { Reads (spec.version tokens.old) result tokens.new }
 {
@@ -63,7 +62,7 @@ fn rank_count(value: i64) -> Option<usize>
 }
 
 /// The number after `ranks`.
-#[tactic(auto, unfolding(mpd_model::specs::Grammar::ranks))]
+#[tactic(auto, unfolding(mpd_model::specs::grammar::Grammar::ranks))]
 fn ranks(tokens: &mut Tokens<'_>) -> Result<usize, ReadFault>
     ensures value { Reads (spec.ranks tokens.old) result tokens.new }
     ensures within { IfOk result (λ n. (1 ≤ n) × (n ≤ RANKS_MAX)) }
@@ -92,7 +91,7 @@ fn natural(value: i64) -> Option<usize>
 }
 
 /// The size of an array, and what is behind it.
-#[tactic(auto, unfolding(mpd_model::specs::Grammar::array_size))]
+#[tactic(auto, unfolding(mpd_model::specs::grammar::Grammar::array_size))]
 fn array_size<'a>(tokens: &mut Tokens<'a>, kind: DeclKind, name: &'a [u8]) -> Result<(), ReadFault>
     requires ascii { IsAscii name.now }
     requires new { slot_in tokens.old.decls name.now ≡ None }
@@ -114,7 +113,7 @@ fn array_size<'a>(tokens: &mut Tokens<'a>, kind: DeclKind, name: &'a [u8]) -> Re
 }
 
 /// What is behind a name without a size. A fault of it is at the place of the name.
-#[tactic(auto, unfolding(mpd_model::specs::Grammar::single))]
+#[tactic(auto, unfolding(mpd_model::specs::grammar::Grammar::single))]
 fn single<'a>(
     tokens: &mut Tokens<'a>,
     kind: DeclKind,
@@ -130,7 +129,7 @@ fn single<'a>(
 }
 
 /// The name in a declaration, and what is behind it.
-#[tactic(auto, unfolding(mpd_model::specs::Grammar::declarator))]
+#[tactic(auto, unfolding(mpd_model::specs::grammar::Grammar::declarator))]
 fn declarator(tokens: &mut Tokens<'_>, kind: DeclKind) -> Result<(), ReadFault>
     ensures { Reads (spec.declarator kind tokens.old) result tokens.new }
 {
@@ -146,7 +145,7 @@ fn declarator(tokens: &mut Tokens<'_>, kind: DeclKind) -> Result<(), ReadFault>
 }
 
 /// What follows `var` or `req`.
-#[tactic(auto, unfolding(mpd_model::specs::Grammar::decl))]
+#[tactic(auto, unfolding(mpd_model::specs::grammar::Grammar::decl))]
 fn decl(tokens: &mut Tokens<'_>, kind: DeclKind) -> Result<(), ReadFault>
     ensures { Reads (spec.decl kind tokens.old) result tokens.new }
 {
@@ -184,7 +183,7 @@ fn decls(tokens: &mut Tokens<'_>) -> Result<(), ReadFault>
 }
 
 /// The version, the number of ranks and the declarations.
-#[tactic(auto, unfolding(mpd_model::specs::Grammar::header))]
+#[tactic(auto, unfolding(mpd_model::specs::grammar::Grammar::header))]
 fn header(tokens: &mut Tokens<'_>) -> Result<usize, ReadFault>
     ensures value { Reads (spec.header tokens.old) result tokens.new }
     ensures within { IfOk result (λ n. (1 ≤ n) × (n ≤ RANKS_MAX)) }
@@ -199,7 +198,7 @@ fn header(tokens: &mut Tokens<'_>) -> Result<usize, ReadFault>
     Ok(count)
 }
 
-#[tactic(auto, unfolding(mpd_model::specs::Grammar::script))]
+#[tactic(auto, unfolding(mpd_model::specs::grammar::Grammar::script))]
 fn script(alloc: Global, mut tokens: Tokens<'_>) -> Result<Script, ReadFault>
     requires decls { tokens.decls ≡ [] }
     requires lines { tokens.lines ≡ [] }
@@ -243,7 +242,7 @@ fn text_len(text: &[u8]) -> usize
 /// The script that a text spells (docs/LANGUAGE.md, "Grammar"), or the text's leftmost fault
 /// (docs/LANGUAGE.md, "Faults"). Where memory is refused the fault is `Memory` at 0, and says nothing of the text.
 /// Any bytes may be given.
-#[tactic(auto, unfolding(mpd_model::specs::Grammar::reading))]
+#[tactic(auto, unfolding(mpd_model::specs::grammar::Grammar::reading))]
 pub fn read(alloc: Global, text: &[u8]) -> Result<Script, ReadFault>
     ensures ok { IfOk result (λ s. spec.reading text.now ≡ Ok s) }
     ensures err { IfErr result (λ f. f.code ≢ Memory → spec.reading text.now ≡ Err f) }

@@ -1,9 +1,9 @@
 //! Statements that hold no other, each by the form of its word (docs/LANGUAGE.md, "Statements").
 
 ghost use Rattle.std.specs.Prelude.{◌≡◌, []};
-ghost use Rattle.mpd_model.specs.Grammar as spec;
-ghost use Rattle.mpd_model.specs.Input.{Reads};
-ghost use Rattle.mpd_model.specs.Tree.{simple};
+ghost use Rattle.mpd_model.specs.grammar.Grammar as spec;
+ghost use Rattle.mpd_model.specs.grammar.Input.{Reads};
+ghost use Rattle.mpd_model.specs.script.Tree.{simple};
 ghost use Rattle.mpd_script.specs.Requests as requests;
 ghost use Rattle.mpd_script.specs.Requests.{from_holes, tag_holes, to_holes};
 
@@ -11,15 +11,10 @@ use crate::cursor::Tokens;
 use crate::expr::expression;
 use crate::place::{index_outside, statement_name, statement_place};
 use crate::stmt::begin_statement;
-use mpd_model::expr::Expr;
-use mpd_model::place::DeclKind;
-use mpd_model::read_fault::ReadFault;
-use mpd_model::slot::Slot;
-use mpd_model::stmt::{
-    AssignStmt, IrecvStmt, IsendStmt, RecvStmt, SendStmt, Simple, StatusStmt, Stmt, StmtNode,
-    Target, WaitanyStmt,
+use mpd_model::{
+    AssignStmt, DeclKind, Expr, IrecvStmt, IsendStmt, Mark, ReadFault, RecvStmt, SendStmt, Simple,
+    Slot, StatusStmt, Stmt, StmtNode, Target, WaitanyStmt,
 };
-use mpd_model::token::Mark;
 use std::alloc::Global;
 
 /// A statement that begins with the word, which comes next.
@@ -100,7 +95,7 @@ fn print_statement(alloc: Global, tokens: &mut Tokens<'_>) -> Result<Stmt, ReadF
 }
 
 /// What follows the name of the place that an assignment writes.
-#[tactic(auto, unfolding(mpd_model::specs::Grammar::assignment))]
+#[tactic(auto, unfolding(mpd_model::specs::grammar::Grammar::assignment))]
 pub(crate) fn assignment(
     alloc: Global,
     tokens: &mut Tokens<'_>,
@@ -176,7 +171,7 @@ fn send_behind_value(
 }
 
 /// A source or a tag of a receive: `any`, or an expression.
-#[tactic(auto, unfolding(mpd_model::specs::Grammar::source))]
+#[tactic(auto, unfolding(mpd_model::specs::grammar::Grammar::source))]
 fn source(alloc: Global, tokens: &mut Tokens<'_>) -> Result<Option<Expr>, ReadFault>
     ensures { Reads (spec.source tokens.old) result tokens.new }
 {
@@ -188,7 +183,7 @@ fn source(alloc: Global, tokens: &mut Tokens<'_>) -> Result<Option<Expr>, ReadFa
 }
 
 /// A status, if there is one: the places that the source and the tag are written to.
-#[tactic(auto, unfolding(mpd_model::specs::Grammar::status))]
+#[tactic(auto, unfolding(mpd_model::specs::grammar::Grammar::status))]
 fn status(alloc: Global, tokens: &mut Tokens<'_>) -> Result<Option<StatusStmt>, ReadFault>
     ensures { Reads (spec.status tokens.old) result tokens.new }
 {

@@ -2,16 +2,13 @@
 
 ghost use Rattle.std.specs.Prelude.{◌≡◌};
 ghost use Rattle.mpd_model.specs.declared.token.Mark.TheVariants.{Waitany};
-ghost use Rattle.mpd_model.specs.Grammar as spec;
-ghost use Rattle.mpd_model.specs.Input.{Reads, ReadsAll};
+ghost use Rattle.mpd_model.specs.grammar.Grammar as spec;
+ghost use Rattle.mpd_model.specs.grammar.Input.{Reads, ReadsAll};
 
 use crate::cursor::Tokens;
 use crate::expr::expression;
 use crate::simple::{assignment, by_form};
-use mpd_model::place::DeclKind;
-use mpd_model::read_fault::{FaultCode, ReadFault};
-use mpd_model::stmt::{Stmt, StmtNode};
-use mpd_model::token::{Mark, Token};
+use mpd_model::{DeclKind, FaultCode, Mark, ReadFault, Stmt, StmtNode, Token};
 use std::alloc::Global;
 
 /// The version that brought `waitany`.
@@ -80,7 +77,7 @@ fn block(alloc: Global, tokens: &mut Tokens<'_>, depth: usize) -> Result<Vec<Stm
 
 /// The block of an `else`, empty where there is none.
 #[cycle(block)]
-#[tactic(auto, unfolding(mpd_model::specs::Grammar::otherwise))]
+#[tactic(auto, unfolding(mpd_model::specs::grammar::Grammar::otherwise))]
 fn otherwise(alloc: Global, tokens: &mut Tokens<'_>, depth: usize) -> Result<Vec<Stmt>, ReadFault>
     ensures { ReadsAll (spec.otherwise (spec.block depth) tokens.old) result tokens.new }
 {
@@ -93,7 +90,7 @@ fn otherwise(alloc: Global, tokens: &mut Tokens<'_>, depth: usize) -> Result<Vec
 
 /// What follows `if`.
 #[cycle(block)]
-#[tactic(auto, unfolding(mpd_model::specs::Grammar::if_statement))]
+#[tactic(auto, unfolding(mpd_model::specs::grammar::Grammar::if_statement))]
 fn if_statement(alloc: Global, tokens: &mut Tokens<'_>, depth: usize) -> Result<Stmt, ReadFault>
     ensures { Reads (spec.if_statement (spec.block depth) tokens.old) result tokens.new }
 {
@@ -107,7 +104,7 @@ fn if_statement(alloc: Global, tokens: &mut Tokens<'_>, depth: usize) -> Result<
 
 /// What follows `while`.
 #[cycle(block)]
-#[tactic(auto, unfolding(mpd_model::specs::Grammar::while_statement))]
+#[tactic(auto, unfolding(mpd_model::specs::grammar::Grammar::while_statement))]
 fn while_statement(alloc: Global, tokens: &mut Tokens<'_>, depth: usize) -> Result<Stmt, ReadFault>
     ensures { Reads (spec.while_statement (spec.block depth) tokens.old) result tokens.new }
 {
@@ -130,7 +127,7 @@ fn waitany(alloc: Global, tokens: &mut Tokens<'_>) -> Result<Stmt, ReadFault>
 }
 
 #[cycle(block)]
-#[tactic(auto, unfolding(mpd_model::specs::Grammar::stmt))]
+#[tactic(auto, unfolding(mpd_model::specs::grammar::Grammar::stmt))]
 fn stmt(alloc: Global, tokens: &mut Tokens<'_>, depth: usize) -> Result<Stmt, ReadFault>
     ensures { Reads (spec.stmt (spec.block depth) tokens.old) result tokens.new }
 {

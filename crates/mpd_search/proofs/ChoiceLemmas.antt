@@ -1,10 +1,10 @@
 -- Steps that are taken back until a choice is open.
 use Rattle.std.proofs.Common.{◌≡◌, ℕ, zero, suc, ◌+◌, ◌-◌, ◌<◌, ◌≤◌, Bool, true, false, if◌then◌else◌, List, [], ◌∷◌, take, Option, Some, None, refl, sym, ap, subst, ◌∙◌, arith}
 use Rattle.mpd_model.specs.declared.step.Step.{Step}
-use Rattle.mpd_model.specs.World.{start}
-use Rattle.mpd_model.specs.Next.{fold}
-use Rattle.mpd_model.specs.Decisions.{decision}
-use Rattle.mpd_model.specs.Trail.{Trail, Standing, IsReached, taken_back, gone_back, forgotten, world_of}
+use Rattle.mpd_model.specs.steps.World.{start}
+use Rattle.mpd_model.specs.steps.Next.{fold}
+use Rattle.mpd_model.specs.runs.Decisions.{decision}
+use Rattle.mpd_model.specs.runs.Trail.{Trail, Standing, IsReached, taken_back, gone_back, forgotten, world_of}
 use Rattle.mpd_search.specs.Choices.{is_choice, is_open, is_open_at, choice_below, last_choice}
 
 -- So many steps were taken back, and no choice is open behind any that is left of those.

@@ -5,10 +5,10 @@ use Rattle.std.specs.List.{filter, list_any}
 use Rattle.mpd_model.specs.declared.step.Step.{Step}
 use Rattle.mpd_model.specs.declared.decision.Decision.{Decision}
 use Rattle.mpd_model.specs.declared.decision.Decision.TheVariants.{Forced, Choice, Leaf}
-use Rattle.mpd_model.specs.World.{World}
-use Rattle.mpd_model.specs.Next.{next, fold, is_enabled, steps_of, enabled}
-use Rattle.mpd_model.specs.Outcomes.{ending, outcome}
-use Rattle.mpd_model.specs.Decisions.{decision, CanFollow}
+use Rattle.mpd_model.specs.steps.World.{World}
+use Rattle.mpd_model.specs.steps.Next.{next, fold, is_enabled, steps_of, enabled}
+use Rattle.mpd_model.specs.steps.Outcomes.{ending, outcome}
+use Rattle.mpd_model.specs.runs.Decisions.{decision, CanFollow}
 use Rattle.mpd_explore.specs.declared.report.Ending.{Ending}
 use Rattle.mpd_explore.specs.declared.report.Ending.TheVariants.{Ended, Cut}
 use Rattle.mpd_explore.specs.Walk.{Run, here, run_at, run_from, run_taken, run_followed, run_stopped, stepped, chosen}

@@ -6,12 +6,12 @@ use Rattle.std.proofs.lemmas.List.{length-append}
 use Rattle.mpd_model.specs.declared.call.Mode.{Mode}
 use Rattle.mpd_model.specs.declared.step.Step.{Step}
 use Rattle.mpd_model.specs.declared.decision.Decision.TheVariants.{Leaf as leaf_of}
-use Rattle.mpd_model.specs.Program.{Program}
-use Rattle.mpd_model.specs.World.{World, start}
-use Rattle.mpd_model.specs.Next.{fold, enabled}
-use Rattle.mpd_model.specs.Outcomes.{ending}
-use Rattle.mpd_model.specs.Decisions.{decision, CanFollow}
-use Rattle.mpd_model.specs.Trail.{Trail, kept, forgotten, IsReached}
+use Rattle.mpd_model.specs.script.Program.{Program}
+use Rattle.mpd_model.specs.steps.World.{World, start}
+use Rattle.mpd_model.specs.steps.Next.{fold, enabled}
+use Rattle.mpd_model.specs.steps.Outcomes.{ending}
+use Rattle.mpd_model.specs.runs.Decisions.{decision, CanFollow}
+use Rattle.mpd_model.specs.runs.Trail.{Trail, done_steps, forgotten, IsReached}
 use Rattle.mpd_trail.proofs.KeptLemmas.{fold-append}
 use Rattle.mpd_explore.specs.declared.report.Ending.{Ending}
 use Rattle.mpd_explore.specs.declared.report.Leaf as leaf
@@ -19,7 +19,7 @@ use Rattle.mpd_explore.specs.Walk.{run_at, steps_by}
 use Rattle.mpd_explore.specs.Witness.{WitnessBy, HasWitness}
 use Rattle.mpd_words.specs.declared.fault.WordsFault.{WordsFault}
 use Rattle.mpd_words.specs.Led.{Led}
-use Rattle.mpd_search.specs.declared.seek.WholeRun.{WholeRun}
+use Rattle.mpd_search.specs.declared.search.WholeRun.{WholeRun}
 use Rattle.mpd_search.specs.declared.way.Way.{Way}
 use Rattle.mpd_search.specs.Ways.{ends_in, first_in}
 use Rattle.mpd_explore.specs.Report.{ended_by}
@@ -53,27 +53,27 @@ some_of : {o : Option World} {w : World} → o ≡ Some w → IsSome o
 some_of e = cc
 
 lies_by : (t : Trail) (w : World) (n : ℕ) (more : List Step) (e : Ending) → IsReached (record { trail = t; world = w }) → length t.steps ≡ t.depth → t.depth + n ≤ 1000000 → length more ≤ n
-    → LeadsTo w more e → WitnessBy t.program t.mode (kept t ++ more) e → LiesAhead t (record { steps = kept t ++ more; ending = e })
+    → LeadsTo w more e → WitnessBy t.program t.mode (done_steps t ++ more) e → LiesAhead t (record { steps = done_steps t ++ more; ending = e })
 lies_by t w n more e reached clean fits few leads witness =
-    let deep : length (kept t) ≡ t.depth = ap length (all_kept t.depth t.steps clean) ∙ clean in
-    let on : fold (start t.program t.mode) (kept t ++ more) ≡ Some leads.last = fold-append (start t.program t.mode) (kept t) more ∙ ap (option_and_then (λ v. fold v more)) reached.world ∙ leads.leads in
+    let deep : length (done_steps t) ≡ t.depth = ap length (all_kept t.depth t.steps clean) ∙ clean in
+    let on : fold (start t.program t.mode) (done_steps t ++ more) ≡ Some leads.last = fold-append (start t.program t.mode) (done_steps t) more ∙ ap (option_and_then (λ v. fold v more)) reached.world ∙ leads.leads in
     record {
-      begins = ap (λ k. take k (kept t ++ more)) (sym deep) ∙ take_front (kept t) more;
+      begins = ap (λ k. take k (done_steps t ++ more)) (sym deep) ∙ take_front (done_steps t) more;
       run = record {
         leads = some_of on;
-        few = let k : length (kept t ++ more) ≡ length (kept t) + length more = length-append (kept t) more in omega arith;
+        few = let k : length (done_steps t ++ more) ≡ length (done_steps t) + length more = length-append (done_steps t) more in omega arith;
       };
       ends = record { last = leads.last; leads = on; ends = leads.ends };
       witness = witness;
     }
 
 pub lies_ahead : (t : Trail) (w : World) (n : ℕ) (l : leaf.Leaf) (r : WholeRun) → ((v : World) → CanFollow v (decision v)) → ((v : World) → enabled v ≡ [] → decision v ≡ leaf_of (ending v)) → IsReached (record { trail = t; world = w })
-    → length t.steps ≡ t.depth → t.depth + n ≤ 1000000 → HasWitness t.program t.mode (kept t) n w l → r.steps ≡ kept t ++ steps_by (run_at n l.choices w) → r.ending ≡ l.ending → LiesAhead t r
+    → length t.steps ≡ t.depth → t.depth + n ≤ 1000000 → HasWitness t.program t.mode (done_steps t) n w l → r.steps ≡ done_steps t ++ steps_by (run_at n l.choices w) → r.ending ≡ l.ending → LiesAhead t r
 lies_ahead t w n l r can ends reached clean fits h is e =
     let by : steps_by (run_at n l.choices w) ≡ h.run.steps = ap steps_by h.by in
     let leads : LeadsTo w h.run.steps l.ending = subst (LeadsTo w h.run.steps) h.ending (run_leads can ends n l.choices w h.run h.by) in
-    let here : LiesAhead t (record { steps = kept t ++ h.run.steps; ending = l.ending }) = lies_by t w n h.run.steps l.ending reached clean fits (few_steps n l.choices w h.run h.by) leads h.witness in
-    let same : (let x : WholeRun = record { steps = kept t ++ h.run.steps; ending = l.ending } in x) ≡ r = λ i. record { steps = sym (is ∙ ap (λ more. kept t ++ more) by) i; ending = sym e i } in
+    let here : LiesAhead t (record { steps = done_steps t ++ h.run.steps; ending = l.ending }) = lies_by t w n h.run.steps l.ending reached clean fits (few_steps n l.choices w h.run h.by) leads h.witness in
+    let same : (let x : WholeRun = record { steps = done_steps t ++ h.run.steps; ending = l.ending } in x) ≡ r = λ i. record { steps = sym (is ∙ ap (λ more. done_steps t ++ more) by) i; ending = sym e i } in
     subst (LiesAhead t) same here
 
 pub ruleset lying = (lies_ahead, led_steps)
@@ -106,31 +106,31 @@ pub ruleset finding = (found_has, found_value, none_value)
 -- ---- from a debugger
 
 -- a copy has no undone step
-copy_lies : (t u : Trail) (r : WholeRun) → u ≡ forgotten t → kept u ≡ kept t → LiesAhead u r → LiesAhead t r
+copy_lies : (t u : Trail) (r : WholeRun) → u ≡ forgotten t → done_steps u ≡ done_steps t → LiesAhead u r → LiesAhead t r
 copy_lies t u r e k h =
     let at : LiesAhead (forgotten t) r = subst (λ (x : Trail). LiesAhead x r) e h in
-    record { begins = at.begins ∙ ap kept (sym e) ∙ k; run = at.run; ends = at.ends; witness = at.witness }
+    record { begins = at.begins ∙ ap done_steps (sym e) ∙ k; run = at.run; ends = at.ends; witness = at.witness }
 
-pub copied_lies : (t u : Trail) (o : Option WholeRun) → u ≡ forgotten t → kept u ≡ kept t → IfSome o (LiesAhead u) → IfSome o (LiesAhead t)
+pub copied_lies : (t u : Trail) (o : Option WholeRun) → u ≡ forgotten t → done_steps u ≡ done_steps t → IfSome o (LiesAhead u) → IfSome o (LiesAhead t)
 copied_lies t u None e k h = tt
 copied_lies t u (Some r) e k h = copy_lies t u r e k h
 
-pub found_is : (x : Way) (t u : Trail) (v w : World) (n : ℕ) (leaves : List leaf.Leaf) (others : Bool) (o : Option WholeRun) → kept u ≡ kept t → v ≡ w → n ≡ fuel_at t.depth → Looked x (looks_twice x n v) n v leaves others
-    → o ≡ option_map (whole_run (kept u) n v) (first_in x leaves) → o ≡ found_run x t w
+pub found_is : (x : Way) (t u : Trail) (v w : World) (n : ℕ) (leaves : List leaf.Leaf) (others : Bool) (o : Option WholeRun) → done_steps u ≡ done_steps t → v ≡ w → n ≡ fuel_at t.depth → Looked x (looks_twice x n v) n v leaves others
+    → o ≡ option_map (whole_run (done_steps u) n v) (first_in x leaves) → o ≡ found_run x t w
 found_is x t u v w n leaves others o k same fuel h e =
-    e ∙ ap (option_map (whole_run (kept u) n v)) h.first
+    e ∙ ap (option_map (whole_run (done_steps u) n v)) h.first
     ∙ ap (λ before. option_map (whole_run before n v) (first_in x (last_runs x n v))) k
-    ∙ ap (λ m. option_map (whole_run (kept t) m v) (first_in x (last_runs x m v))) fuel
-    ∙ ap (λ z. option_map (whole_run (kept t) (fuel_at t.depth) z) (first_in x (last_runs x (fuel_at t.depth) z))) same
+    ∙ ap (λ m. option_map (whole_run (done_steps t) m v) (first_in x (last_runs x m v))) fuel
+    ∙ ap (λ z. option_map (whole_run (done_steps t) (fuel_at t.depth) z) (first_in x (last_runs x (fuel_at t.depth) z))) same
 
 unmapped : (f : leaf.Leaf → WholeRun) (o : Option leaf.Leaf) → option_map f o ≡ None → o ≡ None
 unmapped f None e = refl
 unmapped f (Some l) e = absurd cc
 
 pub nothing_is : (x : Way) (t u : Trail) (v w : World) (n : ℕ) (leaves : List leaf.Leaf) (others : Bool) (o : Option WholeRun) → v ≡ w → n ≡ fuel_at t.depth → Looked x (looks_twice x n v) n v leaves others
-    → o ≡ option_map (whole_run (kept u) n v) (first_in x leaves) → o ≡ None → none_line x leaves others ≡ nothing_line x t w
+    → o ≡ option_map (whole_run (done_steps u) n v) (first_in x leaves) → o ≡ None → none_line x leaves others ≡ nothing_line x t w
 nothing_is x t u v w n leaves others o same fuel h e none =
-    let first : first_in x leaves ≡ None = unmapped (whole_run (kept u) n v) (first_in x leaves) (sym e ∙ none) in
+    let first : first_in x leaves ≡ None = unmapped (whole_run (done_steps u) n v) (first_in x leaves) (sym e ∙ none) in
     ap (λ ls. none_line x ls others) (h.all first) ∙ ap (none_line x (last_runs x n v)) (h.rest first)
     ∙ ap (λ m. none_line x (last_runs x m v) (last_more x m v)) fuel
     ∙ ap (λ z. none_line x (last_runs x (fuel_at t.depth) z) (last_more x (fuel_at t.depth) z)) same
@@ -163,16 +163,16 @@ number_some zero e = absurd cc
 number_some (suc n) e = omega arith
 
 pub not_numbered : (n : ℕ) (t : Trail) (w : World) → is_number n ≡ false → None ≡ numbered_run n t w
-not_numbered n t w e = sym (ap (λ (b : Bool). if b then option_map (whole_run (kept t) (fuel_at t.depth) w) (slice_get (all_runs false (fuel_at t.depth) w) (n - 1)) else None) e)
+not_numbered n t w e = sym (ap (λ (b : Bool). if b then option_map (whole_run (done_steps t) (fuel_at t.depth) w) (slice_get (all_runs false (fuel_at t.depth) w) (n - 1)) else None) e)
 
-pub numbered_is : (n : ℕ) (t u : Trail) (v w : World) (fuel : ℕ) (leaves : List leaf.Leaf) (o : Option WholeRun) → is_number n ≡ true → kept u ≡ kept t → v ≡ w → fuel ≡ fuel_at t.depth
-    → leaves ≡ ended_by false (first_runs n false fuel v) → o ≡ option_map (whole_run (kept u) fuel v) (slice_get leaves (n - 1)) → o ≡ numbered_run n t w
+pub numbered_is : (n : ℕ) (t u : Trail) (v w : World) (fuel : ℕ) (leaves : List leaf.Leaf) (o : Option WholeRun) → is_number n ≡ true → done_steps u ≡ done_steps t → v ≡ w → fuel ≡ fuel_at t.depth
+    → leaves ≡ ended_by false (first_runs n false fuel v) → o ≡ option_map (whole_run (done_steps u) fuel v) (slice_get leaves (n - 1)) → o ≡ numbered_run n t w
 numbered_is n t u v w fuel leaves o number k same enough is e =
-    e ∙ ap (λ ls. option_map (whole_run (kept u) fuel v) (slice_get ls (n - 1))) is
-    ∙ ap (option_map (whole_run (kept u) fuel v)) (last_taken n (all_runs false fuel v) (number_some n number))
+    e ∙ ap (λ ls. option_map (whole_run (done_steps u) fuel v) (slice_get ls (n - 1))) is
+    ∙ ap (option_map (whole_run (done_steps u) fuel v)) (last_taken n (all_runs false fuel v) (number_some n number))
     ∙ ap (λ before. option_map (whole_run before fuel v) (slice_get (all_runs false fuel v) (n - 1))) k
-    ∙ ap (λ m. option_map (whole_run (kept t) m v) (slice_get (all_runs false m v) (n - 1))) enough
-    ∙ ap (λ z. option_map (whole_run (kept t) (fuel_at t.depth) z) (slice_get (all_runs false (fuel_at t.depth) z) (n - 1))) same
-    ∙ sym (ap (λ (b : Bool). if b then option_map (whole_run (kept t) (fuel_at t.depth) w) (slice_get (all_runs false (fuel_at t.depth) w) (n - 1)) else None) number)
+    ∙ ap (λ m. option_map (whole_run (done_steps t) m v) (slice_get (all_runs false m v) (n - 1))) enough
+    ∙ ap (λ z. option_map (whole_run (done_steps t) (fuel_at t.depth) z) (slice_get (all_runs false (fuel_at t.depth) z) (n - 1))) same
+    ∙ sym (ap (λ (b : Bool). if b then option_map (whole_run (done_steps t) (fuel_at t.depth) w) (slice_get (all_runs false (fuel_at t.depth) w) (n - 1)) else None) number)
 
 pub ruleset numbering = (copied_lies, number_some, not_numbered, numbered_is)

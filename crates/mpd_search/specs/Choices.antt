@@ -2,11 +2,11 @@
 use Rattle.std.specs.Prelude.{ℕ, zero, suc, Bool, false, nat_lt, if◌then◌else◌, Option, Some, None, codes, List, length}
 use Rattle.mpd_model.specs.declared.decision.Decision.{Decision}
 use Rattle.mpd_model.specs.declared.decision.Decision.TheVariants.{Forced, Choice, Leaf}
-use Rattle.mpd_model.specs.World.{World}
-use Rattle.mpd_model.specs.Decisions.{decision}
-use Rattle.mpd_model.specs.Trail.{Trail}
-use Rattle.mpd_model.specs.Running.{world_at}
-use Rattle.mpd_model.specs.Texts.{line}
+use Rattle.mpd_model.specs.steps.World.{World}
+use Rattle.mpd_model.specs.runs.Decisions.{decision}
+use Rattle.mpd_model.specs.runs.Trail.{Trail}
+use Rattle.mpd_model.specs.runs.Running.{world_at}
+use Rattle.mpd_model.specs.texts.Texts.{line}
 
 -- whether somebody has to choose: a single candidate is no choice
 abbrev pub is_choice : Decision → Bool

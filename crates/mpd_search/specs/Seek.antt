@@ -3,11 +3,11 @@ use Rattle.std.specs.Prelude.{◌≡◌, ℕ, ◌-◌, ◌==◌, Bool, false, �
 use Rattle.std.specs.Option.{option_map}
 use Rattle.std.specs.Fmt.{decimal}
 use Rattle.mpd_model.specs.declared.step.Step.{Step}
-use Rattle.mpd_model.specs.World.{World, start}
-use Rattle.mpd_model.specs.Next.{fold}
-use Rattle.mpd_model.specs.Outcomes.{outcome}
-use Rattle.mpd_model.specs.Trail.{Trail, kept, IsRun}
-use Rattle.mpd_model.specs.Texts.{line}
+use Rattle.mpd_model.specs.steps.World.{World, start}
+use Rattle.mpd_model.specs.steps.Next.{fold}
+use Rattle.mpd_model.specs.steps.Outcomes.{outcome}
+use Rattle.mpd_model.specs.runs.Trail.{Trail, done_steps, IsRun}
+use Rattle.mpd_model.specs.texts.Texts.{line}
 use Rattle.mpd_explore.specs.declared.report.Ending.{Ending}
 use Rattle.mpd_explore.specs.declared.report.Ending.TheVariants.{Ended, Cut}
 use Rattle.mpd_explore.specs.declared.report.Leaf.{Leaf}
@@ -16,7 +16,7 @@ use Rattle.mpd_explore.specs.Report.{any_bad}
 use Rattle.mpd_explore.specs.ReportText.{ending_text}
 use Rattle.mpd_explore.specs.Witness.{WitnessBy}
 use Rattle.mpd_search.specs.declared.runs.TheConstants.{RUNS_MAX}
-use Rattle.mpd_search.specs.declared.seek.WholeRun.{WholeRun}
+use Rattle.mpd_search.specs.declared.search.WholeRun.{WholeRun}
 use Rattle.mpd_search.specs.declared.way.Way.{Way}
 use Rattle.mpd_search.specs.Ways.{first_in}
 use Rattle.mpd_search.specs.Runs.{fuel_at, all_runs, first_runs, are_more, is_number, no_number_line, none_line}
@@ -59,11 +59,11 @@ abbrev pub whole_run : List Step → ℕ → World → Leaf → WholeRun
 whole_run before fuel w l = record { steps = before ++ steps_by (run_at fuel l.choices w); ending = l.ending }
 
 abbrev pub found_run : Way → Trail → World → Option WholeRun
-found_run x t w = option_map (whole_run (kept t) (fuel_at t.depth) w) (first_in x (last_runs x (fuel_at t.depth) w))
+found_run x t w = option_map (whole_run (done_steps t) (fuel_at t.depth) w) (first_in x (last_runs x (fuel_at t.depth) w))
 
 -- the run of a number, from 1
 abbrev pub numbered_run : ℕ → Trail → World → Option WholeRun
-numbered_run n t w = if is_number n then option_map (whole_run (kept t) (fuel_at t.depth) w) (slice_get (all_runs false (fuel_at t.depth) w) (n - 1)) else None
+numbered_run n t w = if is_number n then option_map (whole_run (done_steps t) (fuel_at t.depth) w) (slice_get (all_runs false (fuel_at t.depth) w) (n - 1)) else None
 
 -- ---- what lies ahead
 
@@ -81,7 +81,7 @@ pub record LeadsTo (w : World) (steps : List Step) (e : Ending) : Type 0 where
 -- A run that begins with the steps of a trail that are not undone. It leads to a world that ends as it says; where that is a deadlock, its
 -- steps are a witness of it.
 pub record LiesAhead (t : Trail) (r : WholeRun) : Type 0 where
-  pub begins : take t.depth r.steps ≡ kept t
+  pub begins : take t.depth r.steps ≡ done_steps t
   pub run : IsRun t.program t.mode r.steps
   pub ends : LeadsTo (start t.program t.mode) r.steps r.ending
   pub witness : WitnessBy t.program t.mode r.steps r.ending

@@ -1,13 +1,13 @@
 //! The last choice that was made.
 
 ghost use Rattle.std.specs.Prelude.{◌≡◌, ◌++◌, ◌<◌, IfOk, OnOk, length, string_bytes};
-ghost use Rattle.mpd_model.specs.Decisions.{decision};
+ghost use Rattle.mpd_model.specs.runs.Decisions.{decision};
 ghost use Rattle.mpd_search.specs.Choices as spec;
 
-use mpd_core::state::Core;
-use mpd_model::decision::Decision;
-use mpd_policy::decide::decide;
-use mpd_trail::debugger::Debugger;
+use mpd_core::Core;
+use mpd_model::Decision;
+use mpd_policy::decide;
+use mpd_trail::Debugger;
 use std::alloc::{AllocError, Global};
 
 /// Whether a choice is open, of two candidates or more.

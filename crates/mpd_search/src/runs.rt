@@ -2,20 +2,17 @@
 
 ghost use Rattle.std.specs.Prelude.{◌≡◌, ◌≤◌, ◌<◌, ◌+◌, ◌++◌, true, false, IfOk, OnOk, length, string_bytes};
 ghost use Rattle.std.specs.List.{AllByRecursion};
-ghost use Rattle.mpd_model.specs.Trail.{kept};
-ghost use Rattle.mpd_model.specs.Texts.{spaced};
+ghost use Rattle.mpd_model.specs.runs.Trail.{done_steps};
+ghost use Rattle.mpd_model.specs.texts.Texts.{spaced};
 ghost use Rattle.mpd_explore.specs.Report.{ended_by, left_out};
 ghost use Rattle.mpd_explore.specs.ReportText.{ending_text};
 ghost use Rattle.mpd_explore.specs.Witness.{HasWitness};
 ghost use Rattle.mpd_search.specs.Runs as spec;
 
 use crate::way::{WAYS, Way, count_in};
-use mpd_explore::explore::explore;
-use mpd_explore::report::{Ending, Leaf, Limits, Report};
-use mpd_explore::watch::Unwatched;
-use mpd_model::limits::STEPS_MAX;
-use mpd_model::text::print_outcome;
-use mpd_trail::debugger::Debugger;
+use mpd_explore::{Ending, Leaf, Limits, Report, Unwatched, explore};
+use mpd_model::{STEPS_MAX, print_outcome};
+use mpd_trail::Debugger;
 use std::alloc::{AllocError, Global};
 
 /// How many steps a run has at most that is tried.
@@ -48,7 +45,7 @@ pub(crate) fn first_runs(
     requires fits { debugger.old.trail.depth + fuel ≤ STEPS_MAX }
     ensures leaves { IfOk result (λ r. r.leaves.items ≡ ended_by until_bad (spec.first_runs runs ends fuel debugger.old.world)) }
     ensures more { IfOk result (λ r. r.more ≡ left_out (record { runs = runs; fuel = fuel; witnesses = false; until_bad = until_bad; ends = ends }) (spec.all_runs ends fuel debugger.old.world)) }
-    ensures has { IfOk result (λ r. AllByRecursion (HasWitness debugger.old.trail.program debugger.old.trail.mode (kept debugger.old.trail) fuel debugger.old.world) r.leaves.items) }
+    ensures has { IfOk result (λ r. AllByRecursion (HasWitness debugger.old.trail.program debugger.old.trail.mode (done_steps debugger.old.trail) fuel debugger.old.world) r.leaves.items) }
     ensures trail { debugger.new.trail ≡ debugger.old.trail }
     ensures world { debugger.new.world ≡ debugger.old.world }
 {

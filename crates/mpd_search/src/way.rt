@@ -4,8 +4,8 @@ ghost use Rattle.std.specs.Prelude.{◌≡◌, ◌≤◌, length};
 ghost use Rattle.std.specs.Option.{option_map};
 ghost use Rattle.mpd_search.specs.Ways as spec;
 
-use mpd_explore::report::{Ending, Leaf};
-use mpd_model::outcome::Outcome;
+use mpd_explore::{Ending, Leaf};
+use mpd_model::Outcome;
 
 /// How a run ends, in a word.
 #[derive(Clone, Copy)]

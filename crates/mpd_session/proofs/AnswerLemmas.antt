@@ -1,8 +1,8 @@
 -- What a session replies, by what a command comes to.
 use Rattle.std.proofs.Common.{◌≡◌, ℕ, true, false, List, Option, Some, refl, ap, sym, ◌∙◌}
 use Rattle.mpd_model.specs.declared.breakpoint.Break.{Break}
-use Rattle.mpd_model.specs.World.{World}
-use Rattle.mpd_model.specs.Trail.{Trail, IsReached, world_of}
+use Rattle.mpd_model.specs.steps.World.{World}
+use Rattle.mpd_model.specs.runs.Trail.{Trail, IsReached, world_of}
 use Rattle.mpd_wire.specs.declared.request.Request.{Request}
 use Rattle.mpd_wire.specs.declared.reply.Reply.{Reply}
 use Rattle.mpd_wire.specs.declared.reply.Reply.TheVariants as reply

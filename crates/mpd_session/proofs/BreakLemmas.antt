@@ -1,8 +1,8 @@
 -- What breakpoints come to.
 use Rattle.std.proofs.Common.{◌≡◌, ℕ, true, List, Option, Some, None, ap, sym, ◌∙◌, slice_set}
 use Rattle.mpd_model.specs.declared.breakpoint.Break.{Break}
-use Rattle.mpd_model.specs.World.{World}
-use Rattle.mpd_model.specs.Breakpoints.{lowest_free}
+use Rattle.mpd_model.specs.steps.World.{World}
+use Rattle.mpd_model.specs.runs.Breakpoints.{lowest_free}
 use Rattle.mpd_wire.specs.declared.reply.Answer.TheVariants as answer
 use Rattle.mpd_wire.specs.declared.reply.Refusal.TheVariants.{BreaksFull}
 use Rattle.mpd_session.specs.declared.effect.Effect.TheVariants.{Refused, Changed}

@@ -2,9 +2,9 @@
 use Rattle.std.proofs.Common.{◌≡◌, ℕ, ℤ, suc, ◌+◌, ◌-◌, ◌<◌, ◌≤◌, Bool, true, false, List, [], ◌∷◌, ◌++◌, map, length, take, nat_lt, Option, Some, is_some, slice_get, refl, ap, sym, ◌∙◌, arith, append_assoc}
 use Rattle.std.proofs.lemmas.Option.{slice_get_past}
 use Rattle.std.specs.List.{flat_map, range_with_len}
-use Rattle.mpd_model.specs.World.{RankWorld, World}
-use Rattle.mpd_model.specs.Breakpoints.{cell_at, held_at}
-use Rattle.mpd_model.specs.Trail.{Trail}
+use Rattle.mpd_model.specs.steps.World.{RankWorld, World}
+use Rattle.mpd_model.specs.runs.Breakpoints.{cell_at, held_at}
+use Rattle.mpd_model.specs.runs.Trail.{Trail}
 use Rattle.mpd_explore.specs.declared.report.Leaf.{Leaf}
 use Rattle.mpd_explore.specs.Walk.{walk}
 use Rattle.mpd_explore.specs.Report.{shown}

@@ -3,9 +3,9 @@ use Rattle.std.proofs.Common.{◌≡◌, ℕ, zero, suc, ◌+◌, ◌-◌, ◌�
 use Rattle.mpd_model.specs.declared.step.Step.{Step}
 use Rattle.mpd_model.specs.declared.breakpoint.Break.{Break}
 use Rattle.mpd_model.specs.declared.breakpoint.Stop.{Stop}
-use Rattle.mpd_model.specs.World.{World}
-use Rattle.mpd_model.specs.Trail.{Trail, IsReached, applied, gone_back, forgotten}
-use Rattle.mpd_model.specs.Running.{Ran, stop_of, all_applied, ran_back}
+use Rattle.mpd_model.specs.steps.World.{World}
+use Rattle.mpd_model.specs.runs.Trail.{Trail, IsReached, applied, gone_back, forgotten}
+use Rattle.mpd_model.specs.runs.Running.{Ran, stop_of, all_applied, ran_back}
 use Rattle.mpd_wire.specs.declared.reply.Answer.TheVariants as answer
 use Rattle.mpd_session.specs.declared.effect.Effect.TheVariants.{Changed}
 use Rattle.mpd_session.specs.Effects.{OnTrail, is_within, going_effect, ran_effect, run_back_effect, run_back_by}

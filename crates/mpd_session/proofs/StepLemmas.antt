@@ -2,8 +2,8 @@
 use Rattle.std.proofs.Common.{◌≡◌, ℕ, ◌+◌, ◌-◌, ◌<◌, ◌≤◌, true, false, length, Option, Some, None, IsSome, refl, ap, sym, ◌∙◌, arith, nat_lt}
 use Rattle.std.proofs.lemmas.Bool.Decides.{nat_tests}
 use Rattle.mpd_model.specs.declared.step.Step.{Step}
-use Rattle.mpd_model.specs.World.{World}
-use Rattle.mpd_model.specs.Trail.{Trail, applied, gone_back, redone}
+use Rattle.mpd_model.specs.steps.World.{World}
+use Rattle.mpd_model.specs.runs.Trail.{Trail, applied, gone_back, redone}
 use Rattle.mpd_wire.specs.declared.reply.Answer.{Answer}
 use Rattle.mpd_wire.specs.declared.reply.Answer.TheVariants as answer
 use Rattle.mpd_wire.specs.declared.reply.Refusal.TheVariants.{NotEnabled, Full, AtStart, NoRedo, NotBefore}

@@ -10,14 +10,14 @@ use Rattle.mpd_model.specs.declared.decision.Decision.TheVariants.{Forced, Choic
 use Rattle.mpd_model.specs.declared.breakpoint.Break.{Break}
 use Rattle.mpd_model.specs.declared.breakpoint.Break.TheVariants as on
 use Rattle.mpd_model.specs.declared.breakpoint.Stop.{Stop}
-use Rattle.mpd_model.specs.World.{RankWorld, World, call_id, rank_numbers, call_numbers, call_at}
-use Rattle.mpd_model.specs.Next.{next, enabled}
-use Rattle.mpd_model.specs.Outcomes.{outcome}
-use Rattle.mpd_model.specs.Why.{why}
-use Rattle.mpd_model.specs.Trail.{Trail, applied, gone_back}
-use Rattle.mpd_model.specs.Breakpoints.{break_at, cell_at, lowest_free}
-use Rattle.mpd_model.specs.Running.{Ran, ran, stop_of, all_applied, ran_back}
-use Rattle.mpd_model.specs.Texts.{id_text, step_text, rank_text, set_text, call_text, outcome_text}
+use Rattle.mpd_model.specs.steps.World.{RankWorld, World, call_id, rank_numbers, call_numbers, call_at}
+use Rattle.mpd_model.specs.steps.Next.{next, enabled}
+use Rattle.mpd_model.specs.steps.Outcomes.{outcome}
+use Rattle.mpd_model.specs.steps.Why.{why}
+use Rattle.mpd_model.specs.runs.Trail.{Trail, applied, gone_back}
+use Rattle.mpd_model.specs.runs.Breakpoints.{break_at, cell_at, lowest_free}
+use Rattle.mpd_model.specs.runs.Running.{Ran, ran, stop_of, all_applied, ran_back}
+use Rattle.mpd_model.specs.texts.Texts.{id_text, step_text, rank_text, set_text, call_text, outcome_text}
 use Rattle.mpd_policy.specs.Single.{ran_on}
 use Rattle.mpd_explore.specs.declared.report.Leaf.{Leaf as RunLeaf}
 use Rattle.mpd_explore.specs.Walk.{walk}

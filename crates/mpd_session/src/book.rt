@@ -10,8 +10,7 @@ ghost use Rattle.mpd_session.specs.Audit.{Agrees, HasReceipt, receipts_in};
 use crate::audit::{AuditFault, agrees, has_count};
 use crate::history::{Entry, HISTORY_MAX, Logged, Receipt};
 use crate::session::Session;
-use mpd_wire::reply::Reply;
-use mpd_wire::request::Request;
+use mpd_wire::{Reply, Request};
 use std::alloc::{AllocError, Global};
 use std::marker::Model;
 

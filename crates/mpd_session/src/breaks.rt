@@ -4,16 +4,15 @@ ghost use Rattle.std.specs.Prelude.{◌≡◌, ◌-◌, ◌++◌, IfOk, OnOk, If
 ghost use Rattle.std.specs.Fmt.{decimal};
 ghost use Rattle.mpd_session.specs.Effects as spec;
 ghost use Rattle.mpd_session.specs.Effects.{break_effect, unbreak_effect, breaks_effect, break_text, place_texts};
-ghost use Rattle.mpd_model.specs.Breakpoints.{cell_at, break_at};
+ghost use Rattle.mpd_model.specs.runs.Breakpoints.{cell_at, break_at};
 
 use crate::effect::{Effect, is_within};
 use crate::limits::LINES_MAX;
 use crate::looks::push_text;
-use mpd_core::state::Core;
-use mpd_model::breakpoint::Break;
-use mpd_model::limits::BREAKS_MAX;
-use mpd_policy::breaks::Breaks;
-use mpd_wire::reply::{Answer, Refusal, TextList};
+use mpd_core::Core;
+use mpd_model::{BREAKS_MAX, Break};
+use mpd_policy::Breaks;
+use mpd_wire::{Answer, Refusal, TextList};
 use std::alloc::{AllocError, Global};
 
 /// Whether a rank has a cell.

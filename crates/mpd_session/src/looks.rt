@@ -1,11 +1,11 @@
 //! Commands that look at the state.
 
 ghost use Rattle.std.specs.Prelude.{◌≡◌, ◌++◌, ◌∷◌, [], ◌<◌, ◌≤◌, ◌+◌, ℕ, IfOk, OnOk, Option, map, length, string_bytes, option_map, is_some, codes};
-ghost use Rattle.mpd_model.specs.World.{rank_numbers, call_id, call_numbers};
-ghost use Rattle.mpd_model.specs.Next.{enabled};
-ghost use Rattle.mpd_model.specs.Outcomes.{outcome};
-ghost use Rattle.mpd_model.specs.Texts.{step_text, rank_text, set_text, call_text, outcome_text};
-ghost use Rattle.mpd_model.specs.Trail.{IsReached};
+ghost use Rattle.mpd_model.specs.steps.World.{rank_numbers, call_id, call_numbers};
+ghost use Rattle.mpd_model.specs.steps.Next.{enabled};
+ghost use Rattle.mpd_model.specs.steps.Outcomes.{outcome};
+ghost use Rattle.mpd_model.specs.texts.Texts.{step_text, rank_text, set_text, call_text, outcome_text};
+ghost use Rattle.mpd_model.specs.runs.Trail.{IsReached};
 ghost use Rattle.mpd_trail.specs.Views.{standing_of};
 ghost use Rattle.mpd_explore.specs.ReportText.{leaf_text};
 ghost use Rattle.mpd_session.specs.Effects.{enabled_effect, state_effect, vars_effect, calls_effect, why_effect, partner_text, leaves_effect, explore_effect};
@@ -14,15 +14,11 @@ use crate::effect::{Effect, is_within};
 use crate::limits::RUNS_MAX;
 use crate::runs::report;
 use crate::steps::is_below;
-use mpd_core::state::Core;
-use mpd_explore::print::push_leaf_text;
-use mpd_explore::report::Leaf;
-use mpd_model::call::MatchSet;
-use mpd_model::limits::STEPS_MAX;
-use mpd_model::step::{CallId, Step};
-use mpd_model::text::{print_outcome, print_step};
-use mpd_trail::debugger::Debugger;
-use mpd_wire::reply::{Answer, HandleList, IntegerList, Refusal, Text, TextList};
+use mpd_core::Core;
+use mpd_explore::{Leaf, push_leaf_text};
+use mpd_model::{CallId, MatchSet, STEPS_MAX, Step, print_outcome, print_step};
+use mpd_trail::Debugger;
+use mpd_wire::{Answer, HandleList, IntegerList, Refusal, Text, TextList};
 use std::alloc::{AllocError, Global};
 
 /// Adds a text. An `Err` is want of memory.

@@ -1,21 +1,18 @@
 //! Commands that run by themselves, and the runs from here.
 
 ghost use Rattle.std.specs.Prelude.{◌≡◌, ◌+◌, ◌≤◌, IfOk, OnOk, OnErr, length, map, take, nat_lt};
-ghost use Rattle.mpd_model.specs.Trail.{IsReached};
+ghost use Rattle.mpd_model.specs.runs.Trail.{IsReached};
 ghost use Rattle.mpd_trail.specs.Views.{standing_of};
 ghost use Rattle.mpd_explore.specs.Walk.{walk};
 ghost use Rattle.mpd_explore.specs.Report.{shown};
 ghost use Rattle.mpd_session.specs.Effects.{run_effect, run_on_effect, run_back_effect};
 
 use crate::effect::{Effect, is_within};
-use mpd_explore::explore::explore;
-use mpd_explore::report::{Limits, Report};
-use mpd_explore::watch::Unwatched;
-use mpd_model::limits::STEPS_MAX;
-use mpd_policy::breaks::Breaks;
-use mpd_policy::run as policy;
-use mpd_trail::debugger::Debugger;
-use mpd_wire::reply::{Answer, Refusal};
+use mpd_explore::{Limits, Report, Unwatched, explore};
+use mpd_model::STEPS_MAX;
+use mpd_policy::{Breaks, runs as policy};
+use mpd_trail::Debugger;
+use mpd_wire::{Answer, Refusal};
 use std::alloc::{AllocError, Global};
 
 /// Runs along decisions. An `Err` is want of memory, and then nothing has changed.

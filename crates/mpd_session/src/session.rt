@@ -1,7 +1,7 @@
 //! A session, which answers requests one at a time.
 
 ghost use Rattle.std.specs.Prelude.{◌≡◌, ℕ, IfOk, OnOk, OnErr, true, take};
-ghost use Rattle.mpd_model.specs.Trail.{IsReached, IsRun, kept};
+ghost use Rattle.mpd_model.specs.runs.Trail.{IsReached, IsRun, done_steps};
 ghost use Rattle.mpd_trail.specs.Views.{standing_of};
 ghost use Rattle.mpd_session.specs.Held.{opened};
 ghost use Rattle.mpd_session.specs.Respond.{carried, respond, reply_to, version_then, raised, is_current, may_want, laid};
@@ -9,14 +9,11 @@ ghost use Rattle.mpd_session.specs.Respond.{carried, respond, reply_to, version_
 use crate::effect::Effect;
 use crate::limits::VERSION_MAX;
 use crate::{breaks, looks, runs, steps};
-use mpd_code::code::Code;
-use mpd_model::call::Mode;
-use mpd_model::step::Step;
-use mpd_policy::breaks::Breaks;
-use mpd_trail::debugger::Debugger;
-use mpd_wire::desk::{Desk, DeskFault};
-use mpd_wire::reply::{Refusal, Reply};
-use mpd_wire::request::{Command, Request};
+use mpd_code::Code;
+use mpd_model::{Mode, Step};
+use mpd_policy::Breaks;
+use mpd_trail::Debugger;
+use mpd_wire::{Command, Desk, DeskFault, Refusal, Reply, Request};
 use std::alloc::{AllocError, Global};
 use std::marker::Model;
 
@@ -149,7 +146,7 @@ impl<'c> Session<'c> {
     /// Has these steps as the ones that are kept. They begin with those that are not undone, and lead on from there; those behind the
     /// depth lie ahead then, as if they had been taken and taken back. It raises the version, and takes no memory.
     pub fn lay(&mut self, steps: Vec<Step>)
-        requires begins { take self.old.trail.depth steps.items ≡ kept self.old.trail }
+        requires begins { take self.old.trail.depth steps.items ≡ done_steps self.old.trail }
         requires run { IsRun self.old.trail.program self.old.trail.mode steps.items }
         ensures { self.new ≡ laid self.old steps.items }
     {

@@ -1,20 +1,18 @@
 //! Commands that take steps, and take them back.
 
 ghost use Rattle.std.specs.Prelude.{◌≡◌, ◌+◌, ◌-◌, ◌<◌, ◌≤◌, ℕ, IfOk, OnOk, OnErr, IfSome, IfNone, Some, None, length, nat_lt, slice_get};
-ghost use Rattle.mpd_model.specs.Next.{next};
-ghost use Rattle.mpd_model.specs.Trail.{IsReached, applied, gone_back};
-ghost use Rattle.mpd_model.specs.Decisions.{decision};
+ghost use Rattle.mpd_model.specs.steps.Next.{next};
+ghost use Rattle.mpd_model.specs.runs.Trail.{IsReached, applied, gone_back};
+ghost use Rattle.mpd_model.specs.runs.Decisions.{decision};
 ghost use Rattle.mpd_trail.specs.Views.{standing_of};
 ghost use Rattle.mpd_wire.specs.declared.reply.Answer.{Answer};
 ghost use Rattle.mpd_session.specs.Effects.{step_effect, taken_effect, picked_effect, next_effect, back_effect, redo_effect, goto_effect};
 
 use crate::effect::{Effect, is_within};
-use mpd_model::decision::Decision;
-use mpd_model::limits::STEPS_MAX;
-use mpd_model::step::Step;
-use mpd_policy::decide::decide;
-use mpd_trail::debugger::{ApplyFault, Debugger};
-use mpd_wire::reply::{Answer, Refusal};
+use mpd_model::{Decision, STEPS_MAX, Step};
+use mpd_policy::decide;
+use mpd_trail::{ApplyFault, Debugger};
+use mpd_wire::{Answer, Refusal};
 use std::alloc::{AllocError, Global};
 
 /// Whether a number is below another.

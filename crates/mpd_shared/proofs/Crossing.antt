@@ -7,7 +7,7 @@ use Rattle.std.proofs.sync.ledger.Book.TheSendSync as calls
 use Rattle.std.specs.declared.sync.ledger.Ledger as ledger
 use Rattle.mpd_shared.specs.declared.opening.Opening as opening
 use Rattle.mpd_device.specs.contracts.steps.Steps as Steps
-use Rattle.mpd_queue.specs.contracts.shown.Shown as Shown
+use Rattle.mpd_queue.specs.contracts.snapshot.Shown as Shown
 use Rattle.mpd_queue.specs.contracts.lists.Lists as Lists
 use Rattle.mpd_match.specs.contracts.side.Side as Side
 use Rattle.mpd_match.specs.contracts.board.Board as Board

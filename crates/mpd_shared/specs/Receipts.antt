@@ -1,7 +1,7 @@
 -- What a seat holds, and what an answered call adds to it.
 use Rattle.std.specs.Prelude.{◌≡◌, ℕ, List, [], ◌∷◌, ◌++◌, length, map}
 use Rattle.std.specs.List.{range_with_len}
-use Rattle.mpd_model.specs.Program.{Program}
+use Rattle.mpd_model.specs.script.Program.{Program}
 use Rattle.mpd_model.specs.declared.call.Mode.{Mode}
 use Rattle.mpd_wire.specs.declared.request.Request.{Request}
 use Rattle.mpd_wire.specs.declared.reply.Reply.{Reply}

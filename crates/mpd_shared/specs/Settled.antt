@@ -1,6 +1,6 @@
 -- What a book says to the seats of its clients, in the end.
 use Rattle.std.specs.Prelude.{◌≡◌, ◌≢◌, ◌<◌, ℕ, List, length, Result, Ok, Err}
-use Rattle.mpd_model.specs.Program.{Program}
+use Rattle.mpd_model.specs.script.Program.{Program}
 use Rattle.mpd_model.specs.declared.call.Mode.{Mode}
 use Rattle.mpd_session.specs.Held.{opened}
 use Rattle.mpd_session.specs.History.{Kept, Leads, Noted}

@@ -6,3 +6,9 @@ pub mod opening;
 pub mod seat;
 pub mod settle;
 pub mod shared;
+
+pub use desk::SeatDesk;
+pub use opening::Opening;
+pub use seat::Seat;
+pub use settle::SettleFault;
+pub use shared::Shared;

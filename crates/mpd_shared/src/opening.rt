@@ -1,6 +1,6 @@
 //! What a shared session began with.
 
-ghost use Rattle.mpd_model.specs.Program.{Program};
+ghost use Rattle.mpd_model.specs.script.Program.{Program};
 ghost use Rattle.mpd_model.specs.declared.call.Mode.{Mode};
 
 use std::marker::Brand;

@@ -2,7 +2,7 @@
 
 ghost use Rattle.std.specs.Prelude.{◌≡◌, ◌<◌, ◌+◌, [], length, vec_len, IfOk, OnErr};
 ghost use Rattle.std.proofs.Props.{props};
-ghost use Rattle.mpd_model.specs.Program.{program_code};
+ghost use Rattle.mpd_model.specs.script.Program.{program_code};
 ghost use Rattle.mpd_session.specs.Held.{opened};
 ghost use Rattle.mpd_session.specs.History.{noted};
 ghost use Rattle.mpd_session.specs.Audit.{receipts_in};
@@ -11,11 +11,8 @@ ghost use Rattle.mpd_shared.specs.Settled.{IsBookOf, Settles, book_in};
 
 use crate::opening::Opening;
 use crate::settle::SettleFault;
-use mpd_session::audit::AuditFault;
-use mpd_session::book::{Book, TakeFault};
-use mpd_session::history::{Log, Logged};
-use mpd_wire::reply::Reply;
-use mpd_wire::request::Request;
+use mpd_session::{AuditFault, Book, Log, Logged, TakeFault};
+use mpd_wire::{Reply, Request};
 use std::alloc::Global;
 use std::marker::Model;
 use std::sync::ledger;

@@ -1,6 +1,6 @@
 //! How a shared session is settled.
 
-use mpd_session::book::Book;
+use mpd_session::Book;
 
 /// Why a shared session does not settle. The book is handed back.
 #[derive(Drop)]

@@ -2,7 +2,7 @@
 
 ghost use Rattle.std.specs.Prelude.{◌≡◌, ◌<◌, length, vec_len, IfOk, OnErr};
 ghost use Rattle.std.proofs.Props.{props};
-ghost use Rattle.mpd_model.specs.Program.{program_code};
+ghost use Rattle.mpd_model.specs.script.Program.{program_code};
 ghost use Rattle.mpd_session.specs.Held.{opened};
 ghost use Rattle.mpd_session.specs.Audit.{receipts_in};
 ghost use Rattle.mpd_shared.specs.Receipts.{Adds, empty_seats, seated};
@@ -11,11 +11,9 @@ ghost use Rattle.mpd_shared.specs.Settled.{IsBookOf, Settles, book_in};
 use crate::opening::Opening;
 use crate::seat::{Locked, Seat};
 use crate::settle::SettleFault;
-use mpd_code::code::Code;
-use mpd_session::book::{Book, TakeFault};
-use mpd_session::session::Session;
-use mpd_wire::reply::Reply;
-use mpd_wire::request::Request;
+use mpd_code::Code;
+use mpd_session::{Book, Session, TakeFault};
+use mpd_wire::{Reply, Request};
 use std::alloc::{AllocError, Global};
 use std::sync::ledger::{Blank, Share};
 use std::sync::{Mutex, Wait};

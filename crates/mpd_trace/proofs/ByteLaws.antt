@@ -1,7 +1,7 @@
 -- Bytes compared one by one.
 use Rattle.std.proofs.Common.{◌≡◌, ℕ, ◌&&◌, nat_eq, List, [], ◌∷◌, take, length, refl, ap}
 use lib.Pointwise.{pointwise}
-use Rattle.mpd_model.specs.Lines.{same_bytes}
+use Rattle.mpd_model.specs.texts.Lines.{same_bytes}
 use Rattle.mpd_trace.specs.Divided.{is_prefix}
 
 pub same_pointwise : (xs ys : List ℕ) → pointwise nat_eq xs ys ≡ same_bytes xs ys

@@ -1,7 +1,7 @@
 -- The lines of what a rank holds, one by one.
 use Rattle.std.proofs.Common.{◌≡◌, ℕ, List, ◌++◌, Option, Some, ℤ, ap, ◌∙◌, sym, append_assoc, codes}
-use Rattle.mpd_model.specs.World.{RankWorld}
-use Rattle.mpd_model.specs.Texts.{values_line, handles_line, cell_lines}
+use Rattle.mpd_model.specs.steps.World.{RankWorld}
+use Rattle.mpd_model.specs.texts.Texts.{values_line, handles_line, cell_lines}
 
 cells_at : (r : RankWorld) (vars : List ℤ) (handles : List (Option ℕ)) (out : List ℤ) → vars ≡ r.vars → handles ≡ r.handles → out ≡ r.out
     → values_line (codes "vars") vars ++ handles_line handles ++ values_line (codes "out") out ≡ cell_lines (Some r)

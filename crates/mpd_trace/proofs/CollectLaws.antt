@@ -4,15 +4,15 @@ use Rattle.std.specs.Io.KnownBytes.{Consumes, IsAtEnd, Keeps}
 use Rattle.mpd_device.specs.Seen.{SourceSeen}
 use Rattle.mpd_device.specs.Ends.{ends_of}
 use Rattle.mpd_device.specs.declared.device.DeviceFault.{DeviceFault}
-use Rattle.mpd_model.specs.Lines.{divided}
+use Rattle.mpd_model.specs.texts.Lines.{divided}
 use Rattle.mpd_lines.specs.declared.engine.EngineFault.{EngineFault}
 use Rattle.mpd_lines.specs.declared.engine.EngineFault.TheVariants.{Memory}
 use Rattle.mpd_lines.proofs.UpToLaws.{ends_some, ends_one}
 use Rattle.mpd_trace.specs.Divided.{Begun, begun, splits, IsOpen, IsHeld}
 use Rattle.mpd_trace.specs.Collected.{IsJustRead, HeadOf, Collected, Follows}
-use Rattle.mpd_trace.specs.declared.plain.HeadEnd.{HeadEnd}
-use Rattle.mpd_trace.specs.declared.plain.HeadEnd.TheVariants.{InputEnds, LineDivides, TooLong}
-use Rattle.mpd_trace.specs.declared.plain.Head.{Head}
+use Rattle.mpd_trace.specs.declared.plain_trace.HeadEnd.{HeadEnd}
+use Rattle.mpd_trace.specs.declared.plain_trace.HeadEnd.TheVariants.{InputEnds, LineDivides, TooLong}
+use Rattle.mpd_trace.specs.declared.plain_trace.Head.{Head}
 use Rattle.mpd_trace.proofs.OpenLaws.{open_so}
 
 consumes_none : (s : Option (List ℕ)) → Consumes s s []

@@ -3,17 +3,17 @@ use Rattle.std.proofs.Common.{◌≡◌, ℕ, ◌+◌, ◌-◌, ◌<◌, ◌≤�
 use Rattle.std.proofs.lemmas.Bool.Decides.{nat_tests}
 use Rattle.std.proofs.lemmas.Bool.{le-ltb}
 use Rattle.mpd_model.specs.declared.step.Step.{Step}
-use Rattle.mpd_model.specs.declared.words.Command.TheVariants as command
-use Rattle.mpd_model.specs.World.{World}
-use Rattle.mpd_model.specs.Next.{next, enabled}
-use Rattle.mpd_model.specs.Trail.{Trail, Standing, IsReached, applied, taken_back, redone, gone_back}
-use Rattle.mpd_model.specs.Words.{has_word, command_of}
-use Rattle.mpd_model.specs.Texts.{line, steps_text, show_text}
-use Rattle.mpd_model.specs.Answers.{AnswerOrMemory, is_too_long, max_depth, ok_text, refused_bad_word, refused_memory, refused_full, refused_at_start, refused_no_redo, refused_not_before, refused_not_enabled, step_answer, back_answer, redo_answer, goto_answer}
+use Rattle.mpd_model.specs.declared.words.TraceWord.TheVariants as trace_word
+use Rattle.mpd_model.specs.steps.World.{World}
+use Rattle.mpd_model.specs.steps.Next.{next, enabled}
+use Rattle.mpd_model.specs.runs.Trail.{Trail, Standing, IsReached, applied, taken_back, redone, gone_back}
+use Rattle.mpd_model.specs.texts.Words.{has_word, trace_word_of}
+use Rattle.mpd_model.specs.texts.Texts.{line, steps_text, show_text}
+use Rattle.mpd_model.specs.texts.Answers.{AnswerOrMemory, is_too_long, max_depth, ok_text, refused_bad_word, refused_memory, refused_full, refused_at_start, refused_no_redo, refused_not_before, refused_not_enabled, step_answer, back_answer, redo_answer, goto_answer}
 use Rattle.mpd_trail.specs.Run.{Carried}
-use Rattle.mpd_trail.specs.declared.run.Command.TheVariants.{Apply, Undo, Redo, UndoTo}
+use Rattle.mpd_trail.specs.declared.run.TrailCommand.TheVariants.{Apply, Undo, Redo, UndoTo}
 use Rattle.mpd_trail.specs.declared.run.Reply.TheVariants.{Done, NotEnabled, Full, AtStart, NoRedo, NotBefore, Memory}
-use Rattle.mpd_trace.specs.Replies.{CommandAnswer, CommandMemory, Replies}
+use Rattle.mpd_trace.specs.Replies.{TraceWordAnswer, TraceWordMemory, Replies}
 
 -- ---- steps
 
@@ -37,7 +37,7 @@ full t a None some e = absurd (let h : false ≡ true = some in cc)
 full t a (Some w) some e = rw (not_below t.depth e) refl
 
 pub step_done : (s t : Standing) (a : Step) (before after : List ℕ) (depth : ℕ) → Carried s (Apply a) Done t → IsReached t → depth ≡ t.trail.depth → after ≡ before ++ ok_text depth
-    → Replies before after s (Some (command.Step a)) t
+    → Replies before after s (Some (trace_word.Step a)) t
 step_done s t a before after depth c reached is said =
     let whole = by_next s.trail a (next s.world a) (Some t.world) c.0 ∙ taken s.trail a t.world c.2 in
     let deep : depth ≡ s.trail.depth + 1 = is ∙ ap (λ (x : Trail). x.depth) c.1 in (
@@ -46,7 +46,7 @@ step_done s t a before after depth c reached is said =
       inl (record { told = ap ok_text deep ∙ ap (λ (x : Said). x.0) (sym whole); trail = c.1 ∙ ap (λ (x : Said). x.1) (sym whole); reached = reached }),
     )
 
-pub step_not_enabled : (s t : Standing) (a : Step) (before after : List ℕ) → Carried s (Apply a) NotEnabled t → IsReached t → after ≡ before ++ refused_not_enabled → Replies before after s (Some (command.Step a)) t
+pub step_not_enabled : (s t : Standing) (a : Step) (before after : List ℕ) → Carried s (Apply a) NotEnabled t → IsReached t → after ≡ before ++ refused_not_enabled → Replies before after s (Some (trace_word.Step a)) t
 step_not_enabled s t a before after c reached said =
     let whole = by_next s.trail a (next s.world a) None c.0 in (
       refused_not_enabled,
@@ -54,7 +54,7 @@ step_not_enabled s t a before after c reached said =
       inl (record { told = ap (λ (x : Said). x.0) (sym whole); trail = c.1.trail ∙ ap (λ (x : Said). x.1) (sym whole); reached = reached }),
     )
 
-pub step_full : (s t : Standing) (a : Step) (before after : List ℕ) → Carried s (Apply a) Full t → IsReached t → after ≡ before ++ refused_full → Replies before after s (Some (command.Step a)) t
+pub step_full : (s t : Standing) (a : Step) (before after : List ℕ) → Carried s (Apply a) Full t → IsReached t → after ≡ before ++ refused_full → Replies before after s (Some (trace_word.Step a)) t
 step_full s t a before after c reached said =
     let whole = full s.trail a (next s.world a) c.0 c.1 in (
       refused_full,
@@ -62,7 +62,7 @@ step_full s t a before after c reached said =
       inl (record { told = ap (λ (x : Said). x.0) (sym whole); trail = c.2.trail ∙ ap (λ (x : Said). x.1) (sym whole); reached = reached }),
     )
 
-pub step_memory : (s t : Standing) (a : Step) (before after : List ℕ) → Carried s (Apply a) Memory t → after ≡ before ++ refused_memory → Replies before after s (Some (command.Step a)) t
+pub step_memory : (s t : Standing) (a : Step) (before after : List ℕ) → Carried s (Apply a) Memory t → after ≡ before ++ refused_memory → Replies before after s (Some (trace_word.Step a)) t
 step_memory s t a before after c said = (refused_memory, said, inr (record { wants = (c.0, c.1); told = refl; trail = c.2.trail; world = c.2.world }))
 
 -- ---- steps back
@@ -76,7 +76,7 @@ no_depth n e = grind (arith, nat_tests)
 back_by : (t : Trail) (b : Bool) → (t.depth == 0) ≡ b → back_answer t ≡ (let p : Said = if b then (refused_at_start, t) else (ok_text (t.depth - 1), taken_back t) in p)
 back_by t b e = ap (λ (v : Bool). let p : Said = if v then (refused_at_start, t) else (ok_text (t.depth - 1), taken_back t) in p) e
 
-pub back_done : (s t : Standing) (before after : List ℕ) (depth : ℕ) → Carried s Undo Done t → IsReached t → depth ≡ t.trail.depth → after ≡ before ++ ok_text depth → Replies before after s (Some command.Back) t
+pub back_done : (s t : Standing) (before after : List ℕ) (depth : ℕ) → Carried s Undo Done t → IsReached t → depth ≡ t.trail.depth → after ≡ before ++ ok_text depth → Replies before after s (Some trace_word.Back) t
 back_done s t before after depth c reached is said =
     let whole = back_by s.trail false (some_depth s.trail.depth c.0) in
     let deep : depth ≡ s.trail.depth - 1 = is ∙ ap (λ (x : Trail). x.depth) c.1 in (
@@ -85,7 +85,7 @@ back_done s t before after depth c reached is said =
       inl (record { told = ap ok_text deep ∙ ap (λ (x : Said). x.0) (sym whole); trail = c.1 ∙ ap (λ (x : Said). x.1) (sym whole); reached = reached }),
     )
 
-pub back_at_start : (s t : Standing) (before after : List ℕ) → Carried s Undo AtStart t → IsReached t → after ≡ before ++ refused_at_start → Replies before after s (Some command.Back) t
+pub back_at_start : (s t : Standing) (before after : List ℕ) → Carried s Undo AtStart t → IsReached t → after ≡ before ++ refused_at_start → Replies before after s (Some trace_word.Back) t
 back_at_start s t before after c reached said =
     let whole = back_by s.trail true (no_depth s.trail.depth c.0) in (
       refused_at_start,
@@ -104,7 +104,7 @@ none_undone n m e = grind (arith, nat_tests)
 redo_by : (t : Trail) (b : Bool) → (t.depth == length t.steps) ≡ b → redo_answer t ≡ (let p : Said = if b then (refused_no_redo, t) else (ok_text (t.depth + 1), redone t) in p)
 redo_by t b e = ap (λ (v : Bool). let p : Said = if v then (refused_no_redo, t) else (ok_text (t.depth + 1), redone t) in p) e
 
-pub redo_done : (s t : Standing) (before after : List ℕ) (depth : ℕ) → Carried s Redo Done t → IsReached t → depth ≡ t.trail.depth → after ≡ before ++ ok_text depth → Replies before after s (Some command.Redo) t
+pub redo_done : (s t : Standing) (before after : List ℕ) (depth : ℕ) → Carried s Redo Done t → IsReached t → depth ≡ t.trail.depth → after ≡ before ++ ok_text depth → Replies before after s (Some trace_word.Redo) t
 redo_done s t before after depth c reached is said =
     let whole = redo_by s.trail false (some_undone s.trail.depth (length s.trail.steps) c.0) in
     let deep : depth ≡ s.trail.depth + 1 = is ∙ ap (λ (x : Trail). x.depth) c.1 in (
@@ -113,7 +113,7 @@ redo_done s t before after depth c reached is said =
       inl (record { told = ap ok_text deep ∙ ap (λ (x : Said). x.0) (sym whole); trail = c.1 ∙ ap (λ (x : Said). x.1) (sym whole); reached = reached }),
     )
 
-pub redo_none : (s t : Standing) (before after : List ℕ) → Carried s Redo NoRedo t → IsReached t → after ≡ before ++ refused_no_redo → Replies before after s (Some command.Redo) t
+pub redo_none : (s t : Standing) (before after : List ℕ) → Carried s Redo NoRedo t → IsReached t → after ≡ before ++ refused_no_redo → Replies before after s (Some trace_word.Redo) t
 redo_none s t before after c reached said =
     let whole = redo_by s.trail true (none_undone s.trail.depth (length s.trail.steps) c.0) in (
       refused_no_redo,
@@ -121,7 +121,7 @@ redo_none s t before after c reached said =
       inl (record { told = ap (λ (x : Said). x.0) (sym whole); trail = c.1.trail ∙ ap (λ (x : Said). x.1) (sym whole); reached = reached }),
     )
 
-pub redo_memory : (s t : Standing) (before after : List ℕ) → Carried s Redo Memory t → after ≡ before ++ refused_memory → Replies before after s (Some command.Redo) t
+pub redo_memory : (s t : Standing) (before after : List ℕ) → Carried s Redo Memory t → after ≡ before ++ refused_memory → Replies before after s (Some trace_word.Redo) t
 redo_memory s t before after c said = (refused_memory, said, inr (record { wants = c.0; told = refl; trail = c.1.trail; world = c.1.world }))
 
 -- ---- a depth to go back to
@@ -135,7 +135,7 @@ is_behind n m lt = grind (arith, nat_tests)
 goto_by : (t : Trail) (depth : ℕ) (b : Bool) → nat_lt t.depth depth ≡ b → goto_answer t depth ≡ (let p : Said = if b then (refused_not_before, t) else (ok_text depth, gone_back t depth) in p)
 goto_by t depth b e = ap (λ (v : Bool). let p : Said = if v then (refused_not_before, t) else (ok_text depth, gone_back t depth) in p) e
 
-pub goto_done : (s t : Standing) (depth : ℕ) (before after : List ℕ) → Carried s (UndoTo depth) Done t → IsReached t → after ≡ before ++ ok_text depth → Replies before after s (Some (command.Goto depth)) t
+pub goto_done : (s t : Standing) (depth : ℕ) (before after : List ℕ) → Carried s (UndoTo depth) Done t → IsReached t → after ≡ before ++ ok_text depth → Replies before after s (Some (trace_word.Goto depth)) t
 goto_done s t depth before after c reached said =
     let whole = goto_by s.trail depth false (is_before s.trail.depth depth c.0) in (
       ok_text depth,
@@ -143,7 +143,7 @@ goto_done s t depth before after c reached said =
       inl (record { told = ap (λ (x : Said). x.0) (sym whole); trail = c.1 ∙ ap (λ (x : Said). x.1) (sym whole); reached = reached }),
     )
 
-pub goto_none : (s t : Standing) (depth : ℕ) (before after : List ℕ) → Carried s (UndoTo depth) NotBefore t → IsReached t → after ≡ before ++ refused_not_before → Replies before after s (Some (command.Goto depth)) t
+pub goto_none : (s t : Standing) (depth : ℕ) (before after : List ℕ) → Carried s (UndoTo depth) NotBefore t → IsReached t → after ≡ before ++ refused_not_before → Replies before after s (Some (trace_word.Goto depth)) t
 goto_none s t depth before after c reached said =
     let whole = goto_by s.trail depth true (is_behind s.trail.depth depth c.0) in (
       refused_not_before,
@@ -154,25 +154,25 @@ goto_none s t depth before after c reached said =
 -- ---- texts, and what is no command
 
 pub show_done : (s : Standing) (before after text : List ℕ) → IsReached s → text ≡ show_text s.trail.program s.world s.trail.depth (length s.trail.steps) → after ≡ before ++ text
-    → Replies before after s (Some command.Show) s
+    → Replies before after s (Some trace_word.Show) s
 show_done s before after text reached is said = (text, said, inl (record { told = is; trail = refl; reached = reached }))
 
-pub show_memory : (s : Standing) (before after : List ℕ) → after ≡ before ++ refused_memory → Replies before after s (Some command.Show) s
+pub show_memory : (s : Standing) (before after : List ℕ) → after ≡ before ++ refused_memory → Replies before after s (Some trace_word.Show) s
 show_memory s before after said = (refused_memory, said, inr (record { wants = tt; told = refl; trail = refl; world = refl }))
 
 -- the text of the enabled steps, also where there is none
 pub enabled_done : (s : Standing) (steps : List Step) (before after text : List ℕ) → IsReached s → steps ≡ enabled s.world → text ≡ line (codes "enabled" ++ steps_text steps) → after ≡ before ++ text
-    → Replies before after s (Some command.Enabled) s
+    → Replies before after s (Some trace_word.Enabled) s
 enabled_done s steps before after text reached all is said =
     (text, said, inl (record { told = is ∙ ap (λ (xs : List Step). line (codes "enabled" ++ steps_text xs)) all; trail = refl; reached = reached }))
 
 pub enabled_none : (s : Standing) (steps : List Step) (before after : List ℕ) → IsReached s → steps ≡ enabled s.world → length steps ≡ 0 → after ≡ before ++ line (codes "enabled")
-    → Replies before after s (Some command.Enabled) s
+    → Replies before after s (Some trace_word.Enabled) s
 enabled_none s [] before after reached all none said = enabled_done s [] before after (line (codes "enabled")) reached all refl said
 enabled_none s (a ∷ steps) before after reached all none said = absurd (omega (arith, none))
 
 -- memory is wanted only where some step is enabled
-pub enabled_memory : (s : Standing) (before after : List ℕ) → 0 < length (enabled s.world) → after ≡ before ++ refused_memory → Replies before after s (Some command.Enabled) s
+pub enabled_memory : (s : Standing) (before after : List ℕ) → 0 < length (enabled s.world) → after ≡ before ++ refused_memory → Replies before after s (Some trace_word.Enabled) s
 enabled_memory s before after some said = (refused_memory, said, inr (record { wants = some; told = refl; trail = refl; world = refl }))
 
 pub no_command : (s : Standing) (before after : List ℕ) → IsReached s → after ≡ before ++ refused_bad_word → Replies before after s None s
@@ -200,18 +200,18 @@ skipped s t z before after h few none said same = (
   }),
 )
 
-by_command : (s t : Standing) (z text : List ℕ) → length z ≤ 4096 → has_word z ≡ true → CommandAnswer s (command_of z) text t → AnswerOrMemory s z text t
+by_command : (s t : Standing) (z text : List ℕ) → length z ≤ 4096 → has_word z ≡ true → TraceWordAnswer s (trace_word_of z) text t → AnswerOrMemory s z text t
 by_command s t z text few some told = inl (record {
   told = rw (short z few, some) told.told;
   trail = rw (short z few, some) told.trail;
   reached = told.reached;
 })
 
-by_memory : (s t : Standing) (z text : List ℕ) → length z ≤ 4096 → has_word z ≡ true → CommandMemory s (command_of z) text t → AnswerOrMemory s z text t
+by_memory : (s t : Standing) (z text : List ℕ) → length z ≤ 4096 → has_word z ≡ true → TraceWordMemory s (trace_word_of z) text t → AnswerOrMemory s z text t
 by_memory s t z text few some told = inr (record { short = short z few; word = some; wants = told.wants; told = told.told; trail = told.trail; world = told.world })
 
 -- a line with a word is answered by its command
-pub carried_out : (s t : Standing) (z before after : List ℕ) → length z ≤ 4096 → has_word z ≡ true → Replies before after s (command_of z) t → Adds before after s z t
+pub carried_out : (s t : Standing) (z before after : List ℕ) → length z ≤ 4096 → has_word z ≡ true → Replies before after s (trace_word_of z) t → Adds before after s z t
 carried_out s t z before after few some (text, said, inl told) = (text, said, by_command s t z text few some told)
 carried_out s t z before after few some (text, said, inr told) = (text, said, by_memory s t z text few some told)
 

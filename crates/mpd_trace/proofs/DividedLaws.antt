@@ -1,6 +1,6 @@
 -- How an input is divided, byte by byte.
 use Rattle.std.proofs.Common.{◌≡◌, ◌≢◌, ℕ, ◌+◌, ◌<◌, ◌≤◌, arith, get_or, drop, drop-cons, add-one, Bool, true, false, ◌&&◌, ◌||◌, ◌==◌, not, if◌then◌else◌, List, [], ◌∷◌, ◌++◌, length, refl, ap, sym, subst, ◌∙◌, append_assoc, append-nil}
-use Rattle.mpd_model.specs.Lines.{raw_lines, grow, joined, bare, divided, divided_lines, is_divider, same_bytes, is_ending, is_feed, is_none}
+use Rattle.mpd_model.specs.texts.Lines.{raw_lines, grow, joined, bare, divided, divided_lines, is_divider, same_bytes, is_ending, is_feed, is_none}
 use Rattle.std.proofs.lemmas.Bool.{eqb-true, and_from}
 use Rattle.mpd_trace.specs.Divided.{Begun, begun, added, is_prefix, may_divide, ends_script, splits, settled_lines, ByteBrings, Measures}
 use Rattle.mpd_trace.specs.declared.divider.Taken.{Taken}

@@ -2,8 +2,8 @@
 use Rattle.std.proofs.Common.{◌≡◌, ◌≢◌, ℕ, ◌+◌, ◌<◌, true, false, if◌then◌else◌, inl, inr, List, [], ◌++◌, length, Result, Ok, Err, refl, ap, sym, subst, ◌∙◌, append-nil, arith, length-append}
 use Rattle.mpd_device.specs.Seen.{SourceSeen}
 use Rattle.mpd_model.specs.declared.limits.TheConstants.{SCRIPT_MAX}
-use Rattle.mpd_model.specs.Grammar.{reading}
-use Rattle.mpd_model.specs.Program.{Program}
+use Rattle.mpd_model.specs.grammar.Grammar.{reading}
+use Rattle.mpd_model.specs.script.Program.{Program}
 use Rattle.mpd_model.specs.declared.read_fault.ReadFault.{ReadFault}
 use Rattle.mpd_model.specs.declared.read_fault.FaultCode.TheVariants as code
 use Rattle.mpd_lines.specs.declared.engine.EngineFault.TheVariants as engine
@@ -11,8 +11,8 @@ use Rattle.mpd_lines.specs.UpTo.{IsWhole, IsRead}
 use Rattle.mpd_trace.specs.FileText.{IsRefusedText, IsScriptOf, IsNoCode}
 use Rattle.mpd_trace.specs.Plain.{line_at}
 use Rattle.mpd_trace.specs.PlainFaults.{is_memory, refused_as}
-use Rattle.mpd_trace.specs.declared.plain.PlainFault.{PlainFault}
-use Rattle.mpd_trace.specs.declared.plain.PlainFault.TheVariants.{Script, Engine}
+use Rattle.mpd_trace.specs.declared.plain_trace.PlainFault.{PlainFault}
+use Rattle.mpd_trace.specs.declared.plain_trace.PlainFault.TheVariants.{Script, Engine}
 use Rattle.mpd_trace.proofs.PlainLaws.{not_memory, reading_long, line_front, too_long, error_of}
 
 -- what is refused is so whatever follows

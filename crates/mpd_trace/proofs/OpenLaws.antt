@@ -1,7 +1,7 @@
 -- As long as the line that divides has not come, it may come.
 use Rattle.std.proofs.Common.{◌≡◌, ℕ, ◌≤◌, Bool, true, false, ◌==◌, not, if◌then◌else◌, List, [], ◌∷◌, ◌++◌, length, refl, ap, sym, subst, ◌∙◌, append_assoc, append-nil}
 use Rattle.std.proofs.lemmas.Bool.{eqb-true}
-use Rattle.mpd_model.specs.Lines.{joined, divided, divided_lines, is_divider, is_none}
+use Rattle.mpd_model.specs.texts.Lines.{joined, divided, divided_lines, is_divider, is_none}
 use Rattle.mpd_laws.proofs.cutting.LineCuts.{raw_feed, and_first, and_second}
 use Rattle.mpd_trace.specs.Divided.{Begun, begun, is_prefix, may_divide, splits, has_divider, IsOpen, IsHeld}
 use Rattle.mpd_trace.proofs.DividedLaws.{may_divide_part}

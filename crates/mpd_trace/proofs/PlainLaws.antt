@@ -4,12 +4,12 @@ use Rattle.std.proofs.lemmas.Bool.{lt-ltb, cond-true}
 use Rattle.std.proofs.lemmas.List.{take-append-le}
 use Rattle.std.specs.Io.KnownBytes.{Appends, Consumes}
 use Rattle.mpd_device.specs.Seen.{SourceSeen, SinkSeen}
-use Rattle.mpd_model.specs.Answers.{AnswerOrMemory}
-use Rattle.mpd_model.specs.Faults.{fault}
-use Rattle.mpd_model.specs.Grammar.{reading}
-use Rattle.mpd_model.specs.Lines.{divided, lines_of, ended_lines}
-use Rattle.mpd_model.specs.Program.{Program}
-use Rattle.mpd_model.specs.Trail.{Standing, first_standing}
+use Rattle.mpd_model.specs.texts.Answers.{AnswerOrMemory}
+use Rattle.mpd_model.specs.grammar.Faults.{fault}
+use Rattle.mpd_model.specs.grammar.Grammar.{reading}
+use Rattle.mpd_model.specs.texts.Lines.{divided, lines_of, ended_lines}
+use Rattle.mpd_model.specs.script.Program.{Program}
+use Rattle.mpd_model.specs.runs.Trail.{Standing, first_standing}
 use Rattle.mpd_model.specs.declared.call.Mode.TheVariants.{Rendezvous}
 use Rattle.mpd_model.specs.declared.read_fault.ReadFault.{ReadFault}
 use Rattle.mpd_model.specs.declared.read_fault.FaultCode.TheVariants as code
@@ -20,10 +20,10 @@ use Rattle.mpd_lines.specs.declared.engine.EngineFault.TheVariants as engine
 use Rattle.mpd_trace.specs.Collected.{HeadOf, Collected, IsJustRead}
 use Rattle.mpd_trace.specs.Plain.{line_at, IsRefused, TracesSoFar, PlainServed}
 use Rattle.mpd_trace.specs.PlainFaults.{is_memory, refused_as, plain_failed_reads, plain_failed_writes}
-use Rattle.mpd_trace.specs.declared.plain.HeadEnd.{HeadEnd}
-use Rattle.mpd_trace.specs.declared.plain.HeadEnd.TheVariants.{InputEnds, LineDivides, TooLong}
-use Rattle.mpd_trace.specs.declared.plain.PlainFault.{PlainFault}
-use Rattle.mpd_trace.specs.declared.plain.PlainFault.TheVariants.{Script, Engine}
+use Rattle.mpd_trace.specs.declared.plain_trace.HeadEnd.{HeadEnd}
+use Rattle.mpd_trace.specs.declared.plain_trace.HeadEnd.TheVariants.{InputEnds, LineDivides, TooLong}
+use Rattle.mpd_trace.specs.declared.plain_trace.PlainFault.{PlainFault}
+use Rattle.mpd_trace.specs.declared.plain_trace.PlainFault.TheVariants.{Script, Engine}
 use Rattle.mpd_lines.proofs.TellingLaws.{breaks_along}
 use Rattle.mpd_trace.proofs.CollectLaws.{consumes_append}
 use Rattle.mpd_trace.proofs.OpenLaws.{divider_came}

@@ -3,7 +3,7 @@ use Rattle.std.proofs.Common.{◌≡◌, ℕ, ◌<◌, ◌≤◌, Bool, true, fa
 use Rattle.std.proofs.lemmas.Bool.{false≢true}
 use Rattle.std.proofs.lemmas.Bool.Decides.{eqb_tells}
 use Rattle.std.specs.Fmt.{decimal}
-use Rattle.mpd_model.specs.Texts.{spaced, numbers_line}
+use Rattle.mpd_model.specs.texts.Texts.{spaced, numbers_line}
 use Rattle.mpd_queue.specs.InOrder.{places_in, first_of, next_of, is_link_to, HasSpot}
 use Rattle.mpd_queue.proofs.Places.{places_here, places_there, places_more, link_tells}
 use Rattle.mpd_queue.proofs.Spots.{first_spot, next_here, next_there, next_spot}

@@ -1,7 +1,7 @@
 -- Which tokens the grammar allows behind the front of a text.
 use Rattle.std.specs.Prelude.{ℕ, ◌+◌, Bool, true, false, not, ◌&&◌, ◌||◌, ◌==◌, List, [], ◌∷◌, ◌++◌, length, Result, Ok, Err}
-use Rattle.mpd_model.specs.Grammar.{reading}
-use Rattle.mpd_model.specs.Program.{Program}
+use Rattle.mpd_model.specs.grammar.Grammar.{reading}
+use Rattle.mpd_model.specs.script.Program.{Program}
 use Rattle.mpd_model.specs.declared.read_fault.FaultCode.{FaultCode}
 use Rattle.mpd_model.specs.declared.read_fault.FaultCode.TheVariants as code
 use Rattle.mpd_model.specs.declared.read_fault.ReadFault.{ReadFault}

@@ -3,15 +3,15 @@ use Rattle.std.specs.Prelude.{◌≡◌, ℕ, ◌+◌, ◌<◌, ◌≤◌, List,
 use Rattle.std.specs.Io.KnownBytes.{Consumes, IsAtEnd}
 use Rattle.mpd_device.specs.Seen.{SourceSeen}
 use Rattle.mpd_model.specs.declared.limits.TheConstants.{READS_MAX, SCRIPT_MAX}
-use Rattle.mpd_model.specs.Lines.{divided}
+use Rattle.mpd_model.specs.texts.Lines.{divided}
 use Rattle.mpd_lines.specs.declared.engine.TheConstants.{READ_MAX}
 use Rattle.mpd_lines.specs.declared.engine.EngineFault.{EngineFault}
 use Rattle.mpd_lines.specs.declared.engine.EngineFault.TheVariants.{ReadFailed, WriteFailed, TooManyTurns, Memory}
 use Rattle.mpd_lines.specs.FaultWords.{failed_reads}
 use Rattle.mpd_trace.specs.Divided.{Begun, IsOpen, IsHeld, splits}
-use Rattle.mpd_trace.specs.declared.plain.HeadEnd.{HeadEnd}
-use Rattle.mpd_trace.specs.declared.plain.HeadEnd.TheVariants.{InputEnds, LineDivides, TooLong}
-use Rattle.mpd_trace.specs.declared.plain.Head.{Head}
+use Rattle.mpd_trace.specs.declared.plain_trace.HeadEnd.{HeadEnd}
+use Rattle.mpd_trace.specs.declared.plain_trace.HeadEnd.TheVariants.{InputEnds, LineDivides, TooLong}
+use Rattle.mpd_trace.specs.declared.plain_trace.Head.{Head}
 
 -- These bytes were read in time: up to the last read, of 4,096 bytes at most, it was open where the script ends.
 abbrev pub IsJustRead : List ℕ → Type 0

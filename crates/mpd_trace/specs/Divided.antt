@@ -1,7 +1,7 @@
 -- What of an input stands before the line that divides it, as it comes.
 use Rattle.std.specs.Prelude.{◌≡◌, ℕ, ◌<◌, ◌≤◌, Bool, true, false, ◌&&◌, not, ◌==◌, if◌then◌else◌, List, [], ◌∷◌, ◌++◌, length, drop}
 use Rattle.mpd_model.specs.declared.limits.TheConstants.{SCRIPT_MAX}
-use Rattle.mpd_model.specs.Lines.{raw_lines, divided, divided_lines, is_divider, is_none}
+use Rattle.mpd_model.specs.texts.Lines.{raw_lines, divided, divided_lines, is_divider, is_none}
 use Rattle.mpd_trace.specs.declared.divider.Division.{Division}
 use Rattle.mpd_trace.specs.declared.divider.Division.TheVariants as d
 use Rattle.mpd_trace.specs.declared.divider.Taken.{Taken}

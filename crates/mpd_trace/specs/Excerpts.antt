@@ -1,7 +1,7 @@
 -- What is shown of a text at a place.
 use Rattle.std.specs.Prelude.{ℕ, ◌+◌, ◌-◌, Bool, true, false, ◌&&◌, ◌||◌, ◌==◌, nat_le, nat_lt, if◌then◌else◌, List, [], ◌∷◌, ◌++◌, length, map, take, drop, codes, replicate, reverse}
 use Rattle.std.specs.List.{position_or_len, before_first}
-use Rattle.mpd_trace.specs.declared.excerpt.TheConstants.{SHOWN_MAX, SHOWN_BEFORE}
+use Rattle.mpd_trace.specs.declared.excerpts.TheConstants.{SHOWN_MAX, SHOWN_BEFORE}
 
 abbrev pub is_feed : ℕ → Bool
 is_feed b = b == 10

@@ -2,15 +2,15 @@
 use Rattle.std.specs.Prelude.{◌≡◌, ◌≢◌, ℕ, ◌+◌, ◌⊎◌, List, [], ◌++◌, Ok, Err}
 use Rattle.mpd_device.specs.Seen.{SourceSeen}
 use Rattle.mpd_model.specs.declared.limits.TheConstants.{SCRIPT_MAX}
-use Rattle.mpd_model.specs.Grammar.{reading}
-use Rattle.mpd_model.specs.Program.{Program}
+use Rattle.mpd_model.specs.grammar.Grammar.{reading}
+use Rattle.mpd_model.specs.script.Program.{Program}
 use Rattle.mpd_model.specs.declared.read_fault.ReadFault.{ReadFault}
 use Rattle.mpd_model.specs.declared.read_fault.FaultCode.TheVariants as code
 use Rattle.mpd_lines.specs.declared.engine.EngineFault.TheVariants.{ReadFailed, WriteFailed, TooManyTurns, Memory}
 use Rattle.mpd_lines.specs.UpTo.{IsRead, IsUnread}
 use Rattle.mpd_trace.specs.Plain.{line_at}
-use Rattle.mpd_trace.specs.declared.plain.PlainFault.{PlainFault}
-use Rattle.mpd_trace.specs.declared.plain.PlainFault.TheVariants.{Script, Engine}
+use Rattle.mpd_trace.specs.declared.plain_trace.PlainFault.{PlainFault}
+use Rattle.mpd_trace.specs.declared.plain_trace.PlainFault.TheVariants.{Script, Engine}
 
 -- whatever follows the text (nothing, where the input has ended), it is refused so
 abbrev pub IsRefusedText : SourceSeen → SourceSeen → List ℕ → ReadFault → ℕ → Type 0

@@ -3,11 +3,11 @@ use Rattle.std.specs.Prelude.{◌≡◌, ◌≢◌, ℕ, ◌+◌, ◌≤◌, ◌
 use Rattle.std.specs.Io.KnownBytes.{Consumes, IsAtEnd}
 use Rattle.mpd_device.specs.Seen.{SourceSeen, SinkSeen}
 use Rattle.mpd_model.specs.declared.limits.TheConstants.{READS_MAX}
-use Rattle.mpd_model.specs.Answers.{AnswerOrMemory}
-use Rattle.mpd_model.specs.Grammar.{reading}
-use Rattle.mpd_model.specs.Lines.{divided, lines_of, ended_lines}
-use Rattle.mpd_model.specs.Program.{Program}
-use Rattle.mpd_model.specs.Trail.{Standing, first_standing}
+use Rattle.mpd_model.specs.texts.Answers.{AnswerOrMemory}
+use Rattle.mpd_model.specs.grammar.Grammar.{reading}
+use Rattle.mpd_model.specs.texts.Lines.{divided, lines_of, ended_lines}
+use Rattle.mpd_model.specs.script.Program.{Program}
+use Rattle.mpd_model.specs.runs.Trail.{Standing, first_standing}
 use Rattle.mpd_model.specs.declared.call.Mode.TheVariants.{Rendezvous}
 use Rattle.mpd_model.specs.declared.read_fault.ReadFault.{ReadFault}
 use Rattle.mpd_model.specs.declared.read_fault.FaultCode.TheVariants as code
@@ -15,8 +15,8 @@ use Rattle.mpd_lines.specs.Telling.{Tells, BreaksOff, waiting_below}
 use Rattle.mpd_lines.specs.declared.engine.EngineFault.TheVariants.{ReadFailed, WriteFailed, TooManyTurns, Memory}
 use Rattle.mpd_trace.specs.Divided.{has_divider, IsOpen}
 use Rattle.mpd_trace.specs.Collected.{IsJustRead}
-use Rattle.mpd_trace.specs.declared.plain.PlainFault.{PlainFault}
-use Rattle.mpd_trace.specs.declared.plain.PlainFault.TheVariants.{Script, Engine}
+use Rattle.mpd_trace.specs.declared.plain_trace.PlainFault.{PlainFault}
+use Rattle.mpd_trace.specs.declared.plain_trace.PlainFault.TheVariants.{Script, Engine}
 
 -- the line of a place in a text, from 1
 abbrev pub line_at : List ℕ → ℕ → ℕ

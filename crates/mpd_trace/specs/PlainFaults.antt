@@ -1,12 +1,12 @@
 -- The faults of `plain`: what is answered to a script that is refused, and how many calls of a device failed.
 use Rattle.std.specs.Prelude.{ℕ, Bool, true, false, if◌then◌else◌, List, ◌++◌, codes, Result, Ok, Err}
 use Rattle.std.specs.Fmt.{decimal}
-use Rattle.mpd_model.specs.Faults.{fault_number, fault_name}
+use Rattle.mpd_model.specs.grammar.Faults.{fault_number, fault_name}
 use Rattle.mpd_model.specs.declared.read_fault.FaultCode.{FaultCode}
 use Rattle.mpd_model.specs.declared.read_fault.FaultCode.TheVariants as code
 use Rattle.mpd_model.specs.declared.read_fault.ReadFault.{ReadFault}
-use Rattle.mpd_trace.specs.declared.plain.PlainFault.{PlainFault}
-use Rattle.mpd_trace.specs.declared.plain.PlainFault.TheVariants.{Script, Engine}
+use Rattle.mpd_trace.specs.declared.plain_trace.PlainFault.{PlainFault}
+use Rattle.mpd_trace.specs.declared.plain_trace.PlainFault.TheVariants.{Script, Engine}
 use Rattle.mpd_lines.specs.FaultWords.{reads_failed, writes_failed}
 use Rattle.mpd_lines.specs.declared.engine.EngineFault.TheVariants as engine
 

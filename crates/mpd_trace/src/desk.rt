@@ -1,23 +1,18 @@
 //! What answers the lines of trace words: a desk with a debugger.
 
 ghost use Rattle.std.specs.Prelude.{◌≡◌, ℕ, ◌+◌, ◌≤◌, List, length, IfOk, ◌++◌, vec_len, vec_capacity};
-ghost use Rattle.mpd_model.specs.Trail.{first_standing};
-ghost use Rattle.mpd_model.specs.Answers.{AnswerOrMemory, ok_text, refused_text};
+ghost use Rattle.mpd_model.specs.runs.Trail.{first_standing};
+ghost use Rattle.mpd_model.specs.texts.Answers.{AnswerOrMemory, ok_text, refused_text};
 ghost use Rattle.mpd_trace.specs.Replies.{Replies};
 ghost use Rattle.mpd_trail.specs.Views.{standing_of};
 
-use crate::listed::listed;
-use crate::show::show;
+use crate::enabled_list::listed;
+use crate::state_text::show;
 use itoa::Buffer;
-use mpd_code::code::Code;
-use mpd_lines::desk::{LineDesk, ROOM};
-use mpd_lines::kept::push_all;
-use mpd_model::call::Mode;
-use mpd_model::limits::LINE_MAX;
-use mpd_model::step::Step;
-use mpd_model::words::{Command as Word, command_of, has_word};
-use mpd_trail::debugger::{ApplyFault, AtStart, Debugger, NotBefore, RedoFault};
-use mpd_trail::run::{Command, Reply, answer};
+use mpd_code::Code;
+use mpd_lines::{LineDesk, ROOM, push_all};
+use mpd_model::{LINE_MAX, Mode, Step, TraceWord, has_word, trace_word_of};
+use mpd_trail::{ApplyFault, AtStart, Debugger, NotBefore, RedoFault, Reply, TrailCommand, answer};
 use std::alloc::{AllocError, Global};
 use std::marker::Model;
 
@@ -58,7 +53,7 @@ fn answer_step(debugger: &mut Debugger<'_>, step: Step, out: &mut Vec<u8>)
     ensures replies { Replies out.old.items out.new.items (standing_of debugger.old) (Some (Word.Step step)) (standing_of debugger.new) }
     ensures capacity { vec_capacity out.old ≤ vec_capacity out.new }
 {
-    let reply = answer(debugger, Command::Apply(step));
+    let reply = answer(debugger, TrailCommand::Apply(step));
     let depth = debugger.depth();
     match reply {
         Reply::Done => say_ok(out, depth),
@@ -76,7 +71,7 @@ fn answer_back(debugger: &mut Debugger<'_>, out: &mut Vec<u8>)
     ensures replies { Replies out.old.items out.new.items (standing_of debugger.old) (Some Word.Back) (standing_of debugger.new) }
     ensures capacity { vec_capacity out.old ≤ vec_capacity out.new }
 {
-    match answer(debugger, Command::Undo) {
+    match answer(debugger, TrailCommand::Undo) {
         Reply::Done => say_ok(out, debugger.depth()),
         Reply::AtStart => refuse(out, AtStart.name()),
         _ => unreachable!(),
@@ -90,7 +85,7 @@ fn answer_redo(debugger: &mut Debugger<'_>, out: &mut Vec<u8>)
     ensures replies { Replies out.old.items out.new.items (standing_of debugger.old) (Some Word.Redo) (standing_of debugger.new) }
     ensures capacity { vec_capacity out.old ≤ vec_capacity out.new }
 {
-    match answer(debugger, Command::Redo) {
+    match answer(debugger, TrailCommand::Redo) {
         Reply::Done => say_ok(out, debugger.depth()),
         Reply::NoRedo => refuse(out, RedoFault::NoRedo.name()),
         Reply::Memory => refuse(out, RedoFault::Memory.name()),
@@ -105,7 +100,7 @@ fn answer_goto(debugger: &mut Debugger<'_>, left: usize, out: &mut Vec<u8>)
     ensures replies { Replies out.old.items out.new.items (standing_of debugger.old) (Some (Word.Goto left)) (standing_of debugger.new) }
     ensures capacity { vec_capacity out.old ≤ vec_capacity out.new }
 {
-    match answer(debugger, Command::UndoTo(left)) {
+    match answer(debugger, TrailCommand::UndoTo(left)) {
         Reply::Done => say_ok(out, left),
         Reply::NotBefore => refuse(out, NotBefore.name()),
         _ => unreachable!(),
@@ -166,7 +161,7 @@ fn answer_other(debugger: &Debugger<'_>, out: &mut Vec<u8>)
 fn answer_command(
     alloc: Global,
     debugger: &mut Debugger<'_>,
-    command: Option<Word>,
+    command: Option<TraceWord>,
     out: &mut Vec<u8>,
 )
     requires { vec_len out.old + ROOM ≤ vec_capacity out.old }
@@ -175,12 +170,12 @@ fn answer_command(
 {
     match command {
         None => answer_other(debugger, out),
-        Some(Word::Step(step)) => answer_step(debugger, step, out),
-        Some(Word::Back) => answer_back(debugger, out),
-        Some(Word::Redo) => answer_redo(debugger, out),
-        Some(Word::Goto(depth)) => answer_goto(debugger, depth, out),
-        Some(Word::Enabled) => answer_enabled(alloc, debugger, out),
-        Some(Word::Show) => answer_show(alloc, debugger, out),
+        Some(TraceWord::Step(step)) => answer_step(debugger, step, out),
+        Some(TraceWord::Back) => answer_back(debugger, out),
+        Some(TraceWord::Redo) => answer_redo(debugger, out),
+        Some(TraceWord::Goto(depth)) => answer_goto(debugger, depth, out),
+        Some(TraceWord::Enabled) => answer_enabled(alloc, debugger, out),
+        Some(TraceWord::Show) => answer_show(alloc, debugger, out),
     }
 }
 
@@ -196,7 +191,7 @@ fn answer_line(alloc: Global, debugger: &mut Debugger<'_>, line: &[u8], out: &mu
     if !has_word(line) {
         return;
     }
-    answer_command(alloc, debugger, command_of(line), out)
+    answer_command(alloc, debugger, trace_word_of(line), out)
 }
 
 /// A desk that answers trace words (docs/FORMATS.md, "Trace words") with a debugger.
@@ -206,7 +201,7 @@ pub struct TraceDesk<'c> {
 }
 
 impl<'c> Model for TraceDesk<'c> {
-    ghost use Rattle.mpd_model.specs.Trail.{Standing, standing_code};
+    ghost use Rattle.mpd_model.specs.runs.Trail.{Standing, standing_code};
     ghost use Rattle.mpd_trail.specs.Views.{standing_of};
 
     ghost Value = { Standing };
@@ -229,7 +224,7 @@ impl<'c> TraceDesk<'c> {
 
 impl<'c> LineDesk for TraceDesk<'c> {
     ghost use Rattle.std.specs.Prelude.{true};
-    ghost use Rattle.mpd_model.specs.Answers.{AnswerOrMemory};
+    ghost use Rattle.mpd_model.specs.texts.Answers.{AnswerOrMemory};
 
     // nothing is seen of the debugger behind the answers, so they may wait for one another
     ghost gathers = { true };

@@ -1,11 +1,10 @@
 //! Divides an input into a script and what stands behind the line `---`.
 ghost use Rattle.std.specs.Prelude.{◌≡◌, ◌+◌, ◌<◌, ◌≤◌, [], ◌∷◌, ◌++◌, true, false, length, IfOk};
-ghost use Rattle.mpd_model.specs.Lines.{same_bytes, is_divider};
+ghost use Rattle.mpd_model.specs.texts.Lines.{same_bytes, is_divider};
 ghost use Rattle.mpd_trace.specs.Divided.{may_divide, ends_script, splits, begun, added, IsHeld, PieceBrings, ByteBrings, Measures};
 
-use mpd_lines::kept::push_all;
-use mpd_lines::line::without_return;
-use mpd_model::limits::SCRIPT_MAX;
+use mpd_lines::{push_all, without_return};
+use mpd_model::SCRIPT_MAX;
 use std::alloc::{AllocError, Global};
 use std::marker::Model;
 

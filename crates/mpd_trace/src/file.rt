@@ -2,14 +2,11 @@
 ghost use Rattle.std.specs.Prelude.{IfOk, IfErr};
 ghost use Rattle.mpd_trace.specs.FileText.{IsScriptOf, IsNoCode};
 
-use crate::plain::{PlainFault, refusal};
-use mpd_code::code::Code;
-use mpd_code::lower::lower;
-use mpd_device::device::Source;
-use mpd_lines::engine::EngineFault;
-use mpd_lines::up_to::read_up_to;
-use mpd_model::limits::SCRIPT_MAX;
-use mpd_model::script::Script;
+use crate::plain_trace::{PlainFault, refusal};
+use mpd_code::{Code, lower};
+use mpd_device::Source;
+use mpd_lines::{EngineFault, read_up_to};
+use mpd_model::{SCRIPT_MAX, Script};
 use mpd_script::read;
 use std::alloc::Global;
 

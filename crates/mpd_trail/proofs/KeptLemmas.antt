@@ -6,10 +6,10 @@ use Rattle.std.proofs.lemmas.Option.{get_or_from_slice_get, slice_get_within}
 use Rattle.mpd_model.specs.declared.limits.TheConstants.{STEPS_MAX}
 use Rattle.mpd_model.specs.declared.step.Step.{Step}
 use Rattle.mpd_model.specs.declared.step.Step.TheVariants.{Local, Match, Wake, WakeAny, Release}
-use Rattle.mpd_model.specs.Program.{Program}
-use Rattle.mpd_model.specs.World.{World, start}
-use Rattle.mpd_model.specs.Next.{next, fold, wake_writes, wake_clears, any_writes, any_handle}
-use Rattle.mpd_model.specs.Trail.{Trail, Standing, IsReached, kept, is_step, noted, applied, redone, forgotten}
+use Rattle.mpd_model.specs.script.Program.{Program}
+use Rattle.mpd_model.specs.steps.World.{World, start}
+use Rattle.mpd_model.specs.steps.Next.{next, fold, wake_writes, wake_clears, any_writes, any_handle}
+use Rattle.mpd_model.specs.runs.Trail.{Trail, Standing, IsReached, done_steps, is_step, noted, applied, redone, forgotten}
 use Rattle.mpd_rank.specs.Undone.{LocalDone}
 use Rattle.mpd_core.specs.declared.record.OtherRecord.{OtherRecord}
 use Rattle.mpd_core.specs.declared.record.Record.{Record}
@@ -183,8 +183,8 @@ keeps_forgotten s first locals others steps last k =
     let n : ℕ = length locals + length others in
     keeps_other s first locals others steps (take n steps) last k (take-take n n steps (omega arith)) (rw (keeps_world s first locals others steps last k) refl) (omega (arith, length-take n steps, k.few))
 
-pub kept_forgotten : (t : Trail) → kept (forgotten t) ≡ kept t
-kept_forgotten t = take-take t.depth t.depth t.steps (omega arith)
+pub done_steps_forgotten : (t : Trail) → done_steps (forgotten t) ≡ done_steps t
+done_steps_forgotten t = take-take t.depth t.depth t.steps (omega arith)
 
 -- ---- one step more
 
@@ -297,4 +297,4 @@ pub other_few : (s : Program) (first : World) (locals : List LocalDone) (others 
 other_few s first locals others steps last n m ranks u a long own is read e k =
     writes_back ranks (undone s last (kind.Other u)) a (kind.Other u) (other_last s first locals others steps last n m u a long own is read e k).0.recorded
 
-pub ruleset keeping = (is_local, is_other, is_apart, keeps_world, keeps_reached, local_there, other_there, local_can, other_can, local_pop, other_pop, other_few, keeps_next, keeps_other, keeps_forgotten, kept_forgotten, take_noted)
+pub ruleset keeping = (is_local, is_other, is_apart, keeps_world, keeps_reached, local_there, other_there, local_can, other_can, local_pop, other_pop, other_few, keeps_next, keeps_other, keeps_forgotten, done_steps_forgotten, take_noted)

@@ -6,8 +6,8 @@ use Rattle.std.proofs.lemmas.List.{take_more_set}
 use Rattle.mpd_model.specs.declared.step.CallId.{CallId}
 use Rattle.mpd_model.specs.declared.step.Step.{Step}
 use Rattle.mpd_model.specs.declared.step.Step.TheVariants.{Local, Match, Wake, WakeAny, Release}
-use Rattle.mpd_model.specs.World.{id_eq}
-use Rattle.mpd_model.specs.Trail.{step_eq, is_step, noted}
+use Rattle.mpd_model.specs.steps.World.{id_eq}
+use Rattle.mpd_model.specs.runs.Trail.{step_eq, is_step, noted}
 
 both : (a b : Bool) → a && b ≡ true → (a ≡ true) × (b ≡ true)
 both true b e = (refl, e)

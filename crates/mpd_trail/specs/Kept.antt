@@ -4,9 +4,9 @@ use Rattle.std.specs.Prelude.{◌≡◌, ℕ, ◌+◌, ◌≤◌, List, [], ◌�
 use Rattle.mpd_model.specs.declared.limits.TheConstants.{STEPS_MAX}
 use Rattle.mpd_model.specs.declared.step.Step.{Step}
 use Rattle.mpd_model.specs.declared.step.Step.TheVariants.{Local}
-use Rattle.mpd_model.specs.World.{World}
-use Rattle.mpd_model.specs.Next.{next, fold}
-use Rattle.mpd_model.specs.Program.{Program}
+use Rattle.mpd_model.specs.steps.World.{World}
+use Rattle.mpd_model.specs.steps.Next.{next, fold}
+use Rattle.mpd_model.specs.script.Program.{Program}
 use Rattle.mpd_rank.specs.Undone.{LocalDone}
 use Rattle.mpd_core.specs.declared.record.OtherRecord.{OtherRecord}
 use Rattle.mpd_core.specs.declared.record.Record.{Record}

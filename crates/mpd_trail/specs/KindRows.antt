@@ -2,7 +2,7 @@
 use Rattle.std.specs.Prelude.{◌≡◌, ℕ, map, List, [], ◌∷◌, Option, Some, None, refl}
 use Rattle.mpd_model.specs.declared.step.Step.{Step}
 use Rattle.mpd_model.specs.declared.step.Step.TheVariants.{Local, Match, Wake, WakeAny, Release}
-use Rattle.mpd_model.specs.World.{call_id}
+use Rattle.mpd_model.specs.steps.World.{call_id}
 use Rattle.mpd_trail.specs.Kept.{local_rank}
 
 abbrev steps : List Step

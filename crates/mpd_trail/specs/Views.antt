@@ -1,8 +1,8 @@
 -- What a debugger shows to contracts, part by part, and where it stands.
 use Rattle.std.specs.Prelude.{ℕ, refl}
 use Rattle.std.specs.Coded.{Coded, code_by, coded×, coded_ℕ}
-use Rattle.mpd_model.specs.World.{World, world_code}
-use Rattle.mpd_model.specs.Trail.{Trail, Standing, trail_code}
+use Rattle.mpd_model.specs.steps.World.{World, world_code}
+use Rattle.mpd_model.specs.runs.Trail.{Trail, Standing, trail_code}
 
 pub record DebuggerView : Type 0 where
   pub trail : Trail

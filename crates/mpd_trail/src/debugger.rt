@@ -1,8 +1,8 @@
 //! The trail: the steps that were taken, of which some may be undone, and the state that they lead to.
 
 ghost use Rattle.std.specs.Prelude.{◌≡◌, ◌↔◌, ◌<◌, ◌≤◌, IfOk, OnOk, OnErr, IsErrOf, IsOk, IsSome, IfSome, IfNone, Some, None, [], ◌∷◌, ◌++◌, ◌+◌, ◌-◌, length, take, drop, slice_get, vec_len, vec_capacity};
-ghost use Rattle.mpd_model.specs.Next.{next};
-ghost use Rattle.mpd_model.specs.Trail.{first_standing, IsReached, IsRun, kept, noted, applied, taken_back, redone, gone_back, forgotten, with_steps, step_eq};
+ghost use Rattle.mpd_model.specs.steps.Next.{next};
+ghost use Rattle.mpd_model.specs.runs.Trail.{first_standing, IsReached, IsRun, done_steps, noted, applied, taken_back, redone, gone_back, forgotten, with_steps, step_eq};
 ghost use Rattle.mpd_model.specs.declared.step.Step.{Step};
 ghost use Rattle.mpd_core.specs.Writes.{most_writes};
 ghost use Rattle.mpd_trail.specs.Faults.{apply_fault, apply_fault_number, apply_fault_name, redo_fault_number, redo_fault_name, at_start_name, not_before_name};
@@ -10,15 +10,10 @@ ghost use Rattle.mpd_trail.specs.Kept.{room_in};
 ghost use Rattle.mpd_trail.specs.Views.{standing_of};
 ghost use Rattle.mpd_trail.specs.Writes.{most_writes_of};
 
-use mpd_code::code::Code;
-use mpd_core::fault::StepFault;
-use mpd_core::record::OtherRecord;
-use mpd_core::state::Core;
-use mpd_core::step::AnyStep;
-use mpd_model::call::Mode;
-use mpd_model::limits::STEPS_MAX;
-use mpd_model::step::Step;
-use mpd_rank::change::LocalRecord;
+use mpd_code::Code;
+use mpd_core::{AnyStep, Core, OtherRecord, StepFault};
+use mpd_model::{Mode, STEPS_MAX, Step};
+use mpd_rank::LocalRecord;
 use std::alloc::{AllocError, Global};
 use std::error::Error;
 use std::fmt;
@@ -203,7 +198,7 @@ pub struct Debugger<'c> {
 
 impl<'c> Model for Debugger<'c> {
     ghost use Rattle.std.specs.Prelude.{◌+◌, ◌-◌, min, length, vec_len, vec_capacity};
-    ghost use Rattle.mpd_model.specs.World.{start};
+    ghost use Rattle.mpd_model.specs.steps.World.{start};
     ghost use Rattle.mpd_trail.specs.Kept.{Keeps, room_in};
     ghost use Rattle.mpd_trail.specs.Views.{DebuggerView, debugger_view_code};
 
@@ -366,7 +361,7 @@ impl<'c> Debugger<'c> {
     pub fn apply(&mut self, step: Step) -> Result<(), ApplyFault>
         ensures ok { OnOk result (self.new.trail ≡ applied self.old.trail step) }
         ensures world { OnOk result (next self.old.world step ≡ Some self.new.world) }
-        ensures steps { OnOk result (kept self.new.trail ≡ kept self.old.trail ++ step ∷ []) }
+        ensures steps { OnOk result (done_steps self.new.trail ≡ done_steps self.old.trail ++ step ∷ []) }
         ensures reached { IsReached (standing_of self.new) }
         ensures room { OnOk result (self.old.trail.depth < STEPS_MAX) }
         ensures not_enabled { IsErrOf result ApplyFault.NotEnabled ↔ (next self.old.world step ≡ None) }
@@ -417,7 +412,7 @@ impl<'c> Debugger<'c> {
     #[tactic(auto, using(crate::proofs::KeptLemmas::keeping))]
     pub fn undo(&mut self) -> Result<(), AtStart>
         ensures ok { OnOk result (self.new.trail ≡ taken_back self.old.trail) }
-        ensures steps { OnOk result (kept self.new.trail ≡ take (self.old.trail.depth - 1) (kept self.old.trail)) }
+        ensures steps { OnOk result (done_steps self.new.trail ≡ take (self.old.trail.depth - 1) (done_steps self.old.trail)) }
         ensures reached { IsReached (standing_of self.new) }
         ensures some { IsOk result ↔ (0 < self.old.trail.depth) }
         ensures err { OnErr result (self.new.trail ≡ self.old.trail) }
@@ -426,7 +421,7 @@ impl<'c> Debugger<'c> {
         ensures mode { self.new.trail.mode ≡ self.old.trail.mode }
         ensures room_left { self.old.room ≤ self.new.room }
         ensures rises { OnOk result (self.old.writes + 1 ≤ self.new.writes) }
-        ensures few { OnOk result ((step : Step) → kept self.old.trail ≡ kept self.new.trail ++ step ∷ [] → self.new.writes ≤ self.old.writes + most_writes self.old.trail.program.ranks step) }
+        ensures few { OnOk result ((step : Step) → done_steps self.old.trail ≡ done_steps self.new.trail ++ step ∷ [] → self.new.writes ≤ self.old.writes + most_writes self.old.trail.program.ranks step) }
         ensures unwritten { OnErr result (self.new.writes ≡ self.old.writes) }
     {
         let Some(last) = (self.locals.len() + self.others.len()).checked_sub(1) else {
@@ -455,7 +450,7 @@ impl<'c> Debugger<'c> {
         requires few { self.old.trail.depth < STEPS_MAX }
         ensures ok { OnOk result (self.new.trail ≡ applied self.old.trail step) }
         ensures world { OnOk result (next self.old.world step ≡ Some self.new.world) }
-        ensures steps { OnOk result (kept self.new.trail ≡ kept self.old.trail ++ step ∷ []) }
+        ensures steps { OnOk result (done_steps self.new.trail ≡ done_steps self.old.trail ++ step ∷ []) }
         ensures reached { IsReached (standing_of self.new) }
         ensures no_room { OnErr result (self.old.room ≡ 0) }
         ensures err { OnErr result (self.new.trail ≡ self.old.trail) }
@@ -481,7 +476,7 @@ impl<'c> Debugger<'c> {
     pub fn redo(&mut self) -> Result<(), RedoFault>
         ensures ok { OnOk result (self.new.trail ≡ redone self.old.trail) }
         ensures world { OnOk result ((step : Step) → slice_get self.old.trail.steps self.old.trail.depth ≡ Some step → next self.old.world step ≡ Some self.new.world) }
-        ensures steps { OnOk result ((step : Step) → slice_get self.old.trail.steps self.old.trail.depth ≡ Some step → kept self.new.trail ≡ kept self.old.trail ++ step ∷ []) }
+        ensures steps { OnOk result ((step : Step) → slice_get self.old.trail.steps self.old.trail.depth ≡ Some step → done_steps self.new.trail ≡ done_steps self.old.trail ++ step ∷ []) }
         ensures reached { IsReached (standing_of self.new) }
         ensures undone { OnOk result (self.old.trail.depth < length self.old.trail.steps) }
         ensures no_redo { IsErrOf result RedoFault.NoRedo ↔ (self.old.trail.depth ≡ length self.old.trail.steps) }
@@ -510,7 +505,7 @@ impl<'c> Debugger<'c> {
     /// (26), and so never for want of memory. Each step takes as many writes as `undo` does.
     pub fn undo_to(&mut self, depth: usize) -> Result<(), NotBefore>
         ensures ok { OnOk result (self.new.trail ≡ gone_back self.old.trail depth) }
-        ensures steps { OnOk result (kept self.new.trail ≡ take depth (kept self.old.trail)) }
+        ensures steps { OnOk result (done_steps self.new.trail ≡ take depth (done_steps self.old.trail)) }
         ensures reached { IsReached (standing_of self.new) }
         ensures before { IsOk result ↔ (depth ≤ self.old.trail.depth) }
         ensures err { OnErr result (self.new.trail ≡ self.old.trail) }
@@ -519,7 +514,7 @@ impl<'c> Debugger<'c> {
         ensures mode { self.new.trail.mode ≡ self.old.trail.mode }
         ensures room_left { self.old.room ≤ self.new.room }
         ensures rises { OnOk result (self.old.writes + (self.old.trail.depth - depth) ≤ self.new.writes) }
-        ensures few { OnOk result (self.new.writes ≤ self.old.writes + most_writes_of self.old.trail.program.ranks (drop depth (kept self.old.trail))) }
+        ensures few { OnOk result (self.new.writes ≤ self.old.writes + most_writes_of self.old.trail.program.ranks (drop depth (done_steps self.old.trail))) }
         ensures unwritten { OnErr result (self.new.writes ≡ self.old.writes) }
     {
         self.state_is_reached();
@@ -537,7 +532,7 @@ impl<'c> Debugger<'c> {
     pub fn forget_undone(&mut self)
         ensures trail { self.new.trail ≡ forgotten self.old.trail }
         ensures world { self.new.world ≡ self.old.world }
-        ensures steps { kept self.new.trail ≡ kept self.old.trail }
+        ensures steps { done_steps self.new.trail ≡ done_steps self.old.trail }
         ensures reached { IsReached (standing_of self.new) }
         ensures program { self.new.trail.program ≡ self.old.trail.program }
         ensures mode { self.new.trail.mode ≡ self.old.trail.mode }
@@ -551,11 +546,11 @@ impl<'c> Debugger<'c> {
     /// the depth are then undone ones, which `redo` takes again. It takes no memory.
     #[tactic(auto, using(crate::proofs::KeptLemmas::keeping))]
     pub fn put_steps(&mut self, steps: Vec<Step>)
-        requires begins { take self.old.trail.depth steps.items ≡ kept self.old.trail }
+        requires begins { take self.old.trail.depth steps.items ≡ done_steps self.old.trail }
         requires run { IsRun self.old.trail.program self.old.trail.mode steps.items }
         ensures trail { self.new.trail ≡ with_steps self.old.trail steps.items }
         ensures world { self.new.world ≡ self.old.world }
-        ensures steps { kept self.new.trail ≡ kept self.old.trail }
+        ensures steps { done_steps self.new.trail ≡ done_steps self.old.trail }
         ensures reached { IsReached (standing_of self.new) }
         ensures program { self.new.trail.program ≡ self.old.trail.program }
         ensures mode { self.new.trail.mode ≡ self.old.trail.mode }
@@ -570,7 +565,7 @@ impl<'c> Debugger<'c> {
     pub fn copy(&self) -> Result<Debugger<'c>, AllocError>
         ensures trail { IfOk result (λ d. d.trail ≡ forgotten self.now.trail) }
         ensures world { IfOk result (λ d. d.world ≡ self.now.world) }
-        ensures steps { IfOk result (λ d. kept d.trail ≡ kept self.now.trail) }
+        ensures steps { IfOk result (λ d. done_steps d.trail ≡ done_steps self.now.trail) }
         ensures reached { IfOk result (λ d. IsReached (standing_of d)) }
         ensures program { IfOk result (λ d. d.trail.program ≡ self.now.trail.program) }
         ensures mode { IfOk result (λ d. d.trail.mode ≡ self.now.trail.mode) }

@@ -3,3 +3,6 @@
 
 pub mod debugger;
 pub mod run;
+
+pub use debugger::{ApplyFault, AtStart, Debugger, NotBefore, RedoFault};
+pub use run::{Reply, TrailCommand, answer, follow, replay};

@@ -2,21 +2,20 @@
 
 ghost use Rattle.std.specs.Prelude.{◌≡◌, ◌<◌, ◌≤◌, ◌+◌, ℕ, length, Some, [], IfOk, OnOk, OnErr};
 ghost use Rattle.std.specs.List.{AllByRecursion};
-ghost use Rattle.mpd_model.specs.World.{start};
-ghost use Rattle.mpd_model.specs.Next.{fold};
-ghost use Rattle.mpd_model.specs.Trail.{kept, opening, IsReached};
+ghost use Rattle.mpd_model.specs.steps.World.{start};
+ghost use Rattle.mpd_model.specs.steps.Next.{fold};
+ghost use Rattle.mpd_model.specs.runs.Trail.{done_steps, opening, IsReached};
 ghost use Rattle.mpd_trail.specs.Run.{Answers, Carried, IsGiven, Run, RunFrom, SameScript, Stays, Written, steps_in, taken};
 ghost use Rattle.mpd_trail.specs.Views.{place_of, standing_of};
 
 use crate::debugger::{ApplyFault, Debugger, RedoFault};
-use mpd_code::code::Code;
-use mpd_model::call::Mode;
-use mpd_model::step::Step;
+use mpd_code::Code;
+use mpd_model::{Mode, Step};
 use std::alloc::{AllocError, Global};
 
 /// What is asked of a debugger.
 #[derive(Clone, Copy, Debug, PartialEq, Eq)]
-pub enum Command {
+pub enum TrailCommand {
     /// Take a step.
     Apply(Step),
     /// Take the last step back.
@@ -41,33 +40,33 @@ pub enum Reply {
 
 /// Carries out one command: the reply, the steps kept and the depth are those of docs/DEFINITIONS.md, "Trails".
 #[tactic(auto, using(crate::proofs::RunLemmas::answering))]
-pub fn answer(debugger: &mut Debugger<'_>, command: Command) -> Reply
+pub fn answer(debugger: &mut Debugger<'_>, command: TrailCommand) -> Reply
     ensures answers { Answers debugger.old.trail command result debugger.new.trail }
     ensures carried { Carried (standing_of debugger.old) command result (standing_of debugger.new) }
     ensures memory { result ≡ Reply.Memory → debugger.old.room ≡ 0 }
     ensures room_left { debugger.old.room ≤ debugger.new.room + taken command result }
-    ensures writes { Written debugger.old.trail.program.ranks (kept debugger.old.trail) command result (kept debugger.new.trail) debugger.old.writes debugger.new.writes }
+    ensures writes { Written debugger.old.trail.program.ranks (done_steps debugger.old.trail) command result (done_steps debugger.new.trail) debugger.old.writes debugger.new.writes }
     ensures script { SameScript debugger.old.trail debugger.new.trail }
     ensures reached { IsReached (standing_of debugger.new) }
 {
     debugger.state_is_reached();
     match command {
-        Command::Apply(step) => match debugger.apply(step) {
+        TrailCommand::Apply(step) => match debugger.apply(step) {
             Ok(()) => Reply::Done,
             Err(ApplyFault::NotEnabled) => Reply::NotEnabled,
             Err(ApplyFault::Full) => Reply::Full,
             Err(ApplyFault::Memory) => Reply::Memory,
         },
-        Command::Undo => match debugger.undo() {
+        TrailCommand::Undo => match debugger.undo() {
             Ok(()) => Reply::Done,
             Err(_) => Reply::AtStart,
         },
-        Command::Redo => match debugger.redo() {
+        TrailCommand::Redo => match debugger.redo() {
             Ok(()) => Reply::Done,
             Err(RedoFault::NoRedo) => Reply::NoRedo,
             Err(RedoFault::Memory) => Reply::Memory,
         },
-        Command::UndoTo(depth) => match debugger.undo_to(depth) {
+        TrailCommand::UndoTo(depth) => match debugger.undo_to(depth) {
             Ok(()) => Reply::Done,
             Err(_) => Reply::NotBefore,
         },
@@ -81,7 +80,7 @@ pub fn answer(debugger: &mut Debugger<'_>, command: Command) -> Reply
 pub fn follow(
     alloc: Global,
     debugger: &mut Debugger<'_>,
-    commands: &[Command],
+    commands: &[TrailCommand],
 ) -> Result<Vec<Reply>, AllocError>
     ensures run { IfOk result (λ replies. Run (place_of debugger.old) commands.now replies.items (place_of debugger.new)) }
     ensures given { IfOk result (λ replies. steps_in commands.now ≤ debugger.old.room → AllByRecursion IsGiven replies.items) }
@@ -106,7 +105,7 @@ pub fn follow(
 fn follow_with_room(
     alloc: Global,
     debugger: &mut Debugger<'_>,
-    commands: &[Command],
+    commands: &[TrailCommand],
 ) -> Result<Vec<Reply>, AllocError>
     ensures run { IfOk result (λ replies. RunFrom debugger.old.trail debugger.old.writes commands.now replies.items (place_of debugger.new)) }
     ensures given { IfOk result (λ replies. AllByRecursion IsGiven replies.items) }
@@ -132,11 +131,11 @@ pub fn replay<'c>(
     alloc: Global,
     code: &'c Code,
     mode: Mode,
-    commands: &[Command],
+    commands: &[TrailCommand],
 ) -> Result<(Debugger<'c>, Vec<Reply>), AllocError>
     ensures run { IfOk result (λ r. RunFrom (opening code.now.program mode) 0 commands.now r.1.items (place_of r.0)) }
     ensures given { IfOk result (λ r. AllByRecursion IsGiven r.1.items) }
-    ensures world { IfOk result (λ r. fold (start code.now.program mode) (kept r.0.trail) ≡ Some r.0.world) }
+    ensures world { IfOk result (λ r. fold (start code.now.program mode) (done_steps r.0.trail) ≡ Some r.0.world) }
     ensures script { IfOk result (λ r. (r.0.trail.program ≡ code.now.program) × (r.0.trail.mode ≡ mode)) }
     ensures reached { IfOk result (λ r. IsReached (standing_of r.0)) }
 {

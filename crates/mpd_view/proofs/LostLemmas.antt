@@ -6,9 +6,9 @@ use Rattle.std.proofs.lemmas.List.{get_or-set_same, get_or-set_other}
 use Rattle.std.proofs.lemmas.Option.{slice_get_past}
 use Rattle.std.specs.List.{filter, flat_map, list_any, range_with_len}
 use Rattle.mpd_model.specs.declared.call.Call.{Call}
-use Rattle.mpd_model.specs.Program.{Program}
-use Rattle.mpd_model.specs.World.{World, call_id, listed_calls, kind_of, calls_of, call_numbers, complete}
-use Rattle.mpd_model.specs.Breakpoints.{is_number}
+use Rattle.mpd_model.specs.script.Program.{Program}
+use Rattle.mpd_model.specs.steps.World.{World, call_id, listed_calls, kind_of, calls_of, call_numbers, complete}
+use Rattle.mpd_model.specs.runs.Breakpoints.{is_number}
 use Rattle.mpd_view.specs.Lost.{is_request, is_kept, has_waitany, is_lost, lost_line, lost_text}
 
 -- ---- marks

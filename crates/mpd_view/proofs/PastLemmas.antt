@@ -4,10 +4,10 @@ use Rattle.std.proofs.lemmas.List.{drop_more, take_all, length-take-le}
 use Rattle.std.proofs.lemmas.Option.{slice_get_within, slice_get-get_or, get_or_from_slice_get}
 use Rattle.mpd_model.specs.declared.step.Step.{Step}
 use Rattle.mpd_model.specs.declared.step.Step.TheVariants.{Release}
-use Rattle.mpd_model.specs.Program.{Program}
-use Rattle.mpd_model.specs.World.{World, start}
-use Rattle.mpd_model.specs.Next.{next, fold}
-use Rattle.mpd_model.specs.Trail.{Trail, IsReached, kept, world_of, gone_back, forgotten}
+use Rattle.mpd_model.specs.script.Program.{Program}
+use Rattle.mpd_model.specs.steps.World.{World, start}
+use Rattle.mpd_model.specs.steps.Next.{next, fold}
+use Rattle.mpd_model.specs.runs.Trail.{Trail, IsReached, done_steps, world_of, gone_back, forgotten}
 use Rattle.mpd_view.specs.Past.{past_line, told_from, past_lines, past_behind}
 
 past_next : (s : Program) (steps : List Step) (place : ℕ) (w v : World) (a : Step) → slice_get steps place ≡ Some a → next w a ≡ Some v
@@ -37,14 +37,14 @@ pub clean_copy : (t u : Trail) (w : World) → IsReached (record { trail = t; wo
 clean_copy t u w h e = ap (λ (x : Trail). length x.steps) e ∙ length-take-le t.depth t.steps h.within ∙ sym (ap (λ (x : Trail). x.depth) e)
 
 behind_by : (t : Trail) (w : World) (first : ℕ) → length t.steps ≡ t.depth → fold (start t.program t.mode) (take first t.steps) ≡ Some w
-    → past_lines t.program w first (drop first t.steps) ≡ past_behind t.program t.mode (kept t) first
+    → past_lines t.program w first (drop first t.steps) ≡ past_behind t.program t.mode (done_steps t) first
 behind_by t w first clean leads =
-    let whole : kept t ≡ t.steps = take_all t.depth t.steps (omega (arith, clean)) in
+    let whole : done_steps t ≡ t.steps = take_all t.depth t.steps (omega (arith, clean)) in
     sym (ap (λ xs. past_behind t.program t.mode xs first) whole ∙ ap (told_from (λ v. past_lines t.program v first (drop first t.steps))) leads)
 
 -- Where a trail without undone steps is gone back to, the steps behind are told.
 pub behind : (t u : Trail) (w : World) (first : ℕ) → length t.steps ≡ t.depth → u ≡ gone_back t first → IsReached (record { trail = u; world = w })
-    → past_lines u.program w u.depth (drop u.depth u.steps) ≡ past_behind t.program t.mode (kept t) first
+    → past_lines u.program w u.depth (drop u.depth u.steps) ≡ past_behind t.program t.mode (done_steps t) first
 behind t u w first clean e reached =
     ap (λ (x : Trail). past_lines x.program w x.depth (drop x.depth x.steps)) e ∙ behind_by t w first clean (ap world_of (sym e) ∙ reached.world)
 

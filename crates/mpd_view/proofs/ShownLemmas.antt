@@ -3,8 +3,8 @@ use Rattle.std.proofs.Common.{◌≡◌, ℕ, suc, ◌<◌, ◌≤◌, ◌+◌, 
 use Rattle.std.specs.List.{filter, flat_map, range_with_len}
 use Rattle.std.proofs.lemmas.Bool.Decides.{nat_tests}
 use Rattle.std.proofs.lemmas.Option.{slice_get_past}
-use Rattle.mpd_model.specs.World.{World}
-use Rattle.mpd_model.specs.Texts.{line}
+use Rattle.mpd_model.specs.steps.World.{World}
+use Rattle.mpd_model.specs.texts.Texts.{line}
 use Rattle.mpd_view.specs.Shown.{or_none, running_words}
 
 pub none_told : (none lines : List ℕ) → (length lines == 0) ≡ true → or_none none lines ≡ line none

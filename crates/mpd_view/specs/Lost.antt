@@ -6,11 +6,11 @@ use Rattle.mpd_model.specs.declared.step.CallId.{CallId}
 use Rattle.mpd_model.specs.declared.call.Call.{Call}
 use Rattle.mpd_model.specs.declared.call.CallKind.{CallKind}
 use Rattle.mpd_model.specs.declared.call.CallKind.TheVariants.{Wait, Waitany}
-use Rattle.mpd_model.specs.Program.{Program}
-use Rattle.mpd_model.specs.World.{RankWorld, World, Board, call_id, kind_at, calls_of, rank_numbers, call_numbers, complete}
-use Rattle.mpd_model.specs.Next.{blocks}
-use Rattle.mpd_model.specs.Breakpoints.{is_number}
-use Rattle.mpd_model.specs.Texts.{line}
+use Rattle.mpd_model.specs.script.Program.{Program}
+use Rattle.mpd_model.specs.steps.World.{RankWorld, World, Board, call_id, kind_at, calls_of, rank_numbers, call_numbers, complete}
+use Rattle.mpd_model.specs.steps.Next.{blocks}
+use Rattle.mpd_model.specs.runs.Breakpoints.{is_number}
+use Rattle.mpd_model.specs.texts.Texts.{line}
 use Rattle.mpd_explain.specs.Explained.{placed}
 
 -- a call that its rank doesn't wait for as it issues it

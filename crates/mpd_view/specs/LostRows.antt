@@ -9,10 +9,10 @@ use Rattle.mpd_model.specs.declared.call.CallKind.TheVariants as on
 use Rattle.mpd_model.specs.declared.call.MatchSet.TheVariants.{Pair}
 use Rattle.mpd_model.specs.declared.call.Mode.TheVariants.{Rendezvous}
 use Rattle.mpd_model.specs.declared.stmt.Simple.TheVariants as st
-use Rattle.mpd_model.specs.Tree.{simple}
-use Rattle.mpd_model.specs.Program.{Program}
-use Rattle.mpd_model.specs.World.{RankWorld, World, call_id}
-use Rattle.mpd_model.specs.Texts.{line}
+use Rattle.mpd_model.specs.script.Tree.{simple}
+use Rattle.mpd_model.specs.script.Program.{Program}
+use Rattle.mpd_model.specs.steps.World.{RankWorld, World, call_id}
+use Rattle.mpd_model.specs.texts.Texts.{line}
 use Rattle.mpd_view.specs.Lost.{is_lost, lost_lines}
 
 -- statement k stands on line k + 10

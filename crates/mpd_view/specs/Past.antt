@@ -4,11 +4,11 @@ use Rattle.std.specs.Fmt.{decimal}
 use Rattle.std.specs.List.{flat_map}
 use Rattle.mpd_model.specs.declared.step.Step.{Step}
 use Rattle.mpd_model.specs.declared.call.Mode.{Mode}
-use Rattle.mpd_model.specs.Program.{Program}
-use Rattle.mpd_model.specs.World.{World, start}
-use Rattle.mpd_model.specs.Next.{next, fold}
-use Rattle.mpd_model.specs.Texts.{line, step_text}
-use Rattle.mpd_model.specs.Trail.{Trail, kept}
+use Rattle.mpd_model.specs.script.Program.{Program}
+use Rattle.mpd_model.specs.steps.World.{World, start}
+use Rattle.mpd_model.specs.steps.Next.{next, fold}
+use Rattle.mpd_model.specs.texts.Texts.{line, step_text}
+use Rattle.mpd_model.specs.runs.Trail.{Trail, done_steps}
 use Rattle.mpd_view.specs.Steps.{step_words}
 
 -- `4 local 1: line 5`, on the state before it, behind so many steps
@@ -31,7 +31,7 @@ past_behind s mode steps first = told_from (λ w. past_lines s w first (drop fir
 
 -- the last so many steps that are not undone
 abbrev pub history_text : Trail → ℕ → List ℕ
-history_text t count = if t.depth == 0 then line (codes "no step is taken") else past_behind t.program t.mode (kept t) (t.depth - count)
+history_text t count = if t.depth == 0 then line (codes "no step is taken") else past_behind t.program t.mode (done_steps t) (t.depth - count)
 
 -- ---- trace words
 
@@ -39,4 +39,4 @@ abbrev pub word_line : Step → List ℕ
 word_line a = line (step_text a)
 
 abbrev pub words_text : Trail → List ℕ
-words_text t = flat_map word_line (kept t)
+words_text t = flat_map word_line (done_steps t)

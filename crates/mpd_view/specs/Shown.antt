@@ -7,11 +7,11 @@ use Rattle.mpd_model.specs.declared.step.CallId.{CallId}
 use Rattle.mpd_model.specs.declared.call.Trap.{Trap}
 use Rattle.mpd_model.specs.declared.call.Activity.{Activity}
 use Rattle.mpd_model.specs.declared.call.Activity.TheVariants.{Running, Blocked, Trapped}
-use Rattle.mpd_model.specs.Program.{Program}
-use Rattle.mpd_model.specs.World.{RankWorld, World, Board, call_id, rank_numbers, call_numbers, last_call, pending, posted}
-use Rattle.mpd_model.specs.Next.{enabled}
-use Rattle.mpd_model.specs.Outcomes.{has_ended}
-use Rattle.mpd_model.specs.Texts.{line, id_text, call_text, trap_name}
+use Rattle.mpd_model.specs.script.Program.{Program}
+use Rattle.mpd_model.specs.steps.World.{RankWorld, World, Board, call_id, rank_numbers, call_numbers, last_call, pending, posted}
+use Rattle.mpd_model.specs.steps.Next.{enabled}
+use Rattle.mpd_model.specs.steps.Outcomes.{has_ended}
+use Rattle.mpd_model.specs.texts.Texts.{line, id_text, call_text, trap_name}
 use Rattle.mpd_explain.specs.Explained.{placed}
 use Rattle.mpd_view.specs.Steps.{line_of, call_line_of, step_line}
 

@@ -8,11 +8,11 @@ use Rattle.mpd_model.specs.declared.step.Step.TheVariants.{Local, Match, Wake, W
 use Rattle.mpd_model.specs.declared.decision.Decision.{Decision}
 use Rattle.mpd_model.specs.declared.decision.Decision.TheVariants.{Forced, Choice, Leaf}
 use Rattle.mpd_model.specs.declared.outcome.Outcome.{Outcome}
-use Rattle.mpd_model.specs.Program.{Program}
-use Rattle.mpd_model.specs.World.{World, Board, last_call, id_eq}
-use Rattle.mpd_model.specs.Decisions.{decision}
-use Rattle.mpd_model.specs.Texts.{line, outcome_text}
-use Rattle.mpd_model.specs.Trail.{Trail}
+use Rattle.mpd_model.specs.script.Program.{Program}
+use Rattle.mpd_model.specs.steps.World.{World, Board, last_call, id_eq}
+use Rattle.mpd_model.specs.runs.Decisions.{decision}
+use Rattle.mpd_model.specs.texts.Texts.{line, outcome_text}
+use Rattle.mpd_model.specs.runs.Trail.{Trail}
 use Rattle.mpd_explore.specs.declared.report.Ending.TheVariants.{Ended}
 use Rattle.mpd_explain.specs.Explained.{told}
 use Rattle.mpd_policy.specs.Single.{sole}

@@ -4,10 +4,10 @@ use Rattle.std.specs.Fmt.{decimal}
 use Rattle.mpd_model.specs.declared.step.CallId.{CallId}
 use Rattle.mpd_model.specs.declared.step.Step.{Step}
 use Rattle.mpd_model.specs.declared.step.Step.TheVariants.{Local, Match, Wake, WakeAny, Release}
-use Rattle.mpd_model.specs.Program.{Program}
-use Rattle.mpd_model.specs.World.{World, Board, call_at, last_call}
-use Rattle.mpd_model.specs.Next.{any_call}
-use Rattle.mpd_model.specs.Texts.{line, step_text}
+use Rattle.mpd_model.specs.script.Program.{Program}
+use Rattle.mpd_model.specs.steps.World.{World, Board, call_at, last_call}
+use Rattle.mpd_model.specs.steps.Next.{any_call}
+use Rattle.mpd_model.specs.texts.Texts.{line, step_text}
 use Rattle.mpd_explain.specs.Explained.{issue_line, rank_line, placed}
 
 -- the line that a rank stands at, and that of the call which it issued last

@@ -5,11 +5,11 @@ use Rattle.std.specs.List.{flat_map}
 use Rattle.mpd_model.specs.declared.step.CallId.{CallId}
 use Rattle.mpd_model.specs.declared.call.CallKind.{CallKind}
 use Rattle.mpd_model.specs.declared.call.CallKind.TheVariants.{Wait, Waitany, Barrier}
-use Rattle.mpd_model.specs.Program.{Program}
-use Rattle.mpd_model.specs.World.{World, Board, kind_at, rank_numbers, is_free, last_call, id_eq}
-use Rattle.mpd_model.specs.Next.{waits}
-use Rattle.mpd_model.specs.Texts.{line}
-use Rattle.mpd_model.specs.Why.{why}
+use Rattle.mpd_model.specs.script.Program.{Program}
+use Rattle.mpd_model.specs.steps.World.{World, Board, kind_at, rank_numbers, is_free, last_call, id_eq}
+use Rattle.mpd_model.specs.steps.Next.{waits}
+use Rattle.mpd_model.specs.texts.Texts.{line}
+use Rattle.mpd_model.specs.steps.Why.{why}
 use Rattle.mpd_explain.specs.Explained.{placed, wish, helps, absent_line}
 use Rattle.mpd_explain.specs.Requests.{requests}
 use Rattle.mpd_view.specs.Shown.{call_line, or_none}

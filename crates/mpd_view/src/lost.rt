@@ -2,15 +2,13 @@
 
 ghost use Rattle.std.specs.Prelude.{◌≡◌, ◌<◌, ◌++◌, ◌||◌, ℕ, false, if◌then◌else◌, [], IfOk, OnOk, get_or, length, slice_get, string_bytes};
 ghost use Rattle.std.specs.List.{list_any};
-ghost use Rattle.mpd_model.specs.World.{call_id, calls_of};
-ghost use Rattle.mpd_model.specs.Breakpoints.{is_number};
+ghost use Rattle.mpd_model.specs.steps.World.{call_id, calls_of};
+ghost use Rattle.mpd_model.specs.runs.Breakpoints.{is_number};
 ghost use Rattle.mpd_view.specs.Lost as lost;
 
-use mpd_core::state::Core;
-use mpd_explain::told::push_placed;
-use mpd_model::call::{Call, CallKind};
-use mpd_model::kind::blocks;
-use mpd_model::step::CallId;
+use mpd_core::Core;
+use mpd_explain::push_placed;
+use mpd_model::{Call, CallId, CallKind, blocks};
 use std::alloc::{AllocError, Global};
 
 /// Whether its rank doesn't wait for a call of this kind as it issues it.

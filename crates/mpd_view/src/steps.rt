@@ -1,13 +1,12 @@
 //! Steps in words (docs/CONSOLE.md, "Steps in words").
 
 ghost use Rattle.std.specs.Prelude.{◌≡◌, ◌<◌, ◌≤◌, ◌++◌, OnOk, IfSome, IfNone, Some, string_bytes};
-ghost use Rattle.mpd_model.specs.Next.{any_call, request_handle as handle_of};
+ghost use Rattle.mpd_model.specs.steps.Next.{any_call, request_handle as handle_of};
 ghost use Rattle.mpd_view.specs.Steps as words;
 
-use mpd_core::state::Core;
-use mpd_explain::told::{issue_line, push_placed, rank_line};
-use mpd_model::call::CallKind;
-use mpd_model::step::{CallId, Step};
+use mpd_core::Core;
+use mpd_explain::{issue_line, push_placed, rank_line};
+use mpd_model::{CallId, CallKind, Step};
 use std::alloc::AllocError;
 
 /// Adds a step, and one line that it is about.

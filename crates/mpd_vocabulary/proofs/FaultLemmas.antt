@@ -1,7 +1,7 @@
 -- Words of a line, one after another.
 use Rattle.std.proofs.Common.{◌≡◌, ℕ, suc, ◌+◌, ◌-◌, ◌<◌, true, false, ◌==◌, List, [], ◌∷◌, ◌++◌, length, codes, refl, ap, sym, ◌∙◌, arith, append_assoc}
 use Rattle.std.proofs.lemmas.Bool.Decides.{nat_tests}
-use Rattle.mpd_model.specs.Texts.{line}
+use Rattle.mpd_model.specs.texts.Texts.{line}
 use Rattle.mpd_vocabulary.specs.Topics.{shared}
 use Rattle.mpd_vocabulary.specs.Faults.{word_at, hint}
 

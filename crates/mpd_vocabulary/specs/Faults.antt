@@ -1,8 +1,8 @@
 -- What is told of a line that asks for nothing that can be done, and help.
 use Rattle.std.specs.Prelude.{ℕ, zero, suc, ◌-◌, ◌||◌, nat_lt, if◌then◌else◌, List, [], ◌∷◌, ◌++◌, length, map, replicate, Option, Some, None, codes}
 use Rattle.std.specs.List.{flat_map}
-use Rattle.mpd_model.specs.Words.{words}
-use Rattle.mpd_model.specs.Texts.{line}
+use Rattle.mpd_model.specs.texts.Words.{words}
+use Rattle.mpd_model.specs.texts.Texts.{line}
 use Rattle.mpd_vocabulary.specs.declared.topic.Topic.{Topic}
 use Rattle.mpd_vocabulary.specs.declared.word.WordFault.{WordFault}
 use Rattle.mpd_vocabulary.specs.declared.word.WordFault.TheVariants.{Unknown, Usage, NoName, NoSuchNumber}

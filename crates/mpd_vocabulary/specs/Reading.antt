@@ -5,11 +5,11 @@ use Rattle.mpd_model.specs.declared.breakpoint.Break.{Break}
 use Rattle.mpd_model.specs.declared.breakpoint.Break.TheVariants as on
 use Rattle.mpd_model.specs.declared.place.DeclKind.{DeclKind}
 use Rattle.mpd_model.specs.declared.place.DeclKind.TheVariants.{Variable, Handle}
-use Rattle.mpd_model.specs.declared.words.Command.{Command}
-use Rattle.mpd_model.specs.declared.words.Command.TheVariants as command
+use Rattle.mpd_model.specs.declared.words.TraceWord.{TraceWord}
+use Rattle.mpd_model.specs.declared.words.TraceWord.TheVariants as trace_word
 use Rattle.mpd_model.specs.declared.step.CallId.{CallId}
-use Rattle.mpd_model.specs.Declaration.{Declared}
-use Rattle.mpd_model.specs.Words.{words, number_of, call_of, command_of}
+use Rattle.mpd_model.specs.script.Declaration.{Declared}
+use Rattle.mpd_model.specs.texts.Words.{words, number_of, call_of, trace_word_of}
 use Rattle.mpd_names.specs.declared.name.Named.{Named}
 use Rattle.mpd_names.specs.declared.name.NameFault.{NameFault}
 use Rattle.mpd_names.specs.declared.name.NameFault.TheVariants as name
@@ -60,13 +60,13 @@ fitting t (Some w) = Ok w
 
 -- ---- steps
 
-abbrev pub step_by : Option Command → Option Word
-step_by (Some (command.Step a)) = Some (word.Step a)
+abbrev pub step_by : Option TraceWord → Option Word
+step_by (Some (trace_word.Step a)) = Some (word.Step a)
 step_by c = None
 
 -- the step that a whole line is, as a trace word
 abbrev pub step_in : List ℕ → Option Word
-step_in z = step_by (command_of z)
+step_in z = step_by (trace_word_of z)
 
 -- ---- breakpoints
 

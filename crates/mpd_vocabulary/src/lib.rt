@@ -2,7 +2,12 @@
 //! (docs/CONSOLE.md).
 #![tactic(auto)]
 
+pub mod faults;
 pub mod read;
-pub mod told;
 pub mod topic;
 pub mod word;
+
+pub use faults::{push_fault, push_help};
+pub use read::{Line, line_of};
+pub use topic::{NAMES, TOPICS, Topic};
+pub use word::{Word, WordFault};

@@ -1,19 +1,14 @@
 //! Reads a line of the console (docs/CONSOLE.md, "Words").
 
 ghost use Rattle.std.specs.Prelude.{◌≡◌, ◌≤◌, ◌∷◌, [], length, MatchOption};
-ghost use Rattle.mpd_model.specs.Words.{words, stop_len, is_blank, is_no_blank, is_dot, number_of, call_of};
+ghost use Rattle.mpd_model.specs.texts.Words.{words, stop_len, is_blank, is_no_blank, is_dot, number_of, call_of};
 ghost use Rattle.mpd_vocabulary.specs.Reading as spec;
 
 use crate::topic::{Topic, topic_of};
 use crate::word::{Word, WordFault};
-use mpd_code::code::Code;
-use mpd_model::breakpoint::Break;
-use mpd_model::limits::STEPS_MAX;
-use mpd_model::place::DeclKind;
-use mpd_model::step::CallId;
-use mpd_model::words::{Command, command_of, has_word};
-use mpd_names::find::named;
-use mpd_names::name::{NameFault, Named};
+use mpd_code::Code;
+use mpd_model::{Break, CallId, DeclKind, STEPS_MAX, TraceWord, has_word, trace_word_of};
+use mpd_names::{NameFault, Named, find_named};
 
 /// How many blanks a text begins with.
 fn blank_len(text: &[u8]) -> usize
@@ -165,8 +160,8 @@ fn fitting(topic: Topic, word: Option<Word>) -> Result<Word, WordFault>
 fn step_in(line: &[u8]) -> Option<Word>
     ensures { result ≡ spec.step_in line.now }
 {
-    match command_of(line) {
-        Some(Command::Step(step)) => Some(Word::Step(step)),
+    match trace_word_of(line) {
+        Some(TraceWord::Step(step)) => Some(Word::Step(step)),
         _ => None,
     }
 }
@@ -212,7 +207,7 @@ fn change_in(code: &Code, rest: &[u8]) -> Result<Word, WordFault>
     };
     match number_of(rank) {
         None => Err(WordFault::Usage(Topic::Break)),
-        Some(rank) => change_of(rank, named(code, name)),
+        Some(rank) => change_of(rank, find_named(code, name)),
     }
 }
 
@@ -264,7 +259,7 @@ fn print_in(code: &Code, rest: &[u8]) -> Result<Word, WordFault>
     };
     match optional_number(behind) {
         None => Err(WordFault::Usage(Topic::Print)),
-        Some(rank) => print_of(named(code, name), rank),
+        Some(rank) => print_of(find_named(code, name), rank),
     }
 }
 

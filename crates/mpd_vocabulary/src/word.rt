@@ -1,9 +1,8 @@
 //! What a line of the console asks for.
 
 use crate::topic::Topic;
-use mpd_model::breakpoint::Break;
-use mpd_model::step::{CallId, Step};
-use mpd_names::name::Named;
+use mpd_model::{Break, CallId, Step};
+use mpd_names::Named;
 
 /// A word with what follows it. Numbers are as they were given, whatever the script has; where one may be left out and is, its usual
 /// one stands.

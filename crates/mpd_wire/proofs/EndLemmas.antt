@@ -10,7 +10,7 @@ use Rattle.mpd_lines.specs.Telling.{SaysInTurn, Tells, BreaksOff}
 use Rattle.mpd_lines.specs.Served.{Served}
 use Rattle.mpd_lines.specs.declared.engine.EngineFault.{EngineFault}
 use Rattle.mpd_lines.specs.declared.engine.EngineFault.TheVariants as engine
-use Rattle.mpd_model.specs.Lines.{lines_of, ended_lines, raw_lines, grow, bare}
+use Rattle.mpd_model.specs.texts.Lines.{lines_of, ended_lines, raw_lines, grow, bare}
 use Rattle.mpd_device.specs.Seen.{SourceSeen, SinkSeen}
 
 -- ---- how many lines there are

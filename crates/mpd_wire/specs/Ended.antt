@@ -2,7 +2,7 @@
 use Rattle.std.specs.Prelude.{◌≡◌, ℕ, ◌+◌, ◌*◌, ◌≤◌, false, List, [], length, Result, Ok, Err}
 use Rattle.std.specs.Io.KnownBytes.{Consumes, IsAtEnd}
 use Rattle.mpd_model.specs.declared.limits.TheConstants.{READS_MAX}
-use Rattle.mpd_model.specs.Lines.{lines_of}
+use Rattle.mpd_model.specs.texts.Lines.{lines_of}
 use Rattle.mpd_device.specs.Seen.{SourceSeen, SinkSeen}
 use Rattle.mpd_lines.specs.Served.{Served}
 use Rattle.mpd_lines.specs.Telling.{Tells, waiting_below}

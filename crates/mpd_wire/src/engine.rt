@@ -9,15 +9,13 @@ ghost use Rattle.mpd_lines.specs.Served.{Counted};
 ghost use Rattle.mpd_wire.specs.Ended.{Ended};
 
 use crate::desk::{Desk, DeskFault};
-use crate::parse::parse;
-use crate::print::print;
+use crate::parser::parse;
+use crate::printer::print;
 use crate::reply::Reply;
 use crate::request::{Request, WireFault};
-use mpd_device::device::{Sink, Source};
-use mpd_lines::desk::{LineDesk, ROOM};
-use mpd_lines::engine::{EngineFault, run};
-use mpd_lines::kept::push_all;
-use mpd_model::limits::{LINE_MAX, READS_MAX};
+use mpd_device::{Sink, Source};
+use mpd_lines::{EngineFault, LineDesk, ROOM, push_all, run};
+use mpd_model::{LINE_MAX, READS_MAX};
 use std::alloc::{AllocError, Global};
 
 /// What stands in the place of a reply where memory is refused before the desk has taken the request.

@@ -5,8 +5,16 @@ pub(crate) mod copy;
 pub mod desk;
 pub mod engine;
 mod fields;
-pub mod parse;
-pub mod print;
+pub mod parser;
+pub mod printer;
 pub mod reply;
 pub mod request;
 pub mod same;
+
+pub use desk::{Desk, DeskFault};
+pub use engine::{End, JsonDesk, serve};
+pub use parser::parse;
+pub use printer::print;
+pub use reply::{Answer, HandleList, IntegerList, Refusal, Reply, Text, TextList};
+pub use request::{Command, Request, WireFault};
+pub use same::{same_reply, same_request};

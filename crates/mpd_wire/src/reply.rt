@@ -1,7 +1,6 @@
 //! What a client is told (docs/SESSIONS.md, "Replies").
 
-use mpd_model::breakpoint::Stop;
-use mpd_model::step::Step;
+use mpd_model::{Step, Stop};
 use std::marker::Model;
 
 /// A text; contracts see its bytes.

@@ -1,7 +1,6 @@
 //! What a client asks (docs/SESSIONS.md, "Requests").
 
-use mpd_model::breakpoint::Break;
-use mpd_model::step::{CallId, Step};
+use mpd_model::{Break, CallId, Step};
 
 /// A command with its fields. Numbers are as they were given, whatever a session has.
 #[derive(Clone, Copy)]

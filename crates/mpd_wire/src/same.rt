@@ -7,8 +7,7 @@ ghost use Rattle.mpd_wire.specs.declared.reply.Answer.TheVariants.{Stepped, Ran,
 
 use crate::reply::{Answer, HandleList, IntegerList, Refusal, Reply, Text, TextList};
 use crate::request::{Command, Request};
-use mpd_model::breakpoint::Stop;
-use mpd_model::step::Step;
+use mpd_model::{Step, Stop};
 
 /// Whether a command is to explore with these limits.
 fn is_explore(command: Command, runs: usize, fuel: usize) -> bool

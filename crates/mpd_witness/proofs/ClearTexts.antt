@@ -8,8 +8,8 @@ use Rattle.std.proofs.lemmas.Bool.Decides.{nat_tests, Decides-eqb}
 use Rattle.std.proofs.lemmas.Fmt.{decimal_by_steps, length-decimal-le}
 use Rattle.std.proofs.lemmas.List.Folds.{list_all-append}
 use Rattle.std.proofs.lemmas.List.Splits.{slice_split-cons_yes, slice_split-cons_no}
-use Rattle.mpd_model.specs.Words.{is_blank, with_byte, put_before, pieces, has_some, words, digits_value, is_number, number_of}
-use Rattle.mpd_model.specs.Lines.{bare, is_ending}
+use Rattle.mpd_model.specs.texts.Words.{is_blank, with_byte, put_before, pieces, has_some, words, digits_value, is_number, number_of}
+use Rattle.mpd_model.specs.texts.Lines.{bare, is_ending}
 use Rattle.mpd_witness.specs.WitnessText.{parts_at, cut_at, line_of}
 
 abbrev pub is_other : ℕ → ℕ → Bool

@@ -2,7 +2,7 @@
 use Rattle.std.proofs.Common.{◌≡◌, ℕ, suc, Bool, true, false, ◌==◌, ◌+◌, ◌≤◌, if◌then◌else◌, List, [], ◌∷◌, length, take, drop, Option, Some, None, refl, ap, sym, ◌∙◌, arith}
 use Rattle.std.specs.Prelude.{option_map}
 use Rattle.std.specs.List.{onto_first}
-use Rattle.mpd_model.specs.Words.{stop_len}
+use Rattle.mpd_model.specs.texts.Words.{stop_len}
 use Rattle.mpd_witness.specs.WitnessText.{cut_at, parts_at}
 
 abbrev marks : ℕ → ℕ → Bool

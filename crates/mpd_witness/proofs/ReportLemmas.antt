@@ -3,7 +3,7 @@ use Rattle.std.proofs.Common.{◌≡◌, ℕ, zero, suc, ◌+◌, ◌-◌, ◌<�
 use Rattle.std.specs.Prelude.{bytes_eq, codes, filter}
 use Rattle.mpd_model.specs.declared.step.CallId.{CallId}
 use Rattle.mpd_model.specs.declared.step.Step.{Step}
-use Rattle.mpd_model.specs.Words.{number_of}
+use Rattle.mpd_model.specs.texts.Words.{number_of}
 use Rattle.mpd_explore.specs.declared.report.Witness.{Witness}
 use Rattle.mpd_witness.specs.declared.report_lines.LineKind.{LineKind}
 use Rattle.mpd_witness.specs.declared.report_lines.LineKind.TheVariants.{OfLeaf, OfWitness, Wrong}

@@ -8,8 +8,8 @@ use Rattle.std.proofs.lemmas.Slice.Eq.{bytes_eq-Decides}
 use Rattle.mpd_model.specs.declared.step.CallId.{CallId}
 use Rattle.mpd_model.specs.declared.step.Step.{Step}
 use Rattle.mpd_model.specs.declared.step.Step.TheVariants.{Local, Match, Wake, WakeAny, Release}
-use Rattle.mpd_model.specs.Words.{number_of, both_of, call_with, call_of, step_in, step_of, pair_of}
-use Rattle.mpd_model.specs.Texts.{id_text, step_text, steps_text, spaced, line}
+use Rattle.mpd_model.specs.texts.Words.{number_of, both_of, call_with, call_of, step_in, step_of, pair_of}
+use Rattle.mpd_model.specs.texts.Texts.{id_text, step_text, steps_text, spaced, line}
 use Rattle.mpd_explore.specs.declared.report.Witness.{Witness}
 use Rattle.mpd_explore.specs.ReportText.{choices_text}
 use Rattle.mpd_witness.specs.WitnessText.{parts_at, put_first, each_read, behind_word, some_read, blocked_of, behind_cut, steps_of, line_of, with_steps, with_blocked, witness_in, witness_of}

@@ -4,9 +4,9 @@ use Rattle.std.proofs.lemmas.Slice.Eq.{bytes_eq-Decides}
 use Rattle.std.specs.Prelude.{option_map, bytes_eq, codes}
 use Rattle.mpd_model.specs.declared.step.CallId.{CallId}
 use Rattle.mpd_model.specs.declared.step.Step.{Step}
-use Rattle.mpd_model.specs.declared.words.Command.{Command}
-use Rattle.mpd_model.specs.declared.words.Command.TheVariants as command
-use Rattle.mpd_model.specs.Words.{cut_at_dot, number_of, call_with, call_of, words, only_number, alone, step_named, step_in, step_of, command_named, command_in, command_of}
+use Rattle.mpd_model.specs.declared.words.TraceWord.{TraceWord}
+use Rattle.mpd_model.specs.declared.words.TraceWord.TheVariants as trace_word
+use Rattle.mpd_model.specs.texts.Words.{cut_at_dot, number_of, call_with, call_of, words, only_number, alone, step_named, step_in, step_of, trace_word_named, trace_word_in, trace_word_of}
 use Rattle.mpd_explore.specs.declared.report.Witness.{Witness}
 use Rattle.mpd_witness.specs.WitnessText.{parts_at, cut_at, put_first, each_read, some_read, blocked_of, steps_of, line_of, all_empty, with_steps, with_blocked, witness_in, witness_of, ReadsLine, ReadsText}
 use Rattle.mpd_witness.specs.declared.witness_text.WitnessTextFault.{WitnessTextFault}
@@ -28,56 +28,56 @@ pub ruleset calling = (no_call, call_is)
 
 -- ---- steps
 
-abbrev as_step : Option Command → Option Step
+abbrev as_step : Option TraceWord → Option Step
 as_step None = None
-as_step (Some (command.Step a)) = Some a
-as_step (Some command.Back) = None
-as_step (Some command.Redo) = None
-as_step (Some (command.Goto n)) = None
-as_step (Some command.Enabled) = None
-as_step (Some command.Show) = None
+as_step (Some (trace_word.Step a)) = Some a
+as_step (Some trace_word.Back) = None
+as_step (Some trace_word.Redo) = None
+as_step (Some (trace_word.Goto n)) = None
+as_step (Some trace_word.Enabled) = None
+as_step (Some trace_word.Show) = None
 
-step_back : (o : Option Step) → as_step (option_map command.Step o) ≡ o
+step_back : (o : Option Step) → as_step (option_map trace_word.Step o) ≡ o
 step_back None = refl
 step_back (Some a) = refl
 
-no_alone : (c : Command) (rest : List (List ℕ)) → as_step (Some c) ≡ None → as_step (alone c rest) ≡ None
+no_alone : (c : TraceWord) (rest : List (List ℕ)) → as_step (Some c) ≡ None → as_step (alone c rest) ≡ None
 no_alone c [] e = e
 no_alone c (a ∷ rest) e = refl
 
-no_goto : (o : Option ℕ) → as_step (option_map command.Goto o) ≡ None
+no_goto : (o : Option ℕ) → as_step (option_map trace_word.Goto o) ≡ None
 no_goto None = refl
 no_goto (Some n) = refl
 
-one_word : (v : Bool) (name word : List ℕ) (rest : List (List ℕ)) (c o : Option Command) → bytes_eq name word ≡ v → as_step c ≡ None → step_named word rest ≡ None
+one_word : (v : Bool) (name word : List ℕ) (rest : List (List ℕ)) (c o : Option TraceWord) → bytes_eq name word ≡ v → as_step c ≡ None → step_named word rest ≡ None
     → as_step o ≡ step_named name rest → as_step (if v then c else o) ≡ step_named name rest
 one_word true name word rest c o e n s h = n ∙ sym (ap (λ x. step_named x rest) ((bytes_eq-Decides name word).0 e) ∙ s)
 one_word false name word rest c o e n s h = h
 
-named_step : (name : List ℕ) (rest : List (List ℕ)) → as_step (command_named name rest) ≡ step_named name rest
+named_step : (name : List ℕ) (rest : List (List ℕ)) → as_step (trace_word_named name rest) ≡ step_named name rest
 named_step name rest =
-    one_word (bytes_eq name (codes "back")) name (codes "back") rest (alone command.Back rest) _ refl (no_alone command.Back rest refl) refl
-    (one_word (bytes_eq name (codes "redo")) name (codes "redo") rest (alone command.Redo rest) _ refl (no_alone command.Redo rest refl) refl
-    (one_word (bytes_eq name (codes "goto")) name (codes "goto") rest (option_map command.Goto (only_number rest)) _ refl (no_goto (only_number rest)) refl
-    (one_word (bytes_eq name (codes "enabled")) name (codes "enabled") rest (alone command.Enabled rest) _ refl (no_alone command.Enabled rest refl) refl
-    (one_word (bytes_eq name (codes "show")) name (codes "show") rest (alone command.Show rest) _ refl (no_alone command.Show rest refl) refl
+    one_word (bytes_eq name (codes "back")) name (codes "back") rest (alone trace_word.Back rest) _ refl (no_alone trace_word.Back rest refl) refl
+    (one_word (bytes_eq name (codes "redo")) name (codes "redo") rest (alone trace_word.Redo rest) _ refl (no_alone trace_word.Redo rest refl) refl
+    (one_word (bytes_eq name (codes "goto")) name (codes "goto") rest (option_map trace_word.Goto (only_number rest)) _ refl (no_goto (only_number rest)) refl
+    (one_word (bytes_eq name (codes "enabled")) name (codes "enabled") rest (alone trace_word.Enabled rest) _ refl (no_alone trace_word.Enabled rest refl) refl
+    (one_word (bytes_eq name (codes "show")) name (codes "show") rest (alone trace_word.Show rest) _ refl (no_alone trace_word.Show rest refl) refl
     (step_back (step_named name rest))))))
 
-words_step : (ws : List (List ℕ)) → as_step (command_in ws) ≡ step_in ws
+words_step : (ws : List (List ℕ)) → as_step (trace_word_in ws) ≡ step_in ws
 words_step [] = refl
 words_step (name ∷ rest) = named_step name rest
 
 -- a command is the step that it asks for, or the text is no step
-pub step_is : (z : List ℕ) (o : Option Command) → o ≡ command_of z → as_step o ≡ step_of z
+pub step_is : (z : List ℕ) (o : Option TraceWord) → o ≡ trace_word_of z → as_step o ≡ step_of z
 step_is z o e = ap as_step e ∙ words_step (words z)
 
-pub step_there : (z : List ℕ) (a : Step) (f : Command) (o : Option Command) → o ≡ Some f → f ≡ command.Step a → o ≡ command_of z → Some a ≡ step_of z
-step_there z a f o i s e = sym (ap as_step (i ∙ ap (λ (x : Command). Some x) s)) ∙ step_is z o e
+pub step_there : (z : List ℕ) (a : Step) (f : TraceWord) (o : Option TraceWord) → o ≡ Some f → f ≡ trace_word.Step a → o ≡ trace_word_of z → Some a ≡ step_of z
+step_there z a f o i s e = sym (ap as_step (i ∙ ap (λ (x : TraceWord). Some x) s)) ∙ step_is z o e
 
-pub no_step : (z : List ℕ) (c f : Command) (o : Option Command) → o ≡ Some f → f ≡ c → as_step (Some c) ≡ None → o ≡ command_of z → None ≡ step_of z
-no_step z c f o i s n e = sym n ∙ sym (ap as_step (i ∙ ap (λ (x : Command). Some x) s)) ∙ step_is z o e
+pub no_step : (z : List ℕ) (c f : TraceWord) (o : Option TraceWord) → o ≡ Some f → f ≡ c → as_step (Some c) ≡ None → o ≡ trace_word_of z → None ≡ step_of z
+no_step z c f o i s n e = sym n ∙ sym (ap as_step (i ∙ ap (λ (x : TraceWord). Some x) s)) ∙ step_is z o e
 
-pub no_command : (z : List ℕ) (o : Option Command) → o ≡ None → o ≡ command_of z → None ≡ step_of z
+pub no_command : (z : List ℕ) (o : Option TraceWord) → o ≡ None → o ≡ trace_word_of z → None ≡ step_of z
 no_command z o i e = sym (ap as_step i) ∙ step_is z o e
 
 pub ruleset stepping = (step_there, no_step, no_command)

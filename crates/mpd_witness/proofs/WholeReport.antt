@@ -11,9 +11,9 @@ use Rattle.mpd_model.specs.declared.outcome.TrappedRank.{TrappedRank}
 use Rattle.mpd_model.specs.declared.outcome.Outcome.TheVariants as o
 use Rattle.mpd_model.specs.declared.step.CallId.{CallId}
 use Rattle.mpd_model.specs.declared.step.Step.{Step}
-use Rattle.mpd_model.specs.Lines.{is_none}
-use Rattle.mpd_model.specs.World.{World}
-use Rattle.mpd_model.specs.Texts.{id_text, spaced, line, trap_name, trapped_text, steps_text}
+use Rattle.mpd_model.specs.texts.Lines.{is_none}
+use Rattle.mpd_model.specs.steps.World.{World}
+use Rattle.mpd_model.specs.texts.Texts.{id_text, spaced, line, trap_name, trapped_text, steps_text}
 use Rattle.mpd_explore.specs.declared.report.Ending.{Ending}
 use Rattle.mpd_explore.specs.declared.report.Ending.TheVariants.{Ended, Cut}
 use Rattle.mpd_explore.specs.declared.report.Leaf.{Leaf}

@@ -2,8 +2,8 @@
 use Rattle.std.specs.Prelude.{◌≡◌, ℕ, suc, ◌-◌, Bool, true, false, not, ◌&&◌, ◌||◌, ◌==◌, nat_le, bytes_eq, if◌then◌else◌, List, [], ◌∷◌, length, drop, filter, Option, Some, None, is_some, Result, Ok, Err, codes}
 use Rattle.mpd_model.specs.declared.step.CallId.{CallId}
 use Rattle.mpd_model.specs.declared.step.Step.{Step}
-use Rattle.mpd_model.specs.Lines.{is_none}
-use Rattle.mpd_model.specs.Words.{number_of}
+use Rattle.mpd_model.specs.texts.Lines.{is_none}
+use Rattle.mpd_model.specs.texts.Words.{number_of}
 use Rattle.mpd_explore.specs.declared.report.Witness.{Witness}
 use Rattle.mpd_lines.specs.declared.engine.EngineFault.TheVariants as engine
 use Rattle.mpd_witness.specs.declared.report_lines.LineKind.{LineKind}

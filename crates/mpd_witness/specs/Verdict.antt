@@ -3,13 +3,13 @@ use Rattle.std.specs.Prelude.{◌≡◌, ℕ, ◌+◌, List, [], ◌∷◌, ◌+
 use Rattle.std.specs.Fmt.{decimal}
 use Rattle.std.specs.Io.KnownBytes.{Appends}
 use Rattle.mpd_model.specs.declared.call.Mode.{Mode}
-use Rattle.mpd_model.specs.Program.{Program}
-use Rattle.mpd_model.specs.World.{World, start}
-use Rattle.mpd_model.specs.Texts.{line}
+use Rattle.mpd_model.specs.script.Program.{Program}
+use Rattle.mpd_model.specs.steps.World.{World, start}
+use Rattle.mpd_model.specs.texts.Texts.{line}
 use Rattle.mpd_device.specs.Seen.{SinkSeen}
 use Rattle.mpd_explore.specs.declared.report.Witness.{Witness}
-use Rattle.mpd_explore.specs.declared.verify.WitnessFault.{WitnessFault}
-use Rattle.mpd_explore.specs.declared.verify.WitnessFault.TheVariants as fault
+use Rattle.mpd_explore.specs.declared.verifier.WitnessFault.{WitnessFault}
+use Rattle.mpd_explore.specs.declared.verifier.WitnessFault.TheVariants as fault
 use Rattle.mpd_explore.specs.Faults.{witness_fault_number, witness_fault_name}
 use Rattle.mpd_explore.specs.Witness.{IsWitnessFrom, HasFault}
 use Rattle.mpd_lines.specs.declared.engine.EngineFault.{EngineFault}

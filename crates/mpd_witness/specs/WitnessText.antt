@@ -3,8 +3,8 @@ use Rattle.std.specs.Prelude.{◌≡◌, ℕ, Bool, true, false, ◌==◌, bytes
 use Rattle.std.specs.List.{list_all, slice_split}
 use Rattle.mpd_model.specs.declared.step.CallId.{CallId}
 use Rattle.mpd_model.specs.declared.step.Step.{Step}
-use Rattle.mpd_model.specs.Lines.{bare, is_none}
-use Rattle.mpd_model.specs.Words.{call_of, step_of}
+use Rattle.mpd_model.specs.texts.Lines.{bare, is_none}
+use Rattle.mpd_model.specs.texts.Words.{call_of, step_of}
 use Rattle.mpd_explore.specs.declared.report.Witness.{Witness}
 use Rattle.mpd_witness.specs.declared.witness_text.WitnessTextFault.{WitnessTextFault}
 use Rattle.mpd_witness.specs.declared.witness_text.WitnessTextFault.TheVariants.{BadLine, Memory}

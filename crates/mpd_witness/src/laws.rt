@@ -7,7 +7,7 @@ ghost use Rattle.mpd_explore.specs.declared.report.Ending.TheVariants.{Ended};
 ghost use Rattle.mpd_explore.specs.declared.report.Leaf.{Leaf};
 ghost use Rattle.mpd_explore.specs.declared.report.Witness.{Witness};
 ghost use Rattle.mpd_model.specs.declared.step.Step.{Step};
-ghost use Rattle.mpd_model.specs.World.{World};
+ghost use Rattle.mpd_model.specs.steps.World.{World};
 ghost use Rattle.mpd_explore.specs.ReportText.{leaf_line, report_text, witness_line};
 ghost use Rattle.mpd_witness.specs.WitnessText.{witness_of};
 ghost use Rattle.mpd_witness.specs.WitnessLaws.{IsShort, IsShortLeaf, witness_at_leaf};

@@ -1,7 +1,7 @@
 //! A text that is cut at each byte of one kind.
 
 ghost use Rattle.std.specs.Prelude.{◌≡◌, ◌≤◌, ◌==◌, ◌+◌, [], ◌∷◌, length, Some, None, MatchOption};
-ghost use Rattle.mpd_model.specs.Words.{stop_len};
+ghost use Rattle.mpd_model.specs.texts.Words.{stop_len};
 ghost use Rattle.mpd_witness.specs.WitnessText.{cut_at, parts_at};
 
 use std::marker::Model;

@@ -6,7 +6,7 @@ ghost use Rattle.mpd_witness.specs.ReadBack.{number_behind, numbered, before_cut
 
 use crate::pieces::{Pieces, cut};
 use crate::witness_text::number_of;
-use mpd_lines::line::without_return;
+use mpd_lines::without_return;
 
 /// What a line of a report is.
 #[derive(Clone, Copy)]

@@ -12,9 +12,8 @@ use crate::report_lines::{are_two, is_witness, next_leaf, next_witness, wrong_li
 use crate::witness_text::{
     WitnessTextFault, read_blocked, read_steps, read_witness, skip_to_blocked,
 };
-use mpd_explore::report::Witness;
-use mpd_lines::engine::EngineFault;
-use mpd_lines::line::without_return;
+use mpd_explore::Witness;
+use mpd_lines::{EngineFault, without_return};
 use std::alloc::Global;
 use std::error::Error;
 use std::fmt;

@@ -1,17 +1,14 @@
 //! The text of a witness, as a report has it (docs/FORMATS.md, "Witnesses").
 
 ghost use Rattle.std.specs.Prelude.{◌≡◌, codes};
-ghost use Rattle.mpd_model.specs.Words.{number_of, call_of, step_of};
+ghost use Rattle.mpd_model.specs.texts.Words.{number_of, call_of, step_of};
 ghost use Rattle.mpd_witness.specs.FaultTexts.{text_fault_shown};
 ghost use Rattle.mpd_witness.specs.WitnessText.{behind_word, each_read, blocked_of, behind_cut, cut_at, steps_of, all_empty, witness_of, Skipped, ReadsLine, ReadsText};
 
 use crate::pieces::{Pieces, cut};
-use mpd_explore::report::Witness;
-use mpd_lines::line::without_return;
-use mpd_model::decision::StepList;
-use mpd_model::outcome::CallList;
-use mpd_model::step::{CallId, Step};
-use mpd_model::words::{Command, command_of};
+use mpd_explore::Witness;
+use mpd_lines::without_return;
+use mpd_model::{CallId, CallList, Step, StepList, TraceWord, trace_word_of};
 use std::alloc::Global;
 use std::error::Error;
 use std::fmt;
@@ -74,13 +71,13 @@ fn call_of(word: &[u8]) -> Option<CallId>
 fn step_of(text: &[u8]) -> Option<Step>
     ensures { result ≡ step_of text.now }
 {
-    match command_of(text) {
-        Some(Command::Step(step)) => Some(step),
-        Some(Command::Back) => None,
-        Some(Command::Redo) => None,
-        Some(Command::Goto(_)) => None,
-        Some(Command::Enabled) => None,
-        Some(Command::Show) => None,
+    match trace_word_of(text) {
+        Some(TraceWord::Step(step)) => Some(step),
+        Some(TraceWord::Back) => None,
+        Some(TraceWord::Redo) => None,
+        Some(TraceWord::Goto(_)) => None,
+        Some(TraceWord::Enabled) => None,
+        Some(TraceWord::Show) => None,
         None => None,
     }
 }

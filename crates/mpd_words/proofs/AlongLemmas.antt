@@ -6,10 +6,10 @@ use Rattle.mpd_model.specs.declared.step.Step.{Step}
 use Rattle.mpd_model.specs.declared.outcome.Outcome.{Outcome}
 use Rattle.mpd_model.specs.declared.decision.Decision.{Decision}
 use Rattle.mpd_model.specs.declared.decision.Decision.TheVariants.{Forced, Choice, Leaf}
-use Rattle.mpd_model.specs.World.{World}
-use Rattle.mpd_model.specs.Next.{next}
-use Rattle.mpd_model.specs.Decisions.{decision}
-use Rattle.mpd_model.specs.Trail.{Trail, Standing, IsReached, kept, world_of, gone_back, forgotten}
+use Rattle.mpd_model.specs.steps.World.{World}
+use Rattle.mpd_model.specs.steps.Next.{next}
+use Rattle.mpd_model.specs.runs.Decisions.{decision}
+use Rattle.mpd_model.specs.runs.Trail.{Trail, Standing, IsReached, done_steps, world_of, gone_back, forgotten}
 use Rattle.mpd_explore.specs.Walk.{Run, stepped, chosen, run_from, run_taken, run_followed, run_stopped, run_at}
 use Rattle.mpd_words.specs.declared.fault.WordsFault.{WordsFault}
 use Rattle.mpd_words.specs.declared.fault.WordsFault.TheVariants.{BadChoices, Memory}
@@ -89,14 +89,14 @@ over_leaf (suc n) k cs w o leaf = record { steps = ap steps_in (run_is n cs w (L
 
 pub beyond_same : (d e : Standing) → e.trail ≡ d.trail → IsReached e → Beyond d e
 beyond_same d e same reached =
-    record { program = ap (λ (t : Trail). t.program) same; mode = ap (λ (t : Trail). t.mode) same; reached = reached; path = []; kept_is = ap kept same ∙ sym (append-nil (kept d.trail)) }
+    record { program = ap (λ (t : Trail). t.program) same; mode = ap (λ (t : Trail). t.mode) same; reached = reached; path = []; done_steps_are = ap done_steps same ∙ sym (append-nil (done_steps d.trail)) }
 
-pub beyond_went : (d e : Standing) (a : Step) → e.trail.program ≡ d.trail.program → e.trail.mode ≡ d.trail.mode → IsReached e → kept e.trail ≡ kept d.trail ++ a ∷ [] → Beyond d e
-beyond_went d e a program mode reached same = record { program = program; mode = mode; reached = reached; path = a ∷ []; kept_is = same }
+pub beyond_went : (d e : Standing) (a : Step) → e.trail.program ≡ d.trail.program → e.trail.mode ≡ d.trail.mode → IsReached e → done_steps e.trail ≡ done_steps d.trail ++ a ∷ [] → Beyond d e
+beyond_went d e a program mode reached same = record { program = program; mode = mode; reached = reached; path = a ∷ []; done_steps_are = same }
 
 pub beyond_then : (c d e : Standing) → Beyond c d → Beyond d e → Beyond c e
 beyond_then c d e x y =
-    record { program = y.program ∙ x.program; mode = y.mode ∙ x.mode; reached = y.reached; path = x.path ++ y.path; kept_is = y.kept_is ∙ ap (λ p. p ++ y.path) x.kept_is ∙ append_assoc (kept c.trail) x.path y.path }
+    record { program = y.program ∙ x.program; mode = y.mode ∙ x.mode; reached = y.reached; path = x.path ++ y.path; done_steps_are = y.done_steps_are ∙ ap (λ p. p ++ y.path) x.done_steps_are ∙ append_assoc (done_steps c.trail) x.path y.path }
 
 fuel_left : (limit : ℕ) (d e : Standing) → d.trail.depth < limit → e.trail.depth ≡ d.trail.depth + 1 → limit - d.trail.depth ≡ suc (limit - e.trail.depth)
 fuel_left limit d e room deeper = omega (arith, deeper)
@@ -107,26 +107,26 @@ fuel_some limit d room = omega arith
 along_at : (n m k j : ℕ) (cs : List ℕ) (w : World) (path : List Step) (i l : ℕ) (left : List ℕ) (v : World) → n ≡ m → j ≡ i → Along m k cs w path l i left v → Along n k cs w path l j left v
 along_at n m k j cs w path i l left v fuel number h = rw (fuel, number) h
 
-pub forced_on : (limit k : ℕ) (cs : List ℕ) (d e : Standing) (a : Step) → d.trail.depth < limit → decision d.world ≡ Forced a → next d.world a ≡ Some e.world → kept e.trail ≡ kept d.trail ++ a ∷ [] → e.trail.depth ≡ d.trail.depth + 1 → Stepped limit k cs d 0 e
+pub forced_on : (limit k : ℕ) (cs : List ℕ) (d e : Standing) (a : Step) → d.trail.depth < limit → decision d.world ≡ Forced a → next d.world a ≡ Some e.world → done_steps e.trail ≡ done_steps d.trail ++ a ∷ [] → e.trail.depth ≡ d.trail.depth + 1 → Stepped limit k cs d 0 e
 forced_on limit k cs d e a room forced world same deeper =
     record {
       few = omega arith;
       deeper = deeper;
       step = a;
-      kept_is = same;
+      done_steps_are = same;
       along = along_at (limit - d.trail.depth) (suc (limit - e.trail.depth)) k (k + 0) cs d.world (a ∷ []) k (limit - e.trail.depth) cs e.world (fuel_left limit d e room deeper) (omega arith) (along_forced (limit - e.trail.depth) k cs d.world e.world a forced world);
     }
 
 pub ruleset forcing = (forced_on, beyond_same, beyond_went)
 
 pub chosen_on : (limit k c : ℕ) (left cs : List ℕ) (d e : Standing) (candidates : List Step) (a : Step) → left ≡ c ∷ cs → d.trail.depth < limit → decision d.world ≡ Choice candidates → slice_get candidates c ≡ Some a → next d.world a ≡ Some e.world
-    → kept e.trail ≡ kept d.trail ++ a ∷ [] → e.trail.depth ≡ d.trail.depth + 1 → Stepped limit k left d 1 e
+    → done_steps e.trail ≡ done_steps d.trail ++ a ∷ [] → e.trail.depth ≡ d.trail.depth + 1 → Stepped limit k left d 1 e
 chosen_on limit k c left cs d e candidates a split room choice read world same deeper =
     rw split (record {
       few = omega arith;
       deeper = deeper;
       step = a;
-      kept_is = same;
+      done_steps_are = same;
       along = along_at (limit - d.trail.depth) (suc (limit - e.trail.depth)) k (k + 1) (c ∷ cs) d.world (a ∷ []) (suc k) (limit - e.trail.depth) cs e.world (fuel_left limit d e room deeper) (omega arith) (along_chosen (limit - e.trail.depth) k c cs d.world e.world candidates a choice read world);
     })
 
@@ -166,7 +166,7 @@ pub going_none : (limit : ℕ) (cs : List ℕ) (d : Standing) → Going limit cs
 going_none limit cs d =
     record {
       path = [];
-      kept_is = sym (append-nil (kept d.trail));
+      done_steps_are = sym (append-nil (done_steps d.trail));
       number = omega arith;
       along = record { steps = sym (behind_none (steps_at (limit - d.trail.depth) cs d.world)); bad = refl };
     }
@@ -175,7 +175,7 @@ pub going_more : (limit k taken : ℕ) (cs left : List ℕ) (d e f : Standing) �
 going_more limit k taken cs left d e f g s =
     record {
       path = g.path ++ s.step ∷ [];
-      kept_is = s.kept_is ∙ ap (λ p. p ++ s.step ∷ []) g.kept_is ∙ append_assoc (kept d.trail) g.path (s.step ∷ []);
+      done_steps_are = s.done_steps_are ∙ ap (λ p. p ++ s.step ∷ []) g.done_steps_are ∙ append_assoc (done_steps d.trail) g.path (s.step ∷ []);
       number = (let few = s.few in let number = g.number in omega (arith, few, number, length-drop taken left));
       along = record {
         steps = g.along.steps ∙ ap (behind g.path) s.along.steps ∙ behind_twice g.path (s.step ∷ []) (steps_at (limit - f.trail.depth) (drop taken left) f.world);
@@ -190,9 +190,9 @@ some_more : (k : ℕ) (path : List Step) (left : List ℕ) (o : Option (List Ste
 some_more k path [] o h e = absurd (let x : ⊥ = cc in x)
 some_more k path (c ∷ left) o h e = h
 
-pub over_on : (limit k : ℕ) (cs left : List ℕ) (d e f : Standing) (r : Result (Unit {0}) WordsFault) → Going limit cs d k left e → kept f.trail ≡ kept e.trail → IsOver (limit - e.trail.depth) k left e.world → Ends k left r → GoesOn limit cs d r f
+pub over_on : (limit k : ℕ) (cs left : List ℕ) (d e f : Standing) (r : Result (Unit {0}) WordsFault) → Going limit cs d k left e → done_steps f.trail ≡ done_steps e.trail → IsOver (limit - e.trail.depth) k left e.world → Ends k left r → GoesOn limit cs d r f
 over_on limit k cs left d e f (Ok u) g same over h =
-    (g.path, same ∙ g.kept_is, no_more g.path left (steps_at (limit - d.trail.depth) cs d.world) (g.along.steps ∙ ap (behind g.path) over.steps) h)
+    (g.path, same ∙ g.done_steps_are, no_more g.path left (steps_at (limit - d.trail.depth) cs d.world) (g.along.steps ∙ ap (behind g.path) over.steps) h)
 over_on limit k cs left d e f (Err (BadChoices place)) g same over h =
     (some_more k g.path left (steps_at (limit - d.trail.depth) cs d.world) (g.along.steps ∙ ap (behind g.path) over.steps) h.1, g.along.bad ∙ over.bad ∙ h.1 ∙ ap Some (sym h.0))
 over_on limit k cs left d e f (Err Memory) g same over h = absurd h
@@ -224,17 +224,17 @@ drop_path n [] path e = rw (sym e) refl
 drop_path zero (x ∷ xs) path e = absurd (omega (arith, e))
 drop_path (suc n) (x ∷ xs) path e = drop_path n xs path (omega (arith, e))
 
-length-kept : (d : Standing) → IsReached d → length (kept d.trail) ≡ d.trail.depth
-length-kept d h = omega (arith, length-take d.trail.depth d.trail.steps, h.within)
+length-done_steps : (d : Standing) → IsReached d → length (done_steps d.trail) ≡ d.trail.depth
+length-done_steps d h = omega (arith, length-take d.trail.depth d.trail.steps, h.within)
 
 led_by : (fuel : ℕ) (cs : List ℕ) (w : World) (path steps : List Step) → steps_at fuel cs w ≡ Some path → steps ≡ path → Led fuel cs w (Ok steps)
 led_by fuel cs w path steps h is = let x = run_of (run_at fuel cs w) path h in (x.0, x.1, is ∙ x.2)
 
-pub led_there : (fuel base : ℕ) (cs : List ℕ) (d e : Standing) (u : Unit {0}) (steps : List Step) → base ≡ d.trail.depth → IsReached d → GoesOn (base + fuel) cs d (Ok u) e → steps ≡ drop base (kept e.trail) → Led fuel cs d.world (Ok steps)
+pub led_there : (fuel base : ℕ) (cs : List ℕ) (d e : Standing) (u : Unit {0}) (steps : List Step) → base ≡ d.trail.depth → IsReached d → GoesOn (base + fuel) cs d (Ok u) e → steps ≡ drop base (done_steps e.trail) → Led fuel cs d.world (Ok steps)
 led_there fuel base cs d e u steps is reached h found =
     let left : (base + fuel) - d.trail.depth ≡ fuel = omega (arith, is) in
-    let long : length (kept d.trail) ≡ base = length-kept d reached ∙ sym is in
-    led_by fuel cs d.world h.0 steps (rw left at h.2) (found ∙ ap (drop base) h.1 ∙ drop_path base (kept d.trail) h.0 long)
+    let long : length (done_steps d.trail) ≡ base = length-done_steps d reached ∙ sym is in
+    led_by fuel cs d.world h.0 steps (rw left at h.2) (found ∙ ap (drop base) h.1 ∙ drop_path base (done_steps d.trail) h.0 long)
 
 pub led_nowhere : (fuel base : ℕ) (cs : List ℕ) (d e : Standing) (r : WordsFault) → base ≡ d.trail.depth → GoesOn (base + fuel) cs d (Err r) e → Led fuel cs d.world (Err r)
 led_nowhere fuel base cs d e (BadChoices place) is h =
@@ -258,14 +258,14 @@ take_lower (suc m) (suc n) [] h = refl
 take_lower (suc m) (suc n) (x ∷ xs) h = ap (λ ys. x ∷ ys) (take_lower m n xs (omega (arith, h)))
 
 pub beyond_depth : (d e : Standing) → IsReached d → Beyond d e → d.trail.depth ≤ e.trail.depth
-beyond_depth d e reached h = omega (arith, length-kept d reached, length-kept e h.reached, ap length h.kept_is, length-append (kept d.trail) h.path)
+beyond_depth d e reached h = omega (arith, length-done_steps d reached, length-done_steps e h.reached, ap length h.done_steps_are, length-append (done_steps d.trail) h.path)
 
-beyond_below : (d e : Standing) → IsReached d → Beyond d e → take d.trail.depth (kept e.trail) ≡ take d.trail.depth (kept d.trail)
-beyond_below d e reached h = ap (take d.trail.depth) h.kept_is ∙ take-append-le d.trail.depth (kept d.trail) h.path (omega (arith, length-kept d reached))
+beyond_below : (d e : Standing) → IsReached d → Beyond d e → take d.trail.depth (done_steps e.trail) ≡ take d.trail.depth (done_steps d.trail)
+beyond_below d e reached h = ap (take d.trail.depth) h.done_steps_are ∙ take-append-le d.trail.depth (done_steps d.trail) h.path (omega (arith, length-done_steps d reached))
 
-as_found : (d m e : Trail) → length d.steps ≡ d.depth → d.depth ≤ m.depth → m.program ≡ d.program → m.mode ≡ d.mode → take d.depth (kept m) ≡ take d.depth (kept d) → e ≡ forgotten (gone_back m d.depth) → e ≡ d
+as_found : (d m e : Trail) → length d.steps ≡ d.depth → d.depth ≤ m.depth → m.program ≡ d.program → m.mode ≡ d.mode → take d.depth (done_steps m) ≡ take d.depth (done_steps d) → e ≡ forgotten (gone_back m d.depth) → e ≡ d
 as_found d m e clean deep program mode below is =
-    let whole : take d.depth (kept d) ≡ d.steps = take_lower d.depth d.depth d.steps (omega arith) ∙ take_all d.depth d.steps (omega (arith, clean)) in
+    let whole : take d.depth (done_steps d) ≡ d.steps = take_lower d.depth d.depth d.steps (omega arith) ∙ take_all d.depth d.steps (omega (arith, clean)) in
     let same : take d.depth m.steps ≡ d.steps = sym (take_lower d.depth m.depth m.steps deep) ∙ below ∙ whole in
     is ∙ λ i. record { program = program i; mode = mode i; steps = same i; depth = d.depth }
 

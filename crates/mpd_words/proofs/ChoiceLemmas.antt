@@ -2,7 +2,7 @@
 use Rattle.std.proofs.Common.{◌≡◌, ℕ, zero, suc, ◌<◌, Bool, true, false, ◌==◌, if◌then◌else◌, List, [], ◌∷◌, ◌++◌, length, take, drop, Option, Some, None, Result, Ok, Err, OnOk, refl, ap, sym, ◌∙◌, arith, append_assoc, append-nil}
 use Rattle.std.specs.Prelude.{option_map}
 use Rattle.std.specs.List.{onto_first}
-use Rattle.mpd_model.specs.Words.{stop_len, number_of}
+use Rattle.mpd_model.specs.texts.Words.{stop_len, number_of}
 use Rattle.mpd_words.specs.declared.fault.ChoicesFault.{ChoicesFault}
 use Rattle.mpd_words.specs.Choices.{cut_at_spaces, words_in, put_first, numbers_of, read_on, choices_of}
 

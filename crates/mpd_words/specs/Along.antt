@@ -2,8 +2,8 @@
 use Rattle.std.specs.Prelude.{◌≡◌, ℕ, ◌+◌, ◌-◌, ◌≤◌, List, [], ◌∷◌, ◌++◌, length, drop, Option, Some, None, Result, Ok, Err}
 use Rattle.std.specs.Option.{option_map}
 use Rattle.mpd_model.specs.declared.step.Step.{Step}
-use Rattle.mpd_model.specs.World.{World}
-use Rattle.mpd_model.specs.Trail.{Standing, kept, IsReached}
+use Rattle.mpd_model.specs.steps.World.{World}
+use Rattle.mpd_model.specs.runs.Trail.{Standing, done_steps, IsReached}
 use Rattle.mpd_explore.specs.Walk.{Run, run_at}
 use Rattle.mpd_words.specs.declared.fault.WordsFault.{WordsFault}
 use Rattle.mpd_words.specs.declared.fault.WordsFault.TheVariants.{BadChoices, Memory}
@@ -42,20 +42,20 @@ pub record Beyond (d e : Standing) : Type 0 where
   pub mode : e.trail.mode ≡ d.trail.mode
   pub reached : IsReached e
   pub path : List Step
-  pub kept_is : kept e.trail ≡ kept d.trail ++ path
+  pub done_steps_are : done_steps e.trail ≡ done_steps d.trail ++ path
 
 -- one step was taken, which made so many of the choices
 pub record Stepped (limit k : ℕ) (cs : List ℕ) (d : Standing) (taken : ℕ) (e : Standing) : Type 0 where
   pub few : taken ≤ length cs
   pub deeper : e.trail.depth ≡ d.trail.depth + 1
   pub step : Step
-  pub kept_is : kept e.trail ≡ kept d.trail ++ step ∷ []
+  pub done_steps_are : done_steps e.trail ≡ done_steps d.trail ++ step ∷ []
   pub along : Along (limit - d.trail.depth) k cs d.world (step ∷ []) (limit - e.trail.depth) (k + taken) (drop taken cs) e.world
 
 -- One step was taken along choices, of which the first is number k; or the run is over here; or that choice is none.
 abbrev pub StepsOn : ℕ → ℕ → List ℕ → Standing → Result (Option ℕ) WordsFault → Standing → Type 0
 StepsOn limit k cs d (Ok (Some taken)) e = Stepped limit k cs d taken e
-StepsOn limit k cs d (Ok None) e = (kept e.trail ≡ kept d.trail) × IsOver (limit - d.trail.depth) k cs d.world
+StepsOn limit k cs d (Ok None) e = (done_steps e.trail ≡ done_steps d.trail) × IsOver (limit - d.trail.depth) k cs d.world
 StepsOn limit k cs d (Err (BadChoices place)) e = IsBad (limit - d.trail.depth) k cs d.world place
 StepsOn limit k cs d (Err Memory) e = Unit {0}
 
@@ -67,13 +67,13 @@ Ends k left (Err Memory) = ⊥
 
 -- the steps of the whole run were taken, or it is none
 abbrev pub GoesOn : ℕ → List ℕ → Standing → Result (Unit {0}) WordsFault → Standing → Type 0
-GoesOn limit cs d (Ok u) e = (path : List Step) × (kept e.trail ≡ kept d.trail ++ path) × (steps_at (limit - d.trail.depth) cs d.world ≡ Some path)
+GoesOn limit cs d (Ok u) e = (path : List Step) × (done_steps e.trail ≡ done_steps d.trail ++ path) × (steps_at (limit - d.trail.depth) cs d.world ≡ Some path)
 GoesOn limit cs d (Err (BadChoices place)) e = IsBad (limit - d.trail.depth) 0 cs d.world place
 GoesOn limit cs d (Err Memory) e = Unit {0}
 
 -- so far
 pub record Going (limit : ℕ) (cs : List ℕ) (d : Standing) (k : ℕ) (left : List ℕ) (e : Standing) : Type 0 where
   pub path : List Step
-  pub kept_is : kept e.trail ≡ kept d.trail ++ path
+  pub done_steps_are : done_steps e.trail ≡ done_steps d.trail ++ path
   pub number : k + length left ≡ length cs
   pub along : Along (limit - d.trail.depth) 0 cs d.world path (limit - e.trail.depth) k left e.world

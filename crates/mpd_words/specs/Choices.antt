@@ -1,7 +1,7 @@
 -- A text that gives choices.
 use Rattle.std.specs.Prelude.{◌≡◌, ℕ, ◌==◌, List, [], ◌∷◌, ◌++◌, Option, Some, None, filter, option_map, Result, Ok, Err}
 use Rattle.std.specs.List.{slice_split}
-use Rattle.mpd_model.specs.Words.{has_some, number_of}
+use Rattle.mpd_model.specs.texts.Words.{has_some, number_of}
 use Rattle.mpd_words.specs.declared.fault.ChoicesFault.{ChoicesFault}
 use Rattle.mpd_words.specs.declared.fault.ChoicesFault.TheVariants.{NotANumber, Memory}
 

@@ -1,7 +1,7 @@
 -- What is answered to some choices.
 use Rattle.std.specs.Prelude.{◌≡◌, ℕ, List, Some, None, Result, Ok, Err}
 use Rattle.mpd_model.specs.declared.step.Step.{Step}
-use Rattle.mpd_model.specs.World.{World}
+use Rattle.mpd_model.specs.steps.World.{World}
 use Rattle.mpd_explore.specs.Walk.{Run, run_at}
 use Rattle.mpd_words.specs.declared.fault.WordsFault.{WordsFault}
 use Rattle.mpd_words.specs.declared.fault.WordsFault.TheVariants.{BadChoices, Memory}

@@ -1,11 +1,11 @@
 //! Choices as a text.
 
 ghost use Rattle.std.specs.Prelude.{◌≡◌, ◌≤◌, ◌<◌, ◌==◌, ◌∷◌, [], List, ℕ, None, OnOk, IsErrOf, MatchOption, length};
-ghost use Rattle.mpd_model.specs.Words.{stop_len, number_of};
+ghost use Rattle.mpd_model.specs.texts.Words.{stop_len, number_of};
 ghost use Rattle.mpd_words.specs.Choices.{cut_at_spaces, read_on, choices_of, ReadsChoices};
 
 use crate::fault::ChoicesFault;
-use mpd_explore::report::ChoiceList;
+use mpd_explore::ChoiceList;
 use std::alloc::Global;
 
 /// A number of 1 to 9 digits.

@@ -1,6 +1,6 @@
 //! Why no words are written.
 
-use mpd_lines::engine::EngineFault;
+use mpd_lines::EngineFault;
 
 /// Why the steps of a run are refused.
 #[derive(Clone, Copy)]

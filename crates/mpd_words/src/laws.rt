@@ -1,7 +1,7 @@
 //! A law of choices.
 
 ghost use Rattle.std.specs.Prelude.{ℕ, List};
-ghost use Rattle.mpd_model.specs.World.{World};
+ghost use Rattle.mpd_model.specs.steps.World.{World};
 ghost use Rattle.mpd_words.specs.Led.{RunsOrIsBad};
 
 /// From any world, with any fuel, choices tell a run, or a place among them or right behind the last is told, and never both.

@@ -6,3 +6,9 @@ pub mod fault;
 pub mod laws;
 pub mod steps;
 pub mod write;
+
+pub use choices::choices_of;
+pub use fault::{ChoicesFault, WordsFault, WriteFault};
+pub use laws::a_run_or_a_bad_choice;
+pub use steps::steps_by_choices;
+pub use write::write_words;

@@ -1,18 +1,16 @@
 //! The steps of the run that some choices tell.
 
 ghost use Rattle.std.specs.Prelude.{◌≡◌, ◌+◌, ◌<◌, ◌≤◌, ◌++◌, ℕ, [], ◌∷◌, IfOk, OnOk, Ok, Err, length, drop};
-ghost use Rattle.mpd_model.specs.Decisions.{decision, CanFollow};
-ghost use Rattle.mpd_model.specs.Trail.{kept, gone_back, forgotten, IsReached};
+ghost use Rattle.mpd_model.specs.runs.Decisions.{decision, CanFollow};
+ghost use Rattle.mpd_model.specs.runs.Trail.{done_steps, gone_back, forgotten, IsReached};
 ghost use Rattle.mpd_trail.specs.Views.{standing_of};
 ghost use Rattle.mpd_words.specs.Led.{Led};
 ghost use Rattle.mpd_words.specs.Along.{Beyond, StepsOn, Ends, GoesOn};
 
 use crate::fault::WordsFault;
-use mpd_model::decision::{Decision, StepList};
-use mpd_model::limits::STEPS_MAX;
-use mpd_model::step::Step;
-use mpd_policy::decide::{decide, decisions_can_be_followed};
-use mpd_trail::debugger::Debugger;
+use mpd_model::{Decision, STEPS_MAX, Step, StepList};
+use mpd_policy::{decide, decisions_can_be_followed};
+use mpd_trail::Debugger;
 use std::alloc::Global;
 
 /// Takes steps back down to a depth, and keeps no undone step.
@@ -146,7 +144,7 @@ fn follow(
 /// The steps behind the first so many.
 fn steps_behind(alloc: Global, debugger: &Debugger<'_>, base: usize) -> Result<StepList, WordsFault>
     requires { base ≤ debugger.now.trail.depth }
-    ensures steps { IfOk result (λ steps. steps ≡ drop base (kept debugger.now.trail)) }
+    ensures steps { IfOk result (λ steps. steps ≡ drop base (done_steps debugger.now.trail)) }
     ensures memory { (place : ℕ) → result ≡ Err (WordsFault.BadChoices place) → ⊥ }
 {
     debugger.state_is_reached();

@@ -1,21 +1,18 @@
 //! The words of a run, written to a sink.
 
 ghost use Rattle.std.specs.Prelude.{◌≡◌, ◌≤◌, ◌++◌, ℕ, Some, None, IfOk, OnOk, IsErrOf, string_bytes};
-ghost use Rattle.mpd_model.specs.World.{start};
+ghost use Rattle.mpd_model.specs.steps.World.{start};
 ghost use Rattle.mpd_explore.specs.Walk.{Run, run_at};
 ghost use Rattle.mpd_words.specs.Place.{bad_place};
 ghost use Rattle.mpd_words.specs.Written.{words_text, Put, WroteWords};
 
 use crate::fault::{WordsFault, WriteFault};
 use crate::steps::steps_by_choices;
-use mpd_code::code::Code;
-use mpd_device::device::Sink;
-use mpd_lines::engine::EngineFault;
-use mpd_lines::outbox::write_all;
-use mpd_model::call::Mode;
-use mpd_model::limits::STEPS_MAX;
-use mpd_model::step::Step;
-use mpd_trail::debugger::Debugger;
+use mpd_code::Code;
+use mpd_device::Sink;
+use mpd_lines::{EngineFault, write_all};
+use mpd_model::{Mode, STEPS_MAX, Step};
+use mpd_trail::Debugger;
 use std::alloc::{AllocError, Global};
 
 /// Steps as trace words, a line for each.

@@ -1,9 +1,8 @@
 //! What a report tells of all runs, in one line for a person (docs/FORMATS.md, "Reports").
 
-use mpd_check::counts::{Tally, is_limited};
-use mpd_check::modes::Tried;
-use mpd_code::code::Code;
-use mpd_model::call::Mode;
+use mpd_check::{Tally, Tried, is_limited};
+use mpd_code::Code;
+use mpd_model::Mode;
 use std::io;
 
 /// Which options leave runs out of a report.

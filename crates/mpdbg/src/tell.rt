@@ -1,15 +1,12 @@
 //! Why the program ends before its input does, and what a person is told of it (docs/FORMATS.md, "Faults and statuses").
 
-use mpd_explore::verify::WitnessFault;
-use mpd_lines::engine::EngineFault;
-use mpd_model::limits::SLOTS_MAX;
-use mpd_model::read_fault::{FaultCode, ReadFault};
-use mpd_options::options::UsageFault;
-use mpd_pool::check::PoolFault;
-use mpd_trace::allowed::allowed;
-use mpd_trace::excerpt::excerpt;
-use mpd_trace::plain::PlainFault;
-use mpd_witness::report_text::ReportFault;
+use mpd_explore::WitnessFault;
+use mpd_lines::EngineFault;
+use mpd_model::{FaultCode, ReadFault, SLOTS_MAX};
+use mpd_options::UsageFault;
+use mpd_pool::PoolFault;
+use mpd_trace::{PlainFault, allowed, excerpt};
+use mpd_witness::ReportFault;
 use std::io;
 use std::io::{Error, ErrorKind};
 

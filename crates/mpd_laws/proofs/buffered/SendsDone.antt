@@ -7,9 +7,9 @@ use Rattle.mpd_model.specs.declared.call.CallKind.TheVariants.{Send}
 use Rattle.mpd_model.specs.declared.call.Mode.{Mode}
 use Rattle.mpd_model.specs.declared.call.Mode.TheVariants.{Rendezvous, Buffered, Slots}
 use Rattle.mpd_model.specs.declared.call.SendCall.{SendCall}
-use Rattle.mpd_model.specs.Program.{Program}
-use Rattle.mpd_model.specs.World.{World, start, kind_at, partner, is_buffered, is_done, is_limited}
-use Rattle.mpd_model.specs.Next.{fold}
+use Rattle.mpd_model.specs.script.Program.{Program}
+use Rattle.mpd_model.specs.steps.World.{World, start, kind_at, partner, is_buffered, is_done, is_limited}
+use Rattle.mpd_model.specs.steps.Next.{fold}
 use Rattle.mpd_laws.proofs.ordered.CallsInOrder.{orderly}
 use Rattle.mpd_laws.proofs.ordered.Orderly.{IsMarked, may_be}
 use Rattle.mpd_laws.proofs.buffered.SlotsHeld.{mode_stays}

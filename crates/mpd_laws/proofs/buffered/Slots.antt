@@ -10,8 +10,8 @@ use Rattle.mpd_model.specs.declared.call.CallKind.TheVariants.{Recv}
 use Rattle.mpd_model.specs.declared.call.MatchSet.{MatchSet}
 use Rattle.mpd_model.specs.declared.call.MatchSet.TheVariants.{Pair, Woke}
 use Rattle.mpd_model.specs.declared.call.MatchSet.TheVariants as set
-use Rattle.mpd_model.specs.World.{Board, call_id, id_eq, listed_calls, calls_of, kind_of, kind_at, partner, is_message_kind, fits, receives, eligible, is_buffered, holds_slot, slots_used}
-use Rattle.mpd_model.specs.Next.{with_call, with_set}
+use Rattle.mpd_model.specs.steps.World.{Board, call_id, id_eq, listed_calls, calls_of, kind_of, kind_at, partner, is_message_kind, fits, receives, eligible, is_buffered, holds_slot, slots_used}
+use Rattle.mpd_model.specs.steps.Next.{with_call, with_set}
 use Rattle.mpd_laws.proofs.ordered.Eligible.{agrees, fitting_recv, known_within}
 use Rattle.mpd_laws.proofs.ordered.Releases.{one_if}
 use Rattle.mpd_laws.proofs.ordered.Splits.{read_written, none_written, others_kept, end_read, same_or_end}

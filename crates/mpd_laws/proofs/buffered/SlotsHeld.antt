@@ -13,9 +13,9 @@ use Rattle.mpd_model.specs.declared.call.CallKind.TheVariants.{Send}
 use Rattle.mpd_model.specs.declared.call.MatchSet.TheVariants.{Pair}
 use Rattle.mpd_model.specs.declared.call.Mode.{Mode}
 use Rattle.mpd_model.specs.declared.call.Mode.TheVariants.{Rendezvous, Buffered, Slots}
-use Rattle.mpd_model.specs.Program.{Program}
-use Rattle.mpd_model.specs.World.{World, Board, start, call_id, calls_of, call_numbers, kind_of, kind_at, partner, is_buffered, eligible, holds_slot, slots_used, last_call}
-use Rattle.mpd_model.specs.Next.{Ran, local_at, stepped, can_wake, woken, can_wake_any, woken_any, can_release, released, with_call, with_set, buffers_one, has_buffer, buffered_by, entered, next, fold}
+use Rattle.mpd_model.specs.script.Program.{Program}
+use Rattle.mpd_model.specs.steps.World.{World, Board, start, call_id, calls_of, call_numbers, kind_of, kind_at, partner, is_buffered, eligible, holds_slot, slots_used, last_call}
+use Rattle.mpd_model.specs.steps.Next.{Ran, local_at, stepped, can_wake, woken, can_wake_any, woken_any, can_release, released, with_call, with_set, buffers_one, has_buffer, buffered_by, entered, next, fold}
 use Rattle.mpd_laws.proofs.ordered.CallsInOrder.{no_calls, start_orderly, chosen, joined_from, next_orderly, orderly}
 use Rattle.mpd_laws.proofs.ordered.Orderly.{Orderly, IsMarked}
 use Rattle.mpd_laws.proofs.ordered.OrderSteps.{paired_named}

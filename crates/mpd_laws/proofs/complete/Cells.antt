@@ -1,6 +1,6 @@
 -- The cells that one more declaration brings.
 use Rattle.std.proofs.Common.{◌≡◌, ◌+◌, List, [], ◌∷◌, ◌++◌, arith}
-use Rattle.mpd_model.specs.Declaration.{Declared, variable_cells, handle_cells, variables_in, handles_in}
+use Rattle.mpd_model.specs.script.Declaration.{Declared, variable_cells, handle_cells, variables_in, handles_in}
 
 pub variables_in-more : (ds : List Declared) (d : Declared) → variables_in (ds ++ d ∷ []) ≡ variables_in ds + variable_cells d.kind d.size
 variables_in-more [] d = omega arith

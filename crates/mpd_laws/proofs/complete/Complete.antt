@@ -13,12 +13,12 @@ use Rattle.mpd_model.specs.declared.token.Mark.{Mark}
 use Rattle.mpd_model.specs.declared.token.Mark.TheVariants as m
 use Rattle.mpd_model.specs.declared.token.Token.{Token}
 use Rattle.mpd_model.specs.declared.token.Token.TheVariants.{Number, Name, Is}
-use Rattle.mpd_model.specs.Costs.{price, cost, Stops, at}
-use Rattle.mpd_model.specs.Grammar.{atom_by, atom, bracket, index_inside, place_inside, rounds, sign, unary, chain, level, expr, turns, operator, operator_at, at_level}
-use Rattle.mpd_model.specs.Input.{Input, Outcome, Parser, and_then, token, spelling, advanced, spend, expect, sees, same_mark, seek}
-use Rattle.mpd_model.specs.Term.{Term, lit, own_rank, size, cell, element, op1, op2}
-use Rattle.mpd_model.specs.Tokens.{Spot}
-use Rattle.mpd_model.specs.Written.{Names, WrittenTerm, number, rank, ranks, name, entry, round, signs, higher, joins, left_level}
+use Rattle.mpd_model.specs.grammar.Costs.{price, cost, Stops, at}
+use Rattle.mpd_model.specs.grammar.Grammar.{atom_by, atom, bracket, index_inside, place_inside, rounds, sign, unary, chain, level, expr, turns, operator, operator_at, at_level}
+use Rattle.mpd_model.specs.grammar.Input.{Input, Outcome, Parser, and_then, token, spelling, advanced, spend, expect, sees, same_mark, seek}
+use Rattle.mpd_model.specs.script.Term.{Term, lit, own_rank, size, cell, element, op1, op2}
+use Rattle.mpd_model.specs.grammar.Tokens.{Spot}
+use Rattle.mpd_model.specs.grammar.Written.{Names, WrittenTerm, number, rank, ranks, name, entry, round, signs, higher, joins, left_level}
 use Rattle.mpd_laws.proofs.sound.Prices.{cost_append, sign_costs, operator_costs}
 
 -- ---- steps on a known list of tokens

@@ -14,14 +14,14 @@ use Rattle.mpd_model.specs.declared.token.Mark.{Mark}
 use Rattle.mpd_model.specs.declared.token.Mark.TheVariants as m
 use Rattle.mpd_model.specs.declared.token.Token.{Token}
 use Rattle.mpd_model.specs.declared.token.Token.TheVariants.{Name, Is}
-use Rattle.mpd_model.specs.Declaration.{Declared}
-use Rattle.mpd_model.specs.Costs.{cost, Stops, on, Gives, index_cost, part_cost, dearest_part}
-use Rattle.mpd_model.specs.Grammar.{expression, begin_statement, sign, place_of_slot, index_outside, target, statement_place_by, statement_place, statement_name_by, statement_name, source, status, fill, EndsTerm, EndsStatus, AreClear}
-use Rattle.mpd_model.specs.Input.{Input, Parser, token, token_of, spelling, advanced, expect, seek, same_kind, slot_in, sees, is_mark, same_mark, count, after}
-use Rattle.mpd_model.specs.Parts.{Part, Hole, mark_hole, term_hole, target_hole, name_hole, source_hole, status_hole, source_part, status_parts, Contents, filled}
-use Rattle.mpd_model.specs.Term.{Term, Target}
-use Rattle.mpd_model.specs.Tokens.{Spot}
-use Rattle.mpd_model.specs.Written.{Names, left_level, WrittenTerm, number, rank, ranks, name, entry, round, signs, higher, joins, WrittenTarget, whole, part, WrittenPart, by_mark, by_term, by_target, by_name, WrittenParts, no_part, then_part}
+use Rattle.mpd_model.specs.script.Declaration.{Declared}
+use Rattle.mpd_model.specs.grammar.Costs.{cost, Stops, on, Gives, index_cost, part_cost, dearest_part}
+use Rattle.mpd_model.specs.grammar.Grammar.{expression, begin_statement, sign, place_of_slot, index_outside, target, statement_place_by, statement_place, statement_name_by, statement_name, source, status, fill, EndsTerm, EndsStatus, AreClear}
+use Rattle.mpd_model.specs.grammar.Input.{Input, Parser, token, token_of, spelling, advanced, expect, seek, same_kind, slot_in, sees, is_mark, same_mark, count, after}
+use Rattle.mpd_model.specs.script.Parts.{Part, Hole, mark_hole, term_hole, target_hole, name_hole, source_hole, status_hole, source_part, status_parts, Contents, filled}
+use Rattle.mpd_model.specs.script.Term.{Term, Target}
+use Rattle.mpd_model.specs.grammar.Tokens.{Spot}
+use Rattle.mpd_model.specs.grammar.Written.{Names, left_level, WrittenTerm, number, rank, ranks, name, entry, round, signs, higher, joins, WrittenTarget, whole, part, WrittenPart, by_mark, by_term, by_target, by_name, WrittenParts, no_part, then_part}
 use Rattle.mpd_laws.proofs.complete.Complete.{bind_to, expect_at, mark_stops, expr_complete}
 use Rattle.mpd_laws.proofs.sound.SoundParts.{status_of}
 

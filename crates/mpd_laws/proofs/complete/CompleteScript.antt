@@ -10,15 +10,15 @@ use Rattle.mpd_model.specs.declared.token.Mark.{Mark}
 use Rattle.mpd_model.specs.declared.token.Mark.TheVariants as m
 use Rattle.mpd_model.specs.declared.token.Token.{Token}
 use Rattle.mpd_model.specs.declared.token.Token.TheVariants.{Number, Name, Is}
-use Rattle.mpd_model.specs.Declaration.{Declared, variable_cells, handle_cells, variables_in, handles_in}
-use Rattle.mpd_model.specs.Costs.{Gives, blocks_in, dearest_body, dearest_script}
-use Rattle.mpd_model.specs.Grammar.{version_in, version_of, version_by, version, rank_count, ranks_by, ranks, array_size_at, array_size_by, array_size, single, declarator, decl_by, decl, declares, decls_by, decls_from, decls, header, body, block, max_text, is_text, read_of, reading}
-use Rattle.mpd_model.specs.Grammar as grammar
-use Rattle.mpd_model.specs.Input.{Input, Outcome, Parser, and_then, start_of, token, token_of, spelling, place, advanced, expect, sees, is_mark, same_mark, after, fresh, add, cells_fit, slot_in}
-use Rattle.mpd_model.specs.Program.{Program, IsBlockOf, IsLegal}
-use Rattle.mpd_model.specs.Tokens.{Spot, tokens}
-use Rattle.mpd_model.specs.Tree.{Tree, block_of}
-use Rattle.mpd_model.specs.Written.{WrittenTree, WrittenBody, ended, follows, WrittenDecls, none, declares_one, declares_array, declared_as, WrittenScript, script}
+use Rattle.mpd_model.specs.script.Declaration.{Declared, variable_cells, handle_cells, variables_in, handles_in}
+use Rattle.mpd_model.specs.grammar.Costs.{Gives, blocks_in, dearest_body, dearest_script}
+use Rattle.mpd_model.specs.grammar.Grammar.{version_in, version_of, version_by, version, rank_count, ranks_by, ranks, array_size_at, array_size_by, array_size, single, declarator, decl_by, decl, declares, decls_by, decls_from, decls, header, body, block, max_text, is_text, read_of, reading}
+use Rattle.mpd_model.specs.grammar.Grammar as grammar
+use Rattle.mpd_model.specs.grammar.Input.{Input, Outcome, Parser, and_then, start_of, token, token_of, spelling, place, advanced, expect, sees, is_mark, same_mark, after, fresh, add, cells_fit, slot_in}
+use Rattle.mpd_model.specs.script.Program.{Program, IsBlockOf, IsLegal}
+use Rattle.mpd_model.specs.grammar.Tokens.{Spot, tokens}
+use Rattle.mpd_model.specs.script.Tree.{Tree, block_of}
+use Rattle.mpd_model.specs.grammar.Written.{WrittenTree, WrittenBody, ended, follows, WrittenDecls, none, declares_one, declares_array, declared_as, WrittenScript, script}
 use Rattle.mpd_laws.proofs.complete.Cells.{variables_in-more, handles_in-more}
 use Rattle.mpd_laws.proofs.complete.Complete.{bind_to, expect_at}
 use Rattle.mpd_laws.proofs.complete.CompleteStatements.{tree_opens, body_complete}

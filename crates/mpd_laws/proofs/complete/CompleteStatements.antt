@@ -11,16 +11,16 @@ use Rattle.mpd_model.specs.declared.token.Mark.{Mark}
 use Rattle.mpd_model.specs.declared.token.Mark.TheVariants as m
 use Rattle.mpd_model.specs.declared.token.Token.{Token}
 use Rattle.mpd_model.specs.declared.token.Token.TheVariants.{Name, Is, End}
-use Rattle.mpd_model.specs.Declaration.{Declared}
-use Rattle.mpd_model.specs.Costs.{cost, Stops, on, Gives, blocks, blocks_in, dearest_part, dearest, dearest_block, dearest_body}
-use Rattle.mpd_model.specs.Grammar.{begin_statement, closes, declares, place_of_slot, index_outside, fill, Form, form_of, behind_word, by_form, HasForm, all_formed, waitany_form, since, assignment, otherwise, if_statement, while_statement, stmt_by, stmt, stmts, body, block}
-use Rattle.mpd_model.specs.Input.{Input, Outcome, Parser, and_then, token, token_of, advanced, slot_in, sees, is_mark, same_mark, first_line, after}
-use Rattle.mpd_model.specs.Parts.{Part, of_mark, of_target, parts_of, mark_hole, term_hole, Contents, filled}
-use Rattle.mpd_model.specs.Program.{first_version, IsTreeOf, IsBlockOf}
-use Rattle.mpd_model.specs.Term.{Term, Target}
-use Rattle.mpd_model.specs.Tokens.{Spot}
-use Rattle.mpd_model.specs.Tree.{Tree, simple, branch, repeat, no_more, block_of}
-use Rattle.mpd_model.specs.Written.{WrittenTerm, WrittenTarget, whole, part, by_mark, by_target, WrittenParts, then_part, WrittenTree, simply, repeats, chooses, chooses_else, WrittenBlock, braces, WrittenBody, ended, follows}
+use Rattle.mpd_model.specs.script.Declaration.{Declared}
+use Rattle.mpd_model.specs.grammar.Costs.{cost, Stops, on, Gives, blocks, blocks_in, dearest_part, dearest, dearest_block, dearest_body}
+use Rattle.mpd_model.specs.grammar.Grammar.{begin_statement, closes, declares, place_of_slot, index_outside, fill, Form, form_of, behind_word, by_form, HasForm, all_formed, waitany_form, since, assignment, otherwise, if_statement, while_statement, stmt_by, stmt, stmts, body, block}
+use Rattle.mpd_model.specs.grammar.Input.{Input, Outcome, Parser, and_then, token, token_of, advanced, slot_in, sees, is_mark, same_mark, first_line, after}
+use Rattle.mpd_model.specs.script.Parts.{Part, of_mark, of_target, parts_of, mark_hole, term_hole, Contents, filled}
+use Rattle.mpd_model.specs.script.Program.{first_version, IsTreeOf, IsBlockOf}
+use Rattle.mpd_model.specs.script.Term.{Term, Target}
+use Rattle.mpd_model.specs.grammar.Tokens.{Spot}
+use Rattle.mpd_model.specs.script.Tree.{Tree, simple, branch, repeat, no_more, block_of}
+use Rattle.mpd_model.specs.grammar.Written.{WrittenTerm, WrittenTarget, whole, part, by_mark, by_target, WrittenParts, then_part, WrittenTree, simply, repeats, chooses, chooses_else, WrittenBlock, braces, WrittenBody, ended, follows}
 use Rattle.mpd_laws.proofs.complete.Complete.{bind_to, mark_stops}
 use Rattle.mpd_laws.proofs.complete.CompleteParts.{expect_on, begin_statement_on, expression_on, target_begins, seek_on, mark_seen, fill_on}
 use Rattle.mpd_laws.proofs.complete.Turns.{some_token}

@@ -13,10 +13,10 @@ use Rattle.mpd_model.specs.declared.token.Mark.{Mark}
 use Rattle.mpd_model.specs.declared.token.Mark.TheVariants as m
 use Rattle.mpd_model.specs.declared.token.Token.{Token}
 use Rattle.mpd_model.specs.declared.token.Token.TheVariants.{Number, Name, Is}
-use Rattle.mpd_model.specs.Grammar.{atom_by, atom, bracket, index_inside, place_inside, place_of_slot, rounds, unary, chain, chain_by, level, expr, turns, operator_at}
-use Rattle.mpd_model.specs.Input.{Input, Outcome, Parser, and_then, token, place, spelling, advanced, spend, expect, sees, refusal, seek, sought, slot_in, same_kind, pure, fail, refuse}
-use Rattle.mpd_model.specs.ReaderLaws.{IsNotTooDeep, with_more, leaving_more}
-use Rattle.mpd_model.specs.Term.{Term, lit, own_rank, size, cell, element, op1, op2}
+use Rattle.mpd_model.specs.grammar.Grammar.{atom_by, atom, bracket, index_inside, place_inside, place_of_slot, rounds, unary, chain, chain_by, level, expr, turns, operator_at}
+use Rattle.mpd_model.specs.grammar.Input.{Input, Outcome, Parser, and_then, token, place, spelling, advanced, spend, expect, sees, refusal, seek, sought, slot_in, same_kind, pure, fail, refuse}
+use Rattle.mpd_model.specs.grammar.ReaderLaws.{IsNotTooDeep, with_more, leaving_more}
+use Rattle.mpd_model.specs.script.Term.{Term, lit, own_rank, size, cell, element, op1, op2}
 use Rattle.mpd_laws.proofs.sound.Sound.{bind_ok, ok_parts, spend_takes, expect_ok, seek_ok}
 
 pub bind_same : {A B : Type 0} (o : Outcome A) (f g : A → Parser B) → ((x : A × Input) → o ≡ Ok x → f x.0 x.1 ≡ g x.0 x.1) → and_then o f ≡ and_then o g

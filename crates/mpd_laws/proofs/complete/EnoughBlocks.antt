@@ -4,10 +4,10 @@ use Rattle.std.proofs.lemmas.Bool.{cases_Bool}
 use Rattle.mpd_model.specs.declared.token.Mark.TheVariants as m
 use Rattle.mpd_model.specs.declared.token.Token.{Token}
 use Rattle.mpd_model.specs.declared.token.Token.TheVariants.{Is}
-use Rattle.mpd_model.specs.Grammar.{expression, begin_statement, closes, otherwise, if_statement, while_statement, stmt_by, stmt, stmts, body, block}
-use Rattle.mpd_model.specs.Input.{Input, Outcome, Parser, and_then, token, expect, sees, after, pure}
-use Rattle.mpd_model.specs.ReaderLaws.{IsNotTooDeep}
-use Rattle.mpd_model.specs.Tree.{Tree}
+use Rattle.mpd_model.specs.grammar.Grammar.{expression, begin_statement, closes, otherwise, if_statement, while_statement, stmt_by, stmt, stmts, body, block}
+use Rattle.mpd_model.specs.grammar.Input.{Input, Outcome, Parser, and_then, token, expect, sees, after, pure}
+use Rattle.mpd_model.specs.grammar.ReaderLaws.{IsNotTooDeep}
+use Rattle.mpd_model.specs.script.Tree.{Tree}
 
 -- where the first isn't too deep, the second does the same
 abbrev Same : {A : Type 0} → Parser A → Parser A → Type 0

@@ -15,14 +15,14 @@ use Rattle.mpd_model.specs.declared.token.Mark.{Mark}
 use Rattle.mpd_model.specs.declared.token.Mark.TheVariants as m
 use Rattle.mpd_model.specs.declared.token.Token.{Token}
 use Rattle.mpd_model.specs.declared.token.Token.TheVariants.{Number, Name, Is, Bad}
-use Rattle.mpd_model.specs.Grammar.{atom_by, atom, bracket, index_inside, place_inside, place_of_slot, rounds, unary, chain, chain_by, level, expr, turns, operator_at, expression, begin_statement, closes, index_outside, target, statement_place_by, statement_place, statement_name_by, statement_name, source_by, source, status_by, status, fill, Form, form_of, by_form, since, assignment, otherwise, if_statement, while_statement, stmt_by, stmt, stmts, body, block, max_blocks, version_in, version_of, version_by, version, rank_count, ranks_of, ranks_by, ranks, natural, array_size_at, array_size_by, array_size, single, declarator, decl_by, decl, declares, decls_by, decls_from, decls, header, max_text, is_text, read_of, reading}
-use Rattle.mpd_model.specs.Grammar as grammar
-use Rattle.mpd_model.specs.Input.{Input, Outcome, Parser, and_then, start_of, token, place, spelling, advanced, code_at, refusal, refuse, fail, pure, expect, spend, count, seek, sought, same_kind, slot_in, fresh, is_known, add, cells_fit, sees, after, max_budget, ◌>>=◌}
-use Rattle.mpd_model.specs.Program.{Program}
-use Rattle.mpd_model.specs.Term.{Term, op2}
+use Rattle.mpd_model.specs.grammar.Grammar.{atom_by, atom, bracket, index_inside, place_inside, place_of_slot, rounds, unary, chain, chain_by, level, expr, turns, operator_at, expression, begin_statement, closes, index_outside, target, statement_place_by, statement_place, statement_name_by, statement_name, source_by, source, status_by, status, fill, Form, form_of, by_form, since, assignment, otherwise, if_statement, while_statement, stmt_by, stmt, stmts, body, block, max_blocks, version_in, version_of, version_by, version, rank_count, ranks_of, ranks_by, ranks, natural, array_size_at, array_size_by, array_size, single, declarator, decl_by, decl, declares, decls_by, decls_from, decls, header, max_text, is_text, read_of, reading}
+use Rattle.mpd_model.specs.grammar.Grammar as grammar
+use Rattle.mpd_model.specs.grammar.Input.{Input, Outcome, Parser, and_then, start_of, token, place, spelling, advanced, code_at, refusal, refuse, fail, pure, expect, spend, count, seek, sought, same_kind, slot_in, fresh, is_known, add, cells_fit, sees, after, max_budget, ◌>>=◌}
+use Rattle.mpd_model.specs.script.Program.{Program}
+use Rattle.mpd_model.specs.script.Term.{Term, op2}
 use Rattle.mpd_model.specs.declared.stmt.Simple.TheVariants as st
-use Rattle.mpd_model.specs.Parts.{Hole, mark_hole, term_hole, target_hole, name_hole, source_hole, status_hole, Contents}
-use Rattle.mpd_model.specs.Tree.{Tree, simple}
+use Rattle.mpd_model.specs.script.Parts.{Hole, mark_hole, term_hole, target_hole, name_hole, source_hole, status_hole, Contents}
+use Rattle.mpd_model.specs.script.Tree.{Tree, simple}
 
 abbrev IsSure : {A : Type 0} → Result A ReadFault → Type 0
 IsSure (Ok p) = Unit {0}

@@ -1,12 +1,12 @@
 -- Each turn takes a token, so more turns than there are tokens change nothing.
 use Rattle.std.proofs.Common.{◌≡◌, ℕ, zero, suc, ◌<◌, Bool, true, false, cond, List, [], ◌∷◌, ◌++◌, length, length-append, Option, Some, None, refl, ap, arith, ◌+◌, ◌-◌, ◌∙◌}
 use Rattle.mpd_model.specs.declared.place.DeclKind.{DeclKind}
-use Rattle.mpd_model.specs.Declaration.{Declared}
-use Rattle.mpd_model.specs.Grammar.{closes, stmt, stmts, body, block, decl, declares, decls, decls_by, decls_from}
-use Rattle.mpd_model.specs.Input.{Input, token, advanced, pure, ◌>>=◌}
-use Rattle.mpd_model.specs.Tokens.{Spot}
-use Rattle.mpd_model.specs.Tree.{Tree}
-use Rattle.mpd_model.specs.Written.{WrittenTree, simply, repeats, chooses, chooses_else}
+use Rattle.mpd_model.specs.script.Declaration.{Declared}
+use Rattle.mpd_model.specs.grammar.Grammar.{closes, stmt, stmts, body, block, decl, declares, decls, decls_by, decls_from}
+use Rattle.mpd_model.specs.grammar.Input.{Input, token, advanced, pure, ◌>>=◌}
+use Rattle.mpd_model.specs.grammar.Tokens.{Spot}
+use Rattle.mpd_model.specs.script.Tree.{Tree}
+use Rattle.mpd_model.specs.grammar.Written.{WrittenTree, simply, repeats, chooses, chooses_else}
 use Rattle.mpd_laws.proofs.complete.Enough.{bind_same}
 use Rattle.mpd_laws.proofs.sound.Sound.{Step}
 use Rattle.mpd_laws.proofs.sound.SoundScript.{Declares, decl_ok, begins_decl}

@@ -3,8 +3,8 @@ use Rattle.std.proofs.Common.{◌≡◌, ℕ, ◌+◌, Bool, true, false, List, 
 use Rattle.std.proofs.lemmas.List.Folds.{list_all-append}
 use Rattle.std.specs.List.{list_all}
 use Rattle.mpd_model.specs.declared.token.Token.{Token}
-use Rattle.mpd_model.specs.Grammar.{is_text}
-use Rattle.mpd_model.specs.Tokens.{Spot, tokens_at, is_blank, is_in_name, feeds}
+use Rattle.mpd_model.specs.grammar.Grammar.{is_text}
+use Rattle.mpd_model.specs.grammar.Tokens.{Spot, tokens_at, is_blank, is_in_name, feeds}
 
 -- nothing, or a byte that ends a name or a number
 abbrev pub Ends : List ℕ → Type 0

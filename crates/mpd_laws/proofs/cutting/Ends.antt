@@ -7,8 +7,8 @@ use Rattle.mpd_model.specs.declared.token.Mark.{Mark}
 use Rattle.mpd_model.specs.declared.token.Mark.TheVariants as m
 use Rattle.mpd_model.specs.declared.token.Token.{Token}
 use Rattle.mpd_model.specs.declared.token.Token.TheVariants.{Number, Name, Is, Bad, End}
-use Rattle.mpd_model.specs.Input.{token_of}
-use Rattle.mpd_model.specs.Tokens.{Spot, spot, tokens_after, front, sign, word, word_in, number, reserved, run_len, begins_name, is_blank, feeds, decimal_after}
+use Rattle.mpd_model.specs.grammar.Input.{token_of}
+use Rattle.mpd_model.specs.grammar.Tokens.{Spot, spot, tokens_after, front, sign, word, word_in, number, reserved, run_len, begins_name, is_blank, feeds, decimal_after}
 
 unfoldable IsReal : Token → Type 0
 IsReal t = t ≢ End

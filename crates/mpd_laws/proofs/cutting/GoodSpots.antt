@@ -11,8 +11,8 @@ use Rattle.mpd_model.specs.declared.token.Mark.{Mark}
 use Rattle.mpd_model.specs.declared.token.Mark.TheVariants as m
 use Rattle.mpd_model.specs.declared.token.Token.{Token}
 use Rattle.mpd_model.specs.declared.token.Token.TheVariants.{Number, Name}
-use Rattle.mpd_model.specs.Printable.{IsName, IsWritable}
-use Rattle.mpd_model.specs.Tokens.{Spot, spot, tokens_after, front, sign, two, number, word, word_in, reserved, decimal_after, run_len, is_blank, begins_name, is_in_name}
+use Rattle.mpd_model.specs.grammar.Printable.{IsName, IsWritable}
+use Rattle.mpd_model.specs.grammar.Tokens.{Spot, spot, tokens_after, front, sign, two, number, word, word_in, reserved, decimal_after, run_len, is_blank, begins_name, is_in_name}
 
 pub record IsGood (s : Spot) : Type 0 where
   pub name : s.token ≡ Name → IsName s.text

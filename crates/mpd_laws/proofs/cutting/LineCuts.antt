@@ -1,7 +1,7 @@
 -- What cutting a text into lines makes of the beginning of a line, and of the line feed that ends it.
 use Rattle.std.proofs.Common.{◌≡◌, ℕ, Bool, true, false, ◌&&◌, ◌==◌, not, if◌then◌else◌, List, [], ◌∷◌, ◌++◌, map, filter, refl, ap, ◌∙◌}
 use Rattle.std.proofs.lemmas.Bool.{and_from, and_right, not-true, not_from_false, or_from}
-use Rattle.mpd_model.specs.Lines.{raw_lines, grow, joined, bare, ends_with_feed, is_ending, is_feed, is_none}
+use Rattle.mpd_model.specs.texts.Lines.{raw_lines, grow, joined, bare, ends_with_feed, is_ending, is_feed, is_none}
 
 -- no line feed among these bytes
 abbrev pub is_part : List ℕ → Bool

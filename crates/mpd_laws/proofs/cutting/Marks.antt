@@ -5,9 +5,9 @@ use Rattle.std.specs.List.{list_all}
 use Rattle.mpd_model.specs.declared.token.Mark.{Mark}
 use Rattle.mpd_model.specs.declared.token.Mark.TheVariants as m
 use Rattle.mpd_model.specs.declared.token.Token.TheVariants.{Is}
-use Rattle.mpd_model.specs.Canonical.{mark_text}
-use Rattle.mpd_model.specs.Grammar.{is_text}
-use Rattle.mpd_model.specs.Tokens.{is_in_name, begins_name, tokens_after, tokens_at, front, sign, word}
+use Rattle.mpd_model.specs.grammar.Canonical.{mark_text}
+use Rattle.mpd_model.specs.grammar.Grammar.{is_text}
+use Rattle.mpd_model.specs.grammar.Tokens.{is_in_name, begins_name, tokens_after, tokens_at, front, sign, word}
 use Rattle.mpd_laws.proofs.cutting.Cuts.{Ends, Spelled, narrowed, turned, IsOne, one, IsWord, one_of_word, place_behind, line_behind}
 use Rattle.mpd_laws.proofs.cutting.Runs.{word_spelled}
 

@@ -11,8 +11,8 @@ use Rattle.std.specs.Char.{is_ascii_digit}
 use Rattle.std.specs.List.{list_all, prefix_len}
 use Rattle.mpd_model.specs.declared.token.Token.{Token}
 use Rattle.mpd_model.specs.declared.token.Token.TheVariants.{Number}
-use Rattle.mpd_model.specs.Grammar.{is_text}
-use Rattle.mpd_model.specs.Tokens.{is_blank, is_in_name, begins_name, decimal_after, number, word, front, tokens_after, tokens_at, Spot}
+use Rattle.mpd_model.specs.grammar.Grammar.{is_text}
+use Rattle.mpd_model.specs.grammar.Tokens.{is_blank, is_in_name, begins_name, decimal_after, number, word, front, tokens_after, tokens_at, Spot}
 use Rattle.mpd_laws.proofs.cutting.Cuts.{Ends, Cut, Spelled, IsWord, one_word}
 
 -- ---- runs of bytes

@@ -6,10 +6,10 @@ use Rattle.mpd_model.specs.declared.expr.BinaryOp.TheVariants.{Or, And, Equal, N
 use Rattle.mpd_model.specs.declared.token.Mark.TheVariants as m
 use Rattle.mpd_model.specs.declared.token.Token.{Token}
 use Rattle.mpd_model.specs.declared.token.Token.TheVariants.{Is}
-use Rattle.mpd_model.specs.Canonical.{below, op_text}
-use Rattle.mpd_model.specs.Costs.{price}
-use Rattle.mpd_model.specs.Grammar.{operator_at}
-use Rattle.mpd_model.specs.Tokens.{tokens_after, front, sign, word}
+use Rattle.mpd_model.specs.grammar.Canonical.{below, op_text}
+use Rattle.mpd_model.specs.grammar.Costs.{price}
+use Rattle.mpd_model.specs.grammar.Grammar.{operator_at}
+use Rattle.mpd_model.specs.grammar.Tokens.{tokens_after, front, sign, word}
 use Rattle.mpd_laws.proofs.cutting.Cuts.{Any, Spelled, fixed, IsOne, one, IsNone, nothing}
 
 pub square_open : Spelled Any (IsOne (Is m.SquareOpen)) (codes "[")

@@ -8,10 +8,10 @@ use Rattle.mpd_model.specs.declared.call.Call.{Call}
 use Rattle.mpd_model.specs.declared.call.CallKind.{CallKind}
 use Rattle.mpd_model.specs.declared.call.MatchSet.TheVariants.{Pair}
 use Rattle.mpd_model.specs.declared.call.Mode.{Mode}
-use Rattle.mpd_model.specs.Program.{Program}
-use Rattle.mpd_model.specs.World.{World, Board, start, start_rank, start_board, call_id, listed_calls, calls_of, kind_of, kind_at, is_barrier, last_call, eligible}
-use Rattle.mpd_model.specs.Next.{local, local_at, stepped, waits, can_wake, woken, can_wake_any, woken_any, can_release, released, with_set, next, fold}
-use Rattle.mpd_model.specs.Order.{blocks_rank, barriers, before, Ordered}
+use Rattle.mpd_model.specs.script.Program.{Program}
+use Rattle.mpd_model.specs.steps.World.{World, Board, start, start_rank, start_board, call_id, listed_calls, calls_of, kind_of, kind_at, is_barrier, last_call, eligible}
+use Rattle.mpd_model.specs.steps.Next.{local, local_at, stepped, waits, can_wake, woken, can_wake_any, woken_any, can_release, released, with_set, next, fold}
+use Rattle.mpd_model.specs.steps.Order.{blocks_rank, barriers, before, Ordered}
 use Rattle.mpd_laws.proofs.ordered.Orderly.{Orderly, IsMarked, held}
 use Rattle.mpd_laws.proofs.ordered.OrderIssues.{local_keeps}
 use Rattle.mpd_laws.proofs.ordered.OrderReleases.{release_keeps}

@@ -8,10 +8,10 @@ use Rattle.mpd_model.specs.declared.call.Trap.{Trap}
 use Rattle.mpd_model.specs.declared.call.Trap.TheVariants.{Assertion}
 use Rattle.mpd_model.specs.declared.stmt.Simple.{Simple}
 use Rattle.mpd_model.specs.declared.stmt.Simple.TheVariants as st
-use Rattle.mpd_model.specs.Term.{Term, Value, Env, value_of, is_zero}
-use Rattle.mpd_model.specs.Tree.{Tree, simple, branch, repeat, Block}
-use Rattle.mpd_model.specs.World.{RankWorld}
-use Rattle.mpd_model.specs.Next.{Ran, trapped, printed, assigned, asserted, chosen, repeated, issued, ran_simple, ran, env_of, local_of, local, blocks, is_blocked}
+use Rattle.mpd_model.specs.script.Term.{Term, Value, Env, value_of, is_zero}
+use Rattle.mpd_model.specs.script.Tree.{Tree, simple, branch, repeat, Block}
+use Rattle.mpd_model.specs.steps.World.{RankWorld}
+use Rattle.mpd_model.specs.steps.Next.{Ran, trapped, printed, assigned, asserted, chosen, repeated, issued, ran_simple, ran, env_of, local_of, local, blocks, is_blocked}
 
 abbrev pub call_blocks : Option Call → Bool
 call_blocks None = false

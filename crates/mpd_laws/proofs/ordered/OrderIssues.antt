@@ -11,9 +11,9 @@ use Rattle.mpd_model.specs.declared.call.Mode.{Mode}
 use Rattle.mpd_model.specs.declared.call.Mode.TheVariants.{Rendezvous, Buffered, Slots}
 use Rattle.mpd_model.specs.declared.call.MatchSet.TheVariants.{Pair, Woke}
 use Rattle.mpd_model.specs.declared.call.MatchSet.TheVariants as set
-use Rattle.mpd_model.specs.World.{World, Board, RankWorld, call_id, listed_calls, calls_of, kind_of, kind_at, partner, is_buffered, is_barrier, slots_used}
-use Rattle.mpd_model.specs.Next.{Ran, local, blocks, stepped, with_call, with_issued, buffers_one, has_buffer, buffered_by, entered, waits, is_blocked}
-use Rattle.mpd_model.specs.Order.{matches_first, waits_for, blocks_rank, barriers, releases, barriers_before, is_released_by, names, is_exit, WentOn, Ordered}
+use Rattle.mpd_model.specs.steps.World.{World, Board, RankWorld, call_id, listed_calls, calls_of, kind_of, kind_at, partner, is_buffered, is_barrier, slots_used}
+use Rattle.mpd_model.specs.steps.Next.{Ran, local, blocks, stepped, with_call, with_issued, buffers_one, has_buffer, buffered_by, entered, waits, is_blocked}
+use Rattle.mpd_model.specs.steps.Order.{matches_first, waits_for, blocks_rank, barriers, releases, barriers_before, is_released_by, names, is_exit, WentOn, Ordered}
 use Rattle.mpd_laws.proofs.ordered.Eligible.{clash, known_within}
 use Rattle.mpd_laws.proofs.ordered.LocalActivity.{BlocksOn, local_blocks}
 use Rattle.mpd_laws.proofs.ordered.Orderly.{Orderly, IsAwaited, IsMarked, may_be, mentions, id_same}

@@ -6,9 +6,9 @@ use Rattle.std.specs.Cmp.Derive.{both_true}
 use Rattle.std.specs.Option.{option_map}
 use Rattle.mpd_model.specs.declared.step.CallId.{CallId}
 use Rattle.mpd_model.specs.declared.call.MatchSet.TheVariants as set
-use Rattle.mpd_model.specs.World.{World, Board, RankWorld, call_id, calls_of, kind_at, is_barrier, last_call}
-use Rattle.mpd_model.specs.Next.{waits, is_at_barrier, can_release, going_on, released}
-use Rattle.mpd_model.specs.Order.{barriers, releases, barriers_before, WentOn}
+use Rattle.mpd_model.specs.steps.World.{World, Board, RankWorld, call_id, calls_of, kind_at, is_barrier, last_call}
+use Rattle.mpd_model.specs.steps.Next.{waits, is_at_barrier, can_release, going_on, released}
+use Rattle.mpd_model.specs.steps.Order.{barriers, releases, barriers_before, WentOn}
 use Rattle.mpd_laws.proofs.ordered.Orderly.{Orderly, IsAwaited, MayJoin, held, waiting}
 use Rattle.mpd_laws.proofs.ordered.OrderSteps.{named_more, ordered_more, went_kept}
 use Rattle.mpd_laws.proofs.ordered.Releases.{one_if, releases_more, barriers_last, one_of_all}

@@ -11,9 +11,9 @@ use Rattle.mpd_model.specs.declared.call.CallKind.TheVariants.{Wait, Waitany, Ba
 use Rattle.mpd_model.specs.declared.call.MatchSet.{MatchSet}
 use Rattle.mpd_model.specs.declared.call.MatchSet.TheVariants.{Pair, Woke}
 use Rattle.mpd_model.specs.declared.call.MatchSet.TheVariants as set
-use Rattle.mpd_model.specs.World.{World, Board, RankWorld, call_id, id_eq, calls_of, kind_at, partner, is_barrier, is_buffered, is_done, eligible, complete, complete_by, awaited_by, has_own_step, last_call}
-use Rattle.mpd_model.specs.Next.{waits, can_wake, put_at, woken_rank, wake_writes, wake_clears, woken_by, woken, request_handle, held_in, any_handle, any_writes, is_complete_some, can_wake_any, woken_any, with_set}
-use Rattle.mpd_model.specs.Order.{waits_for, is_number, barriers, releases, WentOn, Ordered}
+use Rattle.mpd_model.specs.steps.World.{World, Board, RankWorld, call_id, id_eq, calls_of, kind_at, partner, is_barrier, is_buffered, is_done, eligible, complete, complete_by, awaited_by, has_own_step, last_call}
+use Rattle.mpd_model.specs.steps.Next.{waits, can_wake, put_at, woken_rank, wake_writes, wake_clears, woken_by, woken, request_handle, held_in, any_handle, any_writes, is_complete_some, can_wake_any, woken_any, with_set}
+use Rattle.mpd_model.specs.steps.Order.{waits_for, is_number, barriers, releases, WentOn, Ordered}
 use Rattle.mpd_laws.proofs.ordered.Eligible.{known_within}
 use Rattle.mpd_laws.proofs.ordered.Orderly.{Orderly, IsAwaited, MayJoin, mentions, is_named, held, waiting, passed, same_id, order_more, pair_may_join}
 use Rattle.mpd_laws.proofs.ordered.Releases.{one_if, releases_same}

@@ -11,9 +11,9 @@ use Rattle.mpd_model.specs.declared.call.MatchSet.TheVariants.{Pair, Woke}
 use Rattle.mpd_model.specs.declared.call.MatchSet.TheVariants as set
 use Rattle.mpd_model.specs.declared.call.Mode.{Mode}
 use Rattle.mpd_model.specs.declared.call.Mode.TheVariants.{Rendezvous, Buffered, Slots}
-use Rattle.mpd_model.specs.World.{World, Board, RankWorld, call_id, id_eq, calls_of, kind_at, partner, is_done, is_any_or, fitting, eligible, is_message_kind}
-use Rattle.mpd_model.specs.Next.{waits, is_at_barrier, with_set}
-use Rattle.mpd_model.specs.Order.{covers_number, matches_first, waits_for, blocks_rank, barriers, releases, WentOn, Ordered}
+use Rattle.mpd_model.specs.steps.World.{World, Board, RankWorld, call_id, id_eq, calls_of, kind_at, partner, is_done, is_any_or, fitting, eligible, is_message_kind}
+use Rattle.mpd_model.specs.steps.Next.{waits, is_at_barrier, with_set}
+use Rattle.mpd_model.specs.steps.Order.{covers_number, matches_first, waits_for, blocks_rank, barriers, releases, WentOn, Ordered}
 use Rattle.mpd_laws.proofs.ordered.Eligible.{agrees, earlier_send_paired, earlier_recv_paired, message_known}
 use Rattle.mpd_laws.proofs.ordered.Splits.{end_or_before}
 

@@ -6,8 +6,8 @@ use Rattle.std.specs.List.{list_all, range_with_len}
 use Rattle.std.proofs.lemmas.List.Sums.{sum_by-append}
 use Rattle.mpd_model.specs.declared.call.Call.{Call}
 use Rattle.mpd_model.specs.declared.call.MatchSet.{MatchSet}
-use Rattle.mpd_model.specs.World.{is_barrier, kind_of}
-use Rattle.mpd_model.specs.Order.{is_release, releases, barriers}
+use Rattle.mpd_model.specs.steps.World.{is_barrier, kind_of}
+use Rattle.mpd_model.specs.steps.Order.{is_release, releases, barriers}
 
 abbrev pub one_if : Bool → ℕ
 one_if b = cond b 1 0

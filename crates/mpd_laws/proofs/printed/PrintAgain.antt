@@ -1,9 +1,9 @@
 -- What is printed is read again.
 use Rattle.std.proofs.Common.{◌≡◌, ℕ, ◌≤◌, List, Ok, length, subst, sym}
-use Rattle.mpd_model.specs.Canonical.{canonical}
-use Rattle.mpd_model.specs.Grammar.{reading, max_text}
-use Rattle.mpd_model.specs.Printable.{IsPrintable}
-use Rattle.mpd_model.specs.Program.{Program}
+use Rattle.mpd_model.specs.grammar.Canonical.{canonical}
+use Rattle.mpd_model.specs.grammar.Grammar.{reading, max_text}
+use Rattle.mpd_model.specs.grammar.Printable.{IsPrintable}
+use Rattle.mpd_model.specs.script.Program.{Program}
 use Rattle.mpd_laws.proofs.printed.PrintScript.{canonical_is_read}
 use Rattle.mpd_laws.proofs.complete.CompleteScript.{reading_complete}
 

@@ -9,17 +9,17 @@ use Rattle.mpd_model.specs.declared.place.DeclKind.TheVariants.{Variable, Handle
 use Rattle.mpd_model.specs.declared.token.Mark.{Mark}
 use Rattle.mpd_model.specs.declared.token.Mark.TheVariants as m
 use Rattle.mpd_model.specs.declared.token.Token.TheVariants.{Number, Name, Is}
-use Rattle.mpd_model.specs.Canonical.{kind_word, decl_text, block_text, canonical}
-use Rattle.mpd_model.specs.Declaration.{Declared, cells_of, variable_cells, handle_cells, variables_in, handles_in}
-use Rattle.mpd_model.specs.Costs.{dearest_script}
-use Rattle.mpd_model.specs.Grammar.{declares, is_text}
-use Rattle.mpd_model.specs.Input.{slot_in, max_budget}
-use Rattle.mpd_model.specs.Printable.{IsName, AreNamed, AreNew, IsPrintable, CanonicalIsReadAgain}
-use Rattle.mpd_model.specs.Program.{Program, IsLegal}
-use Rattle.mpd_model.specs.ReaderLaws.{WrittenScriptsAreRead}
-use Rattle.mpd_model.specs.Tokens.{Spot, tokens, tokens_at, tokens_after, front, sign, word, number}
-use Rattle.mpd_model.specs.Tree.{block_of, trees_of_block, statements_in}
-use Rattle.mpd_model.specs.Written.{declared_as, WrittenDecls, none, declares_one, declares_array, WrittenScript, script}
+use Rattle.mpd_model.specs.grammar.Canonical.{kind_word, decl_text, block_text, canonical}
+use Rattle.mpd_model.specs.script.Declaration.{Declared, cells_of, variable_cells, handle_cells, variables_in, handles_in}
+use Rattle.mpd_model.specs.grammar.Costs.{dearest_script}
+use Rattle.mpd_model.specs.grammar.Grammar.{declares, is_text}
+use Rattle.mpd_model.specs.grammar.Input.{slot_in, max_budget}
+use Rattle.mpd_model.specs.grammar.Printable.{IsName, AreNamed, AreNew, IsPrintable, CanonicalIsReadAgain}
+use Rattle.mpd_model.specs.script.Program.{Program, IsLegal}
+use Rattle.mpd_model.specs.grammar.ReaderLaws.{WrittenScriptsAreRead}
+use Rattle.mpd_model.specs.grammar.Tokens.{Spot, tokens, tokens_at, tokens_after, front, sign, word, number}
+use Rattle.mpd_model.specs.script.Tree.{block_of, trees_of_block, statements_in}
+use Rattle.mpd_model.specs.grammar.Written.{declared_as, WrittenDecls, none, declares_one, declares_array, WrittenScript, script}
 use Rattle.mpd_laws.proofs.cutting.Cuts.{Ends, Any, Cut, Spelled, join, turned, fixed, Both, both, IsOne, one, IsWord, one_word, IsNone, nothing}
 use Rattle.mpd_laws.proofs.printed.PrintStatements.{BodySpots, block_spelled, nil_spelled}
 use Rattle.mpd_laws.proofs.printed.PrintTerms.{name_spelled}

@@ -12,15 +12,15 @@ use Rattle.mpd_model.specs.declared.place.DeclKind.TheVariants.{Variable}
 use Rattle.mpd_model.specs.declared.place.Place.{Place}
 use Rattle.mpd_model.specs.declared.token.Mark.TheVariants as m
 use Rattle.mpd_model.specs.declared.token.Token.TheVariants.{Number, Name, Is}
-use Rattle.mpd_model.specs.Canonical.{name_text, below, op_text, in_brackets, term_text}
-use Rattle.mpd_model.specs.Declaration.{Declared}
-use Rattle.mpd_model.specs.Costs.{cost, price}
-use Rattle.mpd_model.specs.Grammar.{operator_at, sign}
-use Rattle.mpd_model.specs.Input.{slot_in}
-use Rattle.mpd_model.specs.Printable.{IsName, HasName, IsPrintableTerm, bracket_cost, term_cost}
-use Rattle.mpd_model.specs.Term.{Term, lit, own_rank, size, cell, element, op1, op2}
-use Rattle.mpd_model.specs.Tokens.{Spot, tokens_after, front, begins_name, word, sign as byte_sign}
-use Rattle.mpd_model.specs.Written.{Names, WrittenTerm, number, rank, ranks, name, entry, round, signs, higher, joins, left_level}
+use Rattle.mpd_model.specs.grammar.Canonical.{name_text, below, op_text, in_brackets, term_text}
+use Rattle.mpd_model.specs.script.Declaration.{Declared}
+use Rattle.mpd_model.specs.grammar.Costs.{cost, price}
+use Rattle.mpd_model.specs.grammar.Grammar.{operator_at, sign}
+use Rattle.mpd_model.specs.grammar.Input.{slot_in}
+use Rattle.mpd_model.specs.grammar.Printable.{IsName, HasName, IsPrintableTerm, bracket_cost, term_cost}
+use Rattle.mpd_model.specs.script.Term.{Term, lit, own_rank, size, cell, element, op1, op2}
+use Rattle.mpd_model.specs.grammar.Tokens.{Spot, tokens_after, front, begins_name, word, sign as byte_sign}
+use Rattle.mpd_model.specs.grammar.Written.{Names, WrittenTerm, number, rank, ranks, name, entry, round, signs, higher, joins, left_level}
 use Rattle.mpd_laws.proofs.cutting.Cuts.{Ends, Spelled, join, turned, narrowed, Both, both, IsOne, one, IsWord, one_word}
 use Rattle.mpd_laws.proofs.sound.Prices.{cost_append}
 use Rattle.mpd_laws.proofs.cutting.Runs.{word_spelled, decimal_spelled, decimal_first, first_of_names}

@@ -1,16 +1,16 @@
 -- What is read as a script is printable.
 use Rattle.std.proofs.Common.{◌≡◌, ℕ, true, false, List, [], ◌∷◌, ◌++◌, Option, Some, None, subst, sym, ◌∙◌, append_assoc, append-nil}
 use Rattle.mpd_model.specs.declared.place.DeclKind.{DeclKind}
-use Rattle.mpd_model.specs.Declaration.{Declared}
-use Rattle.mpd_model.specs.Input.{slot_in}
-use Rattle.mpd_model.specs.Printable.{IsName, AreNamed, AreNew, IsPrintableWhole, IsPrintableTarget, IsPrintablePart, ArePrintable, IsPrintableTree, IsPrintableBlock, ReadScriptsArePrintable}
-use Rattle.mpd_model.specs.ReaderLaws.{ScriptsAreWritten}
-use Rattle.mpd_model.specs.Program.{Program}
-use Rattle.mpd_model.specs.Term.{Term, Target}
-use Rattle.mpd_model.specs.Tokens.{Spot, tokens}
-use Rattle.mpd_model.specs.Parts.{Part, parts_of}
-use Rattle.mpd_model.specs.Tree.{Tree, block_of}
-use Rattle.mpd_model.specs.Written.{WrittenTerm, WrittenTarget, whole, part, WrittenPart, by_mark, by_term, by_target, by_name, WrittenParts, no_part, then_part, WrittenTree, simply, repeats, chooses, chooses_else, WrittenBlock, braces, WrittenBody, ended, follows, declared_as, WrittenDecls, none, declares_one, declares_array, WrittenScript, script}
+use Rattle.mpd_model.specs.script.Declaration.{Declared}
+use Rattle.mpd_model.specs.grammar.Input.{slot_in}
+use Rattle.mpd_model.specs.grammar.Printable.{IsName, AreNamed, AreNew, IsPrintableWhole, IsPrintableTarget, IsPrintablePart, ArePrintable, IsPrintableTree, IsPrintableBlock, ReadScriptsArePrintable}
+use Rattle.mpd_model.specs.grammar.ReaderLaws.{ScriptsAreWritten}
+use Rattle.mpd_model.specs.script.Program.{Program}
+use Rattle.mpd_model.specs.script.Term.{Term, Target}
+use Rattle.mpd_model.specs.grammar.Tokens.{Spot, tokens}
+use Rattle.mpd_model.specs.script.Parts.{Part, parts_of}
+use Rattle.mpd_model.specs.script.Tree.{Tree, block_of}
+use Rattle.mpd_model.specs.grammar.Written.{WrittenTerm, WrittenTarget, whole, part, WrittenPart, by_mark, by_term, by_target, by_name, WrittenParts, no_part, then_part, WrittenTree, simply, repeats, chooses, chooses_else, WrittenBlock, braces, WrittenBody, ended, follows, declared_as, WrittenDecls, none, declares_one, declares_array, WrittenScript, script}
 use Rattle.mpd_laws.proofs.cutting.GoodSpots.{AllGood, good_left, good_right, tokens_good}
 use Rattle.mpd_laws.proofs.printed.PrintableTerms.{term_printable, has_name}
 use Rattle.mpd_laws.proofs.printed.ReadTrees.{IsCheap, IsCheapIndex, IsCheapPart, AreCheap, IsCheapTree, IsCheapBlock, reading_fine}

@@ -13,15 +13,15 @@ use Rattle.mpd_model.specs.declared.slot.Slot.{Slot}
 use Rattle.mpd_model.specs.declared.token.Mark.TheVariants as m
 use Rattle.mpd_model.specs.declared.token.Token.{Token}
 use Rattle.mpd_model.specs.declared.token.Token.TheVariants.{Is}
-use Rattle.mpd_model.specs.Canonical.{name_of, name_text, below}
-use Rattle.mpd_model.specs.Declaration.{Declared, variable_cells, handle_cells}
-use Rattle.mpd_model.specs.Costs.{price}
-use Rattle.mpd_model.specs.Grammar.{operator, at_level}
-use Rattle.mpd_model.specs.Input.{first_of, slot_from, slot_in}
-use Rattle.mpd_model.specs.Printable.{IsName, HasName, IsPrintableTerm, bracket_cost, term_cost, FewestBrackets}
-use Rattle.mpd_model.specs.Term.{Term, lit, own_rank, size, cell, element, op1, op2}
-use Rattle.mpd_model.specs.Tokens.{Spot}
-use Rattle.mpd_model.specs.Written.{Names, WrittenTerm, number, rank, ranks, name, entry, round, signs, higher, joins, left_level}
+use Rattle.mpd_model.specs.grammar.Canonical.{name_of, name_text, below}
+use Rattle.mpd_model.specs.script.Declaration.{Declared, variable_cells, handle_cells}
+use Rattle.mpd_model.specs.grammar.Costs.{price}
+use Rattle.mpd_model.specs.grammar.Grammar.{operator, at_level}
+use Rattle.mpd_model.specs.grammar.Input.{first_of, slot_from, slot_in}
+use Rattle.mpd_model.specs.grammar.Printable.{IsName, HasName, IsPrintableTerm, bracket_cost, term_cost, FewestBrackets}
+use Rattle.mpd_model.specs.script.Term.{Term, lit, own_rank, size, cell, element, op1, op2}
+use Rattle.mpd_model.specs.grammar.Tokens.{Spot}
+use Rattle.mpd_model.specs.grammar.Written.{Names, WrittenTerm, number, rank, ranks, name, entry, round, signs, higher, joins, left_level}
 use Rattle.mpd_laws.proofs.cutting.GoodSpots.{IsGood, AllGood, good_left, good_right}
 use Rattle.mpd_laws.proofs.sound.Prices.{cost_append, operator_costs, sign_costs}
 

@@ -14,12 +14,12 @@ use Rattle.mpd_model.specs.declared.token.Mark.{Mark}
 use Rattle.mpd_model.specs.declared.token.Mark.TheVariants as m
 use Rattle.mpd_model.specs.declared.token.Token.{Token}
 use Rattle.mpd_model.specs.declared.token.Token.TheVariants.{Number, Name, Is}
-use Rattle.mpd_model.specs.Canonical.{below}
-use Rattle.mpd_model.specs.Grammar.{atom_by, atom, bracket, index_inside, place_inside, place_of_slot, rounds, unary, chain, chain_by, level, expr, expression, turns, operator, operator_at}
-use Rattle.mpd_model.specs.Input.{Input, Parser, token, advanced, spend, expect, sees, same_kind, sought, seek, slot_in, spelling, pure, fail, refuse, max_budget}
-use Rattle.mpd_model.specs.Printable.{term_cost}
-use Rattle.mpd_model.specs.Term.{Term, lit, own_rank, size, cell, element, op1, op2}
-use Rattle.mpd_model.specs.Written.{left_level}
+use Rattle.mpd_model.specs.grammar.Canonical.{below}
+use Rattle.mpd_model.specs.grammar.Grammar.{atom_by, atom, bracket, index_inside, place_inside, place_of_slot, rounds, unary, chain, chain_by, level, expr, expression, turns, operator, operator_at}
+use Rattle.mpd_model.specs.grammar.Input.{Input, Parser, token, advanced, spend, expect, sees, same_kind, sought, seek, slot_in, spelling, pure, fail, refuse, max_budget}
+use Rattle.mpd_model.specs.grammar.Printable.{term_cost}
+use Rattle.mpd_model.specs.script.Term.{Term, lit, own_rank, size, cell, element, op1, op2}
+use Rattle.mpd_model.specs.grammar.Written.{left_level}
 use Rattle.mpd_laws.proofs.printed.PrintableTerms.{ops_fit, level_is, looser, one_more, chain_by_cost}
 use Rattle.mpd_laws.proofs.sound.Sound.{bind_ok, ok_of, ok_parts, test_ok, spend_takes, carried}
 

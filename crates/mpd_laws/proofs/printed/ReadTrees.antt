@@ -10,15 +10,15 @@ use Rattle.mpd_model.specs.declared.stmt.StatusStmt.{StatusStmt}
 use Rattle.mpd_model.specs.declared.token.Mark.TheVariants as m
 use Rattle.mpd_model.specs.declared.token.Token.{Token}
 use Rattle.mpd_model.specs.declared.token.Token.TheVariants.{Name, Is}
-use Rattle.mpd_model.specs.Costs.{blocks, blocks_in}
-use Rattle.mpd_model.specs.Grammar.{expression, begin_statement, closes, place_of_slot, index_outside, target, statement_place_by, statement_place, statement_name, source_by, source, status_by, status, fill, Form, form_of, by_form, assignment, otherwise, if_statement, while_statement, stmt_by, stmt, stmts, body, block, header, is_text, max_blocks, max_text, reading, script as whole_script}
-use Rattle.mpd_model.specs.Input.{Input, Parser, token, expect, seek, sees, after, max_budget, pure, fail, refuse, start_of, ◌>>=◌}
-use Rattle.mpd_model.specs.Printable.{term_cost}
-use Rattle.mpd_model.specs.Program.{Program}
-use Rattle.mpd_model.specs.Term.{Term, Target}
+use Rattle.mpd_model.specs.grammar.Costs.{blocks, blocks_in}
+use Rattle.mpd_model.specs.grammar.Grammar.{expression, begin_statement, closes, place_of_slot, index_outside, target, statement_place_by, statement_place, statement_name, source_by, source, status_by, status, fill, Form, form_of, by_form, assignment, otherwise, if_statement, while_statement, stmt_by, stmt, stmts, body, block, header, is_text, max_blocks, max_text, reading, script as whole_script}
+use Rattle.mpd_model.specs.grammar.Input.{Input, Parser, token, expect, seek, sees, after, max_budget, pure, fail, refuse, start_of, ◌>>=◌}
+use Rattle.mpd_model.specs.grammar.Printable.{term_cost}
+use Rattle.mpd_model.specs.script.Program.{Program}
+use Rattle.mpd_model.specs.script.Term.{Term, Target}
 use Rattle.mpd_model.specs.declared.stmt.Simple.TheVariants as st
-use Rattle.mpd_model.specs.Parts.{Part, of_mark, of_term, of_target, of_name, parts_of, Hole, mark_hole, term_hole, target_hole, name_hole, source_hole, status_hole, source_part, status_parts, Contents, filled}
-use Rattle.mpd_model.specs.Tree.{Tree, Block, simple, branch, repeat, no_more, then_more, block_of}
+use Rattle.mpd_model.specs.script.Parts.{Part, of_mark, of_term, of_target, of_name, parts_of, Hole, mark_hole, term_hole, target_hole, name_hole, source_hole, status_hole, source_part, status_parts, Contents, filled}
+use Rattle.mpd_model.specs.script.Tree.{Tree, Block, simple, branch, repeat, no_more, then_more, block_of}
 use Rattle.mpd_laws.proofs.sound.Cheap.{max_small}
 use Rattle.mpd_laws.proofs.printed.ReadCosts.{expression_cheap}
 use Rattle.mpd_laws.proofs.sound.Sound.{bind_ok, ok_parts}

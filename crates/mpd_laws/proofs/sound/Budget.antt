@@ -10,11 +10,11 @@ use Rattle.mpd_model.specs.declared.token.Mark.{Mark}
 use Rattle.mpd_model.specs.declared.token.Mark.TheVariants as m
 use Rattle.mpd_model.specs.declared.token.Token.{Token}
 use Rattle.mpd_model.specs.declared.token.Token.TheVariants.{Number, Name, Is}
-use Rattle.mpd_model.specs.Costs.{price, cost}
-use Rattle.mpd_model.specs.Grammar.{atom_by, atom, bracket, index_inside, place_inside, place_of_slot, rounds, unary, chain, chain_by, level, expr, expression, turns, operator_at}
-use Rattle.mpd_model.specs.Input.{Input, Parser, token, advanced, behind, spend, expect, sees, seek, refuse, max_budget}
-use Rattle.mpd_model.specs.Term.{Term, lit, own_rank, size, cell, element, op1, op2}
-use Rattle.mpd_model.specs.Tokens.{Spot}
+use Rattle.mpd_model.specs.grammar.Costs.{price, cost}
+use Rattle.mpd_model.specs.grammar.Grammar.{atom_by, atom, bracket, index_inside, place_inside, place_of_slot, rounds, unary, chain, chain_by, level, expr, expression, turns, operator_at}
+use Rattle.mpd_model.specs.grammar.Input.{Input, Parser, token, advanced, behind, spend, expect, sees, seek, refuse, max_budget}
+use Rattle.mpd_model.specs.script.Term.{Term, lit, own_rank, size, cell, element, op1, op2}
+use Rattle.mpd_model.specs.grammar.Tokens.{Spot}
 use Rattle.mpd_laws.proofs.sound.Prices.{cost_append, cost_behind, cost_free}
 use Rattle.mpd_laws.proofs.sound.Sound.{bind_ok, ok_of, ok_parts, spend_ok, spend_takes, expect_ok, seek_ok}
 

@@ -6,15 +6,15 @@ use Rattle.mpd_model.specs.declared.stmt.Simple.{Simple}
 use Rattle.mpd_model.specs.declared.token.Mark.{Mark}
 use Rattle.mpd_model.specs.declared.token.Mark.TheVariants as m
 use Rattle.mpd_model.specs.declared.token.Token.TheVariants.{Is}
-use Rattle.mpd_model.specs.Costs.{cost, index_cost, part_cost, dearest_part, dearest, dearest_block, dearest_body}
-use Rattle.mpd_model.specs.Declaration.{Declared}
-use Rattle.mpd_model.specs.Input.{first_line, max_budget}
-use Rattle.mpd_model.specs.Parts.{Part, of_mark, of_term, of_target, of_name, parts_of}
-use Rattle.mpd_model.specs.Term.{Term, Target}
-use Rattle.mpd_model.specs.Tokens.{Spot}
-use Rattle.mpd_model.specs.Tree.{Tree, simple, branch, repeat, no_more, block_of}
-use Rattle.mpd_model.specs.Written as written
-use Rattle.mpd_model.specs.Written.{Names, WrittenTerm, WrittenTarget, WrittenPart, WrittenParts, WrittenTree, WrittenBlock, WrittenBody}
+use Rattle.mpd_model.specs.grammar.Costs.{cost, index_cost, part_cost, dearest_part, dearest, dearest_block, dearest_body}
+use Rattle.mpd_model.specs.script.Declaration.{Declared}
+use Rattle.mpd_model.specs.grammar.Input.{first_line, max_budget}
+use Rattle.mpd_model.specs.script.Parts.{Part, of_mark, of_term, of_target, of_name, parts_of}
+use Rattle.mpd_model.specs.script.Term.{Term, Target}
+use Rattle.mpd_model.specs.grammar.Tokens.{Spot}
+use Rattle.mpd_model.specs.script.Tree.{Tree, simple, branch, repeat, no_more, block_of}
+use Rattle.mpd_model.specs.grammar.Written as written
+use Rattle.mpd_model.specs.grammar.Written.{Names, WrittenTerm, WrittenTarget, WrittenPart, WrittenParts, WrittenTree, WrittenBlock, WrittenBody}
 
 pub max_small : (a b n : ℕ) → a ≤ n → b ≤ n → max a b ≤ n
 max_small a b n h k = grind arith

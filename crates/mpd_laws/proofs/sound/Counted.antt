@@ -1,9 +1,9 @@
 -- Each statement has one line.
 use Rattle.std.proofs.Common.{◌≡◌, ℕ, List, length, length-append, arith, refl}
-use Rattle.mpd_model.specs.Declaration.{Declared}
-use Rattle.mpd_model.specs.Tokens.{Spot}
-use Rattle.mpd_model.specs.Tree.{Tree, block_of, statements, statements_in}
-use Rattle.mpd_model.specs.Written.{WrittenTree, simply, repeats, chooses, chooses_else, WrittenBlock, braces, WrittenBody, ended, follows}
+use Rattle.mpd_model.specs.script.Declaration.{Declared}
+use Rattle.mpd_model.specs.grammar.Tokens.{Spot}
+use Rattle.mpd_model.specs.script.Tree.{Tree, block_of, statements, statements_in}
+use Rattle.mpd_model.specs.grammar.Written.{WrittenTree, simply, repeats, chooses, chooses_else, WrittenBlock, braces, WrittenBody, ended, follows}
 
 mutual
   tree_lines : (ds : List Declared) (ss : List Spot) (t : Tree) (ls : List ℕ) → WrittenTree ds ss t ls → length ls ≡ statements t

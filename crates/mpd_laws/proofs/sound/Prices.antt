@@ -5,10 +5,10 @@ use Rattle.mpd_model.specs.declared.expr.UnaryOp.{UnaryOp}
 use Rattle.mpd_model.specs.declared.token.Mark.TheVariants as m
 use Rattle.mpd_model.specs.declared.token.Token.{Token}
 use Rattle.mpd_model.specs.declared.token.Token.TheVariants.{Is}
-use Rattle.mpd_model.specs.Costs.{counted, price, cost}
-use Rattle.mpd_model.specs.Grammar.{sign, operator, operator_at}
-use Rattle.mpd_model.specs.Input.{token_of, behind}
-use Rattle.mpd_model.specs.Tokens.{Spot}
+use Rattle.mpd_model.specs.grammar.Costs.{counted, price, cost}
+use Rattle.mpd_model.specs.grammar.Grammar.{sign, operator, operator_at}
+use Rattle.mpd_model.specs.grammar.Input.{token_of, behind}
+use Rattle.mpd_model.specs.grammar.Tokens.{Spot}
 
 counted_most : (o : Option (BinaryOp × ℕ)) → counted o ≤ 1
 counted_most None = omega arith

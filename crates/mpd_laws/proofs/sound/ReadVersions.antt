@@ -11,11 +11,11 @@ use Rattle.mpd_model.specs.declared.token.Mark.{Mark}
 use Rattle.mpd_model.specs.declared.token.Mark.TheVariants as m
 use Rattle.mpd_model.specs.declared.token.Token.{Token}
 use Rattle.mpd_model.specs.declared.token.Token.TheVariants.{Name, Is}
-use Rattle.mpd_model.specs.Grammar.{expression, begin_statement, closes, place_of_slot, index_outside, Form, form_of, by_form, assignment, otherwise, if_statement, while_statement, stmt_by, stmt, stmts, body, block, header, is_text, max_blocks, max_text, reading, script as whole_script}
-use Rattle.mpd_model.specs.Input.{Input, Parser, token, advanced, expect, seek, sees, after, pure, fail, refuse, start_of, ◌>>=◌}
-use Rattle.mpd_model.specs.Parts.{Part, of_mark, parts_of, mark_hole, term_hole, filled}
-use Rattle.mpd_model.specs.Program.{Program, first_version, IsTreeOf, IsBlockOf}
-use Rattle.mpd_model.specs.Tree.{Tree, simple, branch, repeat, block_of}
+use Rattle.mpd_model.specs.grammar.Grammar.{expression, begin_statement, closes, place_of_slot, index_outside, Form, form_of, by_form, assignment, otherwise, if_statement, while_statement, stmt_by, stmt, stmts, body, block, header, is_text, max_blocks, max_text, reading, script as whole_script}
+use Rattle.mpd_model.specs.grammar.Input.{Input, Parser, token, advanced, expect, seek, sees, after, pure, fail, refuse, start_of, ◌>>=◌}
+use Rattle.mpd_model.specs.script.Parts.{Part, of_mark, parts_of, mark_hole, term_hole, filled}
+use Rattle.mpd_model.specs.script.Program.{Program, first_version, IsTreeOf, IsBlockOf}
+use Rattle.mpd_model.specs.script.Tree.{Tree, simple, branch, repeat, block_of}
 use Rattle.mpd_laws.proofs.sound.Sound.{bind_ok, ok_parts, expect_ok}
 use Rattle.mpd_laws.proofs.sound.SoundParts.{expression_ok, fill_ok}
 use Rattle.mpd_laws.proofs.sound.SoundScript.{header_ok, read_ok, refused}

@@ -9,13 +9,13 @@ use Rattle.mpd_model.specs.declared.stmt.StatusStmt.{StatusStmt}
 use Rattle.mpd_model.specs.declared.token.Mark.TheVariants as m
 use Rattle.mpd_model.specs.declared.token.Token.{Token}
 use Rattle.mpd_model.specs.declared.token.Token.TheVariants.{Name, Is}
-use Rattle.mpd_model.specs.Declaration.{Declared}
-use Rattle.mpd_model.specs.Grammar.{expression, place_of_slot, index_outside, target, statement_place_by, statement_place, statement_name_by, statement_name, source_by, source, status_by, status, fill}
-use Rattle.mpd_model.specs.Input.{Input, token, advanced, expect, seek, sees, max_budget, after}
-use Rattle.mpd_model.specs.Parts.{Part, of_mark, of_term, of_target, of_name, Hole, mark_hole, term_hole, target_hole, name_hole, source_hole, status_hole, source_part, status_parts, Contents, filled}
-use Rattle.mpd_model.specs.Term.{Term, Target}
-use Rattle.mpd_model.specs.Tokens.{Spot}
-use Rattle.mpd_model.specs.Written.{Names, TermBetween}
+use Rattle.mpd_model.specs.script.Declaration.{Declared}
+use Rattle.mpd_model.specs.grammar.Grammar.{expression, place_of_slot, index_outside, target, statement_place_by, statement_place, statement_name_by, statement_name, source_by, source, status_by, status, fill}
+use Rattle.mpd_model.specs.grammar.Input.{Input, token, advanced, expect, seek, sees, max_budget, after}
+use Rattle.mpd_model.specs.script.Parts.{Part, of_mark, of_term, of_target, of_name, Hole, mark_hole, term_hole, target_hole, name_hole, source_hole, status_hole, source_part, status_parts, Contents, filled}
+use Rattle.mpd_model.specs.script.Term.{Term, Target}
+use Rattle.mpd_model.specs.grammar.Tokens.{Spot}
+use Rattle.mpd_model.specs.grammar.Written.{Names, TermBetween}
 use Rattle.mpd_laws.proofs.sound.Budget.{expression_within}
 use Rattle.mpd_laws.proofs.sound.Cheap.{CheapTerm, CheapTarget, CheapPart, CheapParts, whole, part, by_mark, by_term, by_target, by_name, no_part, then_part}
 use Rattle.mpd_laws.proofs.sound.Sound.{bind_ok, ok_parts, carried, Moves, no_move, then_moves, Step, next_step, sees_is, expect_step, NamedBy, name_step, expr_sound}

@@ -3,13 +3,13 @@ use Rattle.std.proofs.Common.{◌≡◌, ◌≢◌, ◌⊎◌, ℕ, suc, ◌+◌
 use Rattle.mpd_model.specs.declared.limits.TheConstants.{NESTING_MAX, STATEMENTS_MAX}
 use Rattle.mpd_model.specs.declared.read_fault.FaultCode.{FaultCode}
 use Rattle.mpd_model.specs.declared.read_fault.FaultCode.TheVariants.{TooDeep}
-use Rattle.mpd_model.specs.Costs.{cost, Stops, at, on, Gives}
-use Rattle.mpd_model.specs.Grammar.{expr, expression, begin_statement}
-use Rattle.mpd_model.specs.Input.{Input, Outcome, Parser, and_then, advanced, count}
-use Rattle.mpd_model.specs.ReaderLaws.{IsNotTooDeep, with_more, leaving_more}
-use Rattle.mpd_model.specs.Term.{Term}
-use Rattle.mpd_model.specs.Tokens.{Spot}
-use Rattle.mpd_model.specs.Written.{WrittenTerm}
+use Rattle.mpd_model.specs.grammar.Costs.{cost, Stops, at, on, Gives}
+use Rattle.mpd_model.specs.grammar.Grammar.{expr, expression, begin_statement}
+use Rattle.mpd_model.specs.grammar.Input.{Input, Outcome, Parser, and_then, advanced, count}
+use Rattle.mpd_model.specs.grammar.ReaderLaws.{IsNotTooDeep, with_more, leaving_more}
+use Rattle.mpd_model.specs.script.Term.{Term}
+use Rattle.mpd_model.specs.grammar.Tokens.{Spot}
+use Rattle.mpd_model.specs.grammar.Written.{WrittenTerm}
 use Rattle.mpd_laws.proofs.complete.Complete.{expr_complete}
 use Rattle.mpd_laws.proofs.complete.Enough.{expr_more}
 use Rattle.mpd_meaning.specs.FaultLaws.{IsLimit, IsRefusedByALimit}

@@ -3,12 +3,12 @@ use Rattle.std.proofs.Common.{◌≡◌, ◌⊎◌, ℕ, true, nat_lt, List, ◌
 use Rattle.std.proofs.lemmas.Bool.{cases_Bool}
 use Rattle.std.proofs.lemmas.Bool.Decides.{nat_tests}
 use Rattle.mpd_model.specs.declared.read_fault.ReadFault.{ReadFault}
-use Rattle.mpd_model.specs.Grammar.{max_text, is_text, read_of, reading}
-use Rattle.mpd_model.specs.Grammar as grammar
-use Rattle.mpd_model.specs.Input.{Outcome, start_of}
-use Rattle.mpd_model.specs.Program.{Program}
-use Rattle.mpd_model.specs.ReaderLaws.{TurnsAreEnough}
-use Rattle.mpd_model.specs.Tokens.{tokens}
+use Rattle.mpd_model.specs.grammar.Grammar.{max_text, is_text, read_of, reading}
+use Rattle.mpd_model.specs.grammar.Grammar as grammar
+use Rattle.mpd_model.specs.grammar.Input.{Outcome, start_of}
+use Rattle.mpd_model.specs.script.Program.{Program}
+use Rattle.mpd_model.specs.grammar.ReaderLaws.{TurnsAreEnough}
+use Rattle.mpd_model.specs.grammar.Tokens.{tokens}
 use Rattle.mpd_meaning.specs.FaultLaws.{IsLimit, IsRefusedByALimit, OnlyALimitRefusesWhatIsWritten, NothingWrittenBeginsWithAFault}
 use Rattle.mpd_meaning.proofs.limited.LimitedScript.{ScriptLimited, script_limited}
 use Rattle.mpd_meaning.proofs.local.Local.{has}

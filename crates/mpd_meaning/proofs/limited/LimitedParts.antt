@@ -7,13 +7,13 @@ use Rattle.mpd_model.specs.declared.slot.Slot.{Slot}
 use Rattle.mpd_model.specs.declared.stmt.StatusStmt.{StatusStmt}
 use Rattle.mpd_model.specs.declared.token.Mark.TheVariants as m
 use Rattle.mpd_model.specs.declared.token.Token.TheVariants.{Name, Is}
-use Rattle.mpd_model.specs.Costs.{Stops, on}
-use Rattle.mpd_model.specs.Grammar.{expression, place_of_slot, index_outside, target, statement_place, source, status, fill, AreClear}
-use Rattle.mpd_model.specs.Input.{Input, Parser, token, token_of, advanced, slot_in, sees, is_mark, after}
-use Rattle.mpd_model.specs.Parts.{Part, Hole, mark_hole, term_hole, target_hole, name_hole, source_hole, status_hole, source_part, status_parts, Contents, filled}
-use Rattle.mpd_model.specs.Term.{Term, Target}
-use Rattle.mpd_model.specs.Tokens.{Spot}
-use Rattle.mpd_model.specs.Written.{WrittenTerm, WrittenTarget, whole, part, WrittenPart, by_mark, by_term, by_target, by_name, WrittenParts, no_part, then_part}
+use Rattle.mpd_model.specs.grammar.Costs.{Stops, on}
+use Rattle.mpd_model.specs.grammar.Grammar.{expression, place_of_slot, index_outside, target, statement_place, source, status, fill, AreClear}
+use Rattle.mpd_model.specs.grammar.Input.{Input, Parser, token, token_of, advanced, slot_in, sees, is_mark, after}
+use Rattle.mpd_model.specs.script.Parts.{Part, Hole, mark_hole, term_hole, target_hole, name_hole, source_hole, status_hole, source_part, status_parts, Contents, filled}
+use Rattle.mpd_model.specs.script.Term.{Term, Target}
+use Rattle.mpd_model.specs.grammar.Tokens.{Spot}
+use Rattle.mpd_model.specs.grammar.Written.{WrittenTerm, WrittenTarget, whole, part, WrittenPart, by_mark, by_term, by_target, by_name, WrittenParts, no_part, then_part}
 use Rattle.mpd_laws.proofs.complete.Complete.{mark_stops}
 use Rattle.mpd_laws.proofs.complete.CompleteParts.{expect_on, whole_on, seek_on, statement_place_as, statement_name_on, mark_seen, holes_stop, no_status, term_is_other, any_on, absent_on}
 use Rattle.mpd_laws.proofs.sound.SoundParts.{status_of}

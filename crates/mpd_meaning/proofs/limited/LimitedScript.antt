@@ -4,14 +4,14 @@ use Rattle.mpd_model.specs.declared.limits.TheConstants.{BLOCKS_MAX, RANKS_MAX, 
 use Rattle.mpd_model.specs.declared.place.DeclKind.{DeclKind}
 use Rattle.mpd_model.specs.declared.token.Mark.TheVariants as m
 use Rattle.mpd_model.specs.declared.token.Token.TheVariants.{Number, Is}
-use Rattle.mpd_model.specs.Declaration.{Declared}
-use Rattle.mpd_model.specs.Costs.{on}
-use Rattle.mpd_model.specs.Grammar.{version_in, version_of, version_by, version, rank_count, ranks_of, ranks_by, ranks, array_size_at, array_size_by, array_size, single, declarator, declares, decls_from, decls, header, body, block}
-use Rattle.mpd_model.specs.Grammar as grammar
-use Rattle.mpd_model.specs.Input.{Input, Outcome, Parser, and_then, token, token_of, spelling, place, advanced, sees, is_mark, after, add, cells_fit, slot_in}
-use Rattle.mpd_model.specs.Program.{Program}
-use Rattle.mpd_model.specs.Tokens.{Spot}
-use Rattle.mpd_model.specs.Written.{WrittenDecls, none, declares_one, declares_array, declared_as, WrittenScript, script}
+use Rattle.mpd_model.specs.script.Declaration.{Declared}
+use Rattle.mpd_model.specs.grammar.Costs.{on}
+use Rattle.mpd_model.specs.grammar.Grammar.{version_in, version_of, version_by, version, rank_count, ranks_of, ranks_by, ranks, array_size_at, array_size_by, array_size, single, declarator, declares, decls_from, decls, header, body, block}
+use Rattle.mpd_model.specs.grammar.Grammar as grammar
+use Rattle.mpd_model.specs.grammar.Input.{Input, Outcome, Parser, and_then, token, token_of, spelling, place, advanced, sees, is_mark, after, add, cells_fit, slot_in}
+use Rattle.mpd_model.specs.script.Program.{Program}
+use Rattle.mpd_model.specs.grammar.Tokens.{Spot}
+use Rattle.mpd_model.specs.grammar.Written.{WrittenDecls, none, declares_one, declares_array, declared_as, WrittenScript, script}
 use Rattle.mpd_laws.proofs.complete.CompleteScript.{has, expect_has, mark_seen, fresh_has, no_size, chosen, decl_as, decls_more, decls_end, body_is_no_decl}
 use Rattle.mpd_laws.proofs.sound.SoundScript.{in_version}
 use Rattle.mpd_meaning.specs.FaultLaws.{IsRefusedByALimit}

@@ -9,15 +9,15 @@ use Rattle.mpd_model.specs.declared.token.Mark.{Mark}
 use Rattle.mpd_model.specs.declared.token.Mark.TheVariants as m
 use Rattle.mpd_model.specs.declared.token.Token.{Token}
 use Rattle.mpd_model.specs.declared.token.Token.TheVariants.{Name, Is}
-use Rattle.mpd_model.specs.Declaration.{Declared}
-use Rattle.mpd_model.specs.Costs.{Stops, on}
-use Rattle.mpd_model.specs.Grammar.{begin_statement, closes, place_of_slot, index_outside, fill, Form, form_of, behind_word, by_form, HasForm, all_formed, assignment, otherwise, if_statement, while_statement, stmt_by, stmt, stmts, body, block}
-use Rattle.mpd_model.specs.Input.{Input, Outcome, Parser, and_then, token, token_of, slot_in, is_mark, first_line, sees, count, max_statements, fail, ◌>>◌}
-use Rattle.mpd_model.specs.Parts.{Part, of_mark, parts_of, mark_hole, term_hole, Contents, filled}
-use Rattle.mpd_model.specs.Term.{Term, Target}
-use Rattle.mpd_model.specs.Tokens.{Spot}
-use Rattle.mpd_model.specs.Tree.{Tree, simple, branch, repeat, no_more, block_of}
-use Rattle.mpd_model.specs.Written.{WrittenTerm, by_mark, by_target, WrittenParts, then_part, WrittenTree, simply, repeats, chooses, chooses_else, WrittenBlock, braces, WrittenBody, ended, follows}
+use Rattle.mpd_model.specs.script.Declaration.{Declared}
+use Rattle.mpd_model.specs.grammar.Costs.{Stops, on}
+use Rattle.mpd_model.specs.grammar.Grammar.{begin_statement, closes, place_of_slot, index_outside, fill, Form, form_of, behind_word, by_form, HasForm, all_formed, assignment, otherwise, if_statement, while_statement, stmt_by, stmt, stmts, body, block}
+use Rattle.mpd_model.specs.grammar.Input.{Input, Outcome, Parser, and_then, token, token_of, slot_in, is_mark, first_line, sees, count, max_statements, fail, ◌>>◌}
+use Rattle.mpd_model.specs.script.Parts.{Part, of_mark, parts_of, mark_hole, term_hole, Contents, filled}
+use Rattle.mpd_model.specs.script.Term.{Term, Target}
+use Rattle.mpd_model.specs.grammar.Tokens.{Spot}
+use Rattle.mpd_model.specs.script.Tree.{Tree, simple, branch, repeat, no_more, block_of}
+use Rattle.mpd_model.specs.grammar.Written.{WrittenTerm, by_mark, by_target, WrittenParts, then_part, WrittenTree, simply, repeats, chooses, chooses_else, WrittenBlock, braces, WrittenBody, ended, follows}
 use Rattle.mpd_laws.proofs.complete.CompleteParts.{expect_on, seek_on, mark_seen}
 use Rattle.mpd_laws.proofs.complete.CompleteStatements.{otherwise_none, otherwise_some, assigned_tokens, assigned_line, brace_closes, block_stops, body_other, stmts_end, Opens, tree_opens}
 use Rattle.mpd_laws.proofs.complete.Turns.{some_token}

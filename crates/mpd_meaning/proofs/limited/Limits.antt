@@ -9,10 +9,10 @@ use Rattle.mpd_model.specs.declared.token.Mark.{Mark}
 use Rattle.mpd_model.specs.declared.token.Mark.TheVariants as m
 use Rattle.mpd_model.specs.declared.token.Token.{Token}
 use Rattle.mpd_model.specs.declared.token.Token.TheVariants.{Number, Name}
-use Rattle.mpd_model.specs.Declaration.{Declared, variables_in, handles_in, variable_cells, handle_cells}
-use Rattle.mpd_model.specs.Faults.{fault}
-use Rattle.mpd_model.specs.Grammar.{version_in, version_of, version_by, version, rank_count, ranks_of, ranks_by, ranks, natural, array_size_at, array_size_by, array_size, single, declarator, decl_by, decl, declares, decls_by, decls_from, decls, header}
-use Rattle.mpd_model.specs.Input.{Input, Parser, token, spelling, place, advanced, expect, sees, fresh, add, cells_fit, after}
+use Rattle.mpd_model.specs.script.Declaration.{Declared, variables_in, handles_in, variable_cells, handle_cells}
+use Rattle.mpd_model.specs.grammar.Faults.{fault}
+use Rattle.mpd_model.specs.grammar.Grammar.{version_in, version_of, version_by, version, rank_count, ranks_of, ranks_by, ranks, natural, array_size_at, array_size_by, array_size, single, declarator, decl_by, decl, declares, decls_by, decls_from, decls, header}
+use Rattle.mpd_model.specs.grammar.Input.{Input, Parser, token, spelling, place, advanced, expect, sees, fresh, add, cells_fit, after}
 use Rattle.mpd_laws.proofs.complete.Cells.{variables_in-more, handles_in-more}
 use Rattle.mpd_laws.proofs.sound.SoundScript.{in_version}
 use Rattle.mpd_laws.proofs.sound.Sound.{bind_ok, ok_parts, carried, test_ok, expect_ok}

@@ -3,14 +3,14 @@ use Rattle.std.proofs.Common.{◌≡◌, ◌↔◌, ℕ, suc, ◌+◌, ◌≤◌
 use Rattle.std.proofs.lemmas.Bool.Decides.{nat_tests}
 use Rattle.std.proofs.lemmas.List.Elements.{All-from_recursion, recursion_from_All}
 use Rattle.std.specs.List.{prefix_len, AllByRecursion}
-use Rattle.mpd_model.specs.Grammar.{header, stmt, stmts, body, block, closes, max_blocks, max_text, is_text, read_of, reading}
-use Rattle.mpd_model.specs.Grammar as grammar
-use Rattle.mpd_model.specs.Input.{Input, start_of}
-use Rattle.mpd_model.specs.Printable.{ReadScriptsArePrintable}
-use Rattle.mpd_model.specs.Program.{Program, IsBlockOf, IsLegal}
-use Rattle.mpd_model.specs.ReaderLaws.{StatementsAreOfVersion, WrittenScriptsAreRead}
-use Rattle.mpd_model.specs.Tokens.{Spot, tokens}
-use Rattle.mpd_model.specs.Tree.{Tree, block_of, statements_in}
+use Rattle.mpd_model.specs.grammar.Grammar.{header, stmt, stmts, body, block, closes, max_blocks, max_text, is_text, read_of, reading}
+use Rattle.mpd_model.specs.grammar.Grammar as grammar
+use Rattle.mpd_model.specs.grammar.Input.{Input, start_of}
+use Rattle.mpd_model.specs.grammar.Printable.{ReadScriptsArePrintable}
+use Rattle.mpd_model.specs.script.Program.{Program, IsBlockOf, IsLegal}
+use Rattle.mpd_model.specs.grammar.ReaderLaws.{StatementsAreOfVersion, WrittenScriptsAreRead}
+use Rattle.mpd_model.specs.grammar.Tokens.{Spot, tokens}
+use Rattle.mpd_model.specs.script.Tree.{Tree, block_of, statements_in}
 use Rattle.mpd_laws.proofs.cutting.Ends.{NoEnd, tokens_real}
 use Rattle.mpd_laws.proofs.sound.Sound.{bind_ok, ok_parts}
 use Rattle.mpd_laws.proofs.sound.SoundScript.{Header, header_ok, lines_counted, CheapScript, script_is, body_closed, nothing_left, read_ok, refused}

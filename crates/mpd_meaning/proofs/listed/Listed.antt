@@ -14,9 +14,9 @@ use Rattle.mpd_model.specs.declared.call.CallKind.{CallKind}
 use Rattle.mpd_model.specs.declared.call.CallKind.TheVariants.{Waitany}
 use Rattle.mpd_model.specs.declared.call.MatchSet.TheVariants.{Pair}
 use Rattle.mpd_model.specs.declared.outcome.Outcome.{Outcome}
-use Rattle.mpd_model.specs.World.{World, Board, RankWorld, call_id, calls_of, listed_calls, kind_of, kind_at, rank_numbers, call_numbers, is_message_kind, partner, is_free, eligible, complete, last_call}
-use Rattle.mpd_model.specs.Next.{local, local_at, stepped, waits, can_wake, woken, with_set, next, is_enabled, requests_of, request_handle, held_in, any_call, is_complete_some, can_wake_any, woken_any, any_wakes_of, any_wakes_in, matches_with, matches_of, matches_in, steps_of, enabled}
-use Rattle.mpd_model.specs.Outcomes.{ending, outcome}
+use Rattle.mpd_model.specs.steps.World.{World, Board, RankWorld, call_id, calls_of, listed_calls, kind_of, kind_at, rank_numbers, call_numbers, is_message_kind, partner, is_free, eligible, complete, last_call}
+use Rattle.mpd_model.specs.steps.Next.{local, local_at, stepped, waits, can_wake, woken, with_set, next, is_enabled, requests_of, request_handle, held_in, any_call, is_complete_some, can_wake_any, woken_any, any_wakes_of, any_wakes_in, matches_with, matches_of, matches_in, steps_of, enabled}
+use Rattle.mpd_model.specs.steps.Outcomes.{ending, outcome}
 use Rattle.mpd_meaning.specs.StepLaws.{HasCalls, IsEndedSo}
 use Rattle.mpd_meaning.proofs.listed.Members.{In, in_contains, contains_in, in_left, in_right, in_map, in_flat, in_range, in_filter, filter_from}
 

@@ -8,9 +8,9 @@ use Rattle.mpd_model.specs.declared.call.MatchSet.TheVariants.{Pair}
 use Rattle.mpd_model.specs.declared.call.Mode.{Mode}
 use Rattle.mpd_model.specs.declared.step.Step.{Step}
 use Rattle.mpd_model.specs.declared.step.Step.TheVariants.{Local, Match, Wake, WakeAny, Release}
-use Rattle.mpd_model.specs.Program.{Program}
-use Rattle.mpd_model.specs.World.{World, Board, RankWorld, start, start_rank, eligible}
-use Rattle.mpd_model.specs.Next.{local_at, stepped, with_issued, put_at, woken_rank, wake_writes, wake_clears, can_wake, woken_by, woken, any_writes, any_handle, can_wake_any, woken_any, going_on, can_release, released, with_set, next, fold}
+use Rattle.mpd_model.specs.script.Program.{Program}
+use Rattle.mpd_model.specs.steps.World.{World, Board, RankWorld, start, start_rank, eligible}
+use Rattle.mpd_model.specs.steps.Next.{local_at, stepped, with_issued, put_at, woken_rank, wake_writes, wake_clears, can_wake, woken_by, woken, any_writes, any_handle, can_wake_any, woken_any, going_on, can_release, released, with_set, next, fold}
 use Rattle.mpd_meaning.specs.StepLaws.{HasCalls}
 
 chosen : {A : Type 0} (b : Bool) (x y : A) → cond b (Some x) None ≡ Some y → x ≡ y

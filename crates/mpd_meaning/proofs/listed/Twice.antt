@@ -4,8 +4,8 @@ use Rattle.std.specs.List.{AllPairs, range_with_len}
 use Rattle.mpd_model.specs.declared.step.CallId.{CallId}
 use Rattle.mpd_model.specs.declared.step.Step.{Step}
 use Rattle.mpd_model.specs.declared.step.Step.TheVariants.{Local, Match, Wake, WakeAny, Release}
-use Rattle.mpd_model.specs.World.{World, Board, call_id, calls_of, kind_at, last_call, rank_numbers, call_numbers}
-use Rattle.mpd_model.specs.Next.{is_enabled, requests_of, any_wakes_of, any_wakes_in, matches_with, matches_of, matches_in, steps_of, enabled}
+use Rattle.mpd_model.specs.steps.World.{World, Board, call_id, calls_of, kind_at, last_call, rank_numbers, call_numbers}
+use Rattle.mpd_model.specs.steps.Next.{is_enabled, requests_of, any_wakes_of, any_wakes_in, matches_with, matches_of, matches_in, steps_of, enabled}
 use Rattle.mpd_meaning.proofs.listed.Members.{In, in_either, map_from, flat_from, Once, once_pairs, once_filter, once_map, once_joined, once_flat, once_range}
 
 -- what tells one step from another: its kind, and its numbers

@@ -6,10 +6,10 @@ use Rattle.mpd_model.specs.declared.read_fault.FaultCode.TheVariants.{UnknownNam
 use Rattle.mpd_model.specs.declared.read_fault.ReadFault.{ReadFault}
 use Rattle.mpd_model.specs.declared.slot.Slot.{Slot}
 use Rattle.mpd_model.specs.declared.token.Mark.{Mark}
-use Rattle.mpd_model.specs.Faults.{fault}
-use Rattle.mpd_model.specs.Grammar.{written_in}
-use Rattle.mpd_model.specs.Input.{Input, Outcome, Parser, and_then, token, place_of, spelling, place, advanced, behind, pure, fail, refusal, refuse, peek, advance, sees, after, eat, expect, max_budget, begin, spend, max_statements, count, first_line, same_kind, sought, seek, slot_in, cells_fit, add, ◌>>=◌}
-use Rattle.mpd_model.specs.Tokens.{Spot}
+use Rattle.mpd_model.specs.grammar.Faults.{fault}
+use Rattle.mpd_model.specs.grammar.Grammar.{written_in}
+use Rattle.mpd_model.specs.grammar.Input.{Input, Outcome, Parser, and_then, token, place_of, spelling, place, advanced, behind, pure, fail, refusal, refuse, peek, advance, sees, after, eat, expect, max_budget, begin, spend, max_statements, count, first_line, same_kind, sought, seek, slot_in, cells_fit, add, ◌>>=◌}
+use Rattle.mpd_model.specs.grammar.Tokens.{Spot}
 
 -- ---- two inputs that are alike up to a place
 

@@ -1,8 +1,8 @@
 -- A text that begins with a fault writes no script.
 use Rattle.std.proofs.Common.{◌≡◌, Result, Ok, Err}
 use Rattle.mpd_model.specs.declared.read_fault.ReadFault.{ReadFault}
-use Rattle.mpd_model.specs.Grammar.{reading}
-use Rattle.mpd_model.specs.Program.{Program}
+use Rattle.mpd_model.specs.grammar.Grammar.{reading}
+use Rattle.mpd_model.specs.script.Program.{Program}
 use Rattle.mpd_meaning.specs.FaultLaws.{TokensUpToItDecideAFault, NoScriptBeginsWithAFault}
 use Rattle.mpd_meaning.specs.ReadingLaws.{ReadIsWrittenWithin}
 

@@ -6,12 +6,12 @@ use Rattle.std.specs.List.{prefix_len, AllByRecursion}
 use Rattle.mpd_model.specs.declared.read_fault.FaultCode.TheVariants.{TooMany}
 use Rattle.mpd_model.specs.declared.read_fault.ReadFault.{ReadFault}
 use Rattle.mpd_model.specs.declared.token.Class.TheVariants as class
-use Rattle.mpd_model.specs.Grammar.{max_text, is_text, read_of, reading}
-use Rattle.mpd_model.specs.Grammar as grammar
-use Rattle.mpd_model.specs.Input.{Input, Outcome, start_of}
-use Rattle.mpd_model.specs.Program.{Program}
-use Rattle.mpd_model.specs.ReaderLaws.{TurnsAreEnough}
-use Rattle.mpd_model.specs.Tokens.{Spot, spot, tokens, tokens_after, front, run_len, is_blank, feeds}
+use Rattle.mpd_model.specs.grammar.Grammar.{max_text, is_text, read_of, reading}
+use Rattle.mpd_model.specs.grammar.Grammar as grammar
+use Rattle.mpd_model.specs.grammar.Input.{Input, Outcome, start_of}
+use Rattle.mpd_model.specs.script.Program.{Program}
+use Rattle.mpd_model.specs.grammar.ReaderLaws.{TurnsAreEnough}
+use Rattle.mpd_model.specs.grammar.Tokens.{Spot, spot, tokens, tokens_after, front, run_len, is_blank, feeds}
 use Rattle.mpd_meaning.specs.FaultLaws.{IsText, TokensUpToItDecideAFault}
 use Rattle.mpd_meaning.specs.TokenLaws.{IsPlacedIn}
 use Rattle.mpd_meaning.proofs.local.Local.{has, AllBehind, EndsLate, IsLate, Tied}

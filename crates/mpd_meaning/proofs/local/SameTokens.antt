@@ -7,8 +7,8 @@ use Rattle.std.specs.List.{prefix_len}
 use Rattle.std.specs.Prelude.{slice_index}
 use Rattle.mpd_model.specs.declared.token.Class.TheVariants as class
 use Rattle.mpd_model.specs.declared.token.Token.{Token}
-use Rattle.mpd_model.specs.Tokens.{Spot, spot, tokens, tokens_after, front, sign, word, number, run_len, is_in, is_in_comment, begins_name, is_blank, feeds}
-use Rattle.mpd_model.specs.ReaderLaws.{TurnsAreEnough}
+use Rattle.mpd_model.specs.grammar.Tokens.{Spot, spot, tokens, tokens_after, front, sign, word, number, run_len, is_in, is_in_comment, begins_name, is_blank, feeds}
+use Rattle.mpd_model.specs.grammar.ReaderLaws.{TurnsAreEnough}
 use Rattle.mpd_meaning.specs.FaultLaws.{TextUpToItDecidesAFault}
 use Rattle.mpd_meaning.proofs.listed.Members.{In, in_contains}
 use Rattle.mpd_meaning.proofs.local.SameFault.{AllFrom, lower, each_case, same_fault}

@@ -13,7 +13,7 @@ use Rattle.mpd_model.specs.declared.token.Class.TheVariants as class
 use Rattle.mpd_model.specs.declared.token.Mark.TheVariants as m
 use Rattle.mpd_model.specs.declared.token.Token.{Token}
 use Rattle.mpd_model.specs.declared.token.Token.TheVariants.{Is}
-use Rattle.mpd_model.specs.Tokens.{Spot, spot, tokens, tokens_after, front, sign, word, number, run_len, begins_name, is_in_name, is_in_comment, is_blank, feeds}
+use Rattle.mpd_model.specs.grammar.Tokens.{Spot, spot, tokens, tokens_after, front, sign, word, number, run_len, begins_name, is_in_name, is_in_comment, is_blank, feeds}
 use Rattle.mpd_meaning.specs.TokenLaws.{IsPlacedIn}
 
 -- ---- bytes without a line feed

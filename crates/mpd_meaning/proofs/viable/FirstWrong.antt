@@ -1,7 +1,7 @@
 -- A fault of no limit is at the first token that can't be right.
 use Rattle.std.proofs.Common.{◌≡◌, ◌≤◌, [], ◌∷◌, ap, sym, subst, ◌∙◌, append_assoc, arith}
-use Rattle.mpd_model.specs.Tokens.{tokens}
-use Rattle.mpd_model.specs.Written.{WrittenScript}
+use Rattle.mpd_model.specs.grammar.Tokens.{tokens}
+use Rattle.mpd_model.specs.grammar.Written.{WrittenScript}
 use Rattle.mpd_meaning.specs.FaultLaws.{NothingWrittenBeginsWithAFault}
 use Rattle.mpd_meaning.specs.PrefixLaws.{CanBeCompleted, HasWhatItNames, before, WhatStandsBeforeAFaultCanBeCompleted, AFaultIsAtTheFirstWrongToken}
 use Rattle.mpd_meaning.proofs.viable.ViableScript.{cut_text}

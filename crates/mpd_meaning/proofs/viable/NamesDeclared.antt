@@ -13,15 +13,15 @@ use Rattle.mpd_model.specs.declared.stmt.Simple.TheVariants as st
 use Rattle.mpd_model.specs.declared.token.Mark.TheVariants as m
 use Rattle.mpd_model.specs.declared.token.Token.{Token}
 use Rattle.mpd_model.specs.declared.token.Token.TheVariants.{Number, Name, Is}
-use Rattle.mpd_model.specs.Declaration.{Declared, variable_cells, handle_cells}
-use Rattle.mpd_model.specs.Grammar.{declares, operator_at, sign}
-use Rattle.mpd_model.specs.Input.{slot_from, slot_in, same_kind}
-use Rattle.mpd_model.specs.Parts.{Part, of_mark, of_term, of_target, of_name, source_part, status_parts, recv_parts, parts_of}
-use Rattle.mpd_model.specs.Program.{Program}
-use Rattle.mpd_model.specs.Term.{Term, Target}
-use Rattle.mpd_model.specs.Tokens.{Spot}
-use Rattle.mpd_model.specs.Tree.{Tree}
-use Rattle.mpd_model.specs.Written.{WrittenTerm, number, rank, ranks, name, entry, round, signs, higher, joins, WrittenTarget, whole, part, by_mark, by_term, by_target, by_name, WrittenParts, no_part, then_part, WrittenTree, simply, repeats, chooses, chooses_else, WrittenBlock, braces, WrittenBody, ended, follows, WrittenDecls, none, declares_one, declares_array, declared_as, WrittenScript, script}
+use Rattle.mpd_model.specs.script.Declaration.{Declared, variable_cells, handle_cells}
+use Rattle.mpd_model.specs.grammar.Grammar.{declares, operator_at, sign}
+use Rattle.mpd_model.specs.grammar.Input.{slot_from, slot_in, same_kind}
+use Rattle.mpd_model.specs.script.Parts.{Part, of_mark, of_term, of_target, of_name, source_part, status_parts, recv_parts, parts_of}
+use Rattle.mpd_model.specs.script.Program.{Program}
+use Rattle.mpd_model.specs.script.Term.{Term, Target}
+use Rattle.mpd_model.specs.grammar.Tokens.{Spot}
+use Rattle.mpd_model.specs.script.Tree.{Tree}
+use Rattle.mpd_model.specs.grammar.Written.{WrittenTerm, number, rank, ranks, name, entry, round, signs, higher, joins, WrittenTarget, whole, part, by_mark, by_term, by_target, by_name, WrittenParts, no_part, then_part, WrittenTree, simply, repeats, chooses, chooses_else, WrittenBlock, braces, WrittenBody, ended, follows, WrittenDecls, none, declares_one, declares_array, declared_as, WrittenScript, script}
 use Rattle.mpd_meaning.specs.PrefixLaws.{CanBeCompleted, names, announces, some_names, some_declares, HasWhatItNames}
 use Rattle.mpd_meaning.proofs.viable.ViableScript.{or_first, or_left, or_right, or_second, Known}
 

@@ -9,11 +9,11 @@ use Rattle.mpd_model.specs.declared.slot.Slot.{Slot}
 use Rattle.mpd_model.specs.declared.token.Mark.{Mark}
 use Rattle.mpd_model.specs.declared.token.Token.{Token}
 use Rattle.mpd_model.specs.declared.token.Token.TheVariants.{Is, End}
-use Rattle.mpd_model.specs.Declaration.{Declared}
-use Rattle.mpd_model.specs.Faults.{fault}
-use Rattle.mpd_model.specs.Grammar.{declares}
-use Rattle.mpd_model.specs.Input.{Input, Outcome, Parser, and_then, token, place_of, spelling, place, advanced, behind, fail, refusal, sees, expect, spend, same_kind, sought, seek, slot_in, ◌>>=◌}
-use Rattle.mpd_model.specs.Tokens.{Spot}
+use Rattle.mpd_model.specs.script.Declaration.{Declared}
+use Rattle.mpd_model.specs.grammar.Faults.{fault}
+use Rattle.mpd_model.specs.grammar.Grammar.{declares}
+use Rattle.mpd_model.specs.grammar.Input.{Input, Outcome, Parser, and_then, token, place_of, spelling, place, advanced, behind, fail, refusal, sees, expect, spend, same_kind, sought, seek, slot_in, ◌>>=◌}
+use Rattle.mpd_model.specs.grammar.Tokens.{Spot}
 use Rattle.mpd_laws.proofs.sound.Sound.{first_spot, sees_is}
 
 -- ---- languages: sets of lists of tokens

@@ -12,13 +12,13 @@ use Rattle.mpd_model.specs.declared.slot.Slot.{Slot}
 use Rattle.mpd_model.specs.declared.token.Mark.TheVariants as m
 use Rattle.mpd_model.specs.declared.token.Token.{Token}
 use Rattle.mpd_model.specs.declared.token.Token.TheVariants.{Number, Name, Is, End}
-use Rattle.mpd_model.specs.Declaration.{Declared, variable_cells, handle_cells}
-use Rattle.mpd_model.specs.Faults.{fault}
-use Rattle.mpd_model.specs.Grammar.{version_in, version_of, version_by, version, rank_count, ranks_of, ranks_by, ranks, array_size_by, array_size, single, declarator, decl_by, decl, declares, decls_by, decls_from, decls, header}
-use Rattle.mpd_model.specs.Input.{Input, Outcome, Parser, and_then, token, spelling, place, place_of, advanced, behind, fail, refusal, advance, sees, after, expect, slot_from, slot_in, is_known, fresh, cells_fit, add, ◌>>=◌}
-use Rattle.mpd_model.specs.Program.{Program}
-use Rattle.mpd_model.specs.Tokens.{Spot}
-use Rattle.mpd_model.specs.Written.{WrittenDecls, none, declares_one, declares_array, declared_as, ended, WrittenScript, script}
+use Rattle.mpd_model.specs.script.Declaration.{Declared, variable_cells, handle_cells}
+use Rattle.mpd_model.specs.grammar.Faults.{fault}
+use Rattle.mpd_model.specs.grammar.Grammar.{version_in, version_of, version_by, version, rank_count, ranks_of, ranks_by, ranks, array_size_by, array_size, single, declarator, decl_by, decl, declares, decls_by, decls_from, decls, header}
+use Rattle.mpd_model.specs.grammar.Input.{Input, Outcome, Parser, and_then, token, spelling, place, place_of, advanced, behind, fail, refusal, advance, sees, after, expect, slot_from, slot_in, is_known, fresh, cells_fit, add, ◌>>=◌}
+use Rattle.mpd_model.specs.script.Program.{Program}
+use Rattle.mpd_model.specs.grammar.Tokens.{Spot}
+use Rattle.mpd_model.specs.grammar.Written.{WrittenDecls, none, declares_one, declares_array, declared_as, ended, WrittenScript, script}
 use Rattle.mpd_laws.proofs.sound.SoundScript.{in_version, decl_ok}
 use Rattle.mpd_laws.proofs.sound.Sound.{first_spot, sees_is}
 use Rattle.mpd_meaning.proofs.viable.Viable.{One, one, HasToken, Default, Goes, goes_behind, Stops, spot_of, stuck_here, refused_here, next_read, one_read, expect_viable}

@@ -11,14 +11,14 @@ use Rattle.mpd_model.specs.declared.slot.Slot.{Slot}
 use Rattle.mpd_model.specs.declared.token.Mark.TheVariants as m
 use Rattle.mpd_model.specs.declared.token.Token.{Token}
 use Rattle.mpd_model.specs.declared.token.Token.TheVariants.{Name, Is}
-use Rattle.mpd_model.specs.Declaration.{Declared, variable_cells, handle_cells}
-use Rattle.mpd_model.specs.Grammar.{declares, place_of_slot, body, block, max_blocks, header, with_body, read_of, reading}
-use Rattle.mpd_model.specs.Grammar as grammar
-use Rattle.mpd_model.specs.Input.{Input, Outcome, and_then, start_of, place_of, slot_from, slot_in, first_of, ◌>>=◌}
-use Rattle.mpd_model.specs.Program.{Program}
-use Rattle.mpd_model.specs.Tokens.{Spot, tokens}
-use Rattle.mpd_model.specs.Tree.{Tree}
-use Rattle.mpd_model.specs.Written.{whole, part, WrittenDecls, none, declares_one, declares_array, declared_as, script}
+use Rattle.mpd_model.specs.script.Declaration.{Declared, variable_cells, handle_cells}
+use Rattle.mpd_model.specs.grammar.Grammar.{declares, place_of_slot, body, block, max_blocks, header, with_body, read_of, reading}
+use Rattle.mpd_model.specs.grammar.Grammar as grammar
+use Rattle.mpd_model.specs.grammar.Input.{Input, Outcome, and_then, start_of, place_of, slot_from, slot_in, first_of, ◌>>=◌}
+use Rattle.mpd_model.specs.script.Program.{Program}
+use Rattle.mpd_model.specs.grammar.Tokens.{Spot, tokens}
+use Rattle.mpd_model.specs.script.Tree.{Tree}
+use Rattle.mpd_model.specs.grammar.Written.{whole, part, WrittenDecls, none, declares_one, declares_array, declared_as, script}
 use Rattle.mpd_laws.proofs.sound.SoundScript.{Header, header_ok}
 use Rattle.mpd_meaning.specs.PrefixLaws.{CanBeCompleted, names, announces, some_names, some_declares, HasWhatItNames, before, WhatStandsBeforeAFaultCanBeCompleted}
 use Rattle.mpd_meaning.specs.TokenLaws.{IsPlacedIn}

@@ -14,12 +14,12 @@ use Rattle.mpd_model.specs.declared.token.Mark.{Mark}
 use Rattle.mpd_model.specs.declared.token.Mark.TheVariants as m
 use Rattle.mpd_model.specs.declared.token.Token.{Token}
 use Rattle.mpd_model.specs.declared.token.Token.TheVariants.{Number, Name, Is, End}
-use Rattle.mpd_model.specs.Declaration.{Declared}
-use Rattle.mpd_model.specs.Grammar.{declares, operator_at, sign, turns, chain_by, chain, place_of_slot, bracket, index_inside, place_inside, rounds, unary, atom_by, atom, level, expr, expression}
-use Rattle.mpd_model.specs.Input.{Input, Outcome, Parser, token, spelling, advanced, slot_in, sees, pure, refusal, spend, expect, max_budget, ◌>>=◌}
-use Rattle.mpd_model.specs.Term.{Term, lit, own_rank, size, cell, element, op1, op2}
-use Rattle.mpd_model.specs.Tokens.{Spot}
-use Rattle.mpd_model.specs.Written.{Names, WrittenTerm, number, rank, ranks, name, entry, round, signs, higher, joins, left_level}
+use Rattle.mpd_model.specs.script.Declaration.{Declared}
+use Rattle.mpd_model.specs.grammar.Grammar.{declares, operator_at, sign, turns, chain_by, chain, place_of_slot, bracket, index_inside, place_inside, rounds, unary, atom_by, atom, level, expr, expression}
+use Rattle.mpd_model.specs.grammar.Input.{Input, Outcome, Parser, token, spelling, advanced, slot_in, sees, pure, refusal, spend, expect, max_budget, ◌>>=◌}
+use Rattle.mpd_model.specs.script.Term.{Term, lit, own_rank, size, cell, element, op1, op2}
+use Rattle.mpd_model.specs.grammar.Tokens.{Spot}
+use Rattle.mpd_model.specs.grammar.Written.{Names, WrittenTerm, number, rank, ranks, name, entry, round, signs, higher, joins, left_level}
 use Rattle.mpd_laws.proofs.sound.Sound.{sees_is}
 use Rattle.mpd_meaning.proofs.viable.Viable.{One, one, Seq, seq, HasToken, Default, both_default, Reads, Stops, IsViable, HoldsBehind, behind_spot, stops_then, then_viable, stops_as, in_larger, stuck_here, refused_here, nothing_read, next_read, some_token, mark_default, expect_viable, spend_stops, Found, seek_stops}
 

@@ -9,14 +9,14 @@ use Rattle.mpd_model.specs.declared.token.Mark.{Mark}
 use Rattle.mpd_model.specs.declared.token.Mark.TheVariants as m
 use Rattle.mpd_model.specs.declared.token.Token.{Token}
 use Rattle.mpd_model.specs.declared.token.Token.TheVariants.{Name, Is, End}
-use Rattle.mpd_model.specs.Declaration.{Declared}
-use Rattle.mpd_model.specs.Faults.{fault}
-use Rattle.mpd_model.specs.Grammar.{declares, place_of_slot, expression, index_outside, begin_statement, Form, form_of, behind_word, by_form, assignment, otherwise, if_statement, while_statement, closes, stmt_by, stmt, stmts, body, block}
-use Rattle.mpd_model.specs.Input.{Input, Parser, and_then, token, spelling, place, advanced, max_statements, count, slot_in, sees, after, expect, pure, fail, refuse, seek, ◌>>=◌, ◌>>◌}
-use Rattle.mpd_model.specs.Parts.{of_mark, mark_hole, term_hole, filled}
-use Rattle.mpd_model.specs.Tokens.{Spot}
-use Rattle.mpd_model.specs.Tree.{Tree, simple, branch, repeat, no_more, block_of}
-use Rattle.mpd_model.specs.Written.{WrittenParts, no_part, then_part, by_mark, by_target, WrittenTree, simply, repeats, chooses, chooses_else, WrittenBlock, braces, WrittenBody, ended, follows}
+use Rattle.mpd_model.specs.script.Declaration.{Declared}
+use Rattle.mpd_model.specs.grammar.Faults.{fault}
+use Rattle.mpd_model.specs.grammar.Grammar.{declares, place_of_slot, expression, index_outside, begin_statement, Form, form_of, behind_word, by_form, assignment, otherwise, if_statement, while_statement, closes, stmt_by, stmt, stmts, body, block}
+use Rattle.mpd_model.specs.grammar.Input.{Input, Parser, and_then, token, spelling, place, advanced, max_statements, count, slot_in, sees, after, expect, pure, fail, refuse, seek, ◌>>=◌, ◌>>◌}
+use Rattle.mpd_model.specs.script.Parts.{of_mark, mark_hole, term_hole, filled}
+use Rattle.mpd_model.specs.grammar.Tokens.{Spot}
+use Rattle.mpd_model.specs.script.Tree.{Tree, simple, branch, repeat, no_more, block_of}
+use Rattle.mpd_model.specs.grammar.Written.{WrittenParts, no_part, then_part, by_mark, by_target, WrittenTree, simply, repeats, chooses, chooses_else, WrittenBlock, braces, WrittenBody, ended, follows}
 use Rattle.mpd_meaning.specs.PrefixLaws.{names}
 use Rattle.mpd_laws.proofs.sound.Sound.{sees_is}
 use Rattle.mpd_meaning.proofs.viable.Viable.{One, one, Seq, seq, HasToken, Default, both_default, spot_of, Stops, IsViable, HoldsBehind, behind_spot, then_viable, stops_as, in_larger, under, stuck_here, refused_here, nothing_read, mark_default, expect_viable, seek_stops}

@@ -8,13 +8,13 @@ use Rattle.mpd_model.specs.declared.step.Step.{Step}
 use Rattle.mpd_model.specs.declared.step.Step.TheVariants.{Local, Match, Wake, WakeAny}
 use Rattle.mpd_model.specs.declared.decision.Decision.TheVariants.{Forced, Choice}
 use Rattle.mpd_model.specs.declared.call.MatchSet.TheVariants.{Woke}
-use Rattle.mpd_model.specs.Term.{Term, own_rank, op2}
-use Rattle.mpd_model.specs.Tree.{no_more, then_more}
-use Rattle.mpd_model.specs.Program.{Program}
-use Rattle.mpd_model.specs.World.{RankWorld, World, call_id, calls_of, last_call}
-use Rattle.mpd_model.specs.Next.{env_of, issued, waitany_issue, stepped, next, fold, enabled}
-use Rattle.mpd_model.specs.Decisions.{decision}
-use Rattle.mpd_model.specs.Texts.{call_text}
+use Rattle.mpd_model.specs.script.Term.{Term, own_rank, op2}
+use Rattle.mpd_model.specs.script.Tree.{no_more, then_more}
+use Rattle.mpd_model.specs.script.Program.{Program}
+use Rattle.mpd_model.specs.steps.World.{RankWorld, World, call_id, calls_of, last_call}
+use Rattle.mpd_model.specs.steps.Next.{env_of, issued, waitany_issue, stepped, next, fold, enabled}
+use Rattle.mpd_model.specs.runs.Decisions.{decision}
+use Rattle.mpd_model.specs.texts.Texts.{call_text}
 use Rattle.mpd_rows.specs.worlds.Statements.{assign, send, isend, irecv, irecv_any}
 use Rattle.mpd_rows.specs.calls.RequestRows.{n, whole, part, variable, request, script, two_parts, after}
 

@@ -15,14 +15,14 @@ use Rattle.mpd_model.specs.declared.call.MatchSet.{MatchSet}
 use Rattle.mpd_model.specs.declared.call.MatchSet.TheVariants.{Pair, Woke}
 use Rattle.mpd_model.specs.declared.call.MatchSet.TheVariants as set
 use Rattle.mpd_model.specs.declared.outcome.Outcome.TheVariants as o
-use Rattle.mpd_model.specs.Tree.{branch, no_more, then_more}
-use Rattle.mpd_model.specs.Program.{Program}
-use Rattle.mpd_model.specs.Term.{own_rank, op2}
-use Rattle.mpd_model.specs.World.{Board, RankWorld, call_id, start_board, is_free, fitting, message_of, complete}
-use Rattle.mpd_model.specs.Next.{next, enabled, writes_of, cleared_by}
-use Rattle.mpd_model.specs.Order.{matches_first, waits_for, blocks_rank, before, names, is_exit}
-use Rattle.mpd_model.specs.Outcomes.{outcome}
-use Rattle.mpd_model.specs.Why.{why}
+use Rattle.mpd_model.specs.script.Tree.{branch, no_more, then_more}
+use Rattle.mpd_model.specs.script.Program.{Program}
+use Rattle.mpd_model.specs.script.Term.{own_rank, op2}
+use Rattle.mpd_model.specs.steps.World.{Board, RankWorld, call_id, start_board, is_free, fitting, message_of, complete}
+use Rattle.mpd_model.specs.steps.Next.{next, enabled, writes_of, cleared_by}
+use Rattle.mpd_model.specs.steps.Order.{matches_first, waits_for, blocks_rank, before, names, is_exit}
+use Rattle.mpd_model.specs.steps.Outcomes.{outcome}
+use Rattle.mpd_model.specs.steps.Why.{why}
 use Rattle.mpd_rows.specs.worlds.Statements.{check, recv, isend, wait, barrier}
 use Rattle.mpd_rows.specs.calls.RequestRows.{n, whole, x, does, blocks, variable, request, script, two_parts, trace, after}
 

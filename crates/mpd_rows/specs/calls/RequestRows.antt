@@ -16,16 +16,16 @@ use Rattle.mpd_model.specs.declared.call.Trap.{Trap}
 use Rattle.mpd_model.specs.declared.call.Trap.TheVariants.{Overflow, ZeroDivisor, BadRank, BadTag, BadIndex}
 use Rattle.mpd_model.specs.declared.call.Activity.TheVariants.{Running, Blocked, Trapped}
 use Rattle.mpd_model.specs.declared.outcome.Outcome.TheVariants as o
-use Rattle.mpd_model.specs.Declaration.{Declared}
-use Rattle.mpd_model.specs.Term.{Term, lit, own_rank, size, cell, element, op1, op2, Target}
-use Rattle.mpd_model.specs.Tree.{Tree, branch, no_more, then_more, Block}
-use Rattle.mpd_model.specs.Program.{Program}
-use Rattle.mpd_model.specs.World.{RankWorld, World, call_id, start, pending, posted, is_free, complete}
-use Rattle.mpd_model.specs.Next.{next, fold, enabled}
-use Rattle.mpd_model.specs.Outcomes.{outcome}
-use Rattle.mpd_model.specs.Trail.{Trail, Standing, opening, applied, taken_back, first_standing, world_of}
-use Rattle.mpd_model.specs.Lines.{lines_of}
-use Rattle.mpd_model.specs.Answers.{line_answer}
+use Rattle.mpd_model.specs.script.Declaration.{Declared}
+use Rattle.mpd_model.specs.script.Term.{Term, lit, own_rank, size, cell, element, op1, op2, Target}
+use Rattle.mpd_model.specs.script.Tree.{Tree, branch, no_more, then_more, Block}
+use Rattle.mpd_model.specs.script.Program.{Program}
+use Rattle.mpd_model.specs.steps.World.{RankWorld, World, call_id, start, pending, posted, is_free, complete}
+use Rattle.mpd_model.specs.steps.Next.{next, fold, enabled}
+use Rattle.mpd_model.specs.steps.Outcomes.{outcome}
+use Rattle.mpd_model.specs.runs.Trail.{Trail, Standing, opening, applied, taken_back, first_standing, world_of}
+use Rattle.mpd_model.specs.texts.Lines.{lines_of}
+use Rattle.mpd_model.specs.texts.Answers.{line_answer}
 use Rattle.mpd_rows.specs.worlds.Statements.{print, send, recv, isend, irecv, wait}
 
 abbrev pub n : ℕ → Term

@@ -13,14 +13,14 @@ use Rattle.mpd_model.specs.declared.call.Mode.TheVariants.{Rendezvous, Buffered}
 use Rattle.mpd_model.specs.declared.call.MatchSet.{MatchSet}
 use Rattle.mpd_model.specs.declared.call.MatchSet.TheVariants.{Pair}
 use Rattle.mpd_model.specs.declared.call.Trap.TheVariants.{ZeroDivisor, BadRank, BadTag, BadIndex}
-use Rattle.mpd_model.specs.Declaration.{Declared}
-use Rattle.mpd_model.specs.Tree.{no_more, then_more}
-use Rattle.mpd_model.specs.Program.{Program}
-use Rattle.mpd_model.specs.Term.{Term, own_rank, cell, element, op2}
-use Rattle.mpd_model.specs.Trail.{opening}
-use Rattle.mpd_model.specs.Lines.{lines_of}
-use Rattle.mpd_model.specs.World.{Board, start_board, call_id, complete, start}
-use Rattle.mpd_model.specs.Next.{entered, enabled, fold}
+use Rattle.mpd_model.specs.script.Declaration.{Declared}
+use Rattle.mpd_model.specs.script.Tree.{no_more, then_more}
+use Rattle.mpd_model.specs.script.Program.{Program}
+use Rattle.mpd_model.specs.script.Term.{Term, own_rank, cell, element, op2}
+use Rattle.mpd_model.specs.runs.Trail.{opening}
+use Rattle.mpd_model.specs.texts.Lines.{lines_of}
+use Rattle.mpd_model.specs.steps.World.{Board, start_board, call_id, complete, start}
+use Rattle.mpd_model.specs.steps.Next.{entered, enabled, fold}
 use Rattle.mpd_rows.specs.worlds.Statements.{send, ssend, recv, isend, issend, wait}
 use Rattle.mpd_rows.specs.calls.RequestRows.{n, m, over_zero, whole, part, x, a, h, g, none, Traps, found, wanted, does, issues, blocks, variable, request, script, two_parts, told, trace}
 

@@ -10,16 +10,16 @@ use Rattle.mpd_model.specs.declared.call.Mode.{Mode}
 use Rattle.mpd_model.specs.declared.call.Mode.TheVariants.{Rendezvous, Buffered, Slots}
 use Rattle.mpd_model.specs.declared.outcome.Outcome.{Outcome}
 use Rattle.mpd_model.specs.declared.outcome.Outcome.TheVariants as o
-use Rattle.mpd_model.specs.Declaration.{Declared}
-use Rattle.mpd_model.specs.Lines.{lines_of}
-use Rattle.mpd_model.specs.Modes.{mode_of}
-use Rattle.mpd_model.specs.Outcomes.{outcome}
-use Rattle.mpd_model.specs.Program.{Program}
-use Rattle.mpd_model.specs.Term.{Term, own_rank, op2}
-use Rattle.mpd_model.specs.Trail.{opening}
-use Rattle.mpd_model.specs.Tree.{Tree, no_more, then_more}
-use Rattle.mpd_model.specs.World.{World, call_id, kind_at, is_buffered, is_limited, slots_used, start}
-use Rattle.mpd_model.specs.Next.{buffers_one, is_enabled, fold}
+use Rattle.mpd_model.specs.script.Declaration.{Declared}
+use Rattle.mpd_model.specs.texts.Lines.{lines_of}
+use Rattle.mpd_model.specs.texts.Modes.{mode_of}
+use Rattle.mpd_model.specs.steps.Outcomes.{outcome}
+use Rattle.mpd_model.specs.script.Program.{Program}
+use Rattle.mpd_model.specs.script.Term.{Term, own_rank, op2}
+use Rattle.mpd_model.specs.runs.Trail.{opening}
+use Rattle.mpd_model.specs.script.Tree.{Tree, no_more, then_more}
+use Rattle.mpd_model.specs.steps.World.{World, call_id, kind_at, is_buffered, is_limited, slots_used, start}
+use Rattle.mpd_model.specs.steps.Next.{buffers_one, is_enabled, fold}
 use Rattle.mpd_rows.specs.worlds.Statements.{send, ssend, recv, isend, issend, irecv, wait}
 use Rattle.mpd_rows.specs.calls.RequestRows.{n, whole, part, x, variable, request, script, two_parts, told}
 

@@ -8,12 +8,12 @@ use Rattle.mpd_model.specs.declared.step.Step.{Step}
 use Rattle.mpd_model.specs.declared.step.Step.TheVariants.{Local, Match, Wake}
 use Rattle.mpd_model.specs.declared.call.CallKind.TheVariants.{Recv}
 use Rattle.mpd_model.specs.declared.call.Trap.TheVariants.{BadRank, BadTag, BadIndex, ZeroDivisor}
-use Rattle.mpd_model.specs.Declaration.{Declared}
-use Rattle.mpd_model.specs.Term.{Term, own_rank, cell, op2, Target}
-use Rattle.mpd_model.specs.Tree.{no_more, then_more}
-use Rattle.mpd_model.specs.Program.{Program}
-use Rattle.mpd_model.specs.World.{call_id}
-use Rattle.mpd_model.specs.Next.{enabled}
+use Rattle.mpd_model.specs.script.Declaration.{Declared}
+use Rattle.mpd_model.specs.script.Term.{Term, own_rank, cell, op2, Target}
+use Rattle.mpd_model.specs.script.Tree.{no_more, then_more}
+use Rattle.mpd_model.specs.script.Program.{Program}
+use Rattle.mpd_model.specs.steps.World.{call_id}
+use Rattle.mpd_model.specs.steps.Next.{enabled}
 use Rattle.mpd_rows.specs.worlds.Statements.{send, isend, assign, wait, recv_any, irecv_any}
 use Rattle.mpd_rows.specs.calls.RequestRows.{n, m, over_zero, whole, part, x, a, h, g, none, Traps, found, wanted, does, issues, blocks, variable, request, script, two_parts, trace, after, Cells, cells}
 

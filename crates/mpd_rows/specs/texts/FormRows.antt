@@ -6,14 +6,14 @@ use Rattle.mpd_model.specs.declared.place.Place.{Place}
 use Rattle.mpd_model.specs.declared.read_fault.FaultCode.TheVariants as f
 use Rattle.mpd_model.specs.declared.read_fault.ReadFault.{ReadFault}
 use Rattle.mpd_model.specs.declared.token.Mark.TheVariants as m
-use Rattle.mpd_model.specs.Canonical.{mark_text, parts_text}
-use Rattle.mpd_model.specs.Declaration.{Declared}
-use Rattle.mpd_model.specs.Faults.{fault}
-use Rattle.mpd_model.specs.Grammar.{chain, bracket, place_inside, rounds, unary, atom, level, expr, target, statement_place, statement_name, source, status, fill, form_of}
-use Rattle.mpd_model.specs.Input.{Outcome, start_of, token, spelling, place, advanced, refusal, same_mark, sees, after, expect, spend, slot_in, seek}
-use Rattle.mpd_model.specs.Parts.{Hole, mark_hole, term_hole, target_hole, name_hole, source_hole, status_hole, Contents, filled}
-use Rattle.mpd_model.specs.Term.{lit, cell, Target}
-use Rattle.mpd_model.specs.Tokens.{reserved, tokens_after, front, sign, word, number}
+use Rattle.mpd_model.specs.grammar.Canonical.{mark_text, parts_text}
+use Rattle.mpd_model.specs.script.Declaration.{Declared}
+use Rattle.mpd_model.specs.grammar.Faults.{fault}
+use Rattle.mpd_model.specs.grammar.Grammar.{chain, bracket, place_inside, rounds, unary, atom, level, expr, target, statement_place, statement_name, source, status, fill, form_of}
+use Rattle.mpd_model.specs.grammar.Input.{Outcome, start_of, token, spelling, place, advanced, refusal, same_mark, sees, after, expect, spend, slot_in, seek}
+use Rattle.mpd_model.specs.script.Parts.{Hole, mark_hole, term_hole, target_hole, name_hole, source_hole, status_hole, Contents, filled}
+use Rattle.mpd_model.specs.script.Term.{lit, cell, Target}
+use Rattle.mpd_model.specs.grammar.Tokens.{reserved, tokens_after, front, sign, word, number}
 
 -- x is a variable, a an array of ten cells behind it
 abbrev declared_here : List Declared

@@ -1,6 +1,6 @@
 -- Rows of the cutting of lines: each holds by computing.
 use Rattle.std.specs.Prelude.{◌≡◌, ℕ, List, [], ◌∷◌, ◌++◌, codes, refl}
-use Rattle.mpd_model.specs.Lines.{lines_of, ended_lines, divided}
+use Rattle.mpd_model.specs.texts.Lines.{lines_of, ended_lines, divided}
 
 abbrev feed : List ℕ
 feed = 10 ∷ []

@@ -6,14 +6,14 @@ use Rattle.mpd_model.specs.declared.expr.UnaryOp.TheVariants.{Negate, Not}
 use Rattle.mpd_model.specs.declared.place.DeclKind.TheVariants.{Variable, Handle}
 use Rattle.mpd_model.specs.declared.place.Place.{Place}
 use Rattle.mpd_model.specs.declared.read_fault.ReadFault.{ReadFault}
-use Rattle.mpd_model.specs.Canonical.{whole_text, tree_text, canonical}
-use Rattle.mpd_model.specs.Declaration.{Declared}
-use Rattle.mpd_model.specs.Grammar.{chain, bracket, place_inside, rounds, unary, atom, level, expr, target, statement_place, source, status, assignment, otherwise, if_statement, while_statement, stmt, stmts, body, block, version, ranks, array_size, single, declarator, decl, decls_from, decls, header, script, reading}
-use Rattle.mpd_model.specs.Input.{token, spelling, place, advanced, refusal, same_mark, sees, after, expect, spend, count, slot_in, seek, fresh, add}
-use Rattle.mpd_model.specs.Program.{Program}
-use Rattle.mpd_model.specs.Term.{Term, lit, own_rank, size, cell, element, op1, op2, Target}
-use Rattle.mpd_model.specs.Tokens.{tokens_after, front, sign, word, number}
-use Rattle.mpd_model.specs.Tree.{Tree, branch, repeat, no_more, then_more}
+use Rattle.mpd_model.specs.grammar.Canonical.{whole_text, tree_text, canonical}
+use Rattle.mpd_model.specs.script.Declaration.{Declared}
+use Rattle.mpd_model.specs.grammar.Grammar.{chain, bracket, place_inside, rounds, unary, atom, level, expr, target, statement_place, source, status, assignment, otherwise, if_statement, while_statement, stmt, stmts, body, block, version, ranks, array_size, single, declarator, decl, decls_from, decls, header, script, reading}
+use Rattle.mpd_model.specs.grammar.Input.{token, spelling, place, advanced, refusal, same_mark, sees, after, expect, spend, count, slot_in, seek, fresh, add}
+use Rattle.mpd_model.specs.script.Program.{Program}
+use Rattle.mpd_model.specs.script.Term.{Term, lit, own_rank, size, cell, element, op1, op2, Target}
+use Rattle.mpd_model.specs.grammar.Tokens.{tokens_after, front, sign, word, number}
+use Rattle.mpd_model.specs.script.Tree.{Tree, branch, repeat, no_more, then_more}
 use Rattle.mpd_rows.specs.worlds.Statements.{print, send, recv, assign, check}
 
 -- ---- what the rows speak of: x is a variable, a an array of ten cells behind it

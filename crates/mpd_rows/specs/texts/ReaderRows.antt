@@ -5,13 +5,13 @@ use Rattle.mpd_model.specs.declared.expr.UnaryOp.TheVariants.{Negate, Not}
 use Rattle.mpd_model.specs.declared.place.DeclKind.TheVariants.{Variable, Handle}
 use Rattle.mpd_model.specs.declared.place.Place.{Place}
 use Rattle.mpd_model.specs.declared.read_fault.FaultCode.TheVariants as f
-use Rattle.mpd_model.specs.Declaration.{Declared}
-use Rattle.mpd_model.specs.Faults.{fault}
-use Rattle.mpd_model.specs.Grammar.{reading, script, header, version, ranks, decls, decls_from, decl, declarator, single, array_size, body, stmts, stmt, block, if_statement, otherwise, while_statement, target, statement_place, source, status, assignment, expr, level, chain, atom, place_inside, bracket, rounds, unary}
-use Rattle.mpd_model.specs.Input.{Input, count, spend, seek, slot_in, fresh, add, expect, after, sees, same_mark, advanced, place, spelling, token, refusal}
-use Rattle.mpd_model.specs.Term.{lit, own_rank, size, cell, op1, op2, Target}
-use Rattle.mpd_model.specs.Tokens.{tokens, tokens_after, front, sign, word, number}
-use Rattle.mpd_model.specs.Tree.{Tree, branch, repeat, no_more, then_more, block_of}
+use Rattle.mpd_model.specs.script.Declaration.{Declared}
+use Rattle.mpd_model.specs.grammar.Faults.{fault}
+use Rattle.mpd_model.specs.grammar.Grammar.{reading, script, header, version, ranks, decls, decls_from, decl, declarator, single, array_size, body, stmts, stmt, block, if_statement, otherwise, while_statement, target, statement_place, source, status, assignment, expr, level, chain, atom, place_inside, bracket, rounds, unary}
+use Rattle.mpd_model.specs.grammar.Input.{Input, count, spend, seek, slot_in, fresh, add, expect, after, sees, same_mark, advanced, place, spelling, token, refusal}
+use Rattle.mpd_model.specs.script.Term.{lit, own_rank, size, cell, op1, op2, Target}
+use Rattle.mpd_model.specs.grammar.Tokens.{tokens, tokens_after, front, sign, word, number}
+use Rattle.mpd_model.specs.script.Tree.{Tree, branch, repeat, no_more, then_more, block_of}
 use Rattle.mpd_rows.specs.worlds.Statements.{print, send, recv, assign}
 
 abbrev variable_named : List ℕ → Declared

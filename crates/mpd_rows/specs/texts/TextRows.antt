@@ -8,18 +8,18 @@ use Rattle.mpd_model.specs.declared.place.Place.{Place}
 use Rattle.mpd_model.specs.declared.step.Step.{Step}
 use Rattle.mpd_model.specs.declared.step.Step.TheVariants.{Local, Match, Wake, Release}
 use Rattle.mpd_model.specs.declared.call.Mode.TheVariants.{Rendezvous}
-use Rattle.mpd_model.specs.Term.{Term, lit, own_rank, cell, op2, Target}
-use Rattle.mpd_model.specs.Tree.{branch, no_more, then_more}
-use Rattle.mpd_model.specs.Program.{Program}
-use Rattle.mpd_model.specs.World.{World, call_id, start}
-use Rattle.mpd_model.specs.Next.{fold}
-use Rattle.mpd_model.specs.Outcomes.{outcome}
-use Rattle.mpd_model.specs.declared.words.Command.{Command}
-use Rattle.mpd_model.specs.declared.words.Command.TheVariants as command
-use Rattle.mpd_model.specs.Trail.{Standing, first_standing, applied}
-use Rattle.mpd_model.specs.Texts.{outcome_line, show_text, step_text}
-use Rattle.mpd_model.specs.Words.{has_word, step_of, command_of}
-use Rattle.mpd_model.specs.Answers.{line_answer}
+use Rattle.mpd_model.specs.script.Term.{Term, lit, own_rank, cell, op2, Target}
+use Rattle.mpd_model.specs.script.Tree.{branch, no_more, then_more}
+use Rattle.mpd_model.specs.script.Program.{Program}
+use Rattle.mpd_model.specs.steps.World.{World, call_id, start}
+use Rattle.mpd_model.specs.steps.Next.{fold}
+use Rattle.mpd_model.specs.steps.Outcomes.{outcome}
+use Rattle.mpd_model.specs.declared.words.TraceWord.{TraceWord}
+use Rattle.mpd_model.specs.declared.words.TraceWord.TheVariants as trace_word
+use Rattle.mpd_model.specs.runs.Trail.{Standing, first_standing, applied}
+use Rattle.mpd_model.specs.texts.Texts.{outcome_line, show_text, step_text}
+use Rattle.mpd_model.specs.texts.Words.{has_word, step_of, trace_word_of}
+use Rattle.mpd_model.specs.texts.Answers.{line_answer}
 use Rattle.mpd_rows.specs.worlds.Statements.{print, send, recv}
 
 abbrev x : Place
@@ -103,25 +103,25 @@ row_bad_steps = refl
 
 -- ---- commands, and lines without a word
 
-pub row_commands : command_of (codes "back ") ≡ Some command.Back
+pub row_commands : trace_word_of (codes "back ") ≡ Some trace_word.Back
 row_commands = refl
 
-pub row_show : command_of (codes "\tshow") ≡ Some command.Show
+pub row_show : trace_word_of (codes "\tshow") ≡ Some trace_word.Show
 row_show = refl
 
-pub row_list : command_of (codes " enabled\t") ≡ Some command.Enabled
+pub row_list : trace_word_of (codes " enabled\t") ≡ Some trace_word.Enabled
 row_list = refl
 
-pub row_redo : command_of (codes "redo\t") ≡ Some command.Redo
+pub row_redo : trace_word_of (codes "redo\t") ≡ Some trace_word.Redo
 row_redo = refl
 
-pub row_goto : command_of (codes " goto  012") ≡ Some (command.Goto 12)
+pub row_goto : trace_word_of (codes " goto  012") ≡ Some (trace_word.Goto 12)
 row_goto = refl
 
-pub row_step : command_of (codes "wake 1") ≡ Some (command.Step (Wake 1))
+pub row_step : trace_word_of (codes "wake 1") ≡ Some (trace_word.Step (Wake 1))
 row_step = refl
 
-pub row_bad_commands : map {B = Option Command} command_of (codes "back 1" ∷ codes "show 0" ∷ codes "redo 1" ∷ codes "goto" ∷ codes "goto 1 2" ∷ codes "goto -1" ∷ codes "goto 1234567890" ∷ codes "goto 0.0" ∷ codes "enabled 0" ∷ codes "enable" ∷ codes "---" ∷ []) ≡ replicate 11 None
+pub row_bad_commands : map {B = Option TraceWord} trace_word_of (codes "back 1" ∷ codes "show 0" ∷ codes "redo 1" ∷ codes "goto" ∷ codes "goto 1 2" ∷ codes "goto -1" ∷ codes "goto 1234567890" ∷ codes "goto 0.0" ∷ codes "enabled 0" ∷ codes "enable" ∷ codes "---" ∷ []) ≡ replicate 11 None
 row_bad_commands = refl
 
 pub row_blank : has_word (codes " \t ") ≡ false

@@ -15,17 +15,17 @@ use Rattle.mpd_model.specs.declared.call.Trap.{Trap}
 use Rattle.mpd_model.specs.declared.call.Trap.TheVariants.{Overflow, ZeroDivisor, BadIndex}
 use Rattle.mpd_model.specs.declared.call.Activity.{Activity}
 use Rattle.mpd_model.specs.declared.call.Activity.TheVariants.{Running, Trapped}
-use Rattle.mpd_model.specs.Declaration.{Declared}
-use Rattle.mpd_model.specs.Faults.{fault}
-use Rattle.mpd_model.specs.Grammar.{reading, script, header, version, ranks, decls, decls_from, decl, declarator, single, array_size, body, stmts, stmt, block, if_statement, otherwise, while_statement, target, statement_place, source, status, assignment, expr, level, chain, atom, place_inside, bracket, rounds, unary}
-use Rattle.mpd_model.specs.Input.{Outcome, start_of, count, spend, seek, slot_in, fresh, add, expect, after, sees, same_mark, advanced, place, spelling, token, refusal}
-use Rattle.mpd_model.specs.Program.{Program}
-use Rattle.mpd_model.specs.Term.{Term, lit, own_rank, size, cell, element, op1, op2, Target}
-use Rattle.mpd_model.specs.Tokens.{tokens, tokens_after, front, sign, word, number}
-use Rattle.mpd_model.specs.Tree.{Tree, branch, repeat, no_more, then_more, block_of, statements_in}
-use Rattle.mpd_model.specs.Costs.{cost, blocks_in}
-use Rattle.mpd_model.specs.World.{RankWorld, World, start}
-use Rattle.mpd_model.specs.Next.{fold}
+use Rattle.mpd_model.specs.script.Declaration.{Declared}
+use Rattle.mpd_model.specs.grammar.Faults.{fault}
+use Rattle.mpd_model.specs.grammar.Grammar.{reading, script, header, version, ranks, decls, decls_from, decl, declarator, single, array_size, body, stmts, stmt, block, if_statement, otherwise, while_statement, target, statement_place, source, status, assignment, expr, level, chain, atom, place_inside, bracket, rounds, unary}
+use Rattle.mpd_model.specs.grammar.Input.{Outcome, start_of, count, spend, seek, slot_in, fresh, add, expect, after, sees, same_mark, advanced, place, spelling, token, refusal}
+use Rattle.mpd_model.specs.script.Program.{Program}
+use Rattle.mpd_model.specs.script.Term.{Term, lit, own_rank, size, cell, element, op1, op2, Target}
+use Rattle.mpd_model.specs.grammar.Tokens.{tokens, tokens_after, front, sign, word, number}
+use Rattle.mpd_model.specs.script.Tree.{Tree, branch, repeat, no_more, then_more, block_of, statements_in}
+use Rattle.mpd_model.specs.grammar.Costs.{cost, blocks_in}
+use Rattle.mpd_model.specs.steps.World.{RankWorld, World, start}
+use Rattle.mpd_model.specs.steps.Next.{fold}
 use Rattle.mpd_rows.specs.worlds.Statements.{print, send, recv, assign, check}
 
 abbrev Read : Type 0

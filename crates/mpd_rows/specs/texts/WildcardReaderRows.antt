@@ -6,13 +6,13 @@ use Rattle.mpd_model.specs.declared.expr.UnaryOp.TheVariants.{Negate}
 use Rattle.mpd_model.specs.declared.place.DeclKind.TheVariants.{Variable}
 use Rattle.mpd_model.specs.declared.place.Place.{Place}
 use Rattle.mpd_model.specs.declared.read_fault.FaultCode.TheVariants as f
-use Rattle.mpd_model.specs.Canonical.{canonical}
-use Rattle.mpd_model.specs.Grammar.{reading, script, header, version, ranks, decls, decls_from, decl, declarator, single, array_size, body, stmts, stmt, block, if_statement, otherwise, while_statement, target, statement_place, source, status, assignment, expr, level, chain, atom, place_inside, bracket, rounds, unary}
-use Rattle.mpd_model.specs.Input.{count, spend, seek, slot_in, fresh, add, expect, after, sees, same_mark, advanced, place, spelling, token, refusal}
-use Rattle.mpd_model.specs.Program.{Program}
-use Rattle.mpd_model.specs.Term.{own_rank, size, cell, op1, op2}
-use Rattle.mpd_model.specs.Tokens.{tokens_after, front, sign, word, number}
-use Rattle.mpd_model.specs.Tree.{Tree}
+use Rattle.mpd_model.specs.grammar.Canonical.{canonical}
+use Rattle.mpd_model.specs.grammar.Grammar.{reading, script, header, version, ranks, decls, decls_from, decl, declarator, single, array_size, body, stmts, stmt, block, if_statement, otherwise, while_statement, target, statement_place, source, status, assignment, expr, level, chain, atom, place_inside, bracket, rounds, unary}
+use Rattle.mpd_model.specs.grammar.Input.{count, spend, seek, slot_in, fresh, add, expect, after, sees, same_mark, advanced, place, spelling, token, refusal}
+use Rattle.mpd_model.specs.script.Program.{Program}
+use Rattle.mpd_model.specs.script.Term.{own_rank, size, cell, op1, op2}
+use Rattle.mpd_model.specs.grammar.Tokens.{tokens_after, front, sign, word, number}
+use Rattle.mpd_model.specs.script.Tree.{Tree}
 use Rattle.mpd_code.specs.Left.{left_at}
 use Rattle.mpd_rows.specs.worlds.Statements.{recv_any, irecv_any}
 use Rattle.mpd_rows.specs.texts.RequestReaderRows.{Read, Places, wanted_places, statement_of, reads_one, lines_of, declared, n, whole, part, x, a, h, g}

@@ -13,16 +13,16 @@ use Rattle.mpd_model.specs.declared.breakpoint.Break.{Break}
 use Rattle.mpd_model.specs.declared.breakpoint.Break.TheVariants as on
 use Rattle.mpd_model.specs.declared.breakpoint.Cause.TheVariants as for
 use Rattle.mpd_model.specs.declared.breakpoint.Stop.{Stop}
-use Rattle.mpd_model.specs.Declaration.{Declared}
-use Rattle.mpd_model.specs.Term.{own_rank}
-use Rattle.mpd_model.specs.Tree.{no_more, then_more}
-use Rattle.mpd_model.specs.Program.{Program}
-use Rattle.mpd_model.specs.World.{call_id}
-use Rattle.mpd_model.specs.Next.{next}
-use Rattle.mpd_model.specs.Decisions.{decision}
-use Rattle.mpd_model.specs.Breakpoints.{marked, no_breaks, lowest_free}
-use Rattle.mpd_model.specs.Running.{Ran, ran, ran_back}
-use Rattle.mpd_model.specs.Trail.{Trail}
+use Rattle.mpd_model.specs.script.Declaration.{Declared}
+use Rattle.mpd_model.specs.script.Term.{own_rank}
+use Rattle.mpd_model.specs.script.Tree.{no_more, then_more}
+use Rattle.mpd_model.specs.script.Program.{Program}
+use Rattle.mpd_model.specs.steps.World.{call_id}
+use Rattle.mpd_model.specs.steps.Next.{next}
+use Rattle.mpd_model.specs.runs.Decisions.{decision}
+use Rattle.mpd_model.specs.runs.Breakpoints.{marked, no_breaks, lowest_free}
+use Rattle.mpd_model.specs.runs.Running.{Ran, ran, ran_back}
+use Rattle.mpd_model.specs.runs.Trail.{Trail}
 use Rattle.mpd_rows.specs.worlds.Statements.{print, send, assign, barrier, recv_any, irecv, irecv_any, wait}
 use Rattle.mpd_rows.specs.calls.RequestRows.{n, whole, x, variable, request, script, two_parts, after}
 

@@ -14,16 +14,16 @@ use Rattle.mpd_model.specs.declared.call.WaitanyCall.{WaitanyCall}
 use Rattle.mpd_model.specs.declared.step.CallId.{CallId}
 use Rattle.mpd_model.specs.declared.step.Step.{Step}
 use Rattle.mpd_model.specs.declared.step.Step.TheVariants.{Local, Match, Wake, WakeAny, Release}
-use Rattle.mpd_model.specs.Tree.{Tree}
-use Rattle.mpd_model.specs.Program.{Program}
-use Rattle.mpd_model.specs.World.{Board, RankWorld, World, call_id, is_message_kind, fitting, sends_to, receives, message_of, is_buffered, awaited_by, is_barrier, has_own_step}
-use Rattle.mpd_model.specs.Next.{HasReceiver, blocks, buffered_by, writes_of, cleared_by, own_writes, requests_of, request_handle, index_writes}
-use Rattle.mpd_model.specs.Order.{same_envelope_as, is_covered_by, matches_first, waits_for}
-use Rattle.mpd_model.specs.Why.{why_by}
-use Rattle.mpd_model.specs.Breakpoints.{line_marks, match_marks}
-use Rattle.mpd_model.specs.Decisions.{is_local, is_release, is_wake, any_rank, is_of, names_source, takes_any, is_named_match, is_open_match}
-use Rattle.mpd_model.specs.Texts.{got_text}
-use Rattle.mpd_model.specs.Trail.{step_eq}
+use Rattle.mpd_model.specs.script.Tree.{Tree}
+use Rattle.mpd_model.specs.script.Program.{Program}
+use Rattle.mpd_model.specs.steps.World.{Board, RankWorld, World, call_id, is_message_kind, fitting, sends_to, receives, message_of, is_buffered, awaited_by, is_barrier, has_own_step}
+use Rattle.mpd_model.specs.steps.Next.{HasReceiver, blocks, buffered_by, writes_of, cleared_by, own_writes, requests_of, request_handle, index_writes}
+use Rattle.mpd_model.specs.steps.Order.{same_envelope_as, is_covered_by, matches_first, waits_for}
+use Rattle.mpd_model.specs.steps.Why.{why_by}
+use Rattle.mpd_model.specs.runs.Breakpoints.{line_marks, match_marks}
+use Rattle.mpd_model.specs.runs.Decisions.{is_local, is_release, is_wake, any_rank, is_of, names_source, takes_any, is_named_match, is_open_match}
+use Rattle.mpd_model.specs.texts.Texts.{got_text}
+use Rattle.mpd_model.specs.runs.Trail.{step_eq}
 use Rattle.mpd_rows.specs.worlds.Statements.{barrier}
 
 -- ---- kinds of calls: a send, a synchronous one, a receive from rank 1, one of any source, a wait for call 5, a waitany for handles 6 to 8, a barrier

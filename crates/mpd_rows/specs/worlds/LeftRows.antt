@@ -1,8 +1,8 @@
 -- Rows of what is left to run.
 use Rattle.std.specs.Prelude.{◌≡◌, [], ◌∷◌, pos, refl}
-use Rattle.mpd_model.specs.Term.{lit}
-use Rattle.mpd_model.specs.Tree.{Tree, branch, repeat, no_more, then_more}
-use Rattle.mpd_model.specs.Program.{Program}
+use Rattle.mpd_model.specs.script.Term.{lit}
+use Rattle.mpd_model.specs.script.Tree.{Tree, branch, repeat, no_more, then_more}
+use Rattle.mpd_model.specs.script.Program.{Program}
 use Rattle.mpd_code.specs.Left.{left_at}
 use Rattle.mpd_rows.specs.worlds.Statements.{print}
 

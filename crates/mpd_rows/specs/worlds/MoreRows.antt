@@ -17,21 +17,21 @@ use Rattle.mpd_model.specs.declared.call.Activity.{Activity}
 use Rattle.mpd_model.specs.declared.call.Activity.TheVariants.{Running, Blocked, Trapped}
 use Rattle.mpd_model.specs.declared.call.MatchSet.TheVariants.{Pair, Woke, Barrier}
 use Rattle.mpd_model.specs.declared.outcome.Outcome.TheVariants as o
-use Rattle.mpd_model.specs.Declaration.{Declared}
-use Rattle.mpd_model.specs.Faults.{fault}
-use Rattle.mpd_model.specs.Grammar.{reading, script, header, version, ranks, decls, decls_from, decl, declarator, single, array_size, body, stmts, stmt, block, if_statement, otherwise, while_statement, target, statement_place, source, status, assignment, expr, level, chain, atom, place_inside, bracket, rounds, unary}
-use Rattle.mpd_model.specs.Input.{start_of, count, spend, seek, slot_in, fresh, add, expect, after, sees, same_mark, advanced, place, spelling, token, refusal}
-use Rattle.mpd_model.specs.Term.{Term, lit, own_rank, size, cell, op2, Target}
-use Rattle.mpd_model.specs.Tokens.{tokens_after, front, sign, word, number}
-use Rattle.mpd_model.specs.Tree.{Tree, branch, no_more, then_more}
-use Rattle.mpd_model.specs.Program.{Program}
-use Rattle.mpd_model.specs.World.{RankWorld, World, call_id, start, calls_of, eligible, is_free, buffer}
-use Rattle.mpd_model.specs.Next.{next, fold, enabled}
-use Rattle.mpd_model.specs.Outcomes.{outcome}
-use Rattle.mpd_model.specs.Trail.{Trail, Standing, opening, applied, first_standing, world_of}
-use Rattle.mpd_model.specs.Lines.{lines_of, ended_lines, divided}
-use Rattle.mpd_model.specs.Texts.{rank_text, show_text}
-use Rattle.mpd_model.specs.Answers.{line_answer}
+use Rattle.mpd_model.specs.script.Declaration.{Declared}
+use Rattle.mpd_model.specs.grammar.Faults.{fault}
+use Rattle.mpd_model.specs.grammar.Grammar.{reading, script, header, version, ranks, decls, decls_from, decl, declarator, single, array_size, body, stmts, stmt, block, if_statement, otherwise, while_statement, target, statement_place, source, status, assignment, expr, level, chain, atom, place_inside, bracket, rounds, unary}
+use Rattle.mpd_model.specs.grammar.Input.{start_of, count, spend, seek, slot_in, fresh, add, expect, after, sees, same_mark, advanced, place, spelling, token, refusal}
+use Rattle.mpd_model.specs.script.Term.{Term, lit, own_rank, size, cell, op2, Target}
+use Rattle.mpd_model.specs.grammar.Tokens.{tokens_after, front, sign, word, number}
+use Rattle.mpd_model.specs.script.Tree.{Tree, branch, no_more, then_more}
+use Rattle.mpd_model.specs.script.Program.{Program}
+use Rattle.mpd_model.specs.steps.World.{RankWorld, World, call_id, start, calls_of, eligible, is_free, buffer}
+use Rattle.mpd_model.specs.steps.Next.{next, fold, enabled}
+use Rattle.mpd_model.specs.steps.Outcomes.{outcome}
+use Rattle.mpd_model.specs.runs.Trail.{Trail, Standing, opening, applied, first_standing, world_of}
+use Rattle.mpd_model.specs.texts.Lines.{lines_of, ended_lines, divided}
+use Rattle.mpd_model.specs.texts.Texts.{rank_text, show_text}
+use Rattle.mpd_model.specs.texts.Answers.{line_answer}
 use Rattle.mpd_rows.specs.worlds.Statements.{print, send, recv, check}
 
 abbrev variable_named : List ℕ → Declared

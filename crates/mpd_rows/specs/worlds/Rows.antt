@@ -15,13 +15,13 @@ use Rattle.mpd_model.specs.declared.call.Activity.TheVariants.{Running, Blocked,
 use Rattle.mpd_model.specs.declared.call.MatchSet.TheVariants.{Pair, Woke}
 use Rattle.mpd_model.specs.declared.outcome.Outcome.TheVariants as o
 use Rattle.mpd_model.specs.declared.outcome.TrappedRank.{TrappedRank}
-use Rattle.mpd_model.specs.Term.{Term, lit, own_rank, cell, op2, Target}
-use Rattle.mpd_model.specs.Tree.{Tree, branch, no_more, then_more}
-use Rattle.mpd_model.specs.Program.{Program}
-use Rattle.mpd_model.specs.World.{RankWorld, World, call_id, start, pending, posted, eligible}
-use Rattle.mpd_model.specs.Next.{next, fold, enabled}
-use Rattle.mpd_model.specs.Outcomes.{outcome}
-use Rattle.mpd_model.specs.Trail.{Trail, opening, applied, taken_back, redone, gone_back, forgotten, with_steps, world_of}
+use Rattle.mpd_model.specs.script.Term.{Term, lit, own_rank, cell, op2, Target}
+use Rattle.mpd_model.specs.script.Tree.{Tree, branch, no_more, then_more}
+use Rattle.mpd_model.specs.script.Program.{Program}
+use Rattle.mpd_model.specs.steps.World.{RankWorld, World, call_id, start, pending, posted, eligible}
+use Rattle.mpd_model.specs.steps.Next.{next, fold, enabled}
+use Rattle.mpd_model.specs.steps.Outcomes.{outcome}
+use Rattle.mpd_model.specs.runs.Trail.{Trail, opening, applied, taken_back, redone, gone_back, forgotten, with_steps, world_of}
 use Rattle.mpd_rows.specs.worlds.Statements.{print, send, recv}
 
 abbrev x : Place

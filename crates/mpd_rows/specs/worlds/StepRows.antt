@@ -16,17 +16,17 @@ use Rattle.mpd_model.specs.declared.call.Trap.{Trap}
 use Rattle.mpd_model.specs.declared.call.Trap.TheVariants.{Overflow, ZeroDivisor, BadRank, BadTag, BadIndex, Assertion}
 use Rattle.mpd_model.specs.declared.call.Activity.{Activity}
 use Rattle.mpd_model.specs.declared.call.Activity.TheVariants.{Running, Blocked, Trapped}
-use Rattle.mpd_model.specs.Declaration.{Declared}
-use Rattle.mpd_model.specs.Term.{Term, lit, own_rank, size, cell, element, op1, op2, Target}
-use Rattle.mpd_model.specs.Tree.{Tree, branch, repeat, no_more, then_more}
-use Rattle.mpd_model.specs.Program.{Program}
-use Rattle.mpd_model.specs.World.{RankWorld, World, call_id, start}
-use Rattle.mpd_model.specs.Next.{next, fold, enabled}
-use Rattle.mpd_model.specs.Outcomes.{outcome}
-use Rattle.mpd_model.specs.Trail.{Trail, Standing, opening, first_standing, world_of}
-use Rattle.mpd_model.specs.Lines.{lines_of}
-use Rattle.mpd_model.specs.Texts.{rank_text, outcome_line}
-use Rattle.mpd_model.specs.Answers.{line_answer}
+use Rattle.mpd_model.specs.script.Declaration.{Declared}
+use Rattle.mpd_model.specs.script.Term.{Term, lit, own_rank, size, cell, element, op1, op2, Target}
+use Rattle.mpd_model.specs.script.Tree.{Tree, branch, repeat, no_more, then_more}
+use Rattle.mpd_model.specs.script.Program.{Program}
+use Rattle.mpd_model.specs.steps.World.{RankWorld, World, call_id, start}
+use Rattle.mpd_model.specs.steps.Next.{next, fold, enabled}
+use Rattle.mpd_model.specs.steps.Outcomes.{outcome}
+use Rattle.mpd_model.specs.runs.Trail.{Trail, Standing, opening, first_standing, world_of}
+use Rattle.mpd_model.specs.texts.Lines.{lines_of}
+use Rattle.mpd_model.specs.texts.Texts.{rank_text, outcome_line}
+use Rattle.mpd_model.specs.texts.Answers.{line_answer}
 use Rattle.mpd_rows.specs.worlds.Statements.{print, send, recv, assign, check}
 
 -- `var x; var a[3]; var none[0];`

@@ -5,8 +5,8 @@ use Rattle.mpd_model.specs.declared.expr.UnaryOp.TheVariants.{Negate, Not}
 use Rattle.mpd_model.specs.declared.place.Place.{Place}
 use Rattle.mpd_model.specs.declared.call.Trap.{Trap}
 use Rattle.mpd_model.specs.declared.call.Trap.TheVariants.{Overflow, ZeroDivisor, BadRank, BadTag, BadIndex, Assertion}
-use Rattle.mpd_model.specs.Term.{Term, lit, own_rank, size, cell, element, op1, op2, Target, Value, Env, value_of, target_cell}
-use Rattle.mpd_model.specs.Texts.{trap_name}
+use Rattle.mpd_model.specs.script.Term.{Term, lit, own_rank, size, cell, element, op1, op2, Target, Value, Env, value_of, target_cell}
+use Rattle.mpd_model.specs.texts.Texts.{trap_name}
 
 -- `var x; var a[3]; var one[1]; var none[0];`
 abbrev x : Place

@@ -1,6 +1,6 @@
 use Rattle.std.proofs.Common.{◌≡◌, ◌+◌, ◌*◌, ◌++◌, drop, string_bytes}
 use Rattle.mpd_c.specs.Statements.{c_block}
-use Rattle.mpd_model.specs.Tree.{statements, statements_in, block_of}
+use Rattle.mpd_model.specs.script.Tree.{statements, statements_in, block_of}
 use Rattle.mpd_c.proofs.stmt.+trees.Given as goal
 
 abbrev pub invariant-push_stmts-loop-stmt : goal.invariant-push_stmts-loop-stmt

@@ -1,5 +1,5 @@
 use Rattle.std.proofs.Common.{◌≡◌, ◌+◌, drop}
-use Rattle.mpd_model.specs.Declaration.{variables_in}
+use Rattle.mpd_model.specs.script.Declaration.{variables_in}
 use Rattle.mpd_code.proofs.cells.variable_count.Given as goal
 
 abbrev pub invariant-loop-decl : goal.invariant-loop-decl

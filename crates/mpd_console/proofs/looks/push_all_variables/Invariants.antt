@@ -1,6 +1,6 @@
 use Rattle.std.proofs.Common.{◌≡◌, ◌-◌, ◌++◌, string_bytes}
 use Rattle.std.specs.List.{flat_map, range_with_len}
-use Rattle.mpd_model.specs.World.{rank_numbers}
+use Rattle.mpd_model.specs.steps.World.{rank_numbers}
 use Rattle.mpd_console.specs.Looks.{vars_of}
 use Rattle.mpd_console.proofs.looks.push_all_variables.Given as goal
 

@@ -1,6 +1,6 @@
 use Rattle.std.proofs.Common.{◌≡◌, drop}
 use Rattle.std.specs.List.{list_all}
-use Rattle.mpd_model.specs.Outcomes.{has_ended}
+use Rattle.mpd_model.specs.steps.Outcomes.{has_ended}
 use Rattle.mpd_core.specs.Views.{ranks_in}
 use Rattle.mpd_core.proofs.ranks.all_ended.Given as goal
 

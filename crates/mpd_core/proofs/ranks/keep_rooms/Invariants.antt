@@ -1,5 +1,5 @@
 use Rattle.std.proofs.Common.{◌≡◌, ℕ, ◌≤◌, length, take, drop}
-use Rattle.mpd_model.specs.Program.{Program}
+use Rattle.mpd_model.specs.script.Program.{Program}
 use Rattle.mpd_core.specs.Views.{ranks_in, numbers_in, room_in, writes_in}
 use Rattle.mpd_core.proofs.ranks.keep_rooms.Given as goal
 

@@ -1,6 +1,6 @@
 use Rattle.std.proofs.Common.{◌≡◌, replicate, length}
 use Rattle.std.specs.List.{range_with_len}
-use Rattle.mpd_model.specs.World.{start_rank}
+use Rattle.mpd_model.specs.steps.World.{start_rank}
 use Rattle.mpd_core.specs.Views.{ranks_in, numbers_in, writes_in}
 use Rattle.mpd_core.proofs.ranks.start_ranks.Given as goal
 

@@ -1,5 +1,5 @@
 use Rattle.std.proofs.Common.{◌≡◌, ◌-◌, ap, ◌∙◌, arith}
-use Rattle.mpd_model.specs.Next.{fold}
+use Rattle.mpd_model.specs.steps.Next.{fold}
 use Rattle.mpd_explain.proofs.FollowLemmas.{fuel_goes}
 use Rattle.mpd_explain.proofs.follow.follow.Goals as goal
 

@@ -1,5 +1,5 @@
 use Rattle.std.proofs.Common.{◌≡◌, ◌+◌, ◌-◌, IsSome}
-use Rattle.mpd_model.specs.Next.{fold}
+use Rattle.mpd_model.specs.steps.Next.{fold}
 use Rattle.mpd_trail.specs.Views.{standing_of}
 use Rattle.mpd_explore.specs.Walk.{run_at, steps_by}
 use Rattle.mpd_explain.specs.Follow.{Stays}

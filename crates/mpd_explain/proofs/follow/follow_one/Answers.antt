@@ -1,5 +1,5 @@
 use Rattle.std.proofs.Common.{◌≡◌, sym, ap, ◌∙◌}
-use Rattle.mpd_model.specs.Decisions.{decision}
+use Rattle.mpd_model.specs.runs.Decisions.{decision}
 use Rattle.mpd_model.specs.declared.decision.Decision.TheVariants.{Forced, Choice, Leaf}
 use Rattle.mpd_explain.proofs.FollowLemmas.{leaf_goes, forced_goes, choice_some}
 use Rattle.mpd_explain.proofs.follow.follow_one.Goals as goal

@@ -1,6 +1,6 @@
 use Rattle.std.proofs.Common.{◌≡◌, ◌-◌, ◌++◌, not}
 use Rattle.std.specs.List.{filter, range_with_len}
-use Rattle.mpd_model.specs.Next.{is_at_barrier}
+use Rattle.mpd_model.specs.steps.Next.{is_at_barrier}
 use Rattle.mpd_explain.specs.Waits.{absent}
 use Rattle.mpd_explain.proofs.waits.absent.Given as goal
 

@@ -1,6 +1,6 @@
 use Rattle.std.proofs.Common.{◌≡◌, ◌-◌, ◌++◌}
 use Rattle.std.specs.List.{filter, range_with_len}
-use Rattle.mpd_model.specs.World.{rank_numbers}
+use Rattle.mpd_model.specs.steps.World.{rank_numbers}
 use Rattle.mpd_explain.specs.Waits.{is_awaited}
 use Rattle.mpd_explain.proofs.waits.awaited_by.Given as goal
 

@@ -1,7 +1,7 @@
 use Rattle.std.proofs.Common.{◌≡◌, drop}
 use Rattle.std.specs.List.{list_any}
 use Rattle.mpd_model.specs.declared.step.CallId.{CallId}
-use Rattle.mpd_model.specs.World.{kind_at}
+use Rattle.mpd_model.specs.steps.World.{kind_at}
 use Rattle.mpd_explain.specs.Waits.{is_partner}
 use Rattle.mpd_explain.proofs.waits.is_partner_of_any.Given as goal
 

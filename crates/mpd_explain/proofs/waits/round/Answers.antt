@@ -1,5 +1,5 @@
 use Rattle.std.proofs.Common.{sym, ap, ◌∙◌}
-use Rattle.mpd_model.specs.Breakpoints.{is_number}
+use Rattle.mpd_model.specs.runs.Breakpoints.{is_number}
 use Rattle.mpd_explain.specs.Waits.{after}
 use Rattle.mpd_explain.proofs.ListLemmas.{first_on}
 use Rattle.mpd_explain.proofs.waits.round.Goals as goal

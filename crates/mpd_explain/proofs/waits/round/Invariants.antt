@@ -1,7 +1,7 @@
 use Rattle.std.proofs.Common.{◌≡◌, ◌+◌, ◌-◌}
 use Rattle.std.specs.List.{filter, range_with_len}
-use Rattle.mpd_model.specs.Breakpoints.{is_number}
-use Rattle.mpd_model.specs.Why.{first_in}
+use Rattle.mpd_model.specs.runs.Breakpoints.{is_number}
+use Rattle.mpd_model.specs.steps.Why.{first_in}
 use Rattle.mpd_explain.specs.Waits.{after, round}
 use Rattle.mpd_explain.proofs.waits.round.Given as goal
 

@@ -1,5 +1,5 @@
 use Rattle.std.proofs.Common.{◌≡◌, reverse, refl, sym, ap, ◌∙◌}
-use Rattle.mpd_model.specs.Decisions.{decision}
+use Rattle.mpd_model.specs.runs.Decisions.{decision}
 use Rattle.mpd_model.specs.declared.decision.Decision.TheVariants.{Forced, Choice, Leaf}
 use Rattle.mpd_trail.specs.Run.{first_of}
 use Rattle.mpd_trail.specs.Views.{standing_of}

@@ -1,6 +1,6 @@
 use Rattle.std.proofs.Common.{rules, ◌≡◌, ◌<◌, ◌∷◌, length, reverse, get_or, ap, ◌∙◌, List}
 use Rattle.mpd_model.specs.declared.step.Step.{Step}
-use Rattle.mpd_model.specs.Trail.{Trail}
+use Rattle.mpd_model.specs.runs.Trail.{Trail}
 use Rattle.mpd_trail.specs.Run.{first_of}
 use Rattle.mpd_trail.specs.Views.{standing_of}
 use Rattle.mpd_explore.proofs.RunLemmas.{enabled_at}
@@ -27,10 +27,10 @@ returns-clause-tried c =
     let within : c.first_awake-index.result < length c.args.candidates = search rules in
     let skips : Skips c.args.bounds.sleeps (asleep_below c.args.bounds.sleeps c.args.asleep.now fs) c.args.candidates c.args.from c.first_awake-index.result = skips_same c.args.bounds.sleeps c.args.asleep.now _ c.args.stack.now.items _ c.args.candidates c.args.from c.first_awake-index.result c.deref.ensures.value (c.deref-2.ensures.value ∙ c.candidates.view_is) c.first_awake-index.ensures in
     let pushed : reverse c.push.new.self.items ≡ f ∷ fs = reverse_pushed c.args.stack.now.items c.push.new.self.items f c.in_ok-push.ensures.items in
-    let went : Went d c.index-step.result.now e = record { kept_is = c.in_ok-forward.ensures.steps; world = c.in_ok-forward.ensures.world; depth = ap (λ (t : Trail). t.depth) c.in_ok-forward.ensures.ok; program = c.in_ok-forward.ensures.program; mode = c.in_ok-forward.ensures.mode; reached = c.in_ok-forward.ensures.reached } in
+    let went : Went d c.index-step.result.now e = record { done_steps_are = c.in_ok-forward.ensures.steps; world = c.in_ok-forward.ensures.world; depth = ap (λ (t : Trail). t.depth) c.in_ok-forward.ensures.ok; program = c.in_ok-forward.ensures.program; mode = c.in_ok-forward.ensures.mode; reached = c.in_ok-forward.ensures.reached } in
     rw pushed (candidate_taken (first_of d.trail) c.args.bounds c.args.asleep.now f fs d e c.args.from c.index-step.result.now c.requires.at c.requires.room c.requires.follow c.depth-depth.ensures.value skips within read went)
 
 pub returns-clause-safe : goal.returns-clause-safe
 returns-clause-safe c =
     let d = standing_of c.args.debugger.now in
-    safe_pushed (first_of d.trail) c.args.bounds (reverse c.args.stack.now.items) d (standing_of c.forward.new.self) c.index-step.result.now c.requires.at (record { kept_is = c.in_ok-forward.ensures.steps; world = c.in_ok-forward.ensures.world; depth = ap (λ (t : Trail). t.depth) c.in_ok-forward.ensures.ok; program = c.in_ok-forward.ensures.program; mode = c.in_ok-forward.ensures.mode; reached = c.in_ok-forward.ensures.reached })
+    safe_pushed (first_of d.trail) c.args.bounds (reverse c.args.stack.now.items) d (standing_of c.forward.new.self) c.index-step.result.now c.requires.at (record { done_steps_are = c.in_ok-forward.ensures.steps; world = c.in_ok-forward.ensures.world; depth = ap (λ (t : Trail). t.depth) c.in_ok-forward.ensures.ok; program = c.in_ok-forward.ensures.program; mode = c.in_ok-forward.ensures.mode; reached = c.in_ok-forward.ensures.reached })

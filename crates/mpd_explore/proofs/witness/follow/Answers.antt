@@ -1,5 +1,5 @@
 use Rattle.std.proofs.Common.{◌≡◌, ◌-◌, ◌++◌, ap, sym, ◌∙◌, append-nil, arith}
-use Rattle.mpd_model.specs.Trail.{kept}
+use Rattle.mpd_model.specs.runs.Trail.{done_steps}
 use Rattle.mpd_trail.specs.Views.{standing_of}
 use Rattle.mpd_explore.proofs.FollowLemmas.{fuel_followed}
 use Rattle.mpd_explore.proofs.witness.follow.Goals as goal
@@ -9,4 +9,4 @@ returns-clause-steps c =
     let i = c.loop-depth.invariant in
     let e = standing_of c.loop-depth.debugger in
     let empty : c.args.bounds.limit - e.trail.depth ≡ 0 = omega (arith, i.depth) in
-    sym (i.same ∙ ap (λ xs. kept e.trail ++ xs) (fuel_followed c.args.bounds c.loop-depth.left.now e empty) ∙ append-nil (kept e.trail))
+    sym (i.same ∙ ap (λ xs. done_steps e.trail ++ xs) (fuel_followed c.args.bounds c.loop-depth.left.now e empty) ∙ append-nil (done_steps e.trail))

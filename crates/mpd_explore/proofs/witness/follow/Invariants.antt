@@ -1,5 +1,5 @@
 use Rattle.std.proofs.Common.{◌≡◌, ◌++◌, [], IsSome}
-use Rattle.mpd_model.specs.Trail.{kept}
+use Rattle.mpd_model.specs.runs.Trail.{done_steps}
 use Rattle.mpd_trail.specs.Run.{first_of}
 use Rattle.mpd_trail.specs.Views.{standing_of}
 use Rattle.mpd_explore.specs.Walk.{steps_by}
@@ -12,6 +12,6 @@ invariant-loop-depth l = record {
   at : At (first_of l.fn.debugger.trail) l.bounds [] (standing_of l.debugger);
   depth : l.debugger.trail.depth ≡ l.depth;
   some : IsSome (ahead l.bounds l.left (standing_of l.debugger));
-  same : kept l.fn.debugger.trail ++ steps_by (ahead l.bounds l.choices (standing_of l.fn.debugger)) ≡ kept l.debugger.trail ++ steps_by (ahead l.bounds l.left (standing_of l.debugger));
+  same : done_steps l.fn.debugger.trail ++ steps_by (ahead l.bounds l.choices (standing_of l.fn.debugger)) ≡ done_steps l.debugger.trail ++ steps_by (ahead l.bounds l.left (standing_of l.debugger));
   safe : Safe l.bounds.base (standing_of l.fn.debugger) (standing_of l.debugger);
 }

@@ -2,7 +2,7 @@ use Rattle.std.proofs.Common.{rules, ◌≡◌, ◌<◌, ℕ, List, ◌∷◌, l
 use Rattle.std.proofs.Math.Seq.{drop-cons}
 use Rattle.std.proofs.lemmas.Option.{slice_get_read}
 use Rattle.mpd_model.specs.declared.step.Step.{Step}
-use Rattle.mpd_model.specs.Trail.{Trail}
+use Rattle.mpd_model.specs.runs.Trail.{Trail}
 use Rattle.mpd_trail.specs.Run.{first_of}
 use Rattle.mpd_trail.specs.Views.{standing_of}
 use Rattle.mpd_explore.proofs.RunLemmas.{enabled_at}
@@ -43,10 +43,10 @@ returns-clause-follows c =
     let held : a ≡ get_or c.args.candidates choice a = c.index-step.ensures ∙ ap (λ (xs : List Step). get_or xs choice a) c.candidates.view_is in
     let read : slice_get c.args.candidates choice ≡ Some a = slice_get_read c.args.candidates (length c.args.candidates) choice a refl within held in
     let e = standing_of c.forward.new.self in
-    let went : Went d a e = record { kept_is = c.in_ok-forward.ensures.steps; world = c.in_ok-forward.ensures.world; depth = ap (λ (t : Trail). t.depth) c.in_ok-forward.ensures.ok; program = c.in_ok-forward.ensures.program; mode = c.in_ok-forward.ensures.mode; reached = c.in_ok-forward.ensures.reached } in
+    let went : Went d a e = record { done_steps_are = c.in_ok-forward.ensures.steps; world = c.in_ok-forward.ensures.world; depth = ap (λ (t : Trail). t.depth) c.in_ok-forward.ensures.ok; program = c.in_ok-forward.ensures.program; mode = c.in_ok-forward.ensures.mode; reached = c.in_ok-forward.ensures.reached } in
     rw split (choice_followed c.args.bounds choice (drop 1 left) d e c.args.candidates a c.requires.at c.requires.room c.requires.choice read went (rw split at c.requires.some))
 
 pub returns-clause-safe : goal.returns-clause-safe
 returns-clause-safe c =
     let d = standing_of c.args.debugger.now in
-    safe_pushed (first_of d.trail) c.args.bounds _ d (standing_of c.forward.new.self) c.index-step.result.now c.requires.at (record { kept_is = c.in_ok-forward.ensures.steps; world = c.in_ok-forward.ensures.world; depth = ap (λ (t : Trail). t.depth) c.in_ok-forward.ensures.ok; program = c.in_ok-forward.ensures.program; mode = c.in_ok-forward.ensures.mode; reached = c.in_ok-forward.ensures.reached })
+    safe_pushed (first_of d.trail) c.args.bounds _ d (standing_of c.forward.new.self) c.index-step.result.now c.requires.at (record { done_steps_are = c.in_ok-forward.ensures.steps; world = c.in_ok-forward.ensures.world; depth = ap (λ (t : Trail). t.depth) c.in_ok-forward.ensures.ok; program = c.in_ok-forward.ensures.program; mode = c.in_ok-forward.ensures.mode; reached = c.in_ok-forward.ensures.reached })

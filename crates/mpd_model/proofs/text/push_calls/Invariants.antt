@@ -1,5 +1,5 @@
 use Rattle.std.proofs.Common.{◌≡◌, ◌++◌, drop, string_bytes}
-use Rattle.mpd_model.specs.Texts.{id_text, spaced}
+use Rattle.mpd_model.specs.texts.Texts.{id_text, spaced}
 use Rattle.mpd_model.proofs.text.push_calls.Given as goal
 
 abbrev pub invariant-loop-call : goal.invariant-loop-call

@@ -1,6 +1,6 @@
 use Rattle.std.proofs.Common.{◌≡◌, ◌++◌, drop, string_bytes}
 use Rattle.std.specs.Prelude.{codes}
-use Rattle.mpd_model.specs.Texts.{trapped_text, spaced}
+use Rattle.mpd_model.specs.texts.Texts.{trapped_text, spaced}
 use Rattle.mpd_model.proofs.text.push_traps.Given as goal
 
 abbrev pub invariant-loop-trapped : goal.invariant-loop-trapped

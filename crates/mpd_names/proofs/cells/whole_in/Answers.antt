@@ -1,5 +1,5 @@
 use Rattle.std.proofs.Common.{◌≡◌, take, ap, ◌∙◌, arith}
-use Rattle.mpd_model.specs.Declaration.{Declared, cells_of}
+use Rattle.mpd_model.specs.script.Declaration.{Declared, cells_of}
 use Rattle.mpd_names.specs.Cells as counted
 use Rattle.mpd_names.proofs.CellLemmas.{few_at}
 use Rattle.mpd_names.proofs.cells.whole_in.Goals as goal

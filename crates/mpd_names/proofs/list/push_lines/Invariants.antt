@@ -1,5 +1,5 @@
 use Rattle.std.proofs.Common.{◌≡◌, ◌+◌, ◌≤◌, ◌++◌, length, string_bytes}
-use Rattle.mpd_model.specs.Lines.{lines_of}
+use Rattle.mpd_model.specs.texts.Lines.{lines_of}
 use Rattle.mpd_names.specs.Listed.{list_lines}
 use Rattle.mpd_names.proofs.list.push_lines.Given as goal
 

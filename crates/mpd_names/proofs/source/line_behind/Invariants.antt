@@ -1,5 +1,5 @@
 use Rattle.std.proofs.Common.{◌≡◌, length, slice_get}
-use Rattle.mpd_model.specs.Lines.{lines_of}
+use Rattle.mpd_model.specs.texts.Lines.{lines_of}
 use Rattle.mpd_names.proofs.source.line_behind.Given as goal
 
 abbrev pub invariant-loop-line : goal.invariant-loop-line

@@ -1,6 +1,6 @@
 use Rattle.std.proofs.Common.{◌≡◌, ◌-◌, ◌++◌}
 use Rattle.std.specs.List.{flat_map, range_with_len}
-use Rattle.mpd_model.specs.World.{rank_numbers}
+use Rattle.mpd_model.specs.steps.World.{rank_numbers}
 use Rattle.mpd_picture.specs.Marks.{went_on}
 use Rattle.mpd_picture.proofs.marks.push_all_went_on.Given as goal
 

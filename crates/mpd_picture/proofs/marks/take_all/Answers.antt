@@ -1,5 +1,5 @@
 use Rattle.std.proofs.Common.{◌+◌, ◌<◌, length, ap, ◌∙◌, arith}
-use Rattle.mpd_model.specs.Trail.{Trail}
+use Rattle.mpd_model.specs.runs.Trail.{Trail}
 use Rattle.mpd_picture.proofs.MarkLemmas.{marks_more}
 use Rattle.mpd_picture.proofs.marks.take_all.Goals as goal
 

@@ -1,6 +1,6 @@
 use Rattle.std.proofs.Common.{◌≡◌, ◌-◌, ◌++◌, string_bytes}
 use Rattle.std.specs.List.{flat_map, range_with_len}
-use Rattle.mpd_model.specs.World.{rank_numbers}
+use Rattle.mpd_model.specs.steps.World.{rank_numbers}
 use Rattle.mpd_picture.specs.Rows.{head_sign}
 use Rattle.mpd_picture.proofs.rows.push_head_signs.Given as goal
 

@@ -1,6 +1,6 @@
 use Rattle.std.proofs.Common.{◌≡◌, ◌-◌, ◌++◌}
 use Rattle.std.specs.List.{flat_map, range_with_len}
-use Rattle.mpd_model.specs.World.{rank_numbers}
+use Rattle.mpd_model.specs.steps.World.{rank_numbers}
 use Rattle.mpd_picture.specs.Shapes.{lane_shapes}
 use Rattle.mpd_picture.proofs.shapes.push_lanes.Given as goal
 

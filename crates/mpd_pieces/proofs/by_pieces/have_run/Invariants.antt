@@ -1,5 +1,5 @@
 use Rattle.std.proofs.Common.{◌≡◌, false, take}
-use Rattle.mpd_model.specs.Trail.{IsReached}
+use Rattle.mpd_model.specs.runs.Trail.{IsReached}
 use Rattle.mpd_trail.specs.Views.{standing_of}
 use Rattle.mpd_pieces.specs.Along.{have_run}
 use Rattle.mpd_pieces.proofs.by_pieces.have_run.Given as goal

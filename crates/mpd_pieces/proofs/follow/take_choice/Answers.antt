@@ -2,7 +2,7 @@ use Rattle.std.proofs.Common.{rules, ◌≡◌, ◌<◌, ℕ, List, ◌∷◌, l
 use Rattle.std.proofs.Math.Seq.{drop-cons}
 use Rattle.std.proofs.lemmas.Option.{slice_get_read}
 use Rattle.mpd_model.specs.declared.step.Step.{Step}
-use Rattle.mpd_model.specs.Trail.{Trail}
+use Rattle.mpd_model.specs.runs.Trail.{Trail}
 use Rattle.mpd_trail.specs.Views.{standing_of}
 use Rattle.mpd_explore.proofs.RunLemmas.{enabled_at}
 use Rattle.mpd_explore.proofs.SearchLemmas.{Went}
@@ -59,7 +59,7 @@ returns-clause-going c =
     let held : a ≡ get_or c.args.candidates choice a = c.index-step.ensures ∙ ap (λ (xs : List Step). get_or xs choice a) c.candidates.view_is in
     let read : slice_get c.args.candidates choice ≡ Some a = slice_get_read c.args.candidates (length c.args.candidates) choice a refl within held in
     let e = standing_of c.forward.new.self in
-    let went : Went d a e = record { kept_is = c.in_ok-forward.ensures.steps; world = c.in_ok-forward.ensures.world; depth = ap (λ (t : Trail). t.depth) c.in_ok-forward.ensures.ok; program = c.in_ok-forward.ensures.program; mode = c.in_ok-forward.ensures.mode; reached = c.in_ok-forward.ensures.reached } in
+    let went : Went d a e = record { done_steps_are = c.in_ok-forward.ensures.steps; world = c.in_ok-forward.ensures.world; depth = ap (λ (t : Trail). t.depth) c.in_ok-forward.ensures.ok; program = c.in_ok-forward.ensures.program; mode = c.in_ok-forward.ensures.mode; reached = c.in_ok-forward.ensures.reached } in
     let candidates : List Step = c.args.candidates in
     let there : asleep_there c.take.new.self ≡ sleeping_behind c.args.ends candidates choice a (asleep_there c.args.sleep.now) =
     c.in_ok-take.ensures.there ∙ ap (λ (xs : List Step). sleeping_behind c.args.ends xs choice a (asleep_there c.args.sleep.now)) (c.deref.ensures.value ∙ c.candidates.view_is) in

@@ -1,5 +1,5 @@
 use Rattle.std.proofs.Common.{◌≡◌, ◌-◌, slice_get}
-use Rattle.mpd_model.specs.Breakpoints.{comes_at, some_comes}
+use Rattle.mpd_model.specs.runs.Breakpoints.{comes_at, some_comes}
 use Rattle.mpd_match.proofs.Matches.{any_from}
 use Rattle.mpd_policy.proofs.marks.some_comes_to.Given as goal
 

@@ -1,6 +1,6 @@
 use Rattle.std.proofs.Common.{◌≡◌, ◌+◌, ap, ◌∙◌, drop, map, string_bytes}
 use Rattle.mpd_trail.specs.Views.{standing_of}
-use Rattle.mpd_model.specs.Trail.{Standing}
+use Rattle.mpd_model.specs.runs.Trail.{Standing}
 use Rattle.mpd_pieces.specs.Along.{have_run}
 use Rattle.mpd_pool.proofs.Joined.{joined_on, joined_last, texts_at, can_same}
 use Rattle.mpd_pool.proofs.join.add_piece.Goals as goal

@@ -1,8 +1,8 @@
 use Rattle.std.proofs.Common.{◌≡◌, true, All, vec_len, List}
 use Rattle.crossbeam_deque.specs.Handles.{worker_deque, worker_view, IsPassOf}
-use Rattle.mpd_model.specs.Trail.{Standing}
+use Rattle.mpd_model.specs.runs.Trail.{Standing}
 use Rattle.mpd_explore.specs.declared.report.Limits.{Limits}
-use Rattle.mpd_pieces.specs.declared.split.Piece.{Piece}
+use Rattle.mpd_pieces.specs.declared.splitter.Piece.{Piece}
 use Rattle.mpd_pool.specs.declared.work.Batch.{Batch}
 use Rattle.mpd_pool.specs.Parts.{Filled}
 use Rattle.mpd_pool.specs.Brought.{AllRight}

@@ -1,7 +1,7 @@
 use Rattle.std.proofs.Common.{vec_len, List}
-use Rattle.mpd_model.specs.Trail.{Standing}
+use Rattle.mpd_model.specs.runs.Trail.{Standing}
 use Rattle.mpd_explore.specs.declared.report.Limits.{Limits}
-use Rattle.mpd_pieces.specs.declared.split.Piece.{Piece}
+use Rattle.mpd_pieces.specs.declared.splitter.Piece.{Piece}
 use Rattle.mpd_pool.specs.Parts.{Filled}
 use Rattle.mpd_pool.specs.Brought.{AllRight}
 use Rattle.mpd_pool.proofs.slots.gather.Given as goal

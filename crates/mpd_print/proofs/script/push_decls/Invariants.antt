@@ -1,6 +1,6 @@
 use Rattle.std.proofs.Common.{◌≡◌, ◌++◌, drop, string_bytes}
 use Rattle.std.specs.List.{flat_map}
-use Rattle.mpd_model.specs.Canonical.{decl_text}
+use Rattle.mpd_model.specs.grammar.Canonical.{decl_text}
 use Rattle.mpd_print.proofs.script.push_decls.Given as goal
 
 abbrev pub invariant-loop-decl : goal.invariant-loop-decl

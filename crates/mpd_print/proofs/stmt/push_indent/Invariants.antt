@@ -1,5 +1,5 @@
 use Rattle.std.proofs.Common.{◌≡◌, ◌-◌, ◌++◌, string_bytes}
-use Rattle.mpd_model.specs.Canonical.{indent}
+use Rattle.mpd_model.specs.grammar.Canonical.{indent}
 use Rattle.mpd_print.proofs.stmt.push_indent.Given as goal
 
 abbrev pub invariant-loop : goal.invariant-loop

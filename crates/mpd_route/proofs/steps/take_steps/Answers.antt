@@ -1,5 +1,5 @@
 use Rattle.std.proofs.Common.{◌+◌, ◌<◌, length, refl, ap, ◌∙◌, arith}
-use Rattle.mpd_model.specs.Trail.{kept}
+use Rattle.mpd_model.specs.runs.Trail.{done_steps}
 use Rattle.mpd_route.proofs.GivenLemmas.{given_on, given_stops, given_kept}
 use Rattle.mpd_route.proofs.steps.take_steps.Goals as goal
 
@@ -12,7 +12,7 @@ loop-step-preserved c =
     let within : i < length steps = omega (arith, c.loop-step-test.true) in
     record {
       place = ap (λ k. k + 1) t.place;
-      taken = given_kept steps i _ _ (kept c.args.debugger.now.trail) (kept c.loop-step.debugger.trail) (kept c.take_at.new.debugger.trail) within refl t.taken told.steps;
+      taken = given_kept steps i _ _ (done_steps c.args.debugger.now.trail) (done_steps c.loop-step.debugger.trail) (done_steps c.take_at.new.debugger.trail) within refl t.taken told.steps;
       leads = given_on steps i _ _ c.args.debugger.now.world c.loop-step.debugger.world c.take_at.new.debugger.world within refl t.leads told.leads;
     }
 

@@ -1,5 +1,5 @@
 use Rattle.std.proofs.Common.{◌≡◌, ◌≤◌, ◌+◌, length}
-use Rattle.mpd_model.specs.Lines.{lines_of}
+use Rattle.mpd_model.specs.texts.Lines.{lines_of}
 use Rattle.mpd_route.specs.Read.{behind, steps_in}
 use Rattle.mpd_route.proofs.words.steps_of.Given as goal
 

@@ -1,5 +1,5 @@
 use Rattle.std.proofs.Common.{sym, ap, ◌∙◌}
-use Rattle.mpd_model.specs.Trail.{kept}
+use Rattle.mpd_model.specs.runs.Trail.{done_steps}
 use Rattle.mpd_explore.specs.declared.report.Leaf.{Leaf}
 use Rattle.mpd_explore.specs.Witness.{witness_by}
 use Rattle.mpd_explore.specs.WitnessTexts.{behind_number}
@@ -18,4 +18,4 @@ returns-clause-leaves c =
 
 pub returns-clause-texts : goal.returns-clause-texts
 returns-clause-texts c text own told =
-    text_inserted c.args.asked text c.args.leaf c.args.report.now.leaves.items c.insert.new.self.items _ _ c.place_of-place.result _ (own ∙ ap (λ end. behind_number (witness_by (kept c.args.debugger.now.trail) end)) (sym (ap (λ (l : Leaf). l.ending) c.leaf.view_is))) c.in_ok-insert.ensures.items c.in_default.ensures told
+    text_inserted c.args.asked text c.args.leaf c.args.report.now.leaves.items c.insert.new.self.items _ _ c.place_of-place.result _ (own ∙ ap (λ end. behind_number (witness_by (done_steps c.args.debugger.now.trail) end)) (sym (ap (λ (l : Leaf). l.ending) c.leaf.view_is))) c.in_ok-insert.ensures.items c.in_default.ensures told

@@ -1,6 +1,6 @@
 use Rattle.std.proofs.Common.{◌≡◌, ◌∷◌, ◌++◌, drop, string_bytes}
 use Rattle.std.specs.List.{flat_map}
-use Rattle.mpd_model.specs.Texts.{step_text, steps_text}
+use Rattle.mpd_model.specs.texts.Texts.{step_text, steps_text}
 use Rattle.mpd_sample.proofs.text.push_steps.Given as goal
 
 abbrev pub invariant-loop-step : goal.invariant-loop-step

@@ -1,5 +1,5 @@
 use Rattle.std.proofs.Common.{◌≡◌, ◌+◌, ◌*◌, ◌-◌}
-use Rattle.mpd_model.specs.Grammar.{expr, level, chain}
+use Rattle.mpd_model.specs.grammar.Grammar.{expr, level, chain}
 use Rattle.mpd_script.proofs.expr.+expr.Given as goal
 
 abbrev pub decreases-expr : goal.decreases-expr

@@ -1,5 +1,5 @@
 use Rattle.std.proofs.Common.{◌≡◌, ℕ, ◌+◌, ◌-◌, ◌≤◌, length, drop}
-use Rattle.mpd_model.specs.Tokens.{tokens_at}
+use Rattle.mpd_model.specs.grammar.Tokens.{tokens_at}
 use Rattle.mpd_script.proofs.lex.blank_len.Given as goal
 
 abbrev pub invariant-loop-at : goal.invariant-loop-at

@@ -3,7 +3,7 @@ use Rattle.std.proofs.lemmas.Grind.{common_steps}
 use Rattle.std.proofs.lemmas.Bool.Decides.{nat_tests}
 use Rattle.std.proofs.lemmas.Int.{to_z_pos}
 use Rattle.std.proofs.lemmas.List.{at_drop_more}
-use Rattle.mpd_model.specs.Tokens.{number, decimal_after}
+use Rattle.mpd_model.specs.grammar.Tokens.{number, decimal_after}
 use Rattle.mpd_script.proofs.Digits.{le-decimal_after}
 use Rattle.mpd_script.proofs.lex.number.Goals as goal
 

@@ -1,5 +1,5 @@
 use Rattle.std.proofs.Common.{◌≡◌, ◌^◌, ◌<◌, drop}
-use Rattle.mpd_model.specs.Tokens.{decimal_after}
+use Rattle.mpd_model.specs.grammar.Tokens.{decimal_after}
 use Rattle.mpd_script.proofs.lex.number.Given as goal
 
 abbrev pub invariant-digits : goal.invariant-digits

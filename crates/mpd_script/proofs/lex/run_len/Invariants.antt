@@ -1,5 +1,5 @@
 use Rattle.std.proofs.Common.{◌≡◌, ◌+◌, ◌-◌, ◌≤◌, length, drop}
-use Rattle.mpd_model.specs.Tokens.{run_len}
+use Rattle.mpd_model.specs.grammar.Tokens.{run_len}
 use Rattle.mpd_script.proofs.lex.run_len.Given as goal
 
 abbrev pub invariant-loop-end : goal.invariant-loop-end

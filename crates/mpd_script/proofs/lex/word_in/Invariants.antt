@@ -1,5 +1,5 @@
 use Rattle.std.proofs.Common.{◌≡◌, length, map}
-use Rattle.mpd_model.specs.Tokens.{word_in}
+use Rattle.mpd_model.specs.grammar.Tokens.{word_in}
 use Rattle.mpd_script.proofs.lex.word_in.Given as goal
 
 abbrev pub invariant-loop-table : goal.invariant-loop-table

@@ -1,5 +1,5 @@
 use Rattle.std.proofs.Common.{◌≡◌, ◌-◌}
-use Rattle.mpd_model.specs.Grammar.{decls, decls_from}
+use Rattle.mpd_model.specs.grammar.Grammar.{decls, decls_from}
 use Rattle.mpd_script.proofs.script.decls.Given as goal
 
 abbrev pub invariant-loop-turn : goal.invariant-loop-turn

@@ -1,5 +1,5 @@
 use Rattle.std.proofs.Common.{◌≡◌, length, false, ap, ◌∙◌}
-use Rattle.mpd_model.specs.Tree.{block_of, statements_in}
+use Rattle.mpd_model.specs.script.Tree.{block_of, statements_in}
 use Rattle.mpd_laws.proofs.sound.SoundScript.{lines_counted, script_reads}
 use Rattle.mpd_script.proofs.script.script.Goals as goal
 

@@ -1,6 +1,6 @@
 use Rattle.std.proofs.Common.{◌≡◌, ◌+◌, ◌-◌, ◌≤◌, length, drop}
 use Rattle.std.specs.List.{prefix_len}
-use Rattle.mpd_model.specs.Grammar.{is_text}
+use Rattle.mpd_model.specs.grammar.Grammar.{is_text}
 use Rattle.mpd_script.proofs.script.text_len.Given as goal
 
 abbrev pub invariant-loop-end : goal.invariant-loop-end

@@ -1,5 +1,5 @@
 use Rattle.std.proofs.Common.{◌≡◌, ◌+◌, ◌*◌, ◌-◌}
-use Rattle.mpd_model.specs.Grammar.{block, body, stmts}
+use Rattle.mpd_model.specs.grammar.Grammar.{block, body, stmts}
 use Rattle.mpd_script.proofs.stmt.+block.Given as goal
 
 abbrev pub decreases-block : goal.decreases-block

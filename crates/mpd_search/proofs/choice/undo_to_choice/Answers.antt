@@ -1,5 +1,5 @@
 use Rattle.std.proofs.Common.{rules, ap, ◌∙◌}
-use Rattle.mpd_model.specs.Decisions.{decision}
+use Rattle.mpd_model.specs.runs.Decisions.{decision}
 use Rattle.mpd_trail.specs.Views.{standing_of}
 use Rattle.mpd_search.specs.Choices.{is_choice}
 use Rattle.mpd_search.proofs.ChoiceLemmas.{undoing_more, deep_enough}

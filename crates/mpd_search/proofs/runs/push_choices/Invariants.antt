@@ -1,5 +1,5 @@
 use Rattle.std.proofs.Common.{◌≡◌, ◌++◌, drop, string_bytes}
-use Rattle.mpd_model.specs.Texts.{spaced}
+use Rattle.mpd_model.specs.texts.Texts.{spaced}
 use Rattle.mpd_search.specs.Runs.{from_zero}
 use Rattle.mpd_search.proofs.runs.push_choices.Given as goal
 

@@ -1,6 +1,6 @@
 use Rattle.std.proofs.Common.{◌++◌, ◌∙◌, ap, map, string_bytes, Option}
 use Rattle.mpd_model.specs.declared.breakpoint.Break.{Break}
-use Rattle.mpd_model.specs.Breakpoints.{break_at}
+use Rattle.mpd_model.specs.runs.Breakpoints.{break_at}
 use Rattle.mpd_session.specs.Effects.{place_texts}
 use Rattle.mpd_session.proofs.LookLemmas.{joined_more}
 use Rattle.mpd_session.proofs.breaks.list.Goals as goal

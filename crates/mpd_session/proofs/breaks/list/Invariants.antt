@@ -1,7 +1,7 @@
 use Rattle.std.proofs.Common.{◌≡◌, ◌-◌, ◌++◌, map, string_bytes}
 use Rattle.std.specs.List.{flat_map, range_with_len}
 use Rattle.mpd_model.specs.declared.limits.TheConstants.{BREAKS_MAX}
-use Rattle.mpd_model.specs.Breakpoints.{break_at}
+use Rattle.mpd_model.specs.runs.Breakpoints.{break_at}
 use Rattle.mpd_session.specs.Effects.{place_texts}
 use Rattle.mpd_session.proofs.breaks.list.Given as goal
 

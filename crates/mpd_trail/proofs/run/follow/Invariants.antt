@@ -1,5 +1,5 @@
 use Rattle.std.proofs.Common.{◌≡◌, ◌≤◌, length, take, vec_capacity}
-use Rattle.mpd_model.specs.Trail.{IsReached}
+use Rattle.mpd_model.specs.runs.Trail.{IsReached}
 use Rattle.mpd_trail.specs.Run.{Run, SameScript}
 use Rattle.mpd_trail.specs.Views.{place_of, standing_of}
 use Rattle.mpd_trail.proofs.run.follow.Given as goal

@@ -1,6 +1,6 @@
 use Rattle.std.proofs.Common.{◌≡◌, ◌≤◌, length, take, vec_capacity}
 use Rattle.std.specs.List.{AllByRecursion}
-use Rattle.mpd_model.specs.Trail.{IsReached}
+use Rattle.mpd_model.specs.runs.Trail.{IsReached}
 use Rattle.mpd_trail.specs.Run.{RunFrom, IsGiven, SameScript}
 use Rattle.mpd_trail.specs.Views.{place_of, standing_of}
 use Rattle.mpd_trail.proofs.run.follow_with_room.Given as goal

@@ -1,6 +1,6 @@
 use Rattle.std.proofs.Common.{◌+◌, false, drop, get_or, ◌∙◌, arith}
 use Rattle.std.proofs.lemmas.List.{drop_more}
-use Rattle.mpd_model.specs.Breakpoints.{is_number}
+use Rattle.mpd_model.specs.runs.Breakpoints.{is_number}
 use Rattle.mpd_view.proofs.LostLemmas.{marks_more}
 use Rattle.mpd_view.proofs.lost.mark_held.Goals as goal
 

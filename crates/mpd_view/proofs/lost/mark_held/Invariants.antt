@@ -1,6 +1,6 @@
 use Rattle.std.proofs.Common.{◌≡◌, ◌<◌, ◌||◌, ℕ, false, drop, get_or, length}
 use Rattle.std.specs.List.{list_any}
-use Rattle.mpd_model.specs.Breakpoints.{is_number}
+use Rattle.mpd_model.specs.runs.Breakpoints.{is_number}
 use Rattle.mpd_view.proofs.lost.mark_held.Given as goal
 
 abbrev pub invariant-loop-handle : goal.invariant-loop-handle

@@ -1,7 +1,7 @@
 use Rattle.std.proofs.Common.{◌+◌, ◌||◌, false, drop, get_or, ap, ◌∙◌, arith}
 use Rattle.std.proofs.lemmas.List.{drop_more}
 use Rattle.mpd_model.specs.declared.call.Call.{Call}
-use Rattle.mpd_model.specs.Breakpoints.{is_number}
+use Rattle.mpd_model.specs.runs.Breakpoints.{is_number}
 use Rattle.mpd_view.specs.Lost.{target_of}
 use Rattle.mpd_view.proofs.LostLemmas.{marks_more}
 use Rattle.mpd_view.proofs.lost.mark_waited.Goals as goal

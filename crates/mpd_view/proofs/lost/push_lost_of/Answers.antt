@@ -1,5 +1,5 @@
 use Rattle.std.proofs.Common.{string_bytes}
-use Rattle.mpd_model.specs.World.{call_id}
+use Rattle.mpd_model.specs.steps.World.{call_id}
 use Rattle.mpd_view.specs.Lost.{is_lost, lost_line}
 use Rattle.mpd_view.proofs.ShownLemmas.{passed_more}
 use Rattle.mpd_view.proofs.lost.push_lost_of.Goals as goal

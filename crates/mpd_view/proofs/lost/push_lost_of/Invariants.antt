@@ -1,6 +1,6 @@
 use Rattle.std.proofs.Common.{◌≡◌, ◌-◌, ◌++◌, string_bytes}
 use Rattle.std.specs.List.{filter, flat_map, range_with_len}
-use Rattle.mpd_model.specs.World.{call_id}
+use Rattle.mpd_model.specs.steps.World.{call_id}
 use Rattle.mpd_view.specs.Lost.{is_lost, lost_line, lost_text}
 use Rattle.mpd_view.proofs.lost.push_lost_of.Given as goal
 

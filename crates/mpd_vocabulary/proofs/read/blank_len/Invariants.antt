@@ -1,5 +1,5 @@
 use Rattle.std.proofs.Common.{◌≡◌, ◌+◌, ◌≤◌, length, drop}
-use Rattle.mpd_model.specs.Words.{is_no_blank, stop_len}
+use Rattle.mpd_model.specs.texts.Words.{is_no_blank, stop_len}
 use Rattle.mpd_vocabulary.proofs.read.blank_len.Given as goal
 
 abbrev pub invariant-loop-i : goal.invariant-loop-i

@@ -1,7 +1,7 @@
 use Rattle.std.proofs.Common.{◌≡◌, ◌<◌, ◌^◌, drop}
 use Rattle.std.specs.List.{list_all}
 use Rattle.std.specs.Char.{is_ascii_digit}
-use Rattle.mpd_model.specs.Words.{digits_value}
+use Rattle.mpd_model.specs.texts.Words.{digits_value}
 use Rattle.mpd_vocabulary.proofs.read.number_of.Given as goal
 
 abbrev pub invariant-loop-byte : goal.invariant-loop-byte

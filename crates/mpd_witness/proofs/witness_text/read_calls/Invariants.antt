@@ -1,5 +1,5 @@
 use Rattle.std.proofs.Common.{◌≡◌, length}
-use Rattle.mpd_model.specs.Words.{call_of}
+use Rattle.mpd_model.specs.texts.Words.{call_of}
 use Rattle.mpd_witness.specs.WitnessText.{each_read}
 use Rattle.mpd_witness.proofs.TextLemmas.{joined_to}
 use Rattle.mpd_witness.proofs.witness_text.read_calls.Given as goal

@@ -1,5 +1,5 @@
 use Rattle.std.proofs.Common.{◌≡◌, length}
-use Rattle.mpd_model.specs.Words.{step_of}
+use Rattle.mpd_model.specs.texts.Words.{step_of}
 use Rattle.mpd_witness.specs.WitnessText.{steps_of, each_read}
 use Rattle.mpd_witness.proofs.TextLemmas.{joined_to}
 use Rattle.mpd_witness.proofs.witness_text.read_steps.Given as goal

@@ -1,5 +1,5 @@
 use Rattle.std.proofs.Common.{◌≡◌, ◌==◌, ◌+◌, ◌≤◌, length, drop}
-use Rattle.mpd_model.specs.Words.{stop_len}
+use Rattle.mpd_model.specs.texts.Words.{stop_len}
 use Rattle.mpd_words.proofs.choices.word_len.Given as goal
 
 abbrev pub invariant-loop-i : goal.invariant-loop-i

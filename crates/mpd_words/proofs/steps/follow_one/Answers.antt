@@ -1,5 +1,5 @@
 use Rattle.std.proofs.Common.{refl, ap, ◌∙◌}
-use Rattle.mpd_model.specs.Decisions.{decision}
+use Rattle.mpd_model.specs.runs.Decisions.{decision}
 use Rattle.mpd_trail.specs.Views.{standing_of}
 use Rattle.mpd_words.proofs.AlongLemmas.{leaf_on}
 use Rattle.mpd_words.proofs.steps.follow_one.Goals as goal

@@ -1,6 +1,6 @@
 use Rattle.std.proofs.Common.{rules, ◌≡◌, ◌≤◌, ◌<◌, ◌∷◌, length, ap}
 use Rattle.std.proofs.lemmas.Option.{slice_get_past, slice_get-get_or}
-use Rattle.mpd_model.specs.Trail.{Trail}
+use Rattle.mpd_model.specs.runs.Trail.{Trail}
 use Rattle.mpd_trail.specs.Views.{standing_of}
 use Rattle.mpd_words.proofs.AlongLemmas.{chosen_on, missing_on, fewer_on}
 use Rattle.mpd_words.proofs.steps.take_choice.Goals as goal

@@ -1,6 +1,6 @@
 use Rattle.std.proofs.Common.{◌≡◌, ◌-◌, ◌++◌}
 use Rattle.std.specs.List.{flat_map, range_with_len}
-use Rattle.mpd_model.specs.Outcomes.{blocked_at, blocked_calls}
+use Rattle.mpd_model.specs.steps.Outcomes.{blocked_at, blocked_calls}
 use Rattle.std.proofs.Common.{slice_get}
 use Rattle.mpd_core.proofs.state.Core.blocked.Given as goal
 

@@ -1,6 +1,6 @@
 use Rattle.std.proofs.Common.{◌≡◌, ◌-◌}
 use Rattle.mpd_core.proofs.RangeLemmas.{joined_from}
-use Rattle.mpd_model.specs.Next.{is_enabled, matches_of}
+use Rattle.mpd_model.specs.steps.Next.{is_enabled, matches_of}
 use Rattle.mpd_core.proofs.state.Core.can_match_any.Given as goal
 
 abbrev pub invariant-loop-receiver : goal.invariant-loop-receiver

@@ -1,5 +1,5 @@
 use Rattle.std.proofs.Common.{◌≡◌, ◌-◌}
-use Rattle.mpd_model.specs.Next.{is_at_barrier}
+use Rattle.mpd_model.specs.steps.Next.{is_at_barrier}
 use Rattle.mpd_core.proofs.ReleaseLemmas.{all_from}
 use Rattle.mpd_core.proofs.state.Core.can_release.Given as goal
 

@@ -1,7 +1,7 @@
 use Rattle.std.proofs.Common.{◌≡◌, ◌-◌}
 use Rattle.mpd_model.specs.declared.step.Step.TheVariants.{Wake}
 use Rattle.mpd_core.proofs.RangeLemmas.{mapped_from}
-use Rattle.mpd_model.specs.Next.{is_enabled}
+use Rattle.mpd_model.specs.steps.Next.{is_enabled}
 use Rattle.mpd_core.proofs.state.Core.can_wake_any.Given as goal
 
 abbrev pub invariant-loop-rank : goal.invariant-loop-rank

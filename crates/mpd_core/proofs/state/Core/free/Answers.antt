@@ -1,4 +1,4 @@
-use Rattle.mpd_model.specs.Outcomes.{free_of}
+use Rattle.mpd_model.specs.steps.Outcomes.{free_of}
 use Rattle.mpd_core.proofs.RangeLemmas.{given_more, given_some, refused_with}
 use Rattle.mpd_core.proofs.state.Core.free.Goals as goal
 

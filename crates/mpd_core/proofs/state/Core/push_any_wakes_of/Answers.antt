@@ -1,6 +1,6 @@
 use Rattle.std.proofs.Common.{sym, ◌∙◌, arith}
 use Rattle.mpd_model.specs.declared.step.Step.TheVariants.{WakeAny}
-use Rattle.mpd_model.specs.Next.{is_enabled}
+use Rattle.mpd_model.specs.steps.Next.{is_enabled}
 use Rattle.mpd_core.proofs.EnabledLemmas.{any_wakes_ahead, no_any_wakes}
 use Rattle.mpd_core.proofs.RangeLemmas.{chosen_more, chosen_some, chosen_grows, refused_with}
 use Rattle.mpd_core.proofs.state.Core.push_any_wakes_of.Goals as goal

@@ -1,6 +1,6 @@
 use Rattle.std.proofs.Common.{◌≡◌, ◌≤◌, ◌-◌, ◌++◌, length}
 use Rattle.mpd_model.specs.declared.step.Step.TheVariants.{WakeAny}
-use Rattle.mpd_model.specs.Next.{is_enabled}
+use Rattle.mpd_model.specs.steps.Next.{is_enabled}
 use Rattle.mpd_core.proofs.EnabledLemmas.{any_wakes_at}
 use Rattle.mpd_core.proofs.RangeLemmas.{chosen_from}
 use Rattle.mpd_core.proofs.state.Core.push_any_wakes_of.Given as goal

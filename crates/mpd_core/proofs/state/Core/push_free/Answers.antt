@@ -1,4 +1,4 @@
-use Rattle.mpd_model.specs.World.{call_id, is_free}
+use Rattle.mpd_model.specs.steps.World.{call_id, is_free}
 use Rattle.mpd_core.proofs.RangeLemmas.{chosen_more, chosen_some, chosen_grows, refused_with}
 use Rattle.mpd_core.proofs.state.Core.push_free.Goals as goal
 

@@ -1,6 +1,6 @@
 use Rattle.std.proofs.Common.{◌≡◌, ◌≤◌, ◌-◌, ◌++◌, length}
-use Rattle.mpd_model.specs.Outcomes.{free_of}
-use Rattle.mpd_model.specs.World.{call_id, is_free}
+use Rattle.mpd_model.specs.steps.Outcomes.{free_of}
+use Rattle.mpd_model.specs.steps.World.{call_id, is_free}
 use Rattle.mpd_core.proofs.RangeLemmas.{chosen_from}
 use Rattle.mpd_core.proofs.state.Core.push_free.Given as goal
 

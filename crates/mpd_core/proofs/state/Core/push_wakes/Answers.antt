@@ -1,5 +1,5 @@
 use Rattle.mpd_model.specs.declared.step.Step.TheVariants.{Wake}
-use Rattle.mpd_model.specs.Next.{is_enabled}
+use Rattle.mpd_model.specs.steps.Next.{is_enabled}
 use Rattle.mpd_core.proofs.RangeLemmas.{chosen_more, chosen_some, chosen_grows, refused_with}
 use Rattle.mpd_core.proofs.state.Core.push_wakes.Goals as goal
 

@@ -1,8 +1,8 @@
 use Rattle.std.proofs.Common.{◌≡◌, ◌≤◌, ◌-◌, ◌++◌, length, map}
 use Rattle.std.specs.List.{filter}
 use Rattle.mpd_model.specs.declared.step.Step.TheVariants.{Wake}
-use Rattle.mpd_model.specs.World.{rank_numbers}
-use Rattle.mpd_model.specs.Next.{is_enabled}
+use Rattle.mpd_model.specs.steps.World.{rank_numbers}
+use Rattle.mpd_model.specs.steps.Next.{is_enabled}
 use Rattle.mpd_core.proofs.RangeLemmas.{chosen_from}
 use Rattle.mpd_core.proofs.state.Core.push_wakes.Given as goal
 

@@ -1,5 +1,5 @@
 use Rattle.std.proofs.Common.{slice_get}
-use Rattle.mpd_model.specs.Outcomes.{traps_at}
+use Rattle.mpd_model.specs.steps.Outcomes.{traps_at}
 use Rattle.mpd_core.proofs.RangeLemmas.{given_more, given_some, refused_with}
 use Rattle.mpd_core.proofs.state.Core.traps.Goals as goal
 

@@ -1,6 +1,6 @@
 use Rattle.std.proofs.Common.{◌≡◌, ◌-◌, ◌++◌}
 use Rattle.std.specs.List.{flat_map, range_with_len}
-use Rattle.mpd_model.specs.Outcomes.{traps_at, traps_in}
+use Rattle.mpd_model.specs.steps.Outcomes.{traps_at, traps_in}
 use Rattle.std.proofs.Common.{slice_get}
 use Rattle.mpd_core.proofs.state.Core.traps.Given as goal
 

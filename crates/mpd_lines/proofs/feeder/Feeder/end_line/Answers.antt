@@ -1,5 +1,5 @@
 use Rattle.std.proofs.Common.{◌<◌, ◌++◌, ◌∷◌, [], length}
-use Rattle.mpd_model.specs.Lines.{bare}
+use Rattle.mpd_model.specs.texts.Lines.{bare}
 use Rattle.mpd_lines.proofs.BareLaws.{long_bare}
 use Rattle.mpd_lines.proofs.feeder.Feeder.end_line.Goals as goal
 

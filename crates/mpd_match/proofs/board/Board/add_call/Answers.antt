@@ -2,7 +2,7 @@ use Rattle.std.proofs.Common.{◌≡◌, ◌<◌, List, [], ◌∷◌, ◌++◌,
 use Rattle.std.proofs.lemmas.List.{length-map}
 use Rattle.mpd_model.specs.declared.step.CallId.{CallId}
 use Rattle.mpd_model.specs.declared.call.Call.{Call}
-use Rattle.mpd_model.specs.World.{call_id, listed_calls, partner}
+use Rattle.mpd_model.specs.steps.World.{call_id, listed_calls, partner}
 use Rattle.mpd_laws.proofs.buffered.Slots.{slots_within}
 use Rattle.mpd_match.specs.Views.{SideView, BoardView, board_in, calls_in}
 use Rattle.mpd_match.specs.Held.{Meets}

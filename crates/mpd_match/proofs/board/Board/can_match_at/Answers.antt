@@ -1,5 +1,5 @@
 use Rattle.std.proofs.Common.{◌<◌, ℕ, Bool, Option, List, length, sym, subst, ◌∙◌}
-use Rattle.mpd_model.specs.World.{Board, call_id, posted}
+use Rattle.mpd_model.specs.steps.World.{Board, call_id, posted}
 use Rattle.mpd_match.proofs.Walks.{Seeking, rest, walk_falls, seek_begins, seek_goes_on, seek_finds, seek_ends}
 use Rattle.mpd_match.proofs.Matches.{any_send, posted_once, posted_tells, posted_free, posted_enough}
 use Rattle.mpd_match.proofs.board.Board.can_match_at.Goals as goal

@@ -1,5 +1,5 @@
 use Rattle.std.proofs.Common.{length}
-use Rattle.mpd_model.specs.World.{call_id, posted}
+use Rattle.mpd_model.specs.steps.World.{call_id, posted}
 use Rattle.mpd_match.proofs.Walks.{Seeking, rest}
 use Rattle.mpd_match.proofs.Matches.{any_send}
 use Rattle.mpd_match.proofs.board.Board.can_match_at.Given as goal

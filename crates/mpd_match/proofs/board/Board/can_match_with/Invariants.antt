@@ -1,6 +1,6 @@
 use Rattle.std.proofs.Common.{◌≡◌, ◌-◌}
 use Rattle.std.specs.List.{list_any}
-use Rattle.mpd_model.specs.World.{call_id, call_numbers, eligible}
+use Rattle.mpd_model.specs.steps.World.{call_id, call_numbers, eligible}
 use Rattle.mpd_match.proofs.Matches.{any_from}
 use Rattle.mpd_match.proofs.board.Board.can_match_with.Given as goal
 

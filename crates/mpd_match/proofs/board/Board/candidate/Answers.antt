@@ -2,7 +2,7 @@ use Rattle.std.proofs.Common.{◌≡◌, ℕ, true, Option, Some, None, sym, ap,
 use Rattle.std.specs.Option.{option_to_list}
 use Rattle.mpd_model.specs.declared.step.CallId.{CallId}
 use Rattle.mpd_model.specs.declared.call.CallKind.{CallKind}
-use Rattle.mpd_model.specs.World.{Board, call_id, kind_at, is_free}
+use Rattle.mpd_model.specs.steps.World.{Board, call_id, kind_at, is_free}
 use Rattle.mpd_match.specs.Lines.{takes_from}
 use Rattle.mpd_match.specs.Firsts.{first_recv}
 use Rattle.mpd_match.proofs.Matches.{free_exists}

@@ -1,5 +1,5 @@
 use Rattle.std.proofs.Common.{◌≡◌, ◌≤◌, true, sym, ap, subst, arith}
-use Rattle.mpd_model.specs.World.{Board}
+use Rattle.mpd_model.specs.steps.World.{Board}
 use Rattle.mpd_match.specs.Changes.{last_set, is_lone}
 use Rattle.mpd_match.specs.Views.{BoardView, board_in}
 use Rattle.mpd_match.proofs.AtSide.{more_set_room}

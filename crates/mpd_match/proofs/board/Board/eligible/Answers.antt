@@ -2,7 +2,7 @@ use Rattle.std.proofs.Common.{rules, ◌≡◌, ◌<◌, ◌+◌, suc, Bool, tru
 use Rattle.std.specs.List.{list_any}
 use Rattle.mpd_model.specs.declared.step.CallId.{CallId}
 use Rattle.mpd_model.specs.declared.call.CallKind.{CallKind}
-use Rattle.mpd_model.specs.World.{Board, call_id, kind_at, is_free, fits, fitting, posted}
+use Rattle.mpd_model.specs.steps.World.{Board, call_id, kind_at, is_free, fits, fitting, posted}
 use Rattle.mpd_match.specs.Views.{SideView, BoardView, side_at, board_in}
 use Rattle.mpd_match.specs.Lines.{kind_in, mark_in, waiting, fitting_either, passed, has_earlier}
 use Rattle.mpd_match.specs.Looks.{send_looks, recv_looks, has_earlier_send}

@@ -1,6 +1,6 @@
 use Rattle.std.proofs.Common.{sym, ap, ◌∙◌}
-use Rattle.mpd_model.specs.Why.{first_in}
-use Rattle.mpd_model.specs.Decisions.{is_named_match}
+use Rattle.mpd_model.specs.steps.Why.{first_in}
+use Rattle.mpd_model.specs.runs.Decisions.{is_named_match}
 use Rattle.mpd_match.specs.Picked.{picked_at}
 use Rattle.mpd_match.proofs.Picked.{first_on, first_now, picked_all}
 use Rattle.mpd_match.proofs.board.Board.first_named_match.Goals as goal

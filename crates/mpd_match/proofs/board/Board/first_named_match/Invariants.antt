@@ -1,6 +1,6 @@
 use Rattle.std.proofs.Common.{◌≡◌, ◌-◌}
-use Rattle.mpd_model.specs.Why.{first_in}
-use Rattle.mpd_model.specs.Decisions.{is_named_match}
+use Rattle.mpd_model.specs.steps.Why.{first_in}
+use Rattle.mpd_model.specs.runs.Decisions.{is_named_match}
 use Rattle.mpd_match.specs.Picked.{picked_at, picked_on}
 use Rattle.mpd_match.proofs.Picked.{first_from}
 use Rattle.mpd_match.proofs.board.Board.first_named_match.Given as goal

@@ -1,6 +1,6 @@
 use Rattle.std.proofs.Common.{◌≡◌, ◌<◌, suc, length, sym, ap, ◌∙◌, arith}
 use Rattle.std.proofs.lemmas.List.{length-map}
-use Rattle.mpd_model.specs.World.{Board, posted}
+use Rattle.mpd_model.specs.steps.World.{Board, posted}
 use Rattle.mpd_queue.specs.InOrder.{first_of}
 use Rattle.mpd_match.specs.Views.{SideView, BoardView, board_in}
 use Rattle.mpd_match.specs.Lines.{mark_in, waiting}

@@ -1,6 +1,6 @@
 use Rattle.std.proofs.Common.{◌≡◌, ◌<◌, ◌≤◌, ℕ, Bool, Option, List, sym, ap, ◌∙◌}
 use Rattle.mpd_model.specs.declared.call.CallKind.{CallKind}
-use Rattle.mpd_model.specs.World.{Board, call_id, kind_at, fits, fitting, posted}
+use Rattle.mpd_model.specs.steps.World.{Board, call_id, kind_at, fits, fitting, posted}
 use Rattle.mpd_queue.specs.InOrder.{places_in}
 use Rattle.mpd_match.proofs.Firsts.{find_begins, find_stands, find_falls, find_steps, find_hits, looks_hit, find_ends, looks_end}
 use Rattle.mpd_match.proofs.Matches.{posted_once, posted_tells, posted_free}

@@ -1,5 +1,5 @@
 use Rattle.std.proofs.Common.{length}
-use Rattle.mpd_model.specs.World.{call_id, fits, pending}
+use Rattle.mpd_model.specs.steps.World.{call_id, fits, pending}
 use Rattle.mpd_match.proofs.Firsts.{Finding}
 use Rattle.mpd_match.proofs.Walks.{rest}
 use Rattle.mpd_match.proofs.board.Board.first_send.Given as goal

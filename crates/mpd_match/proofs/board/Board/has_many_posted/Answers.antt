@@ -1,5 +1,5 @@
 use Rattle.std.proofs.Common.{sym, subst}
-use Rattle.mpd_model.specs.World.{Board, posted}
+use Rattle.mpd_model.specs.steps.World.{Board, posted}
 use Rattle.mpd_queue.specs.InOrder.{HasSpot}
 use Rattle.mpd_queue.proofs.Spots.{first_spot, next_spot}
 use Rattle.mpd_match.proofs.Matches.{posted_tells, posted_free}

@@ -1,4 +1,4 @@
-use Rattle.mpd_model.specs.World.{posted}
+use Rattle.mpd_model.specs.steps.World.{posted}
 use Rattle.mpd_queue.specs.InOrder.{HasSpot}
 use Rattle.mpd_match.proofs.board.Board.has_many_posted.Given as goal
 

@@ -1,5 +1,5 @@
 use Rattle.std.proofs.Common.{◌≡◌, ℕ, ◌<◌, true, length}
-use Rattle.mpd_model.specs.World.{call_id, kind_at, is_pending}
+use Rattle.mpd_model.specs.steps.World.{call_id, kind_at, is_pending}
 use Rattle.mpd_match.specs.Tags.{tag_place, sent_tag, is_marked}
 use Rattle.mpd_match.proofs.board.Board.mark_all.Given as goal
 

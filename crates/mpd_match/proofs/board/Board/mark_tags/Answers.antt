@@ -1,5 +1,5 @@
 use Rattle.std.proofs.Common.{◌<◌, ℕ, Option, List, length, sym, ap, subst, ◌∙◌}
-use Rattle.mpd_model.specs.World.{Board, call_id, kind_at, pending}
+use Rattle.mpd_model.specs.steps.World.{Board, call_id, kind_at, pending}
 use Rattle.mpd_match.specs.Tags.{tag_place, sent_tag}
 use Rattle.mpd_match.proofs.Walks.{rest, walk_falls}
 use Rattle.mpd_match.proofs.Matches.{pending_once, pending_tells, pending_free}

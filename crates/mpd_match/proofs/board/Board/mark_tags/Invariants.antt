@@ -1,5 +1,5 @@
 use Rattle.std.proofs.Common.{length}
-use Rattle.mpd_model.specs.World.{call_id, kind_at, pending}
+use Rattle.mpd_model.specs.steps.World.{call_id, kind_at, pending}
 use Rattle.mpd_match.specs.Tags.{tag_place, sent_tag}
 use Rattle.mpd_match.proofs.Tags.{Marking}
 use Rattle.mpd_match.proofs.Walks.{rest}

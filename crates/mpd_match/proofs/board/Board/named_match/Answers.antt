@@ -1,5 +1,5 @@
 use Rattle.std.proofs.Common.{ap, ◌∙◌, ◌<◌, ◌≤◌, subst}
-use Rattle.mpd_model.specs.World.{Board}
+use Rattle.mpd_model.specs.steps.World.{Board}
 use Rattle.mpd_match.specs.Picked.{named_source}
 use Rattle.mpd_match.proofs.Picked.{named_nobody, named_none, named_one}
 use Rattle.mpd_match.proofs.board.Board.named_match.Goals as goal

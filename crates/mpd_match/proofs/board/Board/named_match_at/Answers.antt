@@ -1,8 +1,8 @@
 use Rattle.std.proofs.Common.{◌<◌, ◌≡◌, ℕ, Option, None, List, length, sym, ap, subst, ◌∙◌}
 use Rattle.mpd_model.specs.declared.step.Step.{Step}
-use Rattle.mpd_model.specs.World.{Board, call_id, posted}
-use Rattle.mpd_model.specs.Why.{first_in}
-use Rattle.mpd_model.specs.Decisions.{is_named_match}
+use Rattle.mpd_model.specs.steps.World.{Board, call_id, posted}
+use Rattle.mpd_model.specs.steps.Why.{first_in}
+use Rattle.mpd_model.specs.runs.Decisions.{is_named_match}
 use Rattle.mpd_match.specs.Picked.{picked_with}
 use Rattle.mpd_match.proofs.Walks.{rest, walk_falls}
 use Rattle.mpd_match.proofs.Matches.{posted_once, posted_tells, posted_free}

@@ -1,5 +1,5 @@
 use Rattle.std.proofs.Common.{◌≡◌, true, sym, ap, subst, ◌∙◌}
-use Rattle.mpd_model.specs.World.{Board, is_pending, is_posted, pending, posted}
+use Rattle.mpd_model.specs.steps.World.{Board, is_pending, is_posted, pending, posted}
 use Rattle.mpd_queue.specs.InOrder.{next_of}
 use Rattle.mpd_match.specs.Views.{BoardView, board_in}
 use Rattle.mpd_match.specs.Held.{Meets}

@@ -1,5 +1,5 @@
 use Rattle.std.proofs.Common.{rules, ◌≡◌, ◌≤◌, ◌+◌, ℕ, true, List, Some, ap, sym, subst, ◌∙◌, arith}
-use Rattle.mpd_model.specs.World.{Board, kind_at, pending, posted, eligible}
+use Rattle.mpd_model.specs.steps.World.{Board, kind_at, pending, posted, eligible}
 use Rattle.mpd_queue.specs.InOrder.{next_of}
 use Rattle.mpd_match.specs.Views.{SideView, BoardView, board_in}
 use Rattle.mpd_match.specs.Lines.{line_of}

@@ -1,5 +1,5 @@
 use Rattle.std.proofs.Common.{ℕ, List}
-use Rattle.mpd_model.specs.World.{Board, call_id, posted}
+use Rattle.mpd_model.specs.steps.World.{Board, call_id, posted}
 use Rattle.mpd_match.specs.Matches.{matches_with, matches_at}
 use Rattle.mpd_match.proofs.Matches.{posted_once, posted_tells, posted_free}
 use Rattle.mpd_match.proofs.Gathered.{gather_begins, gather_stands, gather_falls, gather_steps, gather_some, gather_ends, refused_with}

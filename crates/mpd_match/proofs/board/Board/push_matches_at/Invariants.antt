@@ -1,5 +1,5 @@
 use Rattle.std.proofs.Common.{length}
-use Rattle.mpd_model.specs.World.{call_id, posted}
+use Rattle.mpd_model.specs.steps.World.{call_id, posted}
 use Rattle.mpd_match.specs.Matches.{matches_with, matches_at}
 use Rattle.mpd_match.proofs.Walks.{rest}
 use Rattle.mpd_match.proofs.Gathered.{Gathering}

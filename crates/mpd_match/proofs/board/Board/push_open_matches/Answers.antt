@@ -1,5 +1,5 @@
 use Rattle.std.proofs.Common.{arith}
-use Rattle.mpd_model.specs.Decisions.{is_open_match}
+use Rattle.mpd_model.specs.runs.Decisions.{is_open_match}
 use Rattle.mpd_match.specs.Picked.{picked_at}
 use Rattle.mpd_match.proofs.Gathered.{given_more, given_some, grows_more, refused_with}
 use Rattle.mpd_match.proofs.Picked.{picked_begins}

@@ -1,6 +1,6 @@
 use Rattle.std.proofs.Common.{◌≡◌, ◌≤◌, ◌-◌, ◌++◌, length}
 use Rattle.std.specs.List.{filter, flat_map, range_with_len}
-use Rattle.mpd_model.specs.Decisions.{is_open_match}
+use Rattle.mpd_model.specs.runs.Decisions.{is_open_match}
 use Rattle.mpd_match.specs.Matches.{matches_on}
 use Rattle.mpd_match.specs.Picked.{picked_at}
 use Rattle.mpd_match.proofs.board.Board.push_open_matches.Given as goal

@@ -1,6 +1,6 @@
 use Rattle.std.proofs.Common.{ℕ, List}
-use Rattle.mpd_model.specs.World.{Board, call_id, posted}
-use Rattle.mpd_model.specs.Decisions.{is_open_match}
+use Rattle.mpd_model.specs.steps.World.{Board, call_id, posted}
+use Rattle.mpd_model.specs.runs.Decisions.{is_open_match}
 use Rattle.mpd_match.specs.Picked.{picked_with, picked_at}
 use Rattle.mpd_match.proofs.Matches.{posted_once, posted_tells, posted_free}
 use Rattle.mpd_match.proofs.Gathered.{gather_begins, gather_stands, gather_falls, gather_steps, gather_some, gather_ends, refused_with}

@@ -1,6 +1,6 @@
 use Rattle.std.proofs.Common.{length}
-use Rattle.mpd_model.specs.World.{call_id, posted}
-use Rattle.mpd_model.specs.Decisions.{is_open_match}
+use Rattle.mpd_model.specs.steps.World.{call_id, posted}
+use Rattle.mpd_model.specs.runs.Decisions.{is_open_match}
 use Rattle.mpd_match.specs.Picked.{picked_with, picked_at}
 use Rattle.mpd_match.proofs.Walks.{rest}
 use Rattle.mpd_match.proofs.Gathered.{Gathering}

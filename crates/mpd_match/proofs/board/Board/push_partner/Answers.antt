@@ -1,6 +1,6 @@
 use Rattle.std.proofs.Common.{◌≡◌, sym, ap, ◌∙◌, true, false, Option}
 use Rattle.mpd_model.specs.declared.call.CallKind.{CallKind}
-use Rattle.mpd_model.specs.World.{kind_at, fits, fitting}
+use Rattle.mpd_model.specs.steps.World.{kind_at, fits, fitting}
 use Rattle.mpd_match.proofs.Holders.{no_entry, one_entry, entry_some}
 use Rattle.mpd_match.proofs.Gathered.{refused_with}
 use Rattle.mpd_match.proofs.board.Board.push_partner.Goals as goal

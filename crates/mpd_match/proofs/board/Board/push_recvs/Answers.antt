@@ -1,7 +1,7 @@
 use Rattle.std.proofs.Common.{◌<◌, ℕ, arith, List, Option}
 use Rattle.mpd_model.specs.declared.step.CallId.{CallId}
-use Rattle.mpd_model.specs.World.{Board, call_id, posted}
-use Rattle.mpd_model.specs.Why.{why_send}
+use Rattle.mpd_model.specs.steps.World.{Board, call_id, posted}
+use Rattle.mpd_model.specs.steps.Why.{why_send}
 use Rattle.mpd_queue.specs.InOrder.{places_in}
 use Rattle.mpd_match.specs.Entries.{partner_entry}
 use Rattle.mpd_match.proofs.Matches.{posted_once, posted_tells, posted_free}

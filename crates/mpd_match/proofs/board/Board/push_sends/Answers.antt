@@ -1,4 +1,4 @@
-use Rattle.mpd_model.specs.Why.{why_from}
+use Rattle.mpd_model.specs.steps.Why.{why_from}
 use Rattle.mpd_match.proofs.Gathered.{given_more, given_some, grows_more, refused_with}
 use Rattle.mpd_match.proofs.board.Board.push_sends.Goals as goal
 

@@ -1,6 +1,6 @@
 use Rattle.std.proofs.Common.{◌≡◌, ◌≤◌, ◌-◌, ◌++◌, length}
 use Rattle.std.specs.List.{flat_map, range_with_len}
-use Rattle.mpd_model.specs.Why.{why_from, why_recv}
+use Rattle.mpd_model.specs.steps.Why.{why_from, why_recv}
 use Rattle.mpd_match.proofs.board.Board.push_sends.Given as goal
 
 abbrev pub invariant-loop-sender : goal.invariant-loop-sender

@@ -1,7 +1,7 @@
 use Rattle.std.proofs.Common.{◌<◌, ℕ, List, Option}
 use Rattle.mpd_model.specs.declared.step.CallId.{CallId}
-use Rattle.mpd_model.specs.World.{Board, call_id, pending}
-use Rattle.mpd_model.specs.Why.{why_from}
+use Rattle.mpd_model.specs.steps.World.{Board, call_id, pending}
+use Rattle.mpd_model.specs.steps.Why.{why_from}
 use Rattle.mpd_queue.specs.InOrder.{places_in}
 use Rattle.mpd_match.specs.Entries.{partner_entry}
 use Rattle.mpd_match.proofs.Matches.{pending_once, pending_tells, pending_free}

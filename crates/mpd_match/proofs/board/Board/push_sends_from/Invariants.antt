@@ -1,6 +1,6 @@
 use Rattle.std.proofs.Common.{length}
-use Rattle.mpd_model.specs.World.{call_id, pending}
-use Rattle.mpd_model.specs.Why.{why_from}
+use Rattle.mpd_model.specs.steps.World.{call_id, pending}
+use Rattle.mpd_model.specs.steps.Why.{why_from}
 use Rattle.mpd_match.specs.Entries.{partner_entry}
 use Rattle.mpd_match.proofs.Walks.{rest}
 use Rattle.mpd_match.proofs.Gathered.{Gathering}

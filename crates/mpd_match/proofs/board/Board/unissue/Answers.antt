@@ -1,5 +1,5 @@
 use Rattle.std.proofs.Common.{◌≡◌, ◌<◌, ◌-◌, length, None, slice_get, ap, sym, subst, ◌∙◌, arith}
-use Rattle.mpd_model.specs.World.{Board, call_id, listed_calls, calls_of, kind_at, partner, last_call}
+use Rattle.mpd_model.specs.steps.World.{Board, call_id, listed_calls, calls_of, kind_at, partner, last_call}
 use Rattle.mpd_match.specs.Views.{BoardView, board_in, calls_in}
 use Rattle.mpd_match.specs.Changes.{unissue_writes}
 use Rattle.mpd_match.specs.Slots.{slots_of}

@@ -3,7 +3,7 @@ use Rattle.mpd_model.specs.declared.step.CallId.{CallId}
 use Rattle.mpd_model.specs.declared.call.MatchSet.{MatchSet}
 use Rattle.mpd_model.specs.declared.call.MatchSet.TheVariants.{Pair}
 use Rattle.std.proofs.lemmas.List.{length-map}
-use Rattle.mpd_model.specs.World.{Board, kind_at, calls_of}
+use Rattle.mpd_model.specs.steps.World.{Board, kind_at, calls_of}
 use Rattle.mpd_queue.specs.InOrder.{next_of}
 use Rattle.mpd_match.specs.Views.{SideView, BoardView, calls_in, board_in}
 use Rattle.mpd_match.specs.Lines.{line_of}

@@ -1,6 +1,6 @@
 use Rattle.std.proofs.Common.{is_none, rules}
 use Rattle.mpd_model.specs.declared.limits.TheConstants.{BREAKS_MAX}
-use Rattle.mpd_model.specs.Breakpoints.{break_at}
+use Rattle.mpd_model.specs.runs.Breakpoints.{break_at}
 use Rattle.mpd_policy.proofs.NumberLemmas.{number_begins, number_now, number_over}
 use Rattle.mpd_policy.proofs.breaks.Breaks.lowest_free.Goals as goal
 

@@ -1,5 +1,5 @@
 use Rattle.std.proofs.Common.{◌≡◌, ◌-◌, is_none}
-use Rattle.mpd_model.specs.Breakpoints.{break_at, lowest_free}
+use Rattle.mpd_model.specs.runs.Breakpoints.{break_at, lowest_free}
 use Rattle.mpd_policy.proofs.NumberLemmas.{number_from}
 use Rattle.mpd_policy.proofs.breaks.Breaks.lowest_free.Given as goal
 

@@ -1,6 +1,6 @@
 use Rattle.std.proofs.Common.{◌≡◌, ◌-◌}
 use Rattle.mpd_model.specs.declared.limits.TheConstants.{BREAKS_MAX}
-use Rattle.mpd_model.specs.Breakpoints.{break_at}
+use Rattle.mpd_model.specs.runs.Breakpoints.{break_at}
 use Rattle.mpd_policy.specs.Places.{told_by, lowest_told}
 use Rattle.mpd_policy.proofs.NumberLemmas.{number_from}
 use Rattle.mpd_policy.proofs.breaks.Breaks.lowest_told.Given as goal

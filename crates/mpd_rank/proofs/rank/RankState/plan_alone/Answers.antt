@@ -1,5 +1,5 @@
 use Rattle.std.proofs.Common.{◌≡◌, IfSome, subst}
-use Rattle.mpd_model.specs.Term.{Env}
+use Rattle.mpd_model.specs.script.Term.{Env}
 use Rattle.mpd_rank.specs.declared.plan.LocalPlan.TheVariants.{Alone}
 use Rattle.mpd_rank.specs.Plans.{plan_of}
 use Rattle.mpd_rank.proofs.PlanLemmas.{planned_if}

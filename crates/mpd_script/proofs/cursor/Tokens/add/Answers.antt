@@ -3,8 +3,8 @@ use Rattle.std.proofs.lemmas.Bool.Decides.{nat_tests}
 use Rattle.std.proofs.lemmas.Grind.{common_steps}
 use Rattle.std.proofs.lemmas.Str.{IsUtf8-from_ascii}
 use Rattle.std.specs.Prelude.{string_bytes}
-use Rattle.mpd_model.specs.Input.{slot_in}
-use Rattle.mpd_model.specs.Declaration.{Declared, variables_in, handles_in}
+use Rattle.mpd_model.specs.grammar.Input.{slot_in}
+use Rattle.mpd_model.specs.script.Declaration.{Declared, variables_in, handles_in}
 use Rattle.mpd_laws.proofs.complete.Cells.{variables_in-more, handles_in-more}
 use Rattle.mpd_script.proofs.Ascii.{ok_where}
 use Rattle.mpd_script.proofs.Slots.{found_put}

@@ -1,5 +1,5 @@
 use Rattle.std.proofs.Common.{◌∙◌, ap}
-use Rattle.mpd_model.specs.Input.{advanced}
+use Rattle.mpd_model.specs.grammar.Input.{advanced}
 use Rattle.mpd_script.proofs.Places.{advanced_is}
 use Rattle.mpd_script.proofs.cursor.Tokens.advance.Goals as goal
 

@@ -1,6 +1,6 @@
 use Rattle.std.proofs.Common.{◌≡◌, ◌<◌, length, sym, ◌∙◌, ap, arith}
 use Rattle.std.proofs.lemmas.Grind.{common_steps}
-use Rattle.mpd_model.specs.Input.{first_line}
+use Rattle.mpd_model.specs.grammar.Input.{first_line}
 use Rattle.mpd_script.proofs.Places.{line_is, line_none}
 use Rattle.mpd_script.proofs.cursor.Tokens.line.Goals as goal
 

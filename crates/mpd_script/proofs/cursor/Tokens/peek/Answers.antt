@@ -1,5 +1,5 @@
 use Rattle.std.proofs.Common.{sym, ◌∙◌, ap}
-use Rattle.mpd_model.specs.Input.{token}
+use Rattle.mpd_model.specs.grammar.Input.{token}
 use Rattle.mpd_script.proofs.Places.{token_is}
 use Rattle.mpd_script.proofs.cursor.Tokens.peek.Goals as goal
 

@@ -1,5 +1,5 @@
 use Rattle.std.proofs.Common.{sym, ◌∙◌, ap}
-use Rattle.mpd_model.specs.Input.{place}
+use Rattle.mpd_model.specs.grammar.Input.{place}
 use Rattle.mpd_script.proofs.Places.{place_is}
 use Rattle.mpd_script.proofs.cursor.Tokens.place.Goals as goal
 

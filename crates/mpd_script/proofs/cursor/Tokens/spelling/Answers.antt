@@ -1,5 +1,5 @@
 use Rattle.std.proofs.Common.{sym, ◌∙◌, ap}
-use Rattle.mpd_model.specs.Input.{spelling}
+use Rattle.mpd_model.specs.grammar.Input.{spelling}
 use Rattle.mpd_script.proofs.Places.{text_is}
 use Rattle.mpd_script.proofs.cursor.Tokens.spelling.Goals as goal
 

@@ -1,8 +1,8 @@
 use Rattle.std.proofs.Common.{◌≡◌, ◌<◌, ◌+◌, ℕ, [], ◌∷◌, ◌++◌, length, Some, None, refl, ap, ◌∙◌, rules}
 use Rattle.mpd_model.specs.declared.limits.TheConstants.{STEPS_MAX}
 use Rattle.mpd_model.specs.declared.step.Step.TheVariants.{Local}
-use Rattle.mpd_model.specs.World.{start}
-use Rattle.mpd_model.specs.Trail.{noted}
+use Rattle.mpd_model.specs.steps.World.{start}
+use Rattle.mpd_model.specs.runs.Trail.{noted}
 use Rattle.mpd_core.specs.Steps.{other_step}
 use Rattle.mpd_trail.specs.Kept.{Keeps}
 use Rattle.mpd_trail.proofs.KeptLemmas.{is_local, is_other, keeps_local, keeps_apart, keeps_reached}

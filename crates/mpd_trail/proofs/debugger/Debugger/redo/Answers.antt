@@ -1,7 +1,7 @@
 use Rattle.std.proofs.Common.{◌≡◌, ◌+◌, ◌≤◌, [], ◌∷◌, ◌++◌, slice_get, Some, sym, ◌∙◌}
 use Rattle.mpd_model.specs.declared.step.Step.{Step}
-use Rattle.mpd_model.specs.Next.{next}
-use Rattle.mpd_model.specs.Trail.{kept}
+use Rattle.mpd_model.specs.steps.Next.{next}
+use Rattle.mpd_model.specs.runs.Trail.{done_steps}
 use Rattle.mpd_core.specs.Writes.{most_writes}
 use Rattle.mpd_trail.proofs.KeptLemmas.{applied_next, of_next}
 use Rattle.mpd_trail.proofs.debugger.Debugger.redo.Goals as goal
@@ -17,7 +17,7 @@ returns-in-Ok-clause-world c =
 pub returns-in-Ok-clause-steps : goal.returns-in-Ok-clause-steps
 returns-in-Ok-clause-steps c =
     let s = c.args.self.now in
-    of_next (λ (a : Step). kept c.forward.new.self.trail ≡ kept s.trail ++ a ∷ []) (slice_get s.trail.steps s.trail.depth) c.in-Some.step (sym c.next_undone.ensures.value ∙ c.in-Some.is) c.in-Ok.ensures.steps
+    of_next (λ (a : Step). done_steps c.forward.new.self.trail ≡ done_steps s.trail ++ a ∷ []) (slice_get s.trail.steps s.trail.depth) c.in-Some.step (sym c.next_undone.ensures.value ∙ c.in-Some.is) c.in-Ok.ensures.steps
 
 pub returns-in-Ok-clause-few : goal.returns-in-Ok-clause-few
 returns-in-Ok-clause-few c =

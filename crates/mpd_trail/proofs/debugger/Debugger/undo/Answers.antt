@@ -1,6 +1,6 @@
 use Rattle.std.proofs.Common.{◌≡◌, ◌<◌, ◌+◌, ◌-◌, ℕ, length, take, get_or, Some, None, refl, arith, rules}
 use Rattle.mpd_model.specs.declared.step.Step.TheVariants.{Local}
-use Rattle.mpd_model.specs.World.{start}
+use Rattle.mpd_model.specs.steps.World.{start}
 use Rattle.mpd_trail.specs.Kept.{local_rank, Keeps}
 use Rattle.mpd_trail.proofs.KeptLemmas.{is_local, is_apart, local_there, other_there, local_pop, other_pop, keeps_reached}
 use Rattle.mpd_trail.proofs.debugger.Debugger.undo.Goals as goal

@@ -1,5 +1,5 @@
 use Rattle.std.proofs.Common.{◌≡◌, ◌<◌, ◌-◌, ap, arith, rules}
-use Rattle.mpd_model.specs.Trail.{Trail, taken_back}
+use Rattle.mpd_model.specs.runs.Trail.{Trail, taken_back}
 use Rattle.mpd_trail.specs.Views.{DebuggerView}
 use Rattle.mpd_trail.proofs.RunLemmas.{back_more, back_few}
 use Rattle.mpd_trail.proofs.debugger.Debugger.undo_to.Goals as goal

@@ -1,5 +1,5 @@
 use Rattle.std.proofs.Common.{◌≡◌, ◌≤◌, ◌+◌, ◌-◌, drop}
-use Rattle.mpd_model.specs.Trail.{IsReached, kept, gone_back}
+use Rattle.mpd_model.specs.runs.Trail.{IsReached, done_steps, gone_back}
 use Rattle.mpd_trail.specs.Views.{standing_of}
 use Rattle.mpd_trail.specs.Writes.{most_writes_of}
 use Rattle.mpd_trail.proofs.debugger.Debugger.undo_to.Given as goal
@@ -12,7 +12,7 @@ invariant-loop-self l = record {
   reached : IsReached (standing_of l.self);
   room : l.fn.self.room ≤ l.self.room;
   rises : l.fn.self.writes + (l.fn.self.trail.depth - l.self.trail.depth) ≤ l.self.writes;
-  few : l.self.writes ≤ l.fn.self.writes + most_writes_of l.fn.self.trail.program.ranks (drop l.self.trail.depth (kept l.fn.self.trail));
+  few : l.self.writes ≤ l.fn.self.writes + most_writes_of l.fn.self.trail.program.ranks (drop l.self.trail.depth (done_steps l.fn.self.trail));
 }
 
 abbrev pub decreases-loop-self : goal.decreases-loop-self

@@ -1,0 +1,19 @@
+use Rattle.std.proofs.Common.{◌≡◌, ◌++◌, map, drop, string_bytes}
+use Rattle.std.specs.List.{AllByRecursion}
+use Rattle.mpd_model.specs.runs.Trail.{done_steps, IsReached}
+use Rattle.mpd_trail.specs.Views.{standing_of}
+use Rattle.mpd_explore.specs.Witness.{HasWitness}
+use Rattle.mpd_explain.specs.Explanations.{explanations}
+use Rattle.mpd_explain.proofs.explanation.explain_all.Given as goal
+
+abbrev pub invariant-loop-leaf : goal.invariant-loop-leaf
+invariant-loop-leaf l =
+    let t = l.fn.debugger.trail in
+    let w = l.fn.debugger.world in
+    record {
+      trail : l.debugger.trail ≡ t;
+      world : l.debugger.world ≡ w;
+      reached : IsReached (standing_of l.debugger);
+      listed : AllByRecursion (HasWitness t.program t.mode (done_steps t) l.fuel w) (drop l.leaf-index l.fn.report.leaves.items);
+      texts : map string_bytes l.texts.items ++ explanations t.program t.mode (done_steps t) l.fuel w (drop l.leaf-index l.fn.report.leaves.items) ≡ explanations t.program t.mode (done_steps t) l.fuel w l.fn.report.leaves.items;
+    }

@@ -1,0 +1,387 @@
+//! What is told of calls that are blocked and of ranks that are trapped (docs/FORMATS.md, "Explanations").
+
+ghost use Rattle.std.specs.Prelude.{◌≡◌, ◌++◌, IfOk, OnOk, slice_get, string_bytes};
+ghost use Rattle.std.specs.Fmt.{decimal};
+ghost use Rattle.std.specs.List.{flat_map};
+ghost use Rattle.mpd_model.specs.steps.World.{call_at, kind_at, rank_numbers};
+ghost use Rattle.mpd_explain.specs.Explained as explained;
+ghost use Rattle.mpd_explain.specs.Waits.{waits_line};
+
+use crate::near_miss::{Miss, miss_text, nearest, taken};
+use crate::request_calls::{is_at_barrier, requests};
+use crate::waits::{push_cycle_lines, push_waits_line};
+use mpd_core::Core;
+use mpd_explore::Ending;
+use mpd_model::{CallId, CallKind, Outcome, RecvCall, SendCall, TrappedRank, is_barrier};
+use std::alloc::{AllocError, Global};
+
+/// The line of a statement, 0 where there is none.
+fn statement_line(lines: &[usize], number: Option<usize>) -> usize
+    ensures { result ≡ explained.statement_line lines.now number }
+{
+    match number {
+        None => 0,
+        Some(number) => lines.get(number).copied().unwrap_or(0),
+    }
+}
+
+/// The line of the statement that issued a call.
+pub fn issue_line(core: &Core<'_>, call: CallId) -> usize
+    ensures { result ≡ explained.issue_line core.now.program.lines (call_at core.now.world.board call) }
+{
+    match core.board().call(call) {
+        None => 0,
+        Some(call) => statement_line(core.code().lines(), Some(call.statement)),
+    }
+}
+
+/// The line of the statement that a rank has not got past.
+#[tactic(auto, using(crate::proofs::TellLemmas::telling))]
+pub fn rank_line(core: &Core<'_>, rank: usize) -> usize
+    ensures { result ≡ explained.rank_line core.now.program.lines (slice_get core.now.world.ranks rank) }
+{
+    if rank >= core.rank_count() {
+        return 0;
+    }
+    statement_line(core.code().lines(), core.next_statement(rank))
+}
+
+/// Adds where a call was issued, and what it is.
+pub fn push_placed(core: &Core<'_>, out: &mut String, call: CallId) -> Result<(), AllocError>
+    ensures { OnOk result (string_bytes out.new ≡ string_bytes out.old ++ explained.placed core.now.program core.now.world.board call) }
+{
+    let line = issue_line(core, call);
+    write!(out, "line {line}, {call}")?;
+    if let Some(kind) = core.board().kind(call) {
+        write!(out, " {kind}")?;
+    }
+    Ok(())
+}
+
+/// Adds a text and a number. It is inlined, so that the length of the text is known where it is added.
+#[inline(always)]
+fn push_number(out: &mut String, text: &str, number: usize) -> Result<(), AllocError>
+    ensures { OnOk result (string_bytes out.new ≡ string_bytes out.old ++ text.now ++ decimal number) }
+{
+    out.push_str(text)?;
+    write!(out, "{number}")
+}
+
+/// Adds what a send of a rank waits for.
+fn push_send_wish(out: &mut String, rank: usize, send: SendCall) -> Result<(), AllocError>
+    ensures { OnOk result (string_bytes out.new ≡ string_bytes out.old ++ explained.send_wish rank send) }
+{
+    push_number(out, "for a receive of rank ", send.to)?;
+    push_number(out, " from rank ", rank)?;
+    push_number(out, " with tag ", send.tag)
+}
+
+/// Adds a name with its number, or that it is any. It is inlined, so that the length of the name is known where it is added.
+#[inline(always)]
+fn push_any_or(out: &mut String, name: &str, number: Option<usize>) -> Result<(), AllocError>
+    ensures { OnOk result (string_bytes out.new ≡ string_bytes out.old ++ explained.any_or name.now number) }
+{
+    match number {
+        None => {
+            out.push_str("any ")?;
+            out.push_str(name)
+        }
+        Some(number) => {
+            out.push_str(name)?;
+            write!(out, " {number}")
+        }
+    }
+}
+
+/// Adds what a receive waits for.
+fn push_recv_wish(out: &mut String, recv: RecvCall) -> Result<(), AllocError>
+    ensures { OnOk result (string_bytes out.new ≡ string_bytes out.old ++ explained.recv_wish recv) }
+{
+    out.push_str("for a send of ")?;
+    push_any_or(out, "rank", recv.from)?;
+    out.push_str(" with ")?;
+    push_any_or(out, "tag", recv.tag)
+}
+
+/// Adds what a call of a rank waits for.
+pub fn push_wish(out: &mut String, rank: usize, kind: Option<CallKind>) -> Result<(), AllocError>
+    ensures { OnOk result (string_bytes out.new ≡ string_bytes out.old ++ explained.wish rank kind) }
+{
+    match kind {
+        None => out.push_str("for nothing"),
+        Some(CallKind::Send(send)) => push_send_wish(out, rank, send),
+        Some(CallKind::Recv(recv)) => push_recv_wish(out, recv),
+        Some(CallKind::Wait(_)) => out.push_str("for this request"),
+        Some(CallKind::Waitany(_)) => out.push_str("for one of these requests"),
+        Some(CallKind::Barrier) => out.push_str("for all ranks at a barrier"),
+    }
+}
+
+/// Adds the line of a call that a wait is for.
+fn push_request(core: &Core<'_>, out: &mut String, call: CallId) -> Result<(), AllocError>
+    ensures { OnOk result (string_bytes out.new ≡ string_bytes out.old ++ explained.request_line core.now.program core.now.world.board call) }
+{
+    out.push_str("    ")?;
+    push_placed(core, out, call)?;
+    out.push_str(": ")?;
+    push_wish(out, call.rank, core.board().kind(call))?;
+    out.push('\n')
+}
+
+/// Adds the line of the call that nearly fits another, where there is one.
+fn push_miss(
+    core: &Core<'_>,
+    out: &mut String,
+    found: Option<(CallId, Miss)>,
+) -> Result<(), AllocError>
+    ensures { OnOk result (string_bytes out.new ≡ string_bytes out.old ++ explained.miss_line core.now.program core.now.world.board found) }
+{
+    let Some((call, miss)) = found else {
+        return Ok(());
+    };
+    out.push_str("    nearest miss: ")?;
+    push_placed(core, out, call)?;
+    out.push_str(": ")?;
+    out.push_str(miss_text(miss))?;
+    out.push('\n')
+}
+
+/// Adds the line of the call that would have fitted another, where there is one, with the call that has it.
+fn push_taken(
+    core: &Core<'_>,
+    out: &mut String,
+    found: Option<(CallId, CallId)>,
+) -> Result<(), AllocError>
+    ensures { OnOk result (string_bytes out.new ≡ string_bytes out.old ++ explained.taken_line core.now.program core.now.world.board found) }
+{
+    let Some((call, other)) = found else {
+        return Ok(());
+    };
+    out.push_str("    the last that fits is taken: ")?;
+    push_placed(core, out, call)?;
+    out.push_str(", by ")?;
+    push_placed(core, out, other)?;
+    out.push_str("\n")?;
+    Ok(())
+}
+
+/// Adds what nearly fits a call, and what would have fitted it.
+pub fn push_helps(
+    alloc: Global,
+    core: &Core<'_>,
+    out: &mut String,
+    call: CallId,
+) -> Result<(), AllocError>
+    ensures { OnOk result (string_bytes out.new ≡ string_bytes out.old ++ explained.helps core.now.program core.now.world.board call) }
+{
+    let found = nearest(alloc, core, call)?;
+    push_miss(core, out, found)?;
+    push_taken(core, out, taken(core, call))
+}
+
+/// Adds the lines of a call that a wait is for.
+fn push_request_lines(
+    alloc: Global,
+    core: &Core<'_>,
+    out: &mut String,
+    call: CallId,
+) -> Result<(), AllocError>
+    ensures { OnOk result (string_bytes out.new ≡ string_bytes out.old ++ explained.request_lines core.now.program core.now.world.board call) }
+{
+    push_request(core, out, call)?;
+    push_helps(alloc, core, out, call)
+}
+
+/// Adds the lines of some calls that a wait or a waitany is for.
+fn push_requests(
+    alloc: Global,
+    core: &Core<'_>,
+    out: &mut String,
+    calls: &[CallId],
+) -> Result<(), AllocError>
+    ensures { OnOk result (string_bytes out.new ≡ string_bytes out.old ++ flat_map (explained.request_lines core.now.program core.now.world.board) calls.now) }
+{
+    for call in calls {
+        push_request_lines(alloc, core, out, *call)?;
+    }
+    Ok(())
+}
+
+/// Why a rank is not at a barrier.
+#[tactic(auto, using(crate::proofs::TellLemmas::telling))]
+fn absence(core: &Core<'_>, rank: usize) -> &'static str
+    ensures { result.now ≡ explained.absence (slice_get core.now.world.ranks rank) }
+{
+    if rank >= core.rank_count() {
+        return "it is none";
+    }
+    if core.rank(rank).has_ended(core.code()) {
+        "it has ended"
+    } else {
+        "it is at another call"
+    }
+}
+
+/// Adds the line of a rank that is not at a barrier.
+fn push_absence(out: &mut String, rank: usize, why: &str) -> Result<(), AllocError>
+    ensures { OnOk result (string_bytes out.new ≡ string_bytes out.old ++ explained.absence_line rank why.now) }
+{
+    push_number(out, "    rank ", rank)?;
+    out.push_str(" is not there: ")?;
+    out.push_str(why)?;
+    out.push_str("\n")?;
+    Ok(())
+}
+
+/// Adds the line of a rank that is not at a barrier, unless it is.
+fn push_absent(core: &Core<'_>, out: &mut String, rank: usize) -> Result<(), AllocError>
+    ensures { OnOk result (string_bytes out.new ≡ string_bytes out.old ++ explained.absent_line core.now.world rank) }
+{
+    if is_at_barrier(core, rank) {
+        return Ok(());
+    }
+    push_absence(out, rank, absence(core, rank))
+}
+
+/// Adds a line for each rank that is not at a barrier.
+pub fn push_all_absent(core: &Core<'_>, out: &mut String) -> Result<(), AllocError>
+    ensures { OnOk result (string_bytes out.new ≡ string_bytes out.old ++ flat_map (explained.absent_line core.now.world) (rank_numbers core.now.world.board)) }
+{
+    let count = core.rank_count();
+    for rank in 0..count {
+        push_absent(core, out, rank)?;
+    }
+    Ok(())
+}
+
+/// Adds the lines behind that of a blocked call.
+fn push_details(
+    alloc: Global,
+    core: &Core<'_>,
+    out: &mut String,
+    call: CallId,
+    kind: Option<CallKind>,
+) -> Result<(), AllocError>
+    ensures { OnOk result (string_bytes out.new ≡ string_bytes out.old ++ explained.details core.now.program core.now.world call kind) }
+{
+    if is_barrier(kind) {
+        return push_all_absent(core, out);
+    }
+    push_helps(alloc, core, out, call)?;
+    let calls = requests(alloc, core, call.rank, kind)?;
+    push_requests(alloc, core, out, &calls)
+}
+
+/// Adds the line of a blocked call.
+fn push_blocked_line(core: &Core<'_>, out: &mut String, call: CallId) -> Result<(), AllocError>
+    ensures { OnOk result (string_bytes out.new ≡ string_bytes out.old ++ explained.blocked_line core.now.program core.now.world.board call) }
+{
+    let rank = call.rank;
+    write!(out, "  rank {rank} waits at ")?;
+    push_placed(core, out, call)?;
+    out.push_str(": ")?;
+    push_wish(out, rank, core.board().kind(call))?;
+    out.push('\n')
+}
+
+/// Adds the lines of a blocked call.
+fn push_blocked(
+    alloc: Global,
+    core: &Core<'_>,
+    out: &mut String,
+    call: CallId,
+) -> Result<(), AllocError>
+    ensures { OnOk result (string_bytes out.new ≡ string_bytes out.old ++ explained.blocked_lines core.now.program core.now.world call) }
+{
+    push_blocked_line(core, out, call)?;
+    push_details(alloc, core, out, call, core.board().kind(call))
+}
+
+/// Adds the lines of all blocked calls.
+fn push_all_blocked(
+    alloc: Global,
+    core: &Core<'_>,
+    out: &mut String,
+    calls: &[CallId],
+) -> Result<(), AllocError>
+    ensures { OnOk result (string_bytes out.new ≡ string_bytes out.old ++ flat_map (explained.blocked_lines core.now.program core.now.world) calls.now) }
+{
+    for call in calls {
+        push_blocked(alloc, core, out, *call)?;
+    }
+    Ok(())
+}
+
+/// Adds the lines of whom the ranks of blocked calls wait for.
+fn push_all_waits(
+    alloc: Global,
+    core: &Core<'_>,
+    out: &mut String,
+    calls: &[CallId],
+) -> Result<(), AllocError>
+    ensures { OnOk result (string_bytes out.new ≡ string_bytes out.old ++ flat_map (waits_line core.now.world) calls.now) }
+{
+    for call in calls {
+        push_waits_line(alloc, core, out, *call)?;
+    }
+    Ok(())
+}
+
+/// Adds what is told of a deadlock in which these calls are blocked.
+fn push_deadlock(
+    alloc: Global,
+    core: &Core<'_>,
+    out: &mut String,
+    calls: &[CallId],
+) -> Result<(), AllocError>
+    ensures { OnOk result (string_bytes out.new ≡ string_bytes out.old ++ explained.deadlock_text core.now.program core.now.world calls.now) }
+{
+    push_all_blocked(alloc, core, out, calls)?;
+    push_all_waits(alloc, core, out, calls)?;
+    push_cycle_lines(alloc, core, out)
+}
+
+/// Adds the line of a trapped rank.
+fn push_trap(core: &Core<'_>, out: &mut String, trapped: TrappedRank) -> Result<(), AllocError>
+    ensures { OnOk result (string_bytes out.new ≡ string_bytes out.old ++ explained.trap_line core.now.program core.now.world trapped) }
+{
+    let rank = trapped.rank;
+    let line = rank_line(core, rank);
+    let name = trapped.trap.name();
+    write!(out, "  rank {rank}, line {line}: trap {name}\n")
+}
+
+/// Adds the lines of all trapped ranks.
+fn push_traps(core: &Core<'_>, out: &mut String, traps: &[TrappedRank]) -> Result<(), AllocError>
+    ensures { OnOk result (string_bytes out.new ≡ string_bytes out.old ++ flat_map (explained.trap_line core.now.program core.now.world) traps.now) }
+{
+    for trapped in traps {
+        push_trap(core, out, *trapped)?;
+    }
+    Ok(())
+}
+
+/// Adds what is told of a run that ends so in this state.
+pub fn push_told(
+    alloc: Global,
+    core: &Core<'_>,
+    out: &mut String,
+    ending: &Ending,
+) -> Result<(), AllocError>
+    ensures { OnOk result (string_bytes out.new ≡ string_bytes out.old ++ explained.told core.now.program core.now.world ending.now) }
+{
+    match ending {
+        Ending::Ended(Outcome::Deadlock(calls)) => push_deadlock(alloc, core, out, &calls.items),
+        Ending::Ended(Outcome::Trap(traps)) => push_traps(core, out, &traps.items),
+        Ending::Ended(Outcome::Done) | Ending::Ended(Outcome::Leftovers(_)) | Ending::Cut => Ok(()),
+    }
+}
+
+/// What is told of a run that ends so in this state. An `Err` is want of memory.
+pub(crate) fn told(alloc: Global, core: &Core<'_>, ending: &Ending) -> Result<String, AllocError>
+    ensures { IfOk result (λ t. string_bytes t ≡ explained.told core.now.program core.now.world ending.now) }
+{
+    let mut out = String::new(alloc);
+    push_told(alloc, core, &mut out, ending)?;
+    Ok(out)
+}

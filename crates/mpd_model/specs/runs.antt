@@ -1,0 +1,5 @@
+-- Runs: decisions, breakpoints and trails.
+pub mod Breakpoints
+pub mod Decisions
+pub mod Running
+pub mod Trail

@@ -1,0 +1,7 @@
+-- Worlds and their steps.
+pub mod BarrierLaws
+pub mod Next
+pub mod Order
+pub mod Outcomes
+pub mod Why
+pub mod World

@@ -1,0 +1,77 @@
+-- How a run has ended, where no step is enabled.
+use Rattle.std.specs.Prelude.{ℕ, Bool, true, false, if◌then◌else◌, List, [], ◌∷◌, map, slice_get, Option, Some, None}
+use Rattle.std.specs.List.{filter, flat_map, list_any, list_all}
+use Rattle.mpd_model.specs.declared.step.CallId.{CallId}
+use Rattle.mpd_model.specs.declared.call.Activity.{Activity}
+use Rattle.mpd_model.specs.declared.call.Activity.TheVariants.{Running, Blocked, Trapped}
+use Rattle.mpd_model.specs.declared.outcome.TrappedRank.{TrappedRank}
+use Rattle.mpd_model.specs.declared.outcome.Outcome.{Outcome}
+use Rattle.mpd_model.specs.declared.outcome.Outcome.TheVariants.{Done, Leftovers, Deadlock, Trap}
+use Rattle.mpd_model.specs.script.Tree.{Tree}
+use Rattle.mpd_model.specs.steps.World.{RankWorld, World, Board, call_id, rank_numbers, call_numbers, is_free, last_call}
+use Rattle.mpd_model.specs.steps.Next.{steps_of, is_enabled, is_blocked}
+
+abbrev pub no_statement : List (ℕ × Tree) → Bool
+no_statement [] = true
+no_statement (t ∷ ts) = false
+
+-- the number of the next statement
+abbrev pub first_number : List (ℕ × Tree) → Option ℕ
+first_number [] = None
+first_number (t ∷ ts) = Some t.0
+
+-- a running rank with no statement left
+abbrev pub ended_by : Activity → List (ℕ × Tree) → Bool
+ended_by Running rest = no_statement rest
+ended_by Blocked rest = false
+ended_by (Trapped t) rest = false
+
+abbrev pub has_ended : RankWorld → Bool
+has_ended r = ended_by r.activity r.rest
+
+abbrev pub trap_by : ℕ → Activity → List TrappedRank
+trap_by p Running = []
+trap_by p Blocked = []
+trap_by p (Trapped t) = record { rank = p; trap = t } ∷ []
+
+abbrev pub traps_at : ℕ → Option RankWorld → List TrappedRank
+traps_at p None = []
+traps_at p (Some r) = trap_by p r.activity
+
+-- the trapped ranks, the blocked calls and the free calls, by rank and number
+abbrev pub traps_in : World → List TrappedRank
+traps_in w = flat_map (λ p. traps_at p (slice_get w.ranks p)) (rank_numbers w.board)
+
+abbrev pub blocked_at : World → ℕ → Option RankWorld → List CallId
+blocked_at w p None = []
+blocked_at w p (Some r) = if is_blocked r.activity then last_call w.board p ∷ [] else []
+
+abbrev pub blocked_calls : World → List CallId
+blocked_calls w = flat_map (λ p. blocked_at w p (slice_get w.ranks p)) (rank_numbers w.board)
+
+abbrev pub free_of : Board → ℕ → List CallId
+free_of b p = map (call_id p) (filter (λ i. is_free b (call_id p i)) (call_numbers b p))
+
+abbrev pub free_calls : Board → List CallId
+free_calls b = flat_map (free_of b) (rank_numbers b)
+
+-- the first of trap, done, leftovers and deadlock that holds
+abbrev pub ended_with : List CallId → Outcome
+ended_with [] = Done
+ended_with (c ∷ cs) = Leftovers (c ∷ cs)
+
+abbrev pub untrapped : World → Outcome
+untrapped w = if list_all has_ended w.ranks then ended_with (free_calls w.board) else Deadlock (blocked_calls w)
+
+abbrev pub ending_by : World → List TrappedRank → Outcome
+ending_by w [] = untrapped w
+ending_by w (t ∷ ts) = Trap (t ∷ ts)
+
+abbrev pub ending : World → Outcome
+ending w = ending_by w (traps_in w)
+
+abbrev pub is_stuck : World → Bool
+is_stuck w = if list_any (is_enabled w) (steps_of w) then false else true
+
+abbrev pub outcome : World → Option Outcome
+outcome w = if is_stuck w then Some (ending w) else None

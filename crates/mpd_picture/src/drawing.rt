@@ -1,0 +1,235 @@
+//! Pictures of the steps of a debugger that are not undone, as SVG and as text.
+
+ghost use Rattle.std.specs.Prelude.{◌≡◌, ◌++◌, ◌≤◌, IfOk, OnOk, IsErrOf, Some, None, string_bytes};
+ghost use Rattle.mpd_model.specs.steps.Outcomes.{outcome};
+ghost use Rattle.mpd_picture.specs.Pictures as spec;
+ghost use Rattle.mpd_picture.specs.Shapes.{shapes_of as spec_shapes_of};
+ghost use Rattle.mpd_picture.specs.Rows.{rows_text};
+
+use crate::elements::{push_attribute, push_opened, push_text};
+use crate::mark::Mark;
+use crate::marks::marks_of;
+use crate::places::{column_x, row_y};
+use crate::rows::push_rows;
+use crate::shapes::{rows_of, shapes_of};
+use crate::style::{LEGEND, OPENED, STYLE};
+use crate::svg::push_shapes;
+use mpd_core::Core;
+use mpd_model::{Mode, Outcome, print_outcome};
+use mpd_trail::Debugger;
+use std::alloc::{AllocError, Global};
+
+/// How much of a run is drawn at most: so many calls that are issued, matches, releases, and ranks that go on.
+pub const MARKS_MAX: usize = 20_000;
+
+/// Why a run isn't drawn.
+#[derive(Clone, Copy)]
+pub enum DrawFault {
+    /// Its steps show more than `MARKS_MAX`.
+    TooLong,
+    /// A growth was refused.
+    Memory,
+}
+
+impl From<AllocError> for DrawFault {
+    ghost use Rattle.mpd_picture.specs.declared.drawing.DrawFault.TheVariants.{Memory};
+
+    ghost from_gives = { λ _ e. e ≡ Memory };
+
+    fn from(_: AllocError) -> DrawFault {
+        DrawFault::Memory
+    }
+}
+
+/// Adds the word of a mode.
+fn push_mode(out: &mut String, mode: Mode) -> Result<(), AllocError>
+    ensures { OnOk result (string_bytes out.new ≡ string_bytes out.old ++ spec.mode_word mode) }
+{
+    match mode {
+        Mode::Rendezvous => out.push_str("rendezvous"),
+        Mode::Buffered => out.push_str("buffered"),
+        Mode::Slots(count) => write!(out, "slots:{count}"),
+    }
+}
+
+/// Adds how a run has ended, or that it can go on.
+#[tactic(auto, unfolding(crate::specs::Pictures::how_text))]
+fn push_how(alloc: Global, out: &mut String, ended: &Option<Outcome>) -> Result<(), AllocError>
+    ensures { OnOk result (string_bytes out.new ≡ string_bytes out.old ++ spec.how_text ended.now) }
+{
+    match ended {
+        None => out.push_str("can go on"),
+        Some(outcome) => {
+            let text = print_outcome(alloc, outcome)?;
+            out.push_str(&text)
+        }
+    }
+}
+
+/// The title of a picture of so many steps.
+#[tactic(auto, unfolding(crate::specs::Pictures::title_of))]
+fn title_of(alloc: Global, core: &Core<'_>, depth: usize) -> Result<String, AllocError>
+    ensures { IfOk result (λ t. string_bytes t ≡ spec.title_of core.now.world.board depth (outcome core.now.world)) }
+{
+    let ended = core.outcome(alloc)?;
+    let ranks = core.rank_count();
+    let mut title = String::new(alloc);
+    write!(title, "{ranks} ranks, ")?;
+    push_mode(&mut title, core.board().mode())?;
+    write!(title, ", {depth} steps: ")?;
+    push_how(alloc, &mut title, &ended)?;
+    Ok(title)
+}
+
+/// Adds a width and a height.
+#[tactic(auto, unfolding(crate::specs::Pictures::size_attributes))]
+fn push_size(out: &mut String, width: usize, height: usize) -> Result<(), AllocError>
+    ensures { OnOk result (string_bytes out.new ≡ string_bytes out.old ++ spec.size_attributes width height) }
+{
+    push_attribute(out, " width=\"", width)?;
+    push_attribute(out, " height=\"", height)
+}
+
+/// Adds the beginning of the box that is seen.
+#[tactic(auto, unfolding(crate::specs::Pictures::box_begun))]
+fn push_box_begun(out: &mut String) -> Result<(), AllocError>
+    ensures { OnOk result (string_bytes out.new ≡ string_bytes out.old ++ spec.box_begun) }
+{
+    out.push_str(" viewBox=\"0 0 ")
+}
+
+/// Adds the box that is seen.
+#[tactic(auto, unfolding(crate::specs::Pictures::box_attribute))]
+fn push_box(out: &mut String, width: usize, height: usize) -> Result<(), AllocError>
+    ensures { OnOk result (string_bytes out.new ≡ string_bytes out.old ++ spec.box_attribute width height) }
+{
+    push_box_begun(out)?;
+    write!(out, "{width} {height}")?;
+    out.push_str("\">\n")
+}
+
+/// Adds the title.
+#[tactic(auto, unfolding(crate::specs::Pictures::title_element))]
+fn push_title(out: &mut String, title: &str) -> Result<(), AllocError>
+    ensures { OnOk result (string_bytes out.new ≡ string_bytes out.old ++ spec.title_element title.now) }
+{
+    out.push_str("<title>")?;
+    out.push_str(title)?;
+    out.push_str("</title>\n")
+}
+
+/// Adds the paper.
+#[tactic(auto, unfolding(crate::specs::Pictures::paper_element))]
+fn push_paper(out: &mut String, width: usize, height: usize) -> Result<(), AllocError>
+    ensures { OnOk result (string_bytes out.new ≡ string_bytes out.old ++ spec.paper_element width height) }
+{
+    push_opened(out, "<rect class=\"", "paper")?;
+    push_size(out, width, height)?;
+    out.push_str("/>\n")
+}
+
+/// Adds how a drawing begins, up to its width.
+#[tactic(auto, unfolding(crate::specs::Pictures::opened_text))]
+fn push_opened_text(out: &mut String) -> Result<(), AllocError>
+    ensures { OnOk result (string_bytes out.new ≡ string_bytes out.old ++ spec.opened_text) }
+{
+    out.push_str(OPENED)
+}
+
+/// Adds how shapes look.
+#[tactic(auto, unfolding(crate::specs::Pictures::style_text))]
+fn push_style(out: &mut String) -> Result<(), AllocError>
+    ensures { OnOk result (string_bytes out.new ≡ string_bytes out.old ++ spec.style_text) }
+{
+    out.push_str(STYLE)
+}
+
+/// Adds what the shapes are, and the end of a drawing.
+#[tactic(auto, unfolding(crate::specs::Pictures::legend_text))]
+fn push_legend_text(out: &mut String) -> Result<(), AllocError>
+    ensures { OnOk result (string_bytes out.new ≡ string_bytes out.old ++ spec.legend_text) }
+{
+    out.push_str(LEGEND)
+}
+
+/// Adds how a drawing of this size begins.
+#[tactic(auto, unfolding(crate::specs::Pictures::head_elements))]
+fn push_head(out: &mut String, width: usize, height: usize, title: &str) -> Result<(), AllocError>
+    ensures { OnOk result (string_bytes out.new ≡ string_bytes out.old ++ spec.head_elements width height title.now) }
+{
+    push_opened_text(out)?;
+    push_size(out, width, height)?;
+    push_box(out, width, height)?;
+    push_title(out, title)?;
+    push_style(out)?;
+    push_paper(out, width, height)?;
+    push_text(out, "head", 12, 24, title)
+}
+
+/// Adds the legend at a height, and the end of a drawing.
+#[tactic(auto, unfolding(crate::specs::Pictures::legend_elements))]
+fn push_legend(out: &mut String, y: usize) -> Result<(), AllocError>
+    ensures { OnOk result (string_bytes out.new ≡ string_bytes out.old ++ spec.legend_elements y) }
+{
+    write!(out, "<g transform=\"translate(12 {y})\">\n")?;
+    push_legend_text(out)
+}
+
+/// The drawing of so many steps that show this, in the state where they lead.
+#[tactic(auto, unfolding(crate::specs::Pictures::svg_by))]
+fn svg_of(
+    alloc: Global,
+    core: &Core<'_>,
+    depth: usize,
+    marks: &[Mark],
+) -> Result<String, AllocError>
+    ensures { IfOk result (λ t. string_bytes t ≡ spec.svg_of core.now.program core.now.world depth marks.now) }
+{
+    let title = title_of(alloc, core, depth)?;
+    let shapes = shapes_of(alloc, core, marks)?;
+    let bottom = row_y(rows_of(marks));
+    let mut out = String::new(alloc);
+    push_head(&mut out, column_x(core) + 460, bottom + 190, &title)?;
+    push_shapes(alloc, core, &mut out, &shapes)?;
+    push_legend(&mut out, bottom + 76)?;
+    Ok(out)
+}
+
+/// The drawing of the steps that are not undone, as SVG 1.1.
+pub fn draw(alloc: Global, debugger: &Debugger<'_>) -> Result<String, DrawFault>
+    ensures ok { IfOk result (λ svg. spec.picture_svg debugger.now.trail debugger.now.world ≡ Some (string_bytes svg)) }
+    ensures too_long { IsErrOf result DrawFault.TooLong → spec.picture_svg debugger.now.trail debugger.now.world ≡ None }
+{
+    let marks = marks_of(alloc, debugger)?;
+    if marks.len() > MARKS_MAX {
+        return Err(DrawFault::TooLong);
+    }
+    let svg = svg_of(alloc, debugger.core(), debugger.depth(), &marks)?;
+    Ok(svg)
+}
+
+/// Adds the picture in text of steps that show this.
+fn push_few(
+    alloc: Global,
+    core: &Core<'_>,
+    out: &mut String,
+    marks: &[Mark],
+) -> Result<(), AllocError>
+    ensures { OnOk result (string_bytes out.new ≡ string_bytes out.old ++ rows_text core.now.program core.now.world (spec_shapes_of core.now.world marks.now)) }
+{
+    let shapes = shapes_of(alloc, core, marks)?;
+    push_rows(core, out, &shapes)
+}
+
+/// Adds the picture of the steps that are not undone, as text of 80 columns at most, or one line where they show more than
+/// `MARKS_MAX`. An `Err` is want of memory.
+pub fn push_picture(debugger: &Debugger<'_>, out: &mut String) -> Result<(), AllocError>
+    ensures { OnOk result (string_bytes out.new ≡ string_bytes out.old ++ spec.picture_text debugger.now.trail debugger.now.world) }
+{
+    let alloc = *out.allocator();
+    let marks = marks_of(alloc, debugger)?;
+    if marks.len() > MARKS_MAX {
+        return out.push_str("refused: this run has too many calls to be drawn\n");
+    }
+    push_few(alloc, debugger.core(), out, &marks)
+}

@@ -1,9 +1,0 @@
-use Rattle.std.proofs.Common.{◌≡◌, ◌-◌}
-use Rattle.mpd_model.specs.declared.step.Step.TheVariants.{Wake}
-use Rattle.mpd_model.specs.Next.{is_enabled}
-use Rattle.mpd_model.specs.Decisions.{is_wake, first_enabled}
-use Rattle.mpd_policy.proofs.StepKinds.{first_from}
-use Rattle.mpd_policy.proofs.decide.first_wake.Given as goal
-
-abbrev pub invariant-loop-rank : goal.invariant-loop-rank
-invariant-loop-rank l = first_from (λ p. is_enabled l.core.world (Wake p)) Wake l.rank (l.count - l.rank) ≡ first_enabled l.core.world is_wake

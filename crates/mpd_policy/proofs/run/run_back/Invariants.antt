@@ -1,7 +1,0 @@
-use Rattle.mpd_model.specs.Trail.{IsReached}
-use Rattle.mpd_trail.specs.Views.{standing_of}
-use Rattle.mpd_policy.proofs.BackLemmas.{Backing}
-use Rattle.mpd_policy.proofs.run.run_back.Given as goal
-
-abbrev pub invariant-loop-undone : goal.invariant-loop-undone
-invariant-loop-undone l = Backing l.breaks (standing_of l.fn.debugger) (standing_of l.debugger) l.undone × IsReached (standing_of l.debugger)

@@ -1,0 +1,216 @@
+//! Sampling from where a debugger stands.
+
+ghost use Rattle.std.specs.Prelude.{◌≡◌, ◌+◌, ◌<◌, ◌≤◌, ◌&&◌, true, false, [], length, map, nat_lt, IfOk, OnOk, OnErr, string_bytes};
+ghost use Rattle.std.specs.List.{AllByRecursion};
+ghost use Rattle.mpd_model.specs.runs.Trail.{done_steps, gone_back, forgotten, IsReached};
+ghost use Rattle.mpd_trail.specs.Views.{standing_of};
+ghost use Rattle.mpd_explore.specs.Walk.{walk};
+ghost use Rattle.mpd_explore.specs.Report.{shown, is_bad};
+ghost use Rattle.mpd_explore.specs.Witness.{HasWitness};
+ghost use Rattle.mpd_explore.specs.WitnessTexts.{witness_texts};
+ghost use Rattle.mpd_sample.specs.Order.{Rises};
+ghost use Rattle.mpd_sample.specs.Drawn.{seeded, draws, sampled, is_listed};
+ghost use Rattle.mpd_sample.specs.Drawing.{Beyond, IsEven, Adds, Samples};
+
+use crate::draw::draw_leaf;
+use crate::keep::keep_leaf;
+use mpd_explore::{Leaf, Limits, Report, Unwatched, Watch, explore};
+use mpd_model::STEPS_MAX;
+use mpd_policy::decisions_can_be_followed;
+use mpd_trail::Debugger;
+use rand::{Rng, SeedableRng};
+use rand_pcg::Pcg64;
+use std::alloc::{AllocError, Global};
+
+/// Whether the drawing ends behind a leaf, whatever is left to be drawn.
+fn ends_with(limits: Limits, leaf: &Leaf) -> bool
+    ensures { result ≡ (limits.until_bad && is_bad leaf.now.ending) }
+{
+    limits.until_bad && leaf.is_bad()
+}
+
+/// Draws a run, and adds its leaf to a report; whether the drawing ends behind it. The debugger is left anywhere above where it stood.
+fn draw_into<R: Rng>(
+    alloc: Global,
+    debugger: &mut Debugger<'_>,
+    limits: Limits,
+    random: &mut R,
+    report: &mut Report,
+) -> Result<bool, AllocError>
+    requires fits { debugger.old.trail.depth + limits.fuel ≤ STEPS_MAX }
+    requires rises { Rises report.old.leaves.items }
+    requires even { IsEven limits.witnesses report.old.leaves.items (map string_bytes report.old.witnesses.items) }
+    ensures adds { IfOk result (λ last. Adds limits (standing_of debugger.old) (R.stream random.old) report.old.leaves.items (map string_bytes report.old.witnesses.items) last report.new.leaves.items (map string_bytes report.new.witnesses.items) (R.stream random.new)) }
+    ensures beyond { Beyond (standing_of debugger.old) (standing_of debugger.new) }
+{
+    let leaf = draw_leaf(alloc, debugger, limits.fuel, random)?;
+    let is_last = ends_with(limits, &leaf);
+    keep_leaf(alloc, debugger, limits.witnesses, leaf, report)?;
+    Ok(is_last)
+}
+
+/// Takes steps back down to a depth, and keeps no undone step.
+fn put_back(debugger: &mut Debugger<'_>, base: usize)
+    requires { base ≤ debugger.old.trail.depth }
+    ensures trail { debugger.new.trail ≡ forgotten (gone_back debugger.old.trail base) }
+    ensures reached { IsReached (standing_of debugger.new) }
+{
+    let _ = debugger.undo_to(base);
+    debugger.forget_undone();
+}
+
+/// Draws a run, adds its leaf to a report, and comes back; whether the drawing ends behind it.
+fn add_run<R: Rng>(
+    alloc: Global,
+    debugger: &mut Debugger<'_>,
+    limits: Limits,
+    random: &mut R,
+    report: &mut Report,
+) -> Result<bool, AllocError>
+    requires clean { length debugger.old.trail.steps ≡ debugger.old.trail.depth }
+    requires fits { debugger.old.trail.depth + limits.fuel ≤ STEPS_MAX }
+    requires rises { Rises report.old.leaves.items }
+    requires even { IsEven limits.witnesses report.old.leaves.items (map string_bytes report.old.witnesses.items) }
+    ensures adds { IfOk result (λ last. Adds limits (standing_of debugger.old) (R.stream random.old) report.old.leaves.items (map string_bytes report.old.witnesses.items) last report.new.leaves.items (map string_bytes report.new.witnesses.items) (R.stream random.new)) }
+    ensures trail { debugger.new.trail ≡ debugger.old.trail }
+    ensures world { debugger.new.world ≡ debugger.old.world }
+    ensures reached { IsReached (standing_of debugger.new) }
+{
+    debugger.state_is_reached();
+    let base = debugger.depth();
+    let added = draw_into(alloc, debugger, limits, random, report);
+    put_back(debugger, base);
+    added
+}
+
+/// Draws runs, and adds each to a report that has none.
+fn gather<R: Rng, W: Watch>(
+    alloc: Global,
+    debugger: &mut Debugger<'_>,
+    limits: Limits,
+    random: &mut R,
+    report: &mut Report,
+    watch: &mut W,
+) -> Result<(), AllocError>
+    requires clean { length debugger.old.trail.steps ≡ debugger.old.trail.depth }
+    requires fits { debugger.old.trail.depth + limits.fuel ≤ STEPS_MAX }
+    requires none_told { report.old.leaves.items ≡ [] }
+    requires none_written { report.old.witnesses.items ≡ [] }
+    ensures samples { OnOk result (Samples limits (done_steps debugger.old.trail) debugger.old.world (R.stream random.old) report.new.leaves.items (map string_bytes report.new.witnesses.items)) }
+    ensures trail { debugger.new.trail ≡ debugger.old.trail }
+    ensures world { debugger.new.world ≡ debugger.old.world }
+    ensures reached { IsReached (standing_of debugger.new) }
+    ensures memory { OnErr result (0 < limits.runs) }
+{
+    debugger.state_is_reached();
+    for turn in 0..limits.runs {
+        let is_last = add_run(alloc, debugger, limits, random, report)?;
+        watch.leaf(turn + 1);
+        if is_last {
+            return Ok(());
+        }
+    }
+    Ok(())
+}
+
+/// The leaves of a sample, each once, and not whether there are others.
+fn collect<W: Watch>(
+    alloc: Global,
+    debugger: &mut Debugger<'_>,
+    seed: u64,
+    limits: Limits,
+    watch: &mut W,
+) -> Result<Report, AllocError>
+    requires clean { length debugger.old.trail.steps ≡ debugger.old.trail.depth }
+    requires fits { debugger.old.trail.depth + limits.fuel ≤ STEPS_MAX }
+    ensures samples { IfOk result (λ r. Samples limits (done_steps debugger.old.trail) debugger.old.world (seeded seed) r.leaves.items (map string_bytes r.witnesses.items)) }
+    ensures trail { debugger.new.trail ≡ debugger.old.trail }
+    ensures world { debugger.new.world ≡ debugger.old.world }
+    ensures reached { IsReached (standing_of debugger.new) }
+    ensures memory { OnErr result (0 < limits.runs) }
+{
+    let mut random = Pcg64::seed_from_u64(seed);
+    let mut report = Report {
+        leaves: Vec::new(alloc),
+        more: false,
+        witnesses: Vec::new(alloc),
+    };
+    match gather(alloc, debugger, limits, &mut random, &mut report, watch) {
+        Ok(()) => Ok(report),
+        Err(fault) => {
+            drop(report);
+            Err(fault)
+        }
+    }
+}
+
+/// Whether there are more runs from here than so many.
+fn has_more(
+    alloc: Global,
+    debugger: &mut Debugger<'_>,
+    limits: Limits,
+    count: usize,
+) -> Result<bool, AllocError>
+    requires clean { length debugger.old.trail.steps ≡ debugger.old.trail.depth }
+    requires fits { debugger.old.trail.depth + limits.fuel ≤ STEPS_MAX }
+    ensures more { IfOk result (λ more. more ≡ nat_lt count (length (walk limits.fuel debugger.old.world))) }
+    ensures trail { debugger.new.trail ≡ debugger.old.trail }
+    ensures world { debugger.new.world ≡ debugger.old.world }
+    ensures reached { IsReached (standing_of debugger.new) }
+    ensures memory { OnErr result (0 < count) }
+{
+    let mut asked = limits;
+    asked.runs = count;
+    asked.witnesses = false;
+    asked.until_bad = false;
+    asked.ends = false;
+    let listed = explore(alloc, debugger, asked, &mut Unwatched)?;
+    let more = listed.more;
+    drop(listed);
+    Ok(more)
+}
+
+/// A sample of the runs from here: so many are made, one after another, and at each choice of one a candidate is drawn, each as likely
+/// as the other, by a generator that is seeded with this number. The report has each different list of choices once, in the order of
+/// the walk, as `explore` lists them, and `more` says whether the walk has others. Where that is asked for, the drawing ends behind the
+/// first run drawn that ends in a deadlock or a trap. Fuel counts from here. The debugger is left as found, also where memory is
+/// refused, which is what an `Err` says; that comes only where a run is asked for. No undone step is kept, and the depth and the fuel
+/// are at most 1,000,000 steps together. Each leaf has a run, and each deadlock a witness; where witnesses are wanted, their texts are
+/// made as the runs are drawn. `watch` is told of each run that is drawn, with how many there are so far; nothing else depends on it.
+pub fn sample<W: Watch>(
+    alloc: Global,
+    debugger: &mut Debugger<'_>,
+    seed: u64,
+    limits: Limits,
+    watch: &mut W,
+) -> Result<Report, AllocError>
+    requires clean { length debugger.old.trail.steps ≡ debugger.old.trail.depth }
+    requires fits { debugger.old.trail.depth + limits.fuel ≤ STEPS_MAX }
+    ensures leaves { IfOk result (λ r. r.leaves.items ≡ map shown (sampled (draws limits.until_bad limits.fuel limits.runs debugger.old.world (seeded seed)) limits.fuel debugger.old.world)) }
+    ensures drawn { IfOk result (λ r. AllByRecursion (λ cs. is_listed r.leaves.items cs ≡ true) (draws limits.until_bad limits.fuel limits.runs debugger.old.world (seeded seed))) }
+    ensures rises { IfOk result (λ r. Rises r.leaves.items) }
+    ensures few { IfOk result (λ r. length r.leaves.items ≤ limits.runs) }
+    ensures some { IfOk result (λ r. 0 < limits.runs → 0 < length r.leaves.items) }
+    ensures more { IfOk result (λ r. r.more ≡ nat_lt (length r.leaves.items) (length (walk limits.fuel debugger.old.world))) }
+    ensures all { IfOk result (λ r. r.more ≡ false → r.leaves.items ≡ map shown (walk limits.fuel debugger.old.world)) }
+    ensures witnesses { IfOk result (λ r. AllByRecursion (HasWitness debugger.old.trail.program debugger.old.trail.mode (done_steps debugger.old.trail) limits.fuel debugger.old.world) r.leaves.items) }
+    ensures texts { IfOk result (λ r. map string_bytes r.witnesses.items ≡ witness_texts limits.witnesses (done_steps debugger.old.trail) limits.fuel debugger.old.world r.leaves.items) }
+    ensures trail { debugger.new.trail ≡ debugger.old.trail }
+    ensures world { debugger.new.world ≡ debugger.old.world }
+    ensures reached { IsReached (standing_of debugger.new) }
+    ensures memory { OnErr result (0 < limits.runs) }
+{
+    decisions_can_be_followed();
+    debugger.state_is_reached();
+    let mut report = collect(alloc, debugger, seed, limits, watch)?;
+    match has_more(alloc, debugger, limits, report.leaves.len()) {
+        Ok(more) => {
+            report.more = more;
+            Ok(report)
+        }
+        Err(fault) => {
+            drop(report);
+            Err(fault)
+        }
+    }
+}

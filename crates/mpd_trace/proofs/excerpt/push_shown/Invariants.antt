@@ -1,6 +1,0 @@
-use Rattle.std.proofs.Common.{◌≡◌, ◌++◌, map, take, string_bytes}
-use Rattle.mpd_trace.specs.Excerpts.{shown}
-use Rattle.mpd_trace.proofs.excerpt.push_shown.Given as goal
-
-abbrev pub invariant-loop-byte : goal.invariant-loop-byte
-invariant-loop-byte l = string_bytes l.out ≡ string_bytes l.fn.out ++ map shown (take l.byte-index l.line)

@@ -1,7 +1,0 @@
-use Rattle.std.proofs.Common.{◌≡◌, ◌-◌, ◌++◌, string_bytes}
-use Rattle.mpd_model.specs.Texts.{pending_line, pending_lines}
-use Rattle.mpd_trace.proofs.RangeTexts.{texts_from}
-use Rattle.mpd_trace.proofs.show.push_pending_of.Given as goal
-
-abbrev pub invariant-loop-receiver : goal.invariant-loop-receiver
-invariant-loop-receiver l = string_bytes l.out ++ texts_from (pending_line l.board.board l.sender) l.receiver (l.count - l.receiver) ≡ string_bytes l.fn.out ++ pending_lines l.board.board l.sender

@@ -1,7 +1,0 @@
-use Rattle.std.proofs.Common.{◌≡◌, ◌-◌}
-use Rattle.mpd_model.specs.Words.{words}
-use Rattle.mpd_vocabulary.specs.Faults.{word_at}
-use Rattle.mpd_vocabulary.proofs.told.word_at.Given as goal
-
-abbrev pub invariant-loop-skipped : goal.invariant-loop-skipped
-invariant-loop-skipped l = word_at (words l.rest) (l.number - l.skipped) ≡ word_at (words l.line) l.number

@@ -1,0 +1,50 @@
+//! Requests from lines.
+
+ghost use Rattle.std.specs.Prelude.{◌≡◌, ◌≢◌, ◌<◌, ◌≤◌, length, Err};
+ghost use Rattle.serde_json.specs.View.{view};
+ghost use Rattle.mpd_wire.specs.Requests.{request_of, request_in, Reads};
+ghost use Rattle.mpd_wire.specs.declared.request.WireFault.TheVariants.{Memory};
+
+use crate::fields;
+use crate::request::{Request, WireFault};
+use mpd_model::LINE_MAX;
+use serde_json::Value;
+use std::alloc::Global;
+
+/// Reads a request from a line without its end (docs/SESSIONS.md, "Requests").
+#[tactic(auto, using(crate::proofs::Json::line_is, crate::proofs::Json::too_long, crate::proofs::Json::not_json, crate::proofs::Json::never_memory))]
+pub fn parse(alloc: Global, line: &[u8]) -> Result<Request, WireFault>
+    ensures exact { result ≢ Err Memory → result ≡ request_in line.now }
+    ensures memory { result ≡ Err Memory → (0 < length line.now) × (length line.now ≤ LINE_MAX) }
+{
+    if line.len() > LINE_MAX {
+        return Err(WireFault::LineTooLong);
+    }
+    let value = json_of(alloc, line)?;
+    request_of(&value)
+}
+
+/// The JSON value of some bytes.
+#[tactic(auto, using(crate::proofs::Json::json_of_some, crate::proofs::Json::json_of_none))]
+fn json_of(alloc: Global, line: &[u8]) -> Result<Value, WireFault>
+    ensures { Reads line.now result }
+{
+    match Value::from_slice(alloc, line) {
+        Ok(value) => Ok(value),
+        Err(e) if e.is_memory() => Err(WireFault::Memory),
+        Err(_) => Err(WireFault::NotJson),
+    }
+}
+
+/// The request that a JSON value is.
+fn request_of(value: &Value) -> Result<Request, WireFault>
+    ensures { result ≡ request_of (view value.now) }
+{
+    let Some(name) = fields::text_at(value, "cmd") else {
+        return Err(WireFault::BadField);
+    };
+    match fields::shape_of(name, value) {
+        Ok(shape) => fields::asked(value, shape),
+        Err(fault) => Err(fault),
+    }
+}

@@ -1,0 +1,377 @@
+//! `mpdbg check`: a script explored by workers, a piece of it alone, or how many pieces there are.
+
+ghost use Rattle.std.specs.Prelude.{◌≡◌, ◌≤◌};
+
+use crate::progress::{OfPiece, Progress};
+use crate::summary::{Limit, say_least, say_part, say_tally};
+use crate::tell::Fault;
+use mpd_check::{
+    CheckFault, Tally, Telling, Tried, check, check_listing, check_mode, check_piece, check_sample,
+    count_pieces, is_crew, put_least,
+};
+use mpd_code::Code;
+use mpd_device::Sink;
+use mpd_explore::Limits;
+use mpd_lines::Verdict;
+use mpd_model::{Mode, STEPS_MAX};
+use mpd_options::CheckOptions;
+use mpd_pool::CheckPlan;
+use std::marker::Sync;
+use std::rt::Clock;
+use std::sync::Wait;
+use std::thread::Threads;
+
+/// What is looked at.
+#[derive(Clone, Copy)]
+enum Part {
+    /// All pieces, in each mode up to so many slots.
+    Modes(usize),
+    /// All pieces.
+    Whole,
+    /// The piece of this number.
+    Piece(usize),
+    /// How many pieces there are, and no run.
+    Count,
+    /// So many runs that are drawn.
+    Sample(usize),
+}
+
+/// What is looked at, by the words: several modes are asked for before how many pieces there are, and that before one of them. What is
+/// drawn stands beside none of these.
+fn part_of(options: CheckOptions) -> Part {
+    if let Some(runs) = options.sample {
+        return Part::Sample(runs);
+    }
+    match (options.modes, options.count_pieces, options.piece) {
+        (Some(most), _, _) => Part::Modes(most),
+        (None, true, _) => Part::Count,
+        (None, false, Some(number)) => Part::Piece(number),
+        (None, false, None) => Part::Whole,
+    }
+}
+
+/// What is asked of the report.
+fn plan_of(options: CheckOptions) -> CheckPlan
+    ensures { result.limits.fuel ≡ options.fuel }
+{
+    CheckPlan {
+        split: options.split,
+        limits: Limits {
+            runs: options.runs,
+            fuel: options.fuel,
+            witnesses: options.witness,
+            until_bad: options.until_bad,
+            ends: options.ends,
+        },
+    }
+}
+
+/// What is asked of a sample of so many runs.
+fn limits_of(options: CheckOptions, runs: usize) -> Limits
+    ensures { result.fuel ≡ options.fuel }
+{
+    Limits {
+        runs,
+        fuel: options.fuel,
+        witnesses: options.witness,
+        until_bad: options.until_bad,
+        ends: false,
+    }
+}
+
+/// Which options leave runs out.
+fn limit_of(options: CheckOptions) -> Limit {
+    match (options.sample.is_some(), options.until_bad) {
+        (false, false) => Limit::Runs,
+        (false, true) => Limit::UntilBad,
+        (true, false) => Limit::Sample,
+        (true, true) => Limit::UntilBadSample,
+    }
+}
+
+/// The first option that can't stand beside `--sample`, where there is one.
+fn clash_of(options: CheckOptions) -> Option<&'static str> {
+    if options.ends {
+        return Some("--ends");
+    }
+    if options.runs_given {
+        return Some("--runs");
+    }
+    if options.split_given {
+        return Some("--split");
+    }
+    if options.piece.is_some() {
+        return Some("--piece");
+    }
+    if options.count_pieces {
+        return Some("--pieces");
+    }
+    if options.modes.is_some() {
+        return Some("--modes");
+    }
+    None
+}
+
+/// Refuses options that can't stand together.
+pub(crate) fn fit_together<'a>(options: CheckOptions) -> Result<(), Fault<'a>> {
+    if options.sample.is_none() {
+        return match options.seed {
+            Some(_) => Err(Fault::SeedAlone),
+            None => Ok(()),
+        };
+    }
+    match clash_of(options) {
+        Some(option) => Err(Fault::Clash("--sample", option)),
+        None => Ok(()),
+    }
+}
+
+/// Explores all pieces, and has the report written as it is asked for.
+fn check_told<R: Clock + Eprint + Threads + Wait + Sync + AllocGlobal, W: Sink>(
+    rt: &R,
+    script: &(Mode, Code),
+    options: CheckOptions,
+    sink: &mut W,
+    progress: &Progress<'_, R>,
+) -> Result<Tally, CheckFault>
+    requires { options.fuel ≤ STEPS_MAX }
+{
+    let (mode, code) = script;
+    let plan = plan_of(options);
+    if !options.explain && !options.group {
+        return check(
+            rt,
+            rt.alloc(),
+            code,
+            *mode,
+            plan,
+            options.workers,
+            sink,
+            progress,
+        );
+    }
+    check_listing(
+        rt,
+        rt.alloc(),
+        code,
+        *mode,
+        plan,
+        options.workers,
+        telling_of(options),
+        sink,
+        progress,
+    )
+}
+
+/// What a report has beside its leaves.
+fn telling_of(options: CheckOptions) -> Telling {
+    Telling {
+        explain: options.explain,
+        group: options.group,
+    }
+}
+
+/// Draws runs, and tells at a terminal how many there are so far and what came of it.
+fn check_drawn<R: Clock + Eprint + AllocGlobal, W: Sink>(
+    rt: &R,
+    script: &(Mode, Code),
+    options: CheckOptions,
+    runs: usize,
+    sink: &mut W,
+    is_terminal: bool,
+) -> Result<Tally, CheckFault>
+    requires { options.fuel ≤ STEPS_MAX }
+{
+    let progress = Progress::new(rt, is_terminal);
+    let mut watch = OfPiece {
+        progress: &progress,
+    };
+    let (mode, code) = script;
+    let drawn = check_sample(
+        rt.alloc(),
+        code,
+        *mode,
+        options.seed.unwrap_or(0),
+        limits_of(options, runs),
+        telling_of(options),
+        sink,
+        &mut watch,
+    );
+    let tally = match drawn {
+        Ok(tally) => tally,
+        Err(fault) => return Err(CheckFault::Engine(fault)),
+    };
+    if is_terminal {
+        let _unwritten = say_tally(rt, script, tally, limit_of(options));
+    }
+    Ok(tally)
+}
+
+/// Explores all pieces, and tells at a terminal how far that is and what came of it.
+fn check_all<R: Clock + Eprint + Threads + Wait + Sync + AllocGlobal, W: Sink>(
+    rt: &R,
+    script: &(Mode, Code),
+    options: CheckOptions,
+    sink: &mut W,
+    is_terminal: bool,
+) -> Result<Tally, CheckFault>
+    requires { options.fuel ≤ STEPS_MAX }
+{
+    let progress = Progress::new(rt, is_terminal);
+    let tally = check_told(rt, script, options, sink, &progress)?;
+    if is_terminal {
+        let _unwritten = say_tally(rt, script, tally, limit_of(options));
+    }
+    Ok(tally)
+}
+
+/// Explores one piece, and tells at a terminal how far that is, and what of it wasn't tried. That all of it was says nothing of others.
+fn check_one<R: Clock + Eprint + AllocGlobal, W: Sink>(
+    rt: &R,
+    script: &(Mode, Code),
+    options: CheckOptions,
+    number: usize,
+    sink: &mut W,
+    is_terminal: bool,
+) -> Result<Tally, CheckFault>
+    requires { options.fuel ≤ STEPS_MAX }
+{
+    let progress = Progress::new(rt, is_terminal);
+    let mut watch = OfPiece {
+        progress: &progress,
+    };
+    let (mode, code) = script;
+    let plan = plan_of(options);
+    let tally = check_piece(
+        rt.alloc(),
+        code,
+        *mode,
+        plan,
+        number,
+        telling_of(options),
+        sink,
+        &mut watch,
+    )?;
+    if is_terminal && !tally.tells_all(*mode, code) {
+        let _unwritten = say_part(rt, script, tally, limit_of(options));
+    }
+    Ok(tally)
+}
+
+/// Explores all pieces in one mode more, and writes what came of it.
+fn check_one_mode<R: Clock + Eprint + Threads + Wait + Sync + AllocGlobal, W: Sink>(
+    rt: &R,
+    code: &Code,
+    mode: Mode,
+    options: CheckOptions,
+    tried: Tried,
+    sink: &mut W,
+    is_terminal: bool,
+) -> Result<Tried, CheckFault>
+    requires { options.fuel ≤ STEPS_MAX }
+{
+    let progress = Progress::new(rt, is_terminal);
+    let tally = check_mode(
+        rt,
+        rt.alloc(),
+        code,
+        mode,
+        plan_of(options),
+        options.workers,
+        sink,
+        &progress,
+    )?;
+    Ok(tried.and(mode, tally))
+}
+
+/// Explores all pieces in rendezvous, with 1 slot and more up to `most`, and buffered, and tells at a terminal which modes list a deadlock
+/// or a trap.
+fn check_modes<R: Clock + Eprint + Threads + Wait + Sync + AllocGlobal, W: Sink>(
+    rt: &R,
+    code: &Code,
+    most: usize,
+    options: CheckOptions,
+    sink: &mut W,
+    is_terminal: bool,
+) -> Result<Tried, CheckFault>
+    requires { options.fuel ≤ STEPS_MAX }
+{
+    let mut tried = Tried::none();
+    tried = check_one_mode(
+        rt,
+        code,
+        Mode::Rendezvous,
+        options,
+        tried,
+        sink,
+        is_terminal,
+    )?;
+    for before in 0..most {
+        let mode = Mode::Slots(before + 1);
+        tried = check_one_mode(rt, code, mode, options, tried, sink, is_terminal)?;
+    }
+    tried = check_one_mode(rt, code, Mode::Buffered, options, tried, sink, is_terminal)?;
+    put_least(rt.alloc(), tried.least, sink)?;
+    if is_terminal {
+        let _unwritten = say_least(rt, tried);
+    }
+    Ok(tried)
+}
+
+/// Why a check is refused.
+fn fault_of<'a>(fault: CheckFault) -> Fault<'a> {
+    match fault {
+        CheckFault::BadWorkers => Fault::Workers,
+        CheckFault::TooManyPieces => Fault::Pieces,
+        CheckFault::NoSuchPiece { number, count } => Fault::Piece { number, count },
+        CheckFault::Engine(fault) => Fault::from(fault),
+    }
+}
+
+/// Looks for deadlocks and traps in a script.
+fn verdict_of<R: Clock + Eprint + Threads + Wait + Sync + AllocGlobal, W: Sink>(
+    rt: &R,
+    script: &(Mode, Code),
+    options: CheckOptions,
+    sink: &mut W,
+    is_terminal: bool,
+) -> Result<Verdict, CheckFault>
+    requires { options.fuel ≤ STEPS_MAX }
+{
+    if !is_crew(options.workers) {
+        return Err(CheckFault::BadWorkers);
+    }
+    let tally = match part_of(options) {
+        Part::Modes(most) => {
+            let (_, code) = script;
+            let tried = check_modes(rt, code, most, options, sink, is_terminal)?;
+            return Ok(tried.verdict());
+        }
+        Part::Sample(runs) => check_drawn(rt, script, options, runs, sink, is_terminal)?,
+        Part::Whole => check_all(rt, script, options, sink, is_terminal)?,
+        Part::Piece(number) => check_one(rt, script, options, number, sink, is_terminal)?,
+        Part::Count => {
+            let (mode, code) = script;
+            count_pieces(rt.alloc(), code, *mode, plan_of(options), sink)?;
+            return Ok(Verdict::Good);
+        }
+    };
+    let (mode, code) = script;
+    Ok(tally.verdict(options.complete, *mode, code))
+}
+
+/// Looks for deadlocks and traps in a script. The number of workers is tested first.
+pub(crate) fn check_script<'a, R: Clock + Eprint + Threads + Wait + Sync + AllocGlobal, W: Sink>(
+    rt: &R,
+    script: &(Mode, Code),
+    options: CheckOptions,
+    sink: &mut W,
+    is_terminal: bool,
+) -> Result<Verdict, Fault<'a>>
+    requires { options.fuel ≤ STEPS_MAX }
+{
+    match verdict_of(rt, script, options, sink, is_terminal) {
+        Ok(verdict) => Ok(verdict),
+        Err(fault) => Err(fault_of(fault)),
+    }
+}

@@ -1,0 +1,84 @@
+//! `mpdbg debug`: a console for a person, or for a file of words (docs/CONSOLE.md).
+
+use crate::tell::Fault;
+use mpd_code::Code;
+use mpd_console::{OpenFault, Opened, UntilQuit, open, open_with, run_console};
+use mpd_device::{Sink, Source};
+use mpd_explore::Witness;
+use mpd_lines::{EngineFault, write_all};
+use mpd_model::Mode;
+use std::alloc::Global;
+
+/// Where a person sits.
+#[derive(Clone, Copy)]
+pub(crate) struct Terminals {
+    /// Whether standard input and output are a terminal: there prompts are written.
+    pub(crate) is_prompting: bool,
+    /// Whether standard error is one.
+    pub(crate) is_terminal: bool,
+}
+
+/// A console at the start of a script, with the steps of a witness ahead where there is one.
+fn console_of<'c, 't, 'a>(
+    alloc: Global,
+    script: &'c (Mode, Code),
+    text: &'t [u8],
+    witness: Option<Witness>,
+    is_prompting: bool,
+) -> Result<Opened<'c, 't>, Fault<'a>> {
+    let (mode, code) = script;
+    let opened = match witness {
+        None => open(alloc, code, *mode, text, is_prompting),
+        Some(witness) => open_with(alloc, code, *mode, text, is_prompting, witness),
+    };
+    match opened {
+        Ok(opened) => Ok(opened),
+        Err(OpenFault::Refused(fault)) => Err(Fault::Witness(fault)),
+        Err(OpenFault::TooLong) => Err(Fault::LongWitness),
+        Err(OpenFault::Memory) => Err(Fault::from(EngineFault::Memory)),
+    }
+}
+
+/// Ends the line of the last prompt, where the input has ended behind it.
+fn end_prompt<'a, W: Sink>(
+    is_prompting: bool,
+    has_quit: bool,
+    sink: &mut W,
+) -> Result<(), Fault<'a>> {
+    if !is_prompting || has_quit {
+        return Ok(());
+    }
+    if write_all(sink, b"\n").is_err() {
+        return Err(Fault::from(EngineFault::WriteFailed));
+    }
+    Ok(())
+}
+
+/// Answers the words of a source on a script, up to `quit` or its end. At a terminal it says first how to go on.
+pub(crate) fn debug_script<'a, R: Eprint + AllocGlobal, S: Source, W: Sink>(
+    rt: &R,
+    script: &(Mode, Code),
+    text: &[u8],
+    witness: Option<Witness>,
+    terminals: Terminals,
+    source: &mut S,
+    sink: &mut W,
+) -> Result<(), Fault<'a>> {
+    let alloc = rt.alloc();
+    let Opened { mut desk, said } = console_of(
+        alloc,
+        script,
+        text,
+        witness,
+        terminals.is_prompting,
+    )?;
+    if terminals.is_terminal {
+        let _unwritten = eprintln!(rt; "help lists the words, quit ends; docs/CONSOLE.md");
+    }
+    if write_all(sink, &said).is_err() {
+        return Err(Fault::from(EngineFault::WriteFailed));
+    }
+    let mut source = UntilQuit::new(source);
+    run_console(alloc, &mut desk, &mut source, sink)?;
+    end_prompt(terminals.is_prompting, source.has_quit(), sink)
+}

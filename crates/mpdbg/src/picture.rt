@@ -1,0 +1,152 @@
+//! `mpdbg picture`: a drawing of a run (docs/PICTURES.md).
+
+ghost use Rattle.std.specs.Prelude.{◌≤◌};
+
+use crate::tell::Fault;
+use mpd_code::Code;
+use mpd_device::Sink;
+use mpd_explore::{Witness, WitnessFault, verify};
+use mpd_lines::{EngineFault, write_all};
+use mpd_model::{Mode, STEPS_MAX, Step, StepList};
+use mpd_picture::{DrawFault, draw};
+use mpd_route::{ReadFault, StepsFault, lead_first, steps_of, take_steps};
+use mpd_trail::Debugger;
+use mpd_words::{ChoicesFault, WordsFault, choices_of, steps_by_choices};
+use std::alloc::Global;
+
+/// Which run is drawn.
+#[derive(Drop)]
+pub(crate) enum Asked<'a> {
+    /// That of the first candidates.
+    First,
+    /// That of the choices of a word.
+    Choices(&'a str),
+    /// That of a witness, which is checked first.
+    Witness(Witness),
+    /// That of a text of trace words.
+    Words(Vec<u8>),
+}
+
+/// A debugger at the start of a script.
+fn started<'c, 'a>(alloc: Global, script: &'c (Mode, Code)) -> Result<Debugger<'c>, Fault<'a>> {
+    let (mode, code) = script;
+    match Debugger::start(alloc, code, *mode) {
+        Ok(debugger) => Ok(debugger),
+        Err(_) => Err(Fault::from(EngineFault::Memory)),
+    }
+}
+
+/// The steps of the run with the choices of a word.
+fn steps_of_choices<'a>(
+    alloc: Global,
+    script: &(Mode, Code),
+    word: &'a str,
+    fuel: usize,
+) -> Result<StepList, Fault<'a>>
+    requires { fuel ≤ STEPS_MAX }
+{
+    let choices = match choices_of(alloc, word.as_bytes()) {
+        Ok(choices) => choices,
+        Err(ChoicesFault::NotANumber) => return Err(Fault::NotChoices(word)),
+        Err(ChoicesFault::Memory) => return Err(Fault::from(EngineFault::Memory)),
+    };
+    let (mode, code) = script;
+    let Ok(mut debugger) = Debugger::start(alloc, code, *mode) else {
+        return Err(Fault::from(EngineFault::Memory));
+    };
+    let found = steps_by_choices(alloc, &mut debugger, &choices.items, fuel);
+    drop(debugger);
+    match found {
+        Ok(steps) => Ok(steps),
+        Err(WordsFault::BadChoices(place)) => Err(Fault::BadChoices(place)),
+        Err(WordsFault::Memory) => Err(Fault::from(EngineFault::Memory)),
+    }
+}
+
+/// Takes steps. Where one isn't enabled, its number from 1 is that of its line.
+fn take_all<'a>(debugger: &mut Debugger<'_>, steps: &[Step]) -> Result<(), Fault<'a>> {
+    match take_steps(debugger, steps) {
+        Ok(()) => Ok(()),
+        Err(StepsFault::NotEnabled(place)) => Err(Fault::Words(place.saturating_add(1))),
+        Err(StepsFault::Full) => Err(Fault::LongWitness),
+        Err(StepsFault::Memory) => Err(Fault::from(EngineFault::Memory)),
+    }
+}
+
+/// Takes the steps of a witness, which is checked first.
+fn take_witness<'a>(
+    alloc: Global,
+    script: &(Mode, Code),
+    debugger: &mut Debugger<'_>,
+    witness: &Witness,
+) -> Result<(), Fault<'a>> {
+    if witness.steps.items.len() > STEPS_MAX {
+        return Err(Fault::LongWitness);
+    }
+    let (mode, code) = script;
+    match verify(alloc, code, *mode, witness) {
+        Ok(()) => take_all(debugger, &witness.steps.items),
+        Err(WitnessFault::Memory) => Err(Fault::from(EngineFault::Memory)),
+        Err(fault) => Err(Fault::Witness(fault)),
+    }
+}
+
+/// Takes the steps of a text of trace words.
+fn take_words<'a>(
+    alloc: Global,
+    debugger: &mut Debugger<'_>,
+    text: &[u8],
+) -> Result<(), Fault<'a>> {
+    match steps_of(alloc, text) {
+        Ok(steps) => take_all(debugger, &steps),
+        Err(ReadFault::NotAStep(line)) => Err(Fault::Words(line)),
+        Err(ReadFault::Memory) => Err(Fault::from(EngineFault::Memory)),
+    }
+}
+
+/// Takes the steps of the run that is asked for.
+fn lead<'a>(
+    alloc: Global,
+    script: &(Mode, Code),
+    debugger: &mut Debugger<'_>,
+    asked: Asked<'a>,
+    fuel: usize,
+) -> Result<(), Fault<'a>>
+    requires { fuel ≤ STEPS_MAX }
+{
+    match asked {
+        Asked::First => match lead_first(alloc, debugger, fuel) {
+            Ok(()) => Ok(()),
+            Err(_) => Err(Fault::from(EngineFault::Memory)),
+        },
+        Asked::Choices(word) => {
+            let steps = steps_of_choices(alloc, script, word, fuel)?;
+            take_all(debugger, &steps.items)
+        }
+        Asked::Witness(witness) => take_witness(alloc, script, debugger, &witness),
+        Asked::Words(text) => take_words(alloc, debugger, &text),
+    }
+}
+
+/// Draws the run that is asked for, and writes it.
+pub(crate) fn draw_run<'a, W: Sink>(
+    alloc: Global,
+    script: &(Mode, Code),
+    asked: Asked<'a>,
+    fuel: usize,
+    sink: &mut W,
+) -> Result<(), Fault<'a>>
+    requires { fuel ≤ STEPS_MAX }
+{
+    let mut debugger = started(alloc, script)?;
+    lead(alloc, script, &mut debugger, asked, fuel)?;
+    let svg = match draw(alloc, &debugger) {
+        Ok(svg) => svg,
+        Err(DrawFault::TooLong) => return Err(Fault::LongPicture),
+        Err(DrawFault::Memory) => return Err(Fault::from(EngineFault::Memory)),
+    };
+    if write_all(sink, svg.as_bytes()).is_err() {
+        return Err(Fault::from(EngineFault::WriteFailed));
+    }
+    Ok(())
+}
