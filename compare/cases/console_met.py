@@ -49,7 +49,7 @@ TOLD_BY = {
     'an unknown word with other bytes': r"unknown word '.*\?.*': .*", 'an unknown name': r"no variable or request is called '\w+'",
     'a name that is none': r"no variable or request is called '.*[^\w'].*'",
     **{f'refused: {why}': f'refused: {why}' for why in (
-        'this step is not enabled', 'there is no such candidate', 'there is no such run', 'no choice was made',
+        'this step is not enabled', 'there is no such candidate', 'there is no such run', 'no choice was made before',
         'fewer steps are taken', 'fewer steps are ahead', 'no such number',
         'no breakpoint has this number', '64 breakpoints are set', 'this line is too long')},
     **{f'usage of {word}': rf'usage: .*\b{word}\b.*' for row in TABLE for word in row.words}}

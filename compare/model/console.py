@@ -26,7 +26,7 @@ from model.worlds import Step
 TOO_LONG = 'refused: this line is too long'
 NO_CANDIDATE = 'refused: there is no such candidate'
 NO_RUN = 'refused: there is no such run'
-NO_CHOICE = 'refused: no choice was made'
+NO_CHOICE = 'refused: no choice was made before'
 NO_WAIT = 'no rank waits for a call'
 REFUSALS = {
     session.NOT_ENABLED: 'refused: this step is not enabled', session.FULL: 'refused: no more than 1000000 steps are kept',

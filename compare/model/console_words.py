@@ -31,7 +31,7 @@ TABLE = (
     Row(('run-back',), ('rc', 'reverse-continue'), 'goes back to a breakpoint, or to the start'),
     Row(('undo-choice',), ('u',), 'goes back to the last choice, so that another candidate can be taken'),
     Row(('goto N',), ('g',), 'goes back, or along the steps ahead, until so many steps are taken'),
-    Row(('redo [N]',), (), 'takes the step again that was undone last, or so many, or all'),
+    Row(('redo [N]',), (), 'takes the step again that was undone last, or so many, as far as there are'),
     Row(('local P', 'match S R', 'wake P', 'wakeany P I', 'release'), (), 'takes this step'),
     Row(('break LINE', 'break match LINE', 'break change P NAME'), (),
         'sets a breakpoint: behind a step by which a rank comes to that line, behind a match of a call of that line, behind a change of that '

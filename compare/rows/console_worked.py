@@ -57,7 +57,7 @@ depth 100000
 next: local 0: line 4
     4  print 2;
 > undo-choice
-refused: no choice was made
+refused: no choice was made before
 '''),)
 # What the model isn't asked: more than 65,536 runs, and a million steps.
 LONG = MANY_RUNS + (
@@ -79,7 +79,7 @@ run 1, cut, is 0 steps ahead
 next: local 0: line 2
     2  while 1 { }
 > undo-choice
-refused: no choice was made
+refused: no choice was made before
 > back 1000000
 depth 0
 1000000 ahead: local 0: line 2

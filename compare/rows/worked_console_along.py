@@ -241,7 +241,7 @@ stopped: as many steps as were asked for
 1 step, depth 10
 ended: done
 > undo-choice
-refused: no choice was made
+refused: no choice was made before
 '''),
     Dialogue('choices of three, of two, and of one, which is none', THREE_SENDERS, f'''
 > run
@@ -274,7 +274,7 @@ depth 9
 {TAKES_THREE}
 {OF_THREE}
 >
-refused: no choice was made
+refused: no choice was made before
 > run
 10 match 2.0 0.0: rank 2, line 4, to rank 0, line 3
 16 ahead: wake 0: line 3

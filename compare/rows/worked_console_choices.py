@@ -250,16 +250,16 @@ next: local 0: line 2
 > trap
 no trap: 1 run, and no more (1 cut)
 > u
-refused: no choice was made
+refused: no choice was made before
 ''', limit=3),
     Dialogue('choices that are undone', TWO_RACES, f'''
 > undo-choice
-refused: no choice was made
+refused: no choice was made before
 > run
 8 steps, depth 8
 {BOTH_RACES}
 > undo-choice
-refused: no choice was made
+refused: no choice was made before
 > next 2
 9 match 3.0 1.0: rank 3, line 5, to rank 1, line 3
 next: wake 1: line 3
@@ -275,7 +275,7 @@ depth 8
     3    recv x from any tag 0;
 {BOTH_RACES}
 >
-refused: no choice was made
+refused: no choice was made before
 > redo 2
 depth 10
 next: wake 1: line 3
@@ -334,7 +334,7 @@ depth 8
     3    recv x from any tag 0;
 {BOTH_RACES}
 >
-refused: no choice was made
+refused: no choice was made before
 > next 1
 9 match 2.0 0.0: rank 2, line 5, to rank 0, line 3
 next: wake 0: line 3
@@ -352,7 +352,7 @@ next: wakeany 0 0: line 6, by line 4, 0.0 irecv from 1 tag 1
 next: wakeany 0 0: line 6, by line 4, 0.0 irecv from 1 tag 1
     6    waitany r to i;
 > undo-choice
-refused: no choice was made
+refused: no choice was made before
 > back
 depth 8
 1 ahead: match 1.1 0.1: rank 1, line 9, to rank 0, line 5
@@ -384,7 +384,7 @@ next: local 2: line 7
 next: local 2: line 7
     7  if rank == 0 {
 > undo-choice
-refused: no choice was made
+refused: no choice was made before
 '''),
     Dialogue('all ranks that wait for a call', WAITS, '''
 > why
@@ -453,7 +453,7 @@ ended: trap 1 zero-divisor
 > why
 no rank waits for a call
 > undo-choice
-refused: no choice was made
+refused: no choice was made before
 '''),
     Dialogue('so many steps at once, and none behind an end', 'first_message.mpd', '''
 > next 3

@@ -42,7 +42,7 @@ no deadlock: 1 run, and no more (1 done)
 > trap
 no trap: 1 run, and no more (1 done)
 > undo-choice
-refused: no choice was made
+refused: no choice was made before
 > next 0
 refused: no such number
 > next 1000001
@@ -483,7 +483,7 @@ undo-choice                         goes back to the last choice, so that
 goto N                              goes back, or along the steps ahead, until
         so many steps are taken
 redo [N]                            takes the step again that was undone last,
-        or so many, or all
+        or so many, as far as there are
 local P, match S R, wake P, wakeany P I, release takes this step
 break LINE, break match LINE, break change P NAME sets a breakpoint: behind a
         step by which a rank comes to that line, behind a match of a call of
@@ -538,7 +538,8 @@ local P, match S R, wake P, wakeany P I, release: takes this step
 > help g
 goto N: goes back, or along the steps ahead, until so many steps are taken
 > help redo
-redo [N]: takes the step again that was undone last, or so many, or all
+redo [N]: takes the step again that was undone last, or so many, as far as there
+        are
 > help break
 break LINE, break match LINE, break change P NAME: sets a breakpoint: behind a
         step by which a rank comes to that line, behind a match of a call of

@@ -15,6 +15,7 @@ import tty
 
 from cases.console_cases import Case
 from model.console import GREETING
+from model.console_lines import folded
 from model.debugger import MOST_READS, Result
 from model.files import held
 from model.modes import KNOWN
@@ -255,7 +256,8 @@ def much_rows(folder):
     cells = 1023
     script = f'mpd 1; ranks 1; var i; var a[{cells}];\nwhile i < {cells} {{ a[i] = -1234567890123456789; i = i + 1; }}\n'.encode()
     first = b'%d steps, depth %d\nended: done\n' % (3 * cells + 1, 3 * cells + 1)
-    shown = f'rank 0: {", ".join(f"a[{place}] = -1234567890123456789" for place in range(cells))}\n'.encode()
+    cells_named = f'rank 0: {", ".join(f"a[{place}] = -1234567890123456789" for place in range(cells))}'
+    shown = ''.join(f'{line}\n' for line in folded(cells_named)).encode()
     data = b'run\n' + b'print a\n' * 3000 + b'x' * (64 << 20) + b'\nprint i\n'
     result = Files(file_of(data)).run('sh', '-c', f'ulimit -v {MUCH_MIB << 10}; exec "$0" "$@"', folder.program, 'debug', folder.file('much', script))
     wanted = first + shown * 3000 + f'refused: this line is too long\nrank 0: i = {cells}\n'.encode()

@@ -14,6 +14,7 @@ import termios
 import time
 from typing import NamedTuple
 
+from model.console_lines import folded
 from model.debugger import Result
 from model.files import held
 from rows.examples import EXAMPLES
@@ -188,8 +189,9 @@ def much(folder):
     cells, messages = held(folder, 'cells', SHOW_CELLS), held(folder, 'messages', MESSAGES)
     yield Case('a trace', ('trace', cells), b'show\n' * MANY, [CELLS_SHOWN] * MANY, 0, 0)
     yield Case('a session', ('run', cells), f'{STATE}\n'.encode() * MANY, [START] * MANY, 0, 0)
-    cells_named = f'rank 0: {", ".join(f"a[{place}] = 0" for place in range(40))}\n'.encode()
-    yield Case('a dialogue', ('debug', cells), b'print a\n' * MANY, [cells_named] * MANY, 0, 0)
+    cells_named = f'rank 0: {", ".join(f"a[{place}] = 0" for place in range(40))}'
+    answer = ''.join(f'{line}\n' for line in folded(cells_named)).encode()
+    yield Case('a dialogue', ('debug', cells), b'print a\n' * MANY, [answer] * MANY, 0, 0)
     yield Case('a check', ('check', messages, '--runs', '65536'), b'', [all_orders()], 0, 0)
 
 

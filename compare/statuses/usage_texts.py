@@ -96,9 +96,10 @@ Options:
   -h, --help      Print help
 
 Requests stand on standard input, a JSON object on each line, and each is answered by one line:
-  step, next, run, back, redo, goto, run-back   go forward and back
-  state, enabled, vars, calls, why              look at where it stands
-  break, unbreak, breaks, explore               set breakpoints, list the runs from here
+  step, next, run, run-on            go forward
+  back, redo, goto, run-back         go back, and forward again
+  state, enabled, vars, calls, why   look at where it stands
+  break, unbreak, breaks, explore    set breakpoints, list the runs from here
 
 Example:
   echo '{"cmd":"run","max":100}' | ./mpdbg run examples/race.mpd

@@ -32,4 +32,4 @@ abbrev pub last_choice : Trail → Option ℕ
 last_choice t = choice_below t t.depth
 
 abbrev pub no_choice_line : List ℕ
-no_choice_line = line (codes "refused: no choice was made")
+no_choice_line = line (codes "refused: no choice was made before")

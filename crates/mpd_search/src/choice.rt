@@ -54,5 +54,5 @@ pub fn last_choice(alloc: Global, debugger: &Debugger<'_>) -> Result<Option<usiz
 pub fn push_no_choice(out: &mut String) -> Result<(), AllocError>
     ensures { OnOk result (string_bytes out.new ≡ string_bytes out.old ++ spec.no_choice_line) }
 {
-    out.push_str("refused: no choice was made\n")
+    out.push_str("refused: no choice was made before\n")
 }

@@ -256,7 +256,7 @@ pub(crate) fn purpose_of(topic: Topic) -> &'static str
         Topic::RunBack => "goes back to a breakpoint, or to the start",
         Topic::UndoChoice => "goes back to the last choice, so that another candidate can be taken",
         Topic::Goto => "goes back, or along the steps ahead, until so many steps are taken",
-        Topic::Redo => "takes the step again that was undone last, or so many, or all",
+        Topic::Redo => "takes the step again that was undone last, or so many, as far as there are",
         Topic::Local | Topic::Match | Topic::Wake | Topic::WakeAny | Topic::Release =>
             "takes this step",
         Topic::Break =>
