@@ -15,7 +15,8 @@ LEFT_OUT = {
     'mpd_rank': {'anew': 'of a record, called by a step that is taken again'},
     'mpd_device': {'into_inner': 'of a device that fails', 'tick': 'a counter without bytes'},
     'mpd_queue': {'disjoint': 'a law'},
-    'mpd_policy': {'decisions_can_be_followed': 'a law'}, 'mpd_model': {'lines_lose_nothing': 'a law'},
+    'mpd_policy': {'decisions_can_be_followed': 'a law', 'run_on': 'called by the request run-on', **dict.fromkeys(('only_step', 'sole'), BY_WORDS)},
+    'mpd_trail': {'state_is_reached': 'a law'}, 'mpd_model': {'lines_lose_nothing': 'a law'},
     'mpd_witness': dict.fromkeys(('written_witness_is_read', 'written_witness_of_a_leaf_is_read'), 'a law'),
     'mpd_c': {'text_ends_its_last_line': 'a law'},
     'mpd_words': {'a_run_or_a_bad_choice': 'a law'}, 'mpd_explain': {
@@ -23,14 +24,15 @@ LEFT_OUT = {
         **dict.fromkeys(('issue_line', 'rank_line', 'push_placed', 'push_wish', 'push_helps', 'push_all_absent', 'push_told', 'requests'), BY_WORDS)},
     'mpd_session': dict.fromkeys(('debugger', 'breaks', 'lay'), BY_WORDS),
     'mpd_view': dict.fromkeys(('push_calls', 'push_enabled', 'push_history', 'push_queues', 'push_ranks', 'push_standing', 'push_step', 'push_step_line',
-                               'push_why', 'push_why_rank', 'push_why_ranks', 'push_words'), BY_WORDS),
+                               'push_why', 'push_why_rank', 'push_why_ranks', 'push_words', 'push_lost', 'push_all_lost'), BY_WORDS),
+    'mpd_fold': {'push_folded': BY_WORDS, **dict.fromkeys(('long_lines_keep_their_words', 'long_lines_can_nowhere_be_cut'), 'a law')},
     'mpd_search': dict.fromkeys(('seek', 'numbered_run', 'last_choice', 'name', 'push_runs', 'push_none', 'push_ahead', 'push_count', 'push_not_followed',
                                  'push_no_choice'), BY_WORDS),
     'mpd_picture': {'arrows_are_pairs': 'a law'}, 'mpd_console': {'has_quit': 'called by the program behind a console'},
     'mpd_vocabulary': dict.fromkeys(('line_of', 'push_fault', 'push_help'), BY_WORDS),
     'mpd_names': {
         'bare': 'called by steps_of', 'cut': 'called by steps_of',
-        **dict.fromkeys(('named', 'push_break', 'push_cell_name', 'push_list', 'push_list_about', 'push_named', 'push_variables'), BY_WORDS)},
+        **dict.fromkeys(('find_named', 'push_break', 'push_cell_name', 'push_list', 'push_list_about', 'push_named', 'push_source', 'push_variables'), BY_WORDS)},
     'mpd_pieces': dict.fromkeys(('pieces_join_to_the_walk', 'each_piece_is_reached', 'no_choice_is_the_whole', 'no_more_is_the_whole'), 'a law')}
 
 

@@ -18,8 +18,6 @@ sole_none [] e = refl
 sole_none (x ∷ []) e = absurd (e refl)
 sole_none (x ∷ y ∷ xs) e = refl
 
-pub ruleset alone = (sole_none, sole_none)
-
 chosen_single : (w : World) (steps : List Step) → single (chosen_from w steps) ≡ sole steps
 chosen_single w [] = refl
 chosen_single w (a ∷ steps) = refl

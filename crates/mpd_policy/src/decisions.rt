@@ -133,9 +133,9 @@ pub fn decide(alloc: Global, core: &Core<'_>) -> Result<Decision, AllocError>
     Ok(Decision::Leaf(outcome))
 }
 
-/// The step of a list of one.
-#[tactic(auto, using(crate::proofs::SingleLemmas::alone))]
-fn sole(steps: &[Step]) -> Option<Step>
+/// The step of a list of one; none of any other list.
+#[tactic(auto, using(crate::proofs::SingleLemmas::sole_none))]
+pub fn sole(steps: &[Step]) -> Option<Step>
     ensures { result ≡ singles.sole steps.now }
 {
     if steps.len() == 1 {

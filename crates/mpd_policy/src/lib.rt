@@ -7,5 +7,5 @@ mod marks;
 pub mod runs;
 
 pub use breaks::Breaks;
-pub use decisions::{decide, decisions_can_be_followed, forced_step, only_step};
+pub use decisions::{decide, decisions_can_be_followed, forced_step, only_step, sole};
 pub use runs::{run, run_back, run_on};

@@ -1,4 +1,3 @@
 pub mod ShownLemmas
-pub mod StandingLemmas
 pub mod PastLemmas
 pub mod LostLemmas

@@ -3,7 +3,6 @@
 ghost use Rattle.std.specs.Prelude.{◌≡◌, ◌++◌, ◌<◌, ◌+◌, OnOk, length, string_bytes};
 ghost use Rattle.std.specs.List.{list_all};
 ghost use Rattle.mpd_model.specs.runs.Decisions.{decision};
-ghost use Rattle.mpd_policy.specs.Single.{sole};
 ghost use Rattle.mpd_view.specs.Standing as standing;
 
 use crate::lost::push_all_lost;
@@ -13,7 +12,7 @@ use mpd_explain::{issue_line, push_told, rank_line};
 use mpd_explore::Ending;
 use mpd_model::{CallId, Decision, Outcome, Step, print_outcome};
 use mpd_names::push_source;
-use mpd_policy::decide;
+use mpd_policy::{decide, sole};
 use mpd_trail::Debugger;
 use std::alloc::{AllocError, Global};
 
@@ -243,17 +242,6 @@ fn push_next(
     }
     push_next_line(core, out, step)?;
     push_step_source(core, text, out, step)
-}
-
-/// The step of a list of one.
-#[tactic(auto, using(crate::proofs::StandingLemmas::alone))]
-pub fn sole(steps: &[Step]) -> Option<Step>
-    ensures { result ≡ sole steps.now }
-{
-    if steps.len() == 1 {
-        return Some(steps[0]);
-    }
-    None
 }
 
 /// Adds a choice, or its single candidate as the step that comes next.
