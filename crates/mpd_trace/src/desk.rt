@@ -50,7 +50,7 @@ fn refuse(out: &mut Vec<u8>, name: &str)
 #[tactic(auto, using(crate::proofs::DeskLemmas::replying))]
 fn answer_step(debugger: &mut Debugger<'_>, step: Step, out: &mut Vec<u8>)
     requires { vec_len out.old + ROOM ≤ vec_capacity out.old }
-    ensures replies { Replies out.old.items out.new.items (standing_of debugger.old) (Some (Word.Step step)) (standing_of debugger.new) }
+    ensures replies { Replies out.old.items out.new.items (standing_of debugger.old) (Some (TraceWord.Step step)) (standing_of debugger.new) }
     ensures capacity { vec_capacity out.old ≤ vec_capacity out.new }
 {
     let reply = answer(debugger, TrailCommand::Apply(step));
@@ -68,7 +68,7 @@ fn answer_step(debugger: &mut Debugger<'_>, step: Step, out: &mut Vec<u8>)
 #[tactic(auto, using(crate::proofs::DeskLemmas::replying))]
 fn answer_back(debugger: &mut Debugger<'_>, out: &mut Vec<u8>)
     requires { vec_len out.old + ROOM ≤ vec_capacity out.old }
-    ensures replies { Replies out.old.items out.new.items (standing_of debugger.old) (Some Word.Back) (standing_of debugger.new) }
+    ensures replies { Replies out.old.items out.new.items (standing_of debugger.old) (Some TraceWord.Back) (standing_of debugger.new) }
     ensures capacity { vec_capacity out.old ≤ vec_capacity out.new }
 {
     match answer(debugger, TrailCommand::Undo) {
@@ -82,7 +82,7 @@ fn answer_back(debugger: &mut Debugger<'_>, out: &mut Vec<u8>)
 #[tactic(auto, using(crate::proofs::DeskLemmas::replying))]
 fn answer_redo(debugger: &mut Debugger<'_>, out: &mut Vec<u8>)
     requires { vec_len out.old + ROOM ≤ vec_capacity out.old }
-    ensures replies { Replies out.old.items out.new.items (standing_of debugger.old) (Some Word.Redo) (standing_of debugger.new) }
+    ensures replies { Replies out.old.items out.new.items (standing_of debugger.old) (Some TraceWord.Redo) (standing_of debugger.new) }
     ensures capacity { vec_capacity out.old ≤ vec_capacity out.new }
 {
     match answer(debugger, TrailCommand::Redo) {
@@ -97,7 +97,7 @@ fn answer_redo(debugger: &mut Debugger<'_>, out: &mut Vec<u8>)
 #[tactic(auto, using(crate::proofs::DeskLemmas::replying))]
 fn answer_goto(debugger: &mut Debugger<'_>, left: usize, out: &mut Vec<u8>)
     requires { vec_len out.old + ROOM ≤ vec_capacity out.old }
-    ensures replies { Replies out.old.items out.new.items (standing_of debugger.old) (Some (Word.Goto left)) (standing_of debugger.new) }
+    ensures replies { Replies out.old.items out.new.items (standing_of debugger.old) (Some (TraceWord.Goto left)) (standing_of debugger.new) }
     ensures capacity { vec_capacity out.old ≤ vec_capacity out.new }
 {
     match answer(debugger, TrailCommand::UndoTo(left)) {
@@ -111,7 +111,7 @@ fn answer_goto(debugger: &mut Debugger<'_>, left: usize, out: &mut Vec<u8>)
 #[tactic(auto, using(crate::proofs::DeskLemmas::replying))]
 fn answer_show(alloc: Global, debugger: &Debugger<'_>, out: &mut Vec<u8>)
     requires { vec_len out.old + ROOM ≤ vec_capacity out.old }
-    ensures replies { Replies out.old.items out.new.items (standing_of debugger.now) (Some Word.Show) (standing_of debugger.now) }
+    ensures replies { Replies out.old.items out.new.items (standing_of debugger.now) (Some TraceWord.Show) (standing_of debugger.now) }
     ensures capacity { vec_capacity out.old ≤ vec_capacity out.new }
 {
     let kept = debugger.steps().len();
@@ -128,7 +128,7 @@ fn answer_show(alloc: Global, debugger: &Debugger<'_>, out: &mut Vec<u8>)
 #[tactic(auto, using(crate::proofs::DeskLemmas::replying))]
 fn answer_enabled(alloc: Global, debugger: &Debugger<'_>, out: &mut Vec<u8>)
     requires { vec_len out.old + ROOM ≤ vec_capacity out.old }
-    ensures replies { Replies out.old.items out.new.items (standing_of debugger.now) (Some Word.Enabled) (standing_of debugger.now) }
+    ensures replies { Replies out.old.items out.new.items (standing_of debugger.now) (Some TraceWord.Enabled) (standing_of debugger.now) }
     ensures capacity { vec_capacity out.old ≤ vec_capacity out.new }
 {
     let Ok(steps) = debugger.core().enabled(alloc) else {
