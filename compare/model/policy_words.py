@@ -14,7 +14,7 @@ the crates. All other words are trace words.
 | `forget` | forgets the undone steps: `ok D` |
 | `copy` | goes on with a copy: `ok D` |
 
-The copy of the program has no words for `run-on` and for handles: these are compared by sessions (compare/runs/sessions.py).
+The copy of the program has words for `run-on` and for handles, too, but no walk draws them: these are compared by sessions (compare/runs/sessions.py).
 """
 
 from model import debugger, policy
