@@ -118,9 +118,9 @@ def wake_behind(text, at, step):
     return line_behind(head, at, step) + by + call
 
 
-def with_marks(text, at, step):
-    """A wake by a handle whose call has its marks."""
-    return f'{text.partition(", by ")[0]}, by {SOUND["marked_text"](at, SOUND["request_of"](at.world, step))}'
+def with_all(text, at, step):
+    """A wake by a handle whose call is shown whole."""
+    return f'{text.partition(", by ")[0]}, by {SOUND["whole_text"](at, SOUND["request_of"](at.world, step))}'
 
 
 def call_of_place(world, step):
@@ -166,7 +166,7 @@ def step_faults():
             'a wake at the line behind': told_otherwise('wake', line_behind),
             'a wake by a handle at the line behind': told_otherwise('wakeany', wake_behind),
             'a wake by a handle without its call': told_otherwise('wakeany', lambda text, *_: text.partition(', by ')[0]),
-            'a wake by a handle and its call with marks': told_otherwise('wakeany', with_marks),
+            'a wake by a handle and its call with all that is shown': told_otherwise('wakeany', with_all),
             'the line of a wake by a handle left out': told_otherwise('wakeany', lambda text, *_: re.sub(r': line \d+, by', ': by', text)),
             'a release as its word': told_otherwise('release', lambda text, *_: text.partition(':')[0]),
             'a local step without its line': told_otherwise('local', lambda text, *_: text.partition(':')[0])}),
@@ -423,16 +423,16 @@ def lost_faults():
             'no line': changed('lost_lines', lambda lines, *_: [re.sub(r'line \d+, ', '', line) for line in lines])})]
 
 
-def marked_request(at, number, handle):
+def whole_request(at, number, handle):
     held = at.world.ranks[number].handles[handle]
-    return SOUND['request_text'](at, number, handle) if held is None else SOUND['marked_text'](at, CallId(number, held))
+    return SOUND['request_text'](at, number, handle) if held is None else SOUND['whole_text'](at, CallId(number, held))
 
 
 def variable_faults():
     return [
         *named('request_text', {
             'a sign where there is none': changed('request_text', lambda text, *_: text.replace('no request', '-')),
-            'with its marks': marked_request,
+            'with all that is shown': whole_request,
             'its number alone': lambda at, number, handle: str(at.world.ranks[number].handles[handle])}),
         *named('value_line', {
             'no cell left out': changed('value_line', lambda text, *_: text.replace('has no cell', '')),
@@ -452,10 +452,10 @@ def variable_faults():
             'no name of a trap': changed('rank_line', lambda text, *_: text.partition(': ')[0] if 'trapped' in text else text),
             'no call': changed('rank_line', lambda text, *_: text.partition(',')[0]),
             'no line of a trap': changed('rank_line', lambda text, *_: re.sub(r'trapped at line \d+', 'trapped', text))}),
-        *named('marked_text', {
-            'without marks': lambda at, call_id: explaining.call_text(at, call_id),
+        *named('whole_text', {
+            'without what is shown behind': lambda at, call_id: explaining.call_text(at, call_id),
             'without its line': lambda at, call_id: call_line(at.world, call_id).removeprefix('call '),
-            'without buffered': changed('marked_text', lambda text, *_: text.replace(' buffered', ''))})]
+            'without buffered': changed('whole_text', lambda text, *_: text.replace(' buffered', ''))})]
 
 
 def sends_of(at):

@@ -4,29 +4,29 @@ from faults.policy_faults import Breakage
 from model import picture_model
 from model.picture_model import ISSUED, PAIRED, RELEASED, WENT_ON, Drawing, Picture
 
-SOUND_MARKS = picture_model.marks_of_step
+SOUND_GLYPHS = picture_model.glyphs_of_step
 SOUND = {name: getattr(Drawing, name) for name in ('pair', 'end', 'free', 'issued_call')}
 
 
 def without(kind):
     """Marks without those of a kind."""
-    return lambda *step: [mark for mark in SOUND_MARKS(*step) if mark.kind != kind]
+    return lambda *step: [glyph for glyph in SOUND_GLYPHS(*step) if glyph.kind != kind]
 
 
 def wakes_below(step, before, behind, row):
     """Marks, of which ranks that go on are a row lower."""
-    return [mark._replace(row=mark.row + 1) if mark.kind == WENT_ON else mark for mark in SOUND_MARKS(step, before, behind, row)]
+    return [glyph._replace(row=glyph.row + 1) if glyph.kind == WENT_ON else glyph for glyph in SOUND_GLYPHS(step, before, behind, row)]
 
 
 def turned(step, before, behind, row):
     """Marks, of which pairs are from the receive."""
-    return [mark._replace(call=mark.other, other=mark.call) if mark.kind == PAIRED else mark for mark in SOUND_MARKS(step, before, behind, row)]
+    return [glyph._replace(call=glyph.other, other=glyph.call) if glyph.kind == PAIRED else glyph for glyph in SOUND_GLYPHS(step, before, behind, row)]
 
 
-def value_of_first(self, mark):
+def value_of_first(self, glyph):
     """A pair that has the value of the first send."""
-    first = next(other for other in self.marks if other.kind == PAIRED)
-    return SOUND['pair'](self, mark._replace(call=first.call))
+    first = next(other for other in self.glyphs if other.kind == PAIRED)
+    return SOUND['pair'](self, glyph._replace(call=first.call))
 
 
 def never_free(self, call_id):
@@ -46,12 +46,12 @@ def breakages():
     """All faults."""
     model = picture_model
     return [
-        Breakage('calls are not shown', model, 'marks_of_step', without(ISSUED)),
-        Breakage('matches are not shown', model, 'marks_of_step', without(PAIRED)),
-        Breakage('releases are lost', model, 'marks_of_step', without(RELEASED)),
-        Breakage('ranks wait for ever', model, 'marks_of_step', without(WENT_ON)),
-        Breakage('ranks go on a row later', model, 'marks_of_step', wakes_below),
-        Breakage('arrows are from the receive', model, 'marks_of_step', turned),
+        Breakage('calls are not shown', model, 'glyphs_of_step', without(ISSUED)),
+        Breakage('matches are not shown', model, 'glyphs_of_step', without(PAIRED)),
+        Breakage('releases are lost', model, 'glyphs_of_step', without(RELEASED)),
+        Breakage('ranks wait for ever', model, 'glyphs_of_step', without(WENT_ON)),
+        Breakage('ranks go on a row later', model, 'glyphs_of_step', wakes_below),
+        Breakage('arrows are from the receive', model, 'glyphs_of_step', turned),
         Breakage('the value of another send', Drawing, 'pair', value_of_first),
         Breakage('no call is free', Picture, 'is_free', never_free),
         Breakage('all ranks end', model, 'end_of', all_end),

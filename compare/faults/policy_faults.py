@@ -104,7 +104,7 @@ def past_leaf(run):
 
 
 def in_front(run):
-    """What stops before the marked step."""
+    """What stops before the step that hits."""
     def ran(walked, breaks, most):
         stop = run(walked, breaks, most)
         if stop.cause == BREAK:
@@ -153,7 +153,7 @@ def one_too_far(run_back):
 
 
 def one_too_short(run_back):
-    """What stops behind the marked step."""
+    """What stops behind the step that hits."""
     def ran(walked, breaks):
         stop = run_back(walked, breaks)
         if stop.cause == BREAK:
@@ -164,7 +164,7 @@ def one_too_short(run_back):
 
 
 def past_last(run_back):
-    """What passes a marked step that it begins at."""
+    """What passes a step that hits that it begins at."""
     def ran(walked, breaks):
         stop = run_back(walked, breaks)
         if stop != (1, BREAK, stop.number):
@@ -175,7 +175,7 @@ def past_last(run_back):
 
 
 def start_told(run_back):
-    """What tells the start where a marked step is the first."""
+    """What tells the start where a step that hits is the first."""
     def ran(walked, breaks):
         stop = run_back(walked, breaks)
         return stop if walked.depth else Stop(stop.steps, START)
@@ -188,48 +188,48 @@ def moved(world, step):
 
 
 def of_lines(test):
-    """What marks by another test of a line: of the world before, the one behind, and the step."""
-    def marked(stop, world, step):
+    """What hits by another test of a line: of the world before, the one behind, and the step."""
+    def is_hit(stop, world, step):
         if not isinstance(stop, policy.LineBreak):
-            return SOUND.marked(stop, world, step)
+            return SOUND.is_hit(stop, world, step)
         return test(world, next_world(world, step), step, stop.line)
-    return marked
+    return is_hit
 
 
 def of_changes(test):
-    def marked(stop, world, step):
+    def is_hit(stop, world, step):
         if not isinstance(stop, policy.ChangeBreak):
-            return SOUND.marked(stop, world, step)
+            return SOUND.is_hit(stop, world, step)
         return test(world, next_world(world, step), step, stop)
-    return marked
+    return is_hit
 
 
 def of_handles(test):
-    """What marks by another test of a handle: of what it holds before and behind the step, the worlds, the step and the breakpoint."""
-    def marked(stop, world, step):
+    """What hits by another test of a handle: of what it holds before and behind the step, the worlds, the step and the breakpoint."""
+    def is_hit(stop, world, step):
         if not isinstance(stop, policy.HandleBreak):
-            return SOUND.marked(stop, world, step)
+            return SOUND.is_hit(stop, world, step)
         after = next_world(world, step)
         return test(*(policy.handle_in(there, stop.rank, stop.handle) for there in (world, after)), world, after, step, stop)
-    return marked
+    return is_hit
 
 
 def of_matches(test):
-    def marked(stop, world, step):
+    def is_hit(stop, world, step):
         if not isinstance(stop, policy.MatchBreak) or step.kind != 'match':
-            return SOUND.marked(stop, world, step)
+            return SOUND.is_hit(stop, world, step)
         return test(debugger.find_call(world, step.first).line, debugger.find_call(world, step.second).line, stop.line)
-    return marked
+    return is_hit
 
 
 class Sound(NamedTuple):
     """What is not broken."""
-    marked: object
+    is_hit: object
     add: object
     remove: object
 
 
-SOUND = Sound(policy.marked, policy.Breaks.add, policy.Breaks.remove)
+SOUND = Sound(policy.is_hit, policy.Breaks.add, policy.Breaks.remove)
 
 
 def at(rank, line):
@@ -237,7 +237,7 @@ def at(rank, line):
 
 
 def came(world, after, step, line):
-    return SOUND.marked(policy.LineBreak(line), world, step)
+    return SOUND.is_hit(policy.LineBreak(line), world, step)
 
 
 def second_free(breaks, stop):
@@ -259,7 +259,7 @@ def behind_all(breaks, stop):
 
 
 def highest(breaks, world, step):
-    found = [number for number, stop in enumerate(breaks.places) if stop is not None and policy.marked(stop, world, step)]
+    found = [number for number, stop in enumerate(breaks.places) if stop is not None and policy.is_hit(stop, world, step)]
     return found[-1] if found else None
 
 
@@ -308,7 +308,7 @@ def stop_faults():
         Breakage('full one step early', policy, 'standstill', full_early(standstill)),
         Breakage('a breakpoint at the last step told as its number', policy, 'run', bounded(run)),
         Breakage('a leaf or a choice before a breakpoint', policy, 'run', past_leaf(run)),
-        Breakage('a stop before the marked step', policy, 'run', in_front(run)),
+        Breakage('a stop before the step that hits', policy, 'run', in_front(run)),
         Breakage('a run that drops undone steps', policy, 'run', forgetful(run)),
         Breakage('a run that keeps undone steps', policy, 'run', keeping_rest(run)),
         Breakage('a run back that drops undone steps', policy, 'run_back', forgetful(run_back)),
@@ -320,7 +320,7 @@ def stop_faults():
     ]
 
 
-def mark_faults():
+def hit_faults():
     lines = (
         ('the line before the step', lambda world, after, step, line: step.kind != 'match' and any(
             policy.is_at_line(rank, line) for rank in moved(world, step))),
@@ -346,9 +346,9 @@ def mark_faults():
             policy.cell_in(world, rank, stop.cell) != policy.cell_in(after, rank, stop.cell) for rank in range(len(world.ranks)))),
         ('a change of any cell', lambda world, after, step, stop: stop.rank < len(world.ranks)
             and stop.cell < len(world.ranks[stop.rank].cells) and world.ranks[stop.rank].cells != after.ranks[stop.rank].cells),
-        ('no change by a wake', lambda world, after, step, stop: step.kind != 'wake' and SOUND.marked(stop, world, step)),
-        ('a change by an assignment left out', lambda world, after, step, stop: step.kind == 'wake' and SOUND.marked(stop, world, step)),
-        ('a change from zero alone', lambda world, after, step, stop: SOUND.marked(stop, world, step)
+        ('no change by a wake', lambda world, after, step, stop: step.kind != 'wake' and SOUND.is_hit(stop, world, step)),
+        ('a change by an assignment left out', lambda world, after, step, stop: step.kind == 'wake' and SOUND.is_hit(stop, world, step)),
+        ('a change from zero alone', lambda world, after, step, stop: SOUND.is_hit(stop, world, step)
             and policy.cell_in(world, stop.rank, stop.cell) == 0),
     )
     matches = (
@@ -357,9 +357,9 @@ def mark_faults():
         ('the lines of both', lambda send, receive, line: send == receive == line),
         ('every match', lambda send, receive, line: True),
     )
-    return ([Breakage(name, policy, 'marked', of_lines(test)) for name, test in lines]
-            + [Breakage(name, policy, 'marked', of_changes(test)) for name, test in changes]
-            + [Breakage(name, policy, 'marked', of_matches(test)) for name, test in matches])
+    return ([Breakage(name, policy, 'is_hit', of_lines(test)) for name, test in lines]
+            + [Breakage(name, policy, 'is_hit', of_changes(test)) for name, test in changes]
+            + [Breakage(name, policy, 'is_hit', of_matches(test)) for name, test in matches])
 
 
 def break_faults():
@@ -371,7 +371,7 @@ def break_faults():
         Breakage('one place more', policy, 'MOST_BREAKS', policy.MOST_BREAKS + 1),
         Breakage('a free place that is removed', breaks, 'remove', always_removed),
         Breakage('a breakpoint that stays', breaks, 'remove', kept_in_place),
-        Breakage('the highest number', breaks, 'marking', highest),
+        Breakage('the highest number', breaks, 'lowest_hit', highest),
     ]
 
 
@@ -483,10 +483,10 @@ def handle_faults():
             and stop.handle < len(world.ranks[stop.rank].handles) and world.ranks[stop.rank].handles != after.ranks[stop.rank].handles),
         ('a handle of any rank', lambda was, now, world, after, step, stop: any(
             policy.handle_in(world, rank, stop.handle) != policy.handle_in(after, rank, stop.handle) for rank in range(len(world.ranks)))),
-        ('the next handle', lambda was, now, world, after, step, stop: SOUND.marked(stop._replace(handle=stop.handle + 1), world, step)),
+        ('the next handle', lambda was, now, world, after, step, stop: SOUND.is_hit(stop._replace(handle=stop.handle + 1), world, step)),
         ('the cell of the number of a handle', lambda was, now, world, after, step, stop: (
             policy.cell_in(world, stop.rank, stop.handle) != policy.cell_in(after, stop.rank, stop.handle))))
-    return [Breakage(name, policy, 'marked', of_handles(test)) for name, test in tests]
+    return [Breakage(name, policy, 'is_hit', of_handles(test)) for name, test in tests]
 
 
 def late_breakages():
@@ -497,10 +497,10 @@ def late_breakages():
 def late_breakages_of_2():
     """Those of them that a script with waits for any alone shows."""
     return [Breakage('a run on that stops at a single wake by a handle', policy, 'run_on', single_of('wakeany')),
-            Breakage('a handle that is cleared by a wake by a handle left out', policy, 'marked', of_handles(
+            Breakage('a handle that is cleared by a wake by a handle left out', policy, 'is_hit', of_handles(
                 lambda was, now, world, after, step, stop: was != now and step.kind != 'wakeany'))]
 
 
 def breakages():
     """All of them but those."""
-    return [*decision_faults(), *stop_faults(), *mark_faults(), *break_faults()]
+    return [*decision_faults(), *stop_faults(), *hit_faults(), *break_faults()]

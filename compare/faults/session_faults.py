@@ -483,8 +483,8 @@ def marking_all(self, told, before):
     return {**told, 'break': sum(stop is not None for stop in self.breaks.places)} if 'break' in told else told
 
 
-def changed_always(stop, world, step, sound=policy.marked):
-    """What marks each step that writes the rank of a cell, whether the cell changes or not."""
+def changed_always(stop, world, step, sound=policy.is_hit):
+    """What is hit by each step that writes the rank of a cell, whether the cell changes or not."""
     if not isinstance(stop, ChangeBreak) or step.kind not in ('local', 'wake'):
         return sound(stop, world, step)
     return step.first == stop.rank
@@ -577,7 +577,7 @@ def break_faults():
         command('breakpoints by their texts', 'breaks', listed_as(sorted)),
         command('breakpoints by kind', 'breaks', listed_as(lambda texts: sorted(texts, key=lambda text: text.split()[1]))),
         command('breakpoints without numbers', 'breaks', listed_as(lambda texts: [text.split(' ', 1)[1] for text in texts])),
-        Breakage('a cell that is written and doesn\'t change', policy, 'marked', changed_always),
+        Breakage('a cell that is written and doesn\'t change', policy, 'is_hit', changed_always),
         Breakage('a run back to the start', policy, 'run_back', back_unmarked),
         Breakage('a run back past changes', policy, 'run_back', back_without_changes())]
 

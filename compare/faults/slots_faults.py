@@ -54,7 +54,7 @@ def match_without_slot(world, behind, step):
     return without_slot(world, step.first) if step.kind == 'match' else world
 
 
-def match_without_mark(world, behind, step):
+def match_without_buffer(world, behind, step):
     """What leaves the send of a match that was taken back without its mark and its slot."""
     if step.kind != 'match' or find_call(world, step.first) is None:
         return world
@@ -96,10 +96,10 @@ def buffered_later(after_match):
     return after
 
 
-def also_synchronous(marked):
+def also_synchronous(with_buffer):
     """What has a synchronous send take a slot, and not buffer it."""
     def entered(world, number):
-        behind, call = marked(world, number), world.ranks[number].calls[-1]
+        behind, call = with_buffer(world, number), world.ranks[number].calls[-1]
         takes = call.kind == 'send' and call.synchronous and debugger.has_slot(world.mode, debugger.slots_used(world, number))
         return with_slot(behind, debugger.last_call(world, number)) if takes else behind
     return entered
@@ -124,7 +124,7 @@ def free_standard(world, number):
 def undo_faults():
     """Those of steps that are taken back, one by one and at once."""
     trail = debugger.Debugger
-    changes = (('the undo of a match that leaves the slot free', match_without_slot), ('the undo of a match that drops the mark', match_without_mark),
+    changes = (('the undo of a match that leaves the slot free', match_without_slot), ('the undo of a match that drops the buffer', match_without_buffer),
                ('the undo of an issue that keeps the slot', issue_with_slot))
     return [Breakage(f'{name}, by {word}', 'slots', trail, word, undoing(getattr(trail, word), change))
             for name, change in changes for word in ('back', 'goto')]
@@ -139,7 +139,7 @@ def taking_faults():
         ('slots counted over all ranks', 'slots_used', lambda world, number: sum(len(rank.slots) for rank in world.ranks)),
         ('slots counted by all standard sends', 'slots_used', free_standard),
         ('slots never used', 'slots_used', lambda world, number: 0),
-        ('a slot that a synchronous send takes', 'marked', also_synchronous(debugger.marked)),
+        ('a slot that a synchronous send takes', 'with_buffer', also_synchronous(debugger.with_buffer)),
         ('a synchronous send that is buffered', 'is_buffered', of_sends(lambda call: True)),
         ('no send buffered that blocks', 'is_buffered', of_sends(lambda call: is_standard(call) and not call.blocks)),
         ('no send buffered that has a handle', 'is_buffered', of_sends(lambda call: is_standard(call) and call.blocks)),
@@ -171,7 +171,7 @@ def before_its_value(text, world, call_id):
     return text.replace(' buffered', '').replace(' value', ' buffered value') if ' buffered' in text else text
 
 
-MARKS = (
+BUFFER_TEXTS = (
     ('`buffered` shown in other modes', lambda mode, call: ' buffered' if call.buffered else ''),
     ('`buffered` shown in the mode buffered', lambda mode, call: ' buffered' if call.buffered and mode != RENDEZVOUS else ''),
     ('`buffered` not shown', lambda mode, call: ''),
@@ -182,7 +182,7 @@ LINES = (('`buffered` dropped once matched', dropped_once_matched), ('`buffered`
 
 def text_faults():
     """Those of what `show` prints."""
-    return ([Breakage(name, 'slots', debugger, 'mark_text', told) for name, told in MARKS]
+    return ([Breakage(name, 'slots', debugger, 'buffer_text', told) for name, told in BUFFER_TEXTS]
             + [Breakage(name, 'slots', debugger, 'call_line', shown(change)) for name, change in LINES])
 
 
@@ -204,7 +204,7 @@ def order_faults():
 def session_faults(session):
     """Those of sessions, as a module has them: what goes back goes to a depth, and a call is shown by its text."""
     return ([fault for fault in undo_faults() if fault.attribute == 'goto'] + taking_faults()
-            + [Breakage(name, 'slots', debugger, 'mark_text', told) for name, told in MARKS] + line_faults(session))
+            + [Breakage(name, 'slots', debugger, 'buffer_text', told) for name, told in BUFFER_TEXTS] + line_faults(session))
 
 
 # ---- modes that must not differ, reports, and the words of modes
@@ -232,8 +232,8 @@ def pair_faults(session):
         ('synchronous sends buffered in slots', 'is_buffered', in_slots(lambda call: True)),
         ('no send buffered in slots that blocks', 'is_buffered', in_slots(lambda call: is_standard(call) and not call.blocks)),
         ('no send buffered in slots that has a handle', 'is_buffered', in_slots(lambda call: is_standard(call) and call.blocks)))
-    marks = [fault for fault in undo_faults() if 'drops the mark' in fault.name]
-    return ([Breakage(name, 'slots', debugger, attribute, replacement) for name, attribute, replacement in taking] + marks + text_faults()
+    dropped = [fault for fault in undo_faults() if 'drops the buffer' in fault.name]
+    return ([Breakage(name, 'slots', debugger, attribute, replacement) for name, attribute, replacement in taking] + dropped + text_faults()
             + line_faults(session) + telling_faults())
 
 

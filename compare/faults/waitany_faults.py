@@ -1,6 +1,6 @@
 """Faults that are put into the model on purpose where ranks wait for any of some requests.
 
-`breakages()` are noticed by the inputs of their kinds (run.py), `decision_faults()` and `mark_faults()` by walks (follow.py,
+`breakages()` are noticed by the inputs of their kinds (run.py), `decision_faults()` and `hit_faults()` by walks (follow.py,
 policy_probe.py) and by sessions (sessions.py), `walk_faults()` by reports (explore.py), `order_faults()` by walks of order.py.
 """
 
@@ -477,23 +477,23 @@ def walk_faults():
     return [Breakage(name, 'waitany', explorer, 'decision', decided) for name, decided in DECISIONS]
 
 
-def marking(change):
-    """What marks a wake by a handle otherwise: by the sound mark, the breakpoint, the world before and the step."""
-    marked = policy.marked
+def hitting(change):
+    """What a wake by a handle hits otherwise: by the sound test, the breakpoint, the world before and the step."""
+    is_hit = policy.is_hit
 
-    def marks(stop, world, step):
-        found = marked(stop, world, step)
+    def hits(stop, world, step):
+        found = is_hit(stop, world, step)
         return change(found, stop, world, step) if step.kind == ANY else found
-    return marks
+    return hits
 
 
 def of_kind(kind, told):
     """The same of one kind of breakpoints."""
-    return marking(lambda found, stop, world, step: told(stop, world, step) if isinstance(stop, kind) else found)
+    return hitting(lambda found, stop, world, step: told(stop, world, step) if isinstance(stop, kind) else found)
 
 
 def at_its_statement(stop, world, step):
-    """What marks a match at the line of the request that a rank goes on by."""
+    """What is hit by a match at the line of the request that a rank goes on by."""
     request = CallId(step.first, held(world, step.first, step.second))
     return debugger.find_call(world, request).line == stop.line
 
@@ -505,11 +505,11 @@ def by_place_alone(stop, world, step):
     return (stop.rank, stop.cell) == (step.first, cell) and policy.cell_in(world, *stop) != policy.cell_in(after, *stop)
 
 
-def mark_faults():
+def hit_faults():
     def line_of_rank(stop, world, step):
         return any(policy.is_at_line(rank, stop.line) for rank in debugger.next_world(world, step).ranks)
 
-    return [Breakage(name, 'waitany', policy, 'marked', marked) for name, marked in (
+    return [Breakage(name, 'waitany', policy, 'is_hit', is_hit) for name, is_hit in (
         ('no line by a wake by a handle', of_kind(policy.LineBreak, lambda *_: False)),
         ('a line of any rank by a wake by a handle', of_kind(policy.LineBreak, line_of_rank)),
         ('no change by a wake by a handle', of_kind(policy.ChangeBreak, lambda *_: False)),

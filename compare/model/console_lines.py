@@ -253,14 +253,14 @@ def rank_line(at, number):
     return f'rank {number} has ended' if has_ended(rank) else f'rank {number} is at line {next_line(rank)}'
 
 
-def marked_text(at, call_id):
-    """A call with its marks."""
+def whole_text(at, call_id):
+    """A call, with all that is shown of it."""
     return f'line {line_of(at, call_id)}, {call_line(at.world, call_id).removeprefix("call ")}'
 
 
 def call_lines(at, numbers):
     """The calls of some ranks."""
-    return [marked_text(at, CallId(number, place)) for number in numbers for place in range(len(at.world.ranks[number].calls))]
+    return [whole_text(at, CallId(number, place)) for number in numbers for place in range(len(at.world.ranks[number].calls))]
 
 
 def queue_lines(at):
@@ -286,7 +286,7 @@ def is_free(world, call_id):
 
 def message_lines(at, call_id):
     """A send or a receive, and what it could be matched with."""
-    lines = [marked_text(at, call_id)]
+    lines = [whole_text(at, call_id)]
     if not is_free(at.world, call_id):
         return lines
     partners = [partner_line(at, other, held) for other, held in order.why(at.world, call_id)]
@@ -318,7 +318,7 @@ def why_lines(at, call_id):
     kind = find_call(at.world, call_id).kind
     if kind in MESSAGES:
         return message_lines(at, call_id)
-    lines = [marked_text(at, call_id)]
+    lines = [whole_text(at, call_id)]
     if kind == 'barrier':
         return lines + ([f'    {line}' for line in explaining.behind(at, call_id)] if is_waited_at(at.world, call_id) else [])
     return lines + [line for request in requests(at.world, call_id) for line in message_lines(at, request)]

@@ -128,8 +128,8 @@ def is_buffered(mode, call, used):
     return call.kind == 'send' and not call.synchronous and has_slot(mode, used)
 
 
-def marked(world, number):
-    """The world in which a rank has made its last call, which is marked where it is buffered then, and takes a slot."""
+def with_buffer(world, number):
+    """The world in which a rank has made its last call, which is told where it is buffered then, and takes a slot."""
     rank = world.ranks[number]
     *calls, call = rank.calls
     if not is_buffered(world.mode, call, slots_used(world, number)):
@@ -150,7 +150,7 @@ def after_local(world, number):
     except Trap as trap:
         return world.with_rank(number, rank._replace(mode='trapped', trap=trap.name))
     has_called = len(behind.calls) > len(rank.calls)
-    return marked(world.with_rank(number, behind), number) if has_called else world.with_rank(number, behind)
+    return with_buffer(world.with_rank(number, behind), number) if has_called else world.with_rank(number, behind)
 
 
 def find_call(world, call_id):
@@ -433,8 +433,8 @@ def call_word(call):
     return ('' if call.blocks else 'i') + ('s' if call.synchronous else '') + call.kind
 
 
-def mark_text(mode, call):
-    """What is shown of the mark of a send: nothing but in a mode of slots, since in each other one the mode says it."""
+def buffer_text(mode, call):
+    """What is shown of whether a send is buffered: nothing but in a mode of slots, since in each other one the mode says it."""
     return ' buffered' if call.buffered and slots_of(mode) is not None else ''
 
 
@@ -450,7 +450,7 @@ def call_line(world, call_id):
     state = 'free' if other_id is None else f'with {other_id}'
     word = call_word(call)
     if call.kind == 'send':
-        return f'call {call_id} {word} to {call.other} tag {call.tag} value {call.value}{mark_text(world.mode, call)} {state}'
+        return f'call {call_id} {word} to {call.other} tag {call.tag} value {call.value}{buffer_text(world.mode, call)} {state}'
     if other_id is not None:
         state += f' value {find_call(world, other_id).value}'
     source, tag = ('any' if part is None else part for part in (call.other, call.tag))

@@ -43,7 +43,7 @@ def or_any(part):
 
 
 def plain_text(call):
-    """What is shown of a call, without its marks."""
+    """What is shown of a call, without what is shown behind it."""
     if call.kind == 'send':
         return f'{call_word(call)} to {call.other} tag {call.tag} value {call.value}'
     if call.kind == 'recv':

@@ -6,7 +6,7 @@ It was written from that page, over the debugger, the runs and the explorer of t
 from typing import NamedTuple, Optional
 
 from model import explorer
-from model.console_lines import has_ended, marked_text, reached
+from model.console_lines import has_ended, whole_text, reached
 from model.debugger import Debugger, call_word, enabled_steps, find_call, first_world, last_call, outcome, partner
 from model.explaining import next_line, plain_text
 from model.explorer import Run
@@ -14,14 +14,14 @@ from model.modes import slots_of
 from model.run_words import run_by
 from model.worlds import CallId
 
-MOST_MARKS = 20000
+MOST_GLYPHS = 20000
 TOO_LONG = 'refused: this run has too many calls to be drawn\n'
 ISSUED, PAIRED, RELEASED, WENT_ON = 'issued', 'paired', 'released', 'went on'
 
 
 # ---- rows
 
-class Mark(NamedTuple):
+class Glyph(NamedTuple):
     """What a step shows, the row at which it is drawn, and the calls that it is about."""
     kind: str
     row: int
@@ -29,30 +29,30 @@ class Mark(NamedTuple):
     other: Optional[CallId] = None
 
 
-def marks_of_step(step, before, behind, row):
+def glyphs_of_step(step, before, behind, row):
     """What a step shows, where the next row is this one."""
     if step.kind == 'local':
         has_called = len(behind.ranks[step.first].calls) > len(before.ranks[step.first].calls)
-        return [Mark(ISSUED, row, last_call(behind, step.first))] if has_called else []
+        return [Glyph(ISSUED, row, last_call(behind, step.first))] if has_called else []
     if step.kind == 'match':
-        return [Mark(PAIRED, row, step.first, step.second)]
+        return [Glyph(PAIRED, row, step.first, step.second)]
     if step.kind == 'release':
-        return [Mark(RELEASED, row), *(Mark(WENT_ON, row, last_call(behind, rank)) for rank in range(len(behind.ranks)))]
-    return [Mark(WENT_ON, row - 1, last_call(behind, step.first))]
+        return [Glyph(RELEASED, row), *(Glyph(WENT_ON, row, last_call(behind, rank)) for rank in range(len(behind.ranks)))]
+    return [Glyph(WENT_ON, row - 1, last_call(behind, step.first))]
 
 
-def takes_row(mark):
-    return mark.kind != WENT_ON
+def takes_row(glyph):
+    return glyph.kind != WENT_ON
 
 
-def marks_of(walked):
+def glyphs_of(walked):
     """All that the steps of a walk show, in order."""
-    marks, row = [], 0
+    glyphs, row = [], 0
     for step, before, behind in zip(walked.steps, walked.worlds, walked.worlds[1:]):
-        shown = marks_of_step(step, before, behind, row)
-        marks += shown
+        shown = glyphs_of_step(step, before, behind, row)
+        glyphs += shown
         row += any(map(takes_row, shown))
-    return marks
+    return glyphs
 
 
 class Picture:
@@ -61,13 +61,13 @@ class Picture:
     def __init__(self, walked):
         self.walked, self.world, self.at = walked, walked.world, reached(walked)
         self.ranks = range(len(self.world.ranks))
-        self.marks = marks_of(walked)
-        self.rows = sum(map(takes_row, self.marks))
-        self.issued = {mark.call: mark.row for mark in self.marks if mark.kind == ISSUED}
+        self.glyphs = glyphs_of(walked)
+        self.rows = sum(map(takes_row, self.glyphs))
+        self.issued = {glyph.call: glyph.row for glyph in self.glyphs if glyph.kind == ISSUED}
 
     @property
     def is_too_long(self):
-        return len(self.marks) > MOST_MARKS
+        return len(self.glyphs) > MOST_GLYPHS
 
     def is_free(self, call_id):
         return find_call(self.world, call_id).kind in ('send', 'recv') and partner(self.world, call_id) is None
@@ -189,31 +189,31 @@ class Drawing(Picture):
             return self.posted(call_id, self.rows) + path('stub', x, y, FROM_LEFT)
         return path('stub', x, y, TO_LEFT if call.other < call_id.rank else TO_RIGHT)
 
-    def issued_call(self, mark):
-        call_id, x, y = mark.call, lane_x(mark.call.rank), row_y(mark.row)
-        call, told = find_call(self.world, call_id), marked_text(self.at, call_id)
+    def issued_call(self, glyph):
+        call_id, x, y = glyph.call, lane_x(glyph.call.rank), row_y(glyph.row)
+        call, told = find_call(self.world, call_id), whole_text(self.at, call_id)
         is_left = call.kind == 'send' and call.other > call_id.rank
         parts = path(call.kind, x, y, PATHS[call.kind]), self.row_parts(is_left, x, y, f'{self.at.lines[call_id]} {word_of(call)}', told)
-        return (self.free(call_id, call, mark.row) if self.is_free(call_id) else '') + group(told, *parts)
+        return (self.free(call_id, call, glyph.row) if self.is_free(call_id) else '') + group(told, *parts)
 
-    def pair(self, mark):
-        send, receive = mark.call, mark.other
-        x1, y1, x2, y2 = lane_x(send.rank), row_y(self.issued[send]), lane_x(receive.rank), row_y(mark.row)
+    def pair(self, glyph):
+        send, receive = glyph.call, glyph.other
+        x1, y1, x2, y2 = lane_x(send.rank), row_y(self.issued[send]), lane_x(receive.rank), row_y(glyph.row)
         rest = f'C{x1 - 40} {y1} {x2 - 40} {y2} {x2} {y2}' if send.rank == receive.rank else f'L{x2} {y2}'
         call = find_call(self.world, send)
         label = f'{call.value} tag {call.tag}'
         told = f'{send} to {receive}: value {label}'
-        return self.posted(receive, mark.row) + group(told, path('arrow', x1, y1, rest), self.row_parts(receive.rank < send.rank, x2, y2, label, told))
+        return self.posted(receive, glyph.row) + group(told, path('arrow', x1, y1, rest), self.row_parts(receive.rank < send.rank, x2, y2, label, told))
 
-    def release(self, mark):
-        y = row_y(mark.row)
+    def release(self, glyph):
+        y = row_y(glyph.row)
         bar = line('bar', lane_x(0) - 14, y, lane_x(self.ranks[-1]) + 14, y)
         return group('release: all ranks leave the barrier', bar, text('row', self.column, y + 4, 'release'))
 
-    def mark(self, mark):
-        if mark.kind == WENT_ON:
-            return self.waiting(mark.call, mark.row)
-        return {ISSUED: self.issued_call, PAIRED: self.pair, RELEASED: self.release}[mark.kind](mark)
+    def glyph(self, glyph):
+        if glyph.kind == WENT_ON:
+            return self.waiting(glyph.call, glyph.row)
+        return {ISSUED: self.issued_call, PAIRED: self.pair, RELEASED: self.release}[glyph.kind](glyph)
 
     def end(self, number):
         x, y, name = lane_x(number), row_y(self.rows), f'rank {number}'
@@ -225,7 +225,7 @@ class Drawing(Picture):
         """The whole, as text."""
         width, height, title = self.column + 460, row_y(self.rows) + 190, title_of(self)
         size = f'width="{width}" height="{height}"'
-        shapes = [*map(self.lane, self.ranks), *map(self.mark, self.marks), *map(self.end, self.ranks)]
+        shapes = [*map(self.lane, self.ranks), *map(self.glyph, self.glyphs), *map(self.end, self.ranks)]
         return (f'<svg xmlns="http://www.w3.org/2000/svg" version="1.1" {size} viewBox="0 0 {width} {height}">\n<title>{title}</title>\n{STYLE}'
                 f'<rect class="paper" {size}/>\n{text("head", 12, 24, title)}{"".join(shapes)}'
                 f'<g transform="translate(12 {row_y(self.rows) + 76})">\n{LEGEND}')
@@ -261,29 +261,29 @@ class Rows(Picture):
     def row(self, signs, told):
         return f'{"".join(signs)} {told}\n'
 
-    def issued_call(self, mark):
-        call_id = mark.call
+    def issued_call(self, glyph):
+        call_id = glyph.call
         call = find_call(self.world, call_id)
         signs = (f'{LETTERS[call.kind]} ' if rank == call_id.rank else '| ' for rank in self.ranks)
         short = plain_text(call).partition(' value')[0]
         return self.row(signs, f'{self.at.lines[call_id]}: {call_id} {short}{" free" if self.is_free(call_id) else ""}')
 
-    def pair(self, mark):
-        send, receive = mark.call, mark.other
+    def pair(self, glyph):
+        send, receive = glyph.call, glyph.other
         signs = (sign_of_pair(send.rank, receive.rank, rank) for rank in self.ranks)
         return self.row(signs, f'{send} to {receive}: {find_call(self.world, send).value}')
 
-    def mark(self, mark):
-        if mark.kind == WENT_ON:
+    def glyph(self, glyph):
+        if glyph.kind == WENT_ON:
             return ''
-        if mark.kind == RELEASED:
+        if glyph.kind == RELEASED:
             return self.row(['=='] * len(self.ranks), 'release')
-        return self.issued_call(mark) if mark.kind == ISSUED else self.pair(mark)
+        return self.issued_call(glyph) if glyph.kind == ISSUED else self.pair(glyph)
 
     def text(self):
         """The whole, as text."""
         ends = (f'{END_LETTERS[end_of(rank)[0]]} ' for rank in self.world.ranks)
-        lines = [self.row((f'{rank % 10} ' for rank in self.ranks), 'line: call'), *map(self.mark, self.marks), self.row(ends, 'at the end')]
+        lines = [self.row((f'{rank % 10} ' for rank in self.ranks), 'line: call'), *map(self.glyph, self.glyphs), self.row(ends, 'at the end')]
         return ''.join(lines) + LETTERS_TOLD
 
 

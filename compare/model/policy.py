@@ -115,8 +115,8 @@ def matches_line(world, step, line):
     return step.kind == 'match' and line in (find_call(world, step.first).line, find_call(world, step.second).line)
 
 
-def marked(stop, world, step):
-    """Whether a breakpoint marks a step that is enabled in a world."""
+def is_hit(stop, world, step):
+    """Whether a step that is enabled in a world hits a breakpoint."""
     after = next_world(world, step)
     if isinstance(stop, LineBreak):
         return comes_to_line(after, step, stop.line)
@@ -152,9 +152,9 @@ class Breaks:
         """The breakpoint of a place, or None."""
         return self.places[number] if number < len(self.places) else None
 
-    def marking(self, world, step):
-        """The lowest number of a breakpoint that marks a step, or None."""
-        found = (number for number, stop in enumerate(self.places) if stop is not None and marked(stop, world, step))
+    def lowest_hit(self, world, step):
+        """The lowest number of a breakpoint that a step hits, or None."""
+        found = (number for number, stop in enumerate(self.places) if stop is not None and is_hit(stop, world, step))
         return next(found, None)
 
 
@@ -197,19 +197,19 @@ def follow(walked, breaks, most, decide):
         world = walked.world
         walked.take(decided.step)
         made += 1
-        number = breaks.marking(world, decided.step)
+        number = breaks.lowest_hit(world, decided.step)
         if number is not None:
             return Stop(made, BREAK, number)
 
 
 def run_back(walked, breaks):
-    """Takes steps back up to the last one that is marked, which it takes back too, or to the start."""
+    """Takes steps back up to the last one that hits a breakpoint, which it takes back too, or to the start."""
     made = 0
     while walked.depth:
         step = walked.steps[walked.depth - 1]
         walked.back()
         made += 1
-        number = breaks.marking(walked.world, step)
+        number = breaks.lowest_hit(walked.world, step)
         if number is not None:
             return Stop(made, BREAK, number)
     return Stop(made, START)

@@ -17,7 +17,7 @@ class Call(NamedTuple):
 
     A send is standard or synchronous. Of a receive `other` is None where it takes messages of any source, `tag` where it takes
     them of any tag; `status` has the cells for the source and the tag of what it takes, where it has such cells. `line` is that of
-    the statement that made it. A send is marked as it is issued where it is `buffered` then, in every mode; the mark stays.
+    the statement that made it. A send is `buffered` as it is issued or never, in every mode; that stays.
     """
     kind: str
     blocks: bool

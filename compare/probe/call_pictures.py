@@ -19,7 +19,7 @@ MET = ('local 0', 'local 1', 'release')
 WITH_ITSELF = ('local 0', 'local 0', 'match 0.0 0.1', 'wake 0', 'local 0', 'wake 0', 'local 0')
 # Both have sent, and both messages are free, as are their receives.
 BOTH_SENT = ('local 0', 'wake 0', 'local 0', 'local 1', 'wake 1', 'local 1')
-# Barriers of 16 ranks show 33 marks each, 16 calls, a release, and 16 ranks that go on: 606 of them and three calls are 20,001 marks.
+# Barriers of 16 ranks show 33 glyphs each, 16 calls, a release, and 16 ranks that go on: 606 of them and three calls are 20,001 glyphs.
 BARRIERS = 'mpd 1; ranks 16;' + ' barrier;' * 607
 LOCALS = tuple(f'local {rank}' for rank in range(16))
 TOO_MANY = (*(*LOCALS, 'release') * 606, *LOCALS[:3])
@@ -38,9 +38,9 @@ def drawings():
         yield Row('push_picture', script, lines, mode=mode)
     for script, lines in ((HELD, ISSUED), (WHICHEVER, (*BOTH_CAME, 'wakeany 0 1')), (TRAPS, ('local 0', 'local 1')), (TO_ITSELF, WITH_ITSELF)):
         yield Row('draw', script, lines, most=FEW)
-    yield Row('draw', BARRIERS, TOO_MANY[:-1], most=0, what='of 20,000 marks')
-    yield Row('draw', BARRIERS, TOO_MANY, most=2, what='of 20,001 marks')
-    yield Row('push_picture', BARRIERS, TOO_MANY, most=2, what='of 20,001 marks')
+    yield Row('draw', BARRIERS, TOO_MANY[:-1], most=0, what='of 20,000 glyphs')
+    yield Row('draw', BARRIERS, TOO_MANY, most=2, what='of 20,001 glyphs')
+    yield Row('push_picture', BARRIERS, TOO_MANY, most=2, what='of 20,001 glyphs')
 
 
 def leadings():

@@ -140,7 +140,7 @@ STOPS = (
            'local 0: refused full; back: ok 6; run 7: stop full steps 1 depth 7', 7),
     RunRow(ON_AND_ON, RENDEZVOUS, 'run 1000000: stop full steps 1000 depth 1000; wake 0: refused not-enabled; local 0: refused full', 1000),
     RunRow(FIRST, RENDEZVOUS, 'run 0: stop max steps 0 depth 0; run 4: stop max steps 4 depth 4; run 4: stop leaf steps 4 depth 8'),
-    # a marked step stops it behind itself, also where it is the last one, leads to the last depth or to a leaf
+    # a step that hits stops it behind itself, also where it is the last one, leads to the last depth or to a leaf
     RunRow(STATUS, RENDEZVOUS, 'break change 1 0: break 0; run 4: stop break 0 steps 4 depth 4; run 0: stop max steps 0 depth 4'),
     RunRow(STATUS, RENDEZVOUS, 'break change 1 0: break 0; run 9: stop break 0 steps 4 depth 4; run 9: stop full steps 0 depth 4', 4),
     RunRow('mpd 1; ranks 1; var x;\nx = 1;', RENDEZVOUS, 'break change 0 0: break 0; run 9: stop break 0 steps 1 depth 1; '
@@ -168,7 +168,7 @@ RUNS_ON = (
            'run-on 100: stop leaf steps 6 depth 13'),
     RunRow(TWO_RECEIVERS, RENDEZVOUS, 'run-on 100: stop choice steps 7 depth 7; match 2.0 1.0: ok 8; run-on 100: stop leaf steps 3 depth 11; '
            'goto 8: ok 8; run 100: stop choice steps 1 depth 9; run-on 1: stop max steps 1 depth 10'),
-    # behind a single candidate that a breakpoint marks
+    # behind a single candidate that hits a breakpoint
     RunRow(STATUS, RENDEZVOUS, 'break match 3: break 0; run-on 100: stop break 0 steps 7 depth 7; run-on 100: stop leaf steps 2 depth 9; '
            'run-back: stop break 0 steps 3 depth 6; run 100: stop choice steps 0 depth 6; run-on 1: stop break 0 steps 1 depth 7'),
     # by the number of steps, also where a single candidate comes next, and at the last depth before that
@@ -189,7 +189,7 @@ HANDLES = (
            'run 99: stop break 0 steps 6 depth 8; run 99: stop leaf steps 0 depth 8; decide: leaf leftovers 0.1; '
            'run-back: stop break 0 steps 1 depth 7; run-back: stop break 0 steps 6 depth 1; run-back: stop break 0 steps 1 depth 0; '
            'run-back: stop start steps 0 depth 0'),
-    # neither the wait for it nor the match of its call marks it; a rank that stays blocked keeps it
+    # neither the wait for it nor the match of its call hits it; a rank that stays blocked keeps it
     RunRow(TWICE_INTO, RENDEZVOUS, 'break handle 0 0: break 0; run 99: stop break 0 steps 1 depth 1; run 99: stop break 0 steps 1 depth 2; '
            'run 99: stop leaf steps 5 depth 7; decide: leaf deadlock 0.4'),
     RunRow(TWICE_INTO, RENDEZVOUS, 'break handle 0 2: break 0; run 99: stop break 0 steps 3 depth 3; run 99: stop break 0 steps 3 depth 6; '

@@ -156,7 +156,7 @@ RUNS_AND_CHOICES = (
 )
 
 LINES_BEHIND = (
-    # a release is marked where one rank comes to the line, whichever that is
+    # a release hits where one rank comes to the line, whichever that is
     Dialogue('a release to two lines', APART, (
         ('{"cmd":"break","kind":"line","line":4}', set_break(0, 1)), (RUN, ran(5, 5, 'break', 2, 0)),
         ('{"cmd":"break","kind":"line","line":3}', set_break(1, 3)), ('{"cmd":"goto","depth":4}', deep(4, 4)), (RUN, ran(5, 1, 'break', 5, 0)),
@@ -169,7 +169,7 @@ LINES_BEHIND = (
         (RUN, ran(7, 7, 'choice', 1)), (ENABLED, '{"ok":true,"steps":["match 2.1 0.0","match 2.0 1.0"],"version":1}'), (NEXT, needs_choice(2)),
         ('{"cmd":"next","choice":1}', stepped(8, 'match 2.0 1.0', 2)), (NEXT, stepped(9, 'wake 1', 3)), (NEXT, needs_choice(1)),
         ('{"cmd":"next","choice":0}', stepped(10, 'match 2.1 0.0', 4)), (RUN, ran(11, 1, 'leaf', 5)))),
-    # a match marks no line, though both ranks are on it
+    # a match hits no line, though both ranks are on it
     Dialogue('a line that ranks are on already', TO_BARRIER, (
         *((step(f'local {rank}'), deep(depth, depth)) for depth, rank in enumerate((0, 0, 1, 1), 1)), (step('match 0.0 1.0'), deep(5, 5)),
         ('{"cmd":"break","kind":"line","line":3}', set_break(0, 6)), (RUN_BACK, ran(3, 2, 'break', 7, 0)), (RUN_BACK, ran(1, 2, 'break', 8, 0)),

@@ -88,7 +88,7 @@ TRACES = (
 
 UP_TO_MATCH = 'local 0: ok 1; local 0: ok 2; local 0: ok 3; local 0: ok 4'
 ROWS = (
-    # no slot: a send is treated as in rendezvous, and nothing is marked
+    # no slot: a send is treated as in rendezvous, and none is buffered
     Row(TO_ITSELF, 'slots:0', 'local 0: ok 1; wake 0: refused not-enabled; enabled: enabled',
         'call 0.0 send to 0 tag 5 value 7 free; outcome deadlock 0.0; end', 'buffered'),
     Row(TO_ITSELF, 'slots:1', 'local 0: ok 1; enabled: enabled wake 0; wake 0: ok 2; local 0: ok 3; match 0.0 0.1: ok 4; wake 0: ok 5; '

@@ -7,7 +7,7 @@
 Behind each step of a walk it is checked that the decision is what the calls, the match sets and the ranks' places say, that every
 step of it can be taken, and that it is a leaf exactly where no step is enabled. At some of these places a copy of the debugger runs,
 with breakpoints drawn at random: it must make the steps that the decisions say one by one, stop where the first cause of them stands,
-and keep the steps that a trail keeps; and behind that it runs back, from one marked step to the one before, to the start. What marks
+and keep the steps that a trail keeps; and behind that it runs back, from one hit to the one before, to the start. What hits
 a step is told by the texts of `show` and the worlds of the trail alone. The status is 0 where all of that holds, and was seen.
 """
 
@@ -43,7 +43,7 @@ MUST_MEET = (
     'worlds', 'forced local', 'forced release', 'forced wake', 'forced match', 'choice of one', 'choice of more', 'choice of receives',
     'leaf done', 'leaf leftovers', 'leaf deadlock', 'leaf trap', 'match passed over', 'match behind a release', 'runs', 'runs back', 'undone kept',
     'undone dropped', 'stop leaf', 'stop choice', 'stop full', 'stop max', 'stop break', 'stop start', 'line by local', 'line by wake',
-    'line by release', 'change by local', 'change by wake', 'match by match', 'two marks', 'break at the last step',
+    'line by release', 'change by local', 'change by wake', 'match by match', 'two hits', 'break at the last step',
     'break at the last depth', 'break before a leaf', 'break at the start', 'leaf at the last step', 'places', 'choice of one wake',
     'choice of wakes', 'wakes of two ranks', 'wake before any source', 'line by wakeany', 'change by wakeany', 'handle by local',
     'handle by wake', 'handle by wakeany', 'runs on', 'match of one passed', 'wake of one passed', 'break behind one', 'another call of a handle')
@@ -139,8 +139,8 @@ def line_of_call(worlds, call_id):
     return place_of(worlds[before].ranks[call_id.rank])
 
 
-def is_marked(stop, worlds, step):
-    """Whether a breakpoint marks the step between the last two worlds."""
+def is_hit(stop, worlds, step):
+    """Whether the step hits a breakpoint, between the last two worlds."""
     before, after = worlds[-2], worlds[-1]
     if isinstance(stop, MatchBreak):
         return step.kind == 'match' and stop.line in {line_of_call(worlds, call_id) for call_id in step[1:]}
@@ -160,9 +160,9 @@ def held_by(world, stop):
     return [word for line in lines[stop.rank:stop.rank + 1] for word in line.split()[1:][stop.handle:stop.handle + 1]]
 
 
-def marks_of(there, worlds, step):
-    """The numbers of the breakpoints that mark the step between the last two worlds."""
-    return sorted(number for number, stop in there.items() if is_marked(stop, worlds, step))
+def hits_of(there, worlds, step):
+    """The numbers of the breakpoints that the step hits between the last two worlds."""
+    return sorted(number for number, stop in there.items() if is_hit(stop, worlds, step))
 
 
 class Path(NamedTuple):
@@ -192,12 +192,12 @@ def path_of(walked, longest, is_on=False):
 
 def stop_due(path, there, depth, most):
     """Where a run must stop that goes along a path: the nearest cause of all, and of those at one place the first in their order."""
-    marks = [marks_of(there, path.worlds[:depth + made + 1], step) for made, step in enumerate(path.steps, 1)]
-    marked = next((made for made, numbers in enumerate(marks, 1) if numbers), None)
-    bounds = [(marked, 0, BREAK), (len(path.steps) if path.ending else None, 1, path.ending),
+    hits = [hits_of(there, path.worlds[:depth + made + 1], step) for made, step in enumerate(path.steps, 1)]
+    hit = next((made for made, numbers in enumerate(hits, 1) if numbers), None)
+    bounds = [(hit, 0, BREAK), (len(path.steps) if path.ending else None, 1, path.ending),
               (debugger.MOST_STEPS - depth, 2, FULL), (most, 3, MAX)]
     steps, _, cause = min(bound for bound in bounds if bound[0] is not None)
-    return Stop(steps, cause, marks[steps - 1][0] if cause == BREAK else None), marks[:steps]
+    return Stop(steps, cause, hits[steps - 1][0] if cause == BREAK else None), hits[:steps]
 
 
 def kept_due(walked, steps):
@@ -243,7 +243,7 @@ def ran_wrong(random, walked, met):
     most = random.choice([most, most, max(0, len(path.steps) - random.choice([0, 0, 1]))])
     room = random.choice([LONGEST_RUN + 1, LONGEST_RUN + 1, len(path.steps), random.randint(0, 6)])
     with mock.patch.object(debugger, 'MOST_STEPS', walked.depth + room):
-        wanted, marks = stop_due(path, there, walked.depth, most)
+        wanted, hits = stop_due(path, there, walked.depth, most)
         said = (policy.run_on if is_on else policy.run)(ran, breaks, most)
     steps = path.steps[:wanted.steps]
     if said != wanted:
@@ -252,12 +252,12 @@ def ran_wrong(random, walked, met):
         wrong.append('a run to another world')
     if ran.steps != kept_due(walked, steps):
         wrong.append('other steps behind a run')
-    met.update(met_by(walked, path, wanted, marks, most, room))
+    met.update(met_by(walked, path, wanted, hits, most, room))
     met.update(met_on(walked, path, wanted) if is_on else [])
     return wrong or back_wrong(ran, breaks, there, met)
 
 
-def met_by(walked, path, stop, marks, most, room):
+def met_by(walked, path, stop, hits, most, room):
     """What a run may do wrongly."""
     found = ['runs', f'stop {stop.cause}']
     undone = walked.steps[walked.depth:]
@@ -267,7 +267,7 @@ def met_by(walked, path, stop, marks, most, room):
     if stop.cause == BREAK:
         found += ['break at the last step'] * (stop.steps == most) + ['break at the last depth'] * (stop.steps == room)
         found += ['break before a leaf'] * (path.ending == LEAF and stop.steps == len(path.steps))
-        found += ['two marks'] * (len(marks[-1]) > 1)
+        found += ['two hits'] * (len(hits[-1]) > 1)
     return found + ['leaf at the last step'] * (stop.cause == LEAF and stop.steps in (most, room))
 
 
@@ -281,15 +281,15 @@ def met_on(walked, path, stop):
 def back_wrong(ran, breaks, there, met):
     """What runs back to the start do otherwise than they must."""
     worlds, steps, wrong = list(ran.worlds), list(ran.steps), []
-    marks = [marks_of(there, worlds[:place + 2], step) for place, step in enumerate(steps[:ran.depth])]
-    met.update(f'{kind_of(there[numbers[0]])} by {step.kind}' for numbers, step in zip(marks, steps) if numbers)
-    firsts = [(there[numbers[0]], place) for place, numbers in enumerate(marks) if numbers and isinstance(there[numbers[0]], HandleBreak)]
+    hits = [hits_of(there, worlds[:place + 2], step) for place, step in enumerate(steps[:ran.depth])]
+    met.update(f'{kind_of(there[numbers[0]])} by {step.kind}' for numbers, step in zip(hits, steps) if numbers)
+    firsts = [(there[numbers[0]], place) for place, numbers in enumerate(hits) if numbers and isinstance(there[numbers[0]], HandleBreak)]
     met['another call of a handle'] += any(['-'] not in (held_by(worlds[place], stop), held_by(worlds[place + 1], stop)) for stop, place in firsts)
     while ran.depth and not wrong:
         depth = ran.depth
-        marked = [place for place in range(depth) if marks[place]]
-        to = marked[-1] if marked else 0
-        wanted = Stop(depth - to, BREAK, marks[to][0]) if marked else Stop(depth, START)
+        hit = [place for place in range(depth) if hits[place]]
+        to = hit[-1] if hit else 0
+        wanted = Stop(depth - to, BREAK, hits[to][0]) if hit else Stop(depth, START)
         said = policy.run_back(ran, breaks)
         met.update(['runs back', f'stop {wanted.cause}'] + ['break at the start'] * (wanted.cause == BREAK and not to))
         if said != wanted:
@@ -357,7 +357,7 @@ def check(seed, count, to_end=True):
 
 def faults():
     """All faults of the model that must be noticed."""
-    return [*breakages(), *late_breakages(), *late_breakages_of_2(), *waitany_faults.decision_faults(), *waitany_faults.mark_faults()]
+    return [*breakages(), *late_breakages(), *late_breakages_of_2(), *waitany_faults.decision_faults(), *waitany_faults.hit_faults()]
 
 
 def main():

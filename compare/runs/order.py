@@ -8,7 +8,7 @@
 
 Behind each step of a walk it is checked that a receive has at most one send of each sender that it may be matched with, that
 `why` tells the matches that are enabled and what stands in the way of each other one, that wakes and the release are enabled where the
-calls and the records say so, and that those sends are marked as buffered, and have a slot, of which the steps say it; where it has the
+calls and the records say so, and that those sends are buffered, and have a slot, of which the steps say it; where it has the
 most records, and at its end, that the calls of each rank are in the order that `before` says, and that each rank has left a barrier as
 often as all have (docs/DEFINITIONS.md). The status is 0 where all of that holds, and was seen.
 """
@@ -186,7 +186,7 @@ def told_wrong(world):
 
 class Held(NamedTuple):
     """The sends that were buffered as they were issued, and those of them that aren't matched."""
-    marked: set
+    buffered: set
     free: set
 
 
@@ -202,16 +202,16 @@ def held_by(walked):
         used = sum(other.rank == step.first for other in held.free)
         has_slot = walked.world.mode == BUFFERED if slots is None else used < slots
         if has_slot and is_standard_send(find_call(behind, call_id)):
-            held.marked.add(call_id)
+            held.buffered.add(call_id)
             held.free.add(call_id)
     return held
 
 
 def slots_wrong(walked):
-    """What the marks of sends, and the sends that have a slot, are otherwise than by the steps."""
+    """What sends are buffered, and the sends that have a slot, are otherwise than by the steps."""
     held, world = held_by(walked), walked.world
     sends = [call_id for call_id in all_calls(world) if find_call(world, call_id).kind == 'send']
-    wrong = [f'the mark of {call_id}' for call_id in sends if find_call(world, call_id).buffered != (call_id in held.marked)]
+    wrong = [f'the buffer of {call_id}' for call_id in sends if find_call(world, call_id).buffered != (call_id in held.buffered)]
     slots = {CallId(number, place) for number, rank in enumerate(world.ranks) for place in rank.slots}
     counts = [slots_used(world, number) for number in range(len(world.ranks))]
     is_counted = counts == [sum(call_id.rank == number for call_id in held.free) for number in range(len(world.ranks))]

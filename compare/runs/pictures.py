@@ -172,16 +172,16 @@ def wide(text):
     return next((line for line in text.decode().split('\n') if len(line) > 80), None)
 
 
-def met(asked, world, marks):
+def met(asked, world, glyphs):
     """What a program may draw wrongly."""
     yield asked.kind
     how = 'cut' if enabled_steps(world) else outcome(world).split()[0]
     yield how
     yield from ['buffered'] * (asked.mode == 'buffered') + ['slots'] * asked.mode.startswith('slots')
-    pairs = [mark for mark in marks if mark.kind == picture_model.PAIRED]
-    yield from ['to oneself'] * any(mark.call.rank == mark.other.rank for mark in pairs)
-    yield from ['to the left'] * any(mark.call.rank > mark.other.rank for mark in pairs)
-    yield from ['a release'] * any(mark.kind == picture_model.RELEASED for mark in marks)
+    pairs = [glyph for glyph in glyphs if glyph.kind == picture_model.PAIRED]
+    yield from ['to oneself'] * any(glyph.call.rank == glyph.other.rank for glyph in pairs)
+    yield from ['to the left'] * any(glyph.call.rank > glyph.other.rank for glyph in pairs)
+    yield from ['a release'] * any(glyph.kind == picture_model.RELEASED for glyph in glyphs)
     for rank in world.ranks:
         yield from ['a free send'] * any(rank.calls[number].kind == 'send' for number in rank.free)
         yield from ['a free receive'] * any(rank.calls[number].kind == 'recv' for number in rank.free)
@@ -209,7 +209,7 @@ def compare_one(chosen, asked, seen):
         seen.update(refusal_met(asked))
     else:
         walked = asked.walked()
-        seen.update(met(asked, walked.world, picture_model.marks_of(walked)))
+        seen.update(met(asked, walked.world, picture_model.glyphs_of(walked)))
     if (result.output, result.status) != (wanted.output, wanted.status) or result.errors.splitlines()[:1] != wanted.errors.splitlines()[:1]:
         return f'{result.errors or result.output[:200]} in place of {wanted.errors or wanted.output[:200]}'
     if asked.steps is None:

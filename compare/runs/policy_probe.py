@@ -176,7 +176,7 @@ def faults():
 
 def faults_of_2():
     """Those of waits for any."""
-    return [*waitany_faults.decision_faults(), *waitany_faults.mark_faults()]
+    return [*waitany_faults.decision_faults(), *waitany_faults.hit_faults()]
 
 
 TRIAL = Trial(POLICY, walked, expected, faults, f'{PROBES}/broken-policy')

@@ -254,7 +254,7 @@ def breakages(chosen):
 
 def breakages_of_2():
     """Those of waits for any."""
-    return [*waitany_faults.decision_faults(), *waitany_faults.mark_faults(), *policy_faults.late_breakages_of_2()]
+    return [*waitany_faults.decision_faults(), *waitany_faults.hit_faults(), *policy_faults.late_breakages_of_2()]
 
 
 @cache

@@ -53,10 +53,10 @@ TOLD_BY = (
 
 
 class Pair(NamedTuple):
-    """A mode of slots, the mode that it must be like, and whether standard sends are marked in it."""
+    """A mode of slots, the mode that it must be like, and whether standard sends are shown as buffered in it."""
     slots: str
     plain: str
-    marks: bool
+    buffers: bool
 
 
 PAIRS = (Pair('slots:0', RENDEZVOUS, False), Pair('slots:65536', BUFFERED, True))
@@ -92,7 +92,7 @@ def said(chosen, question, mode):
 
 def wanted(question, pair, plain):
     """What must be answered in the mode of slots by what is answered in the other one."""
-    output = STANDARD.sub(rb'\g<0> buffered', plain.output) if pair.marks else plain.output
+    output = STANDARD.sub(rb'\g<0> buffered', plain.output) if pair.buffers else plain.output
     tells_all = question.command == 'check' and question.options.complete and not question.options.pieces and plain.status == 0
     return Result(output, plain.errors, NOT_WHOLE if tells_all else plain.status)
 
@@ -153,7 +153,7 @@ def met_in(question, pair, result):
     elif question.command == 'trace':
         words = question.data.split(b'\n')
         yield from ['a step back'] * (b'back' in words) + ['a step forward'] * (b'redo' in words)
-    yield from ['a send that is not buffered'] * (not pair.marks and bool(STANDARD.search(result.output)))
+    yield from ['a send that is not buffered'] * (not pair.buffers and bool(STANDARD.search(result.output)))
     yield from ['calls of a session'] * (b'{"calls":["' in result.output)
 
 

@@ -115,8 +115,8 @@ abbrev behind : List Step → World
 behind steps = world_of (fold (start ending_there (Slots 1)) steps)
 
 -- whether the second send of rank 0 was buffered
-abbrev marked : List (List Call) → Bool
-marked calls = is_buffered (kind_of (slice_get (listed_calls (slice_get calls 0)) 1))
+abbrev second_is_buffered : List (List Call) → Bool
+second_is_buffered calls = is_buffered (kind_of (slice_get (listed_calls (slice_get calls 0)) 1))
 
 pub row_enabled : enabled (behind both_there) ≡ Local 0 ∷ first_pair ∷ []
 row_enabled = refl
@@ -125,7 +125,7 @@ pub row_apart : apart (Local 0) first_pair ≡ true
 row_apart = refl
 
 -- the local step first, and the match first
-pub row_two_worlds : map {B = Bool} (λ (steps : List Step). marked (behind (both_there ++ steps)).board.calls) ((Local 0 ∷ first_pair ∷ []) ∷ (first_pair ∷ Local 0 ∷ []) ∷ []) ≡ false ∷ true ∷ []
+pub row_two_worlds : map {B = Bool} (λ (steps : List Step). second_is_buffered (behind (both_there ++ steps)).board.calls) ((Local 0 ∷ first_pair ∷ []) ∷ (first_pair ∷ Local 0 ∷ []) ∷ []) ≡ false ∷ true ∷ []
 row_two_worlds = refl
 
 -- ---- the laws don't hold without the premise
@@ -137,14 +137,14 @@ pub row_no_waitany : HasNoWaitany ending_there
 row_no_waitany = (((omega arith, (omega arith, (omega arith, tt))), (omega arith, tt)), tt)
 
 -- what holds of two steps that join in one world
-marks_join : (u v : World) (a b : Step) → Joins u v a b → marked (world_of (next u b)).board.calls ≡ marked (world_of (next v a)).board.calls
-marks_join u v a b h =
-    ap (λ (w : Option World). marked (world_of w).board.calls) h.by_b
-    ∙ ap marked h.same.calls
-    ∙ sym (ap (λ (w : Option World). marked (world_of w).board.calls) h.by_a)
+buffers_join : (u v : World) (a b : Step) → Joins u v a b → second_is_buffered (world_of (next u b)).board.calls ≡ second_is_buffered (world_of (next v a)).board.calls
+buffers_join u v a b h =
+    ap (λ (w : Option World). second_is_buffered (world_of w).board.calls) h.by_b
+    ∙ ap second_is_buffered h.same.calls
+    ∙ sym (ap (λ (w : Option World). second_is_buffered (world_of w).board.calls) h.by_a)
 
 pub row_dont_commute : Joins (behind (both_there ++ Local 0 ∷ [])) (behind (both_there ++ first_pair ∷ [])) (Local 0) first_pair → ⊥
-row_dont_commute h = let same : false ≡ true = marks_join (behind (both_there ++ Local 0 ∷ [])) (behind (both_there ++ first_pair ∷ [])) (Local 0) first_pair h in cc
+row_dont_commute h = let same : false ≡ true = buffers_join (behind (both_there ++ Local 0 ∷ [])) (behind (both_there ++ first_pair ∷ [])) (Local 0) first_pair h in cc
 
 whole : IsWhole (walk 8 (start ending_there (Slots 1)))
 unfolding walk decision

@@ -157,7 +157,7 @@ abbrev pub back_words : Word → List ℕ
 back_words word.RunBack = codes " back"
 back_words other = []
 
--- a run back stops before the step that a breakpoint marks, and a run behind it
+-- a run back stops before the step that hits a breakpoint, and a run behind it
 abbrev pub before_words : Word → List ℕ
 before_words word.RunBack = codes "before "
 before_words other = []

@@ -2,7 +2,7 @@
 
 ghost use Rattle.std.specs.Prelude.{◌≡◌, ◌++◌, ◌<◌, IfOk, OnOk, OnErr, IfSome, IsSome, length, slice_get, string_bytes};
 ghost use Rattle.mpd_model.specs.steps.World.{call_at};
-ghost use Rattle.mpd_model.specs.texts.Texts.{buffer_text, mark_text, got_text, place_text, call_text, rank_text, set_text};
+ghost use Rattle.mpd_model.specs.texts.Texts.{buffer_text, pairing_text, got_text, place_text, call_text, rank_text, set_text};
 
 use crate::state::Core;
 use mpd_model::{Activity, CallId, CallKind, Message, Mode};
@@ -47,8 +47,8 @@ fn push_buffered(out: &mut String, mode: Mode, kind: CallKind) -> Result<(), All
 
 impl<'c> Core<'c> {
     /// Adds that a send or a receive is free, or the call that a call was paired with.
-    fn push_mark(&self, out: &mut String, id: CallId) -> Result<(), AllocError>
-        ensures { OnOk result (string_bytes out.new ≡ string_bytes out.old ++ mark_text self.now.world.board id) }
+    fn push_pairing(&self, out: &mut String, id: CallId) -> Result<(), AllocError>
+        ensures { OnOk result (string_bytes out.new ≡ string_bytes out.old ++ pairing_text self.now.world.board id) }
     {
         if self.board().is_free(id) {
             out.push_str(" free")?;
@@ -66,7 +66,7 @@ impl<'c> Core<'c> {
         if let Some(kind) = self.board().kind(id) {
             write!(text, "{kind}")?;
             push_buffered(&mut text, self.board().mode(), kind)?;
-            self.push_mark(&mut text, id)?;
+            self.push_pairing(&mut text, id)?;
             push_got(&mut text, kind, self.board().buffer(id))?;
         }
         Ok(text)

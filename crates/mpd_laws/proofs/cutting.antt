@@ -3,6 +3,6 @@ pub mod Cuts
 pub mod Ends
 pub mod GoodSpots
 pub mod LineCuts
-pub mod Marks
+pub mod Symbols
 pub mod Runs
 pub mod Signs

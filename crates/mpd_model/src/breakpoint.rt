@@ -26,7 +26,7 @@ pub enum Break {
 /// Why a run stops.
 #[derive(Clone, Copy, Debug, PartialEq, Eq)]
 pub enum Cause {
-    /// The step before is marked by the breakpoint of this number, and by none of a lower one.
+    /// The step before has hit the breakpoint of this number, and none of a lower one.
     Break(usize),
     /// No step is enabled.
     Leaf,

@@ -45,5 +45,5 @@ pub use stmt::{
     Target, WaitanyStmt,
 };
 pub use text::{print_outcome, print_step};
-pub use token::{Class, Mark, RESERVED, Token};
+pub use token::{Class, RESERVED, Symbol, Token};
 pub use words::{TraceWord, has_word, step_of, trace_word_of};

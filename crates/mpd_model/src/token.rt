@@ -2,7 +2,7 @@
 
 /// A sign or a reserved word.
 #[derive(Clone, Copy)]
-pub enum Mark {
+pub enum Symbol {
     Semicolon,
     BraceOpen,
     BraceClose,
@@ -59,7 +59,7 @@ pub enum Token {
     Number(i64),
     /// A name that is no reserved word.
     Name,
-    Is(Mark),
+    Is(Symbol),
     /// No token begins here, or the number or name is too large.
     Bad,
     /// The end of the text.
@@ -76,30 +76,30 @@ pub enum Class {
 }
 
 /// The reserved words.
-pub const RESERVED: [(&[u8], Mark); 25] = [
-    (b"mpd", Mark::Mpd),
-    (b"ranks", Mark::Ranks),
-    (b"var", Mark::Var),
-    (b"req", Mark::Req),
-    (b"if", Mark::If),
-    (b"else", Mark::Else),
-    (b"while", Mark::While),
-    (b"print", Mark::Print),
-    (b"assert", Mark::Assert),
-    (b"send", Mark::Send),
-    (b"ssend", Mark::Ssend),
-    (b"isend", Mark::Isend),
-    (b"issend", Mark::Issend),
-    (b"recv", Mark::Recv),
-    (b"irecv", Mark::Irecv),
-    (b"wait", Mark::Wait),
-    (b"waitany", Mark::Waitany),
-    (b"barrier", Mark::Barrier),
-    (b"to", Mark::To),
-    (b"from", Mark::From),
-    (b"tag", Mark::Tag),
-    (b"any", Mark::Any),
-    (b"status", Mark::Status),
-    (b"rank", Mark::Rank),
-    (b"size", Mark::Size),
+pub const RESERVED: [(&[u8], Symbol); 25] = [
+    (b"mpd", Symbol::Mpd),
+    (b"ranks", Symbol::Ranks),
+    (b"var", Symbol::Var),
+    (b"req", Symbol::Req),
+    (b"if", Symbol::If),
+    (b"else", Symbol::Else),
+    (b"while", Symbol::While),
+    (b"print", Symbol::Print),
+    (b"assert", Symbol::Assert),
+    (b"send", Symbol::Send),
+    (b"ssend", Symbol::Ssend),
+    (b"isend", Symbol::Isend),
+    (b"issend", Symbol::Issend),
+    (b"recv", Symbol::Recv),
+    (b"irecv", Symbol::Irecv),
+    (b"wait", Symbol::Wait),
+    (b"waitany", Symbol::Waitany),
+    (b"barrier", Symbol::Barrier),
+    (b"to", Symbol::To),
+    (b"from", Symbol::From),
+    (b"tag", Symbol::Tag),
+    (b"any", Symbol::Any),
+    (b"status", Symbol::Status),
+    (b"rank", Symbol::Rank),
+    (b"size", Symbol::Size),
 ];

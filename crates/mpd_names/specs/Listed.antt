@@ -16,15 +16,15 @@ use Rattle.mpd_names.specs.Stand.{rank_ended, stand}
 -- ---- ranks at a line
 
 -- what is said of a rank that doesn't run
-abbrev pub mark : Option Activity → List ℕ
-mark None = []
-mark (Some Running) = []
-mark (Some Blocked) = codes " blocked"
-mark (Some (Trapped t)) = codes " trapped"
+abbrev pub activity_note : Option Activity → List ℕ
+activity_note None = []
+activity_note (Some Running) = []
+activity_note (Some Blocked) = codes " blocked"
+activity_note (Some (Trapped t)) = codes " trapped"
 
 -- `rank 0 blocked`
 abbrev pub named_rank : World → ℕ → List ℕ
-named_rank w p = codes "rank " ++ decimal p ++ mark (option_map (λ (r : RankWorld). r.activity) (slice_get w.ranks p))
+named_rank w p = codes "rank " ++ decimal p ++ activity_note (option_map (λ (r : RankWorld). r.activity) (slice_get w.ranks p))
 
 -- that, where the rank stands at line n
 abbrev pub rank_at_line : Program → World → ℕ → ℕ → List (List ℕ)

@@ -26,8 +26,8 @@ fn is_number(number: Option<usize>, wanted: usize) -> bool
 }
 
 /// What is said of a rank that doesn't run.
-fn mark(activity: Option<Activity>) -> &'static str
-    ensures { result.now ≡ listed.mark activity }
+fn activity_note(activity: Option<Activity>) -> &'static str
+    ensures { result.now ≡ listed.activity_note activity }
 {
     match activity {
         None => "",
@@ -47,8 +47,8 @@ fn push_named_rank(
     ensures { OnOk result (string_bytes out.new ≡ string_bytes out.old ++ (before.now ++ listed.named_rank core.now.world rank)) }
 {
     out.push_str(before)?;
-    let mark = mark(core.activity(rank));
-    write!(out, "rank {rank}{mark}")
+    let activity_note = activity_note(core.activity(rank));
+    write!(out, "rank {rank}{activity_note}")
 }
 
 /// Adds a rank that stands at a line, behind this, and nothing where it doesn't. It answers what stands before the next.

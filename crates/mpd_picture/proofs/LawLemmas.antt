@@ -15,12 +15,12 @@ use Rattle.mpd_model.specs.declared.call.MatchSet.TheVariants.{Pair, Woke}
 use Rattle.mpd_model.specs.declared.call.MatchSet.TheVariants as set
 use Rattle.mpd_model.specs.steps.World.{World, Board, call_id, rank_numbers, start, last_call, eligible, is_free, kind_at}
 use Rattle.mpd_model.specs.steps.Next.{Ran, next, fold, local_at, stepped, with_issued, with_set, can_wake, can_wake_any, can_release, woken, woken_any, released, waits}
-use Rattle.mpd_picture.specs.declared.mark.Mark.{Mark}
-use Rattle.mpd_picture.specs.declared.mark.Event.{Event}
-use Rattle.mpd_picture.specs.declared.mark.Event.TheVariants.{Issued, Paired, WentOn, Released}
+use Rattle.mpd_picture.specs.declared.glyph.Glyph.{Glyph}
+use Rattle.mpd_picture.specs.declared.glyph.Event.{Event}
+use Rattle.mpd_picture.specs.declared.glyph.Event.TheVariants.{Issued, Paired, WentOn, Released}
 use Rattle.mpd_picture.specs.declared.shape.Shape.{Shape}
-use Rattle.mpd_picture.specs.Marks.{mark, issues, calls_before, step_marks, row_behind, led, marks_behind, marks_of, went_on}
-use Rattle.mpd_picture.specs.Shapes.{rows_of, free_shapes, event_shapes, mark_shapes, lane_shapes, end_shapes, shapes_of}
+use Rattle.mpd_picture.specs.Glyphs.{glyph, issues, calls_before, step_glyphs, row_behind, led, glyphs_behind, glyphs_of, went_on}
+use Rattle.mpd_picture.specs.Shapes.{rows_of, free_shapes, event_shapes, glyph_shapes, lane_shapes, end_shapes, shapes_of}
 use Rattle.mpd_picture.specs.PictureLaws.{set_of_shape, is_drawn, ArrowsArePairs}
 
 -- ---- lists whose parts give nothing
@@ -44,29 +44,29 @@ set_of_event Released = set.Barrier ∷ []
 set_of_event (Issued c) = []
 set_of_event (WentOn c) = []
 
-abbrev set_of_mark : Mark → List MatchSet
-set_of_mark m = set_of_event m.event
+abbrev set_of_glyph : Glyph → List MatchSet
+set_of_glyph m = set_of_event m.event
 
 abbrev drawn : World → List MatchSet
 drawn w = filter is_drawn w.board.sets
 
 -- a step of a world to another shows what joins its sets
-abbrev Adds : World → World → List Mark → Type 0
-Adds w v marks = drawn v ≡ drawn w ++ flat_map set_of_mark marks
+abbrev Adds : World → World → List Glyph → Type 0
+Adds w v glyphs = drawn v ≡ drawn w ++ flat_map set_of_glyph glyphs
 
 issued_sets : (b : Board) (p : ℕ) (o : Option Call) → (with_issued b p o).sets ≡ b.sets
 issued_sets b p None = refl
 issued_sets b p (Some c) = refl
 
-issue_shows : (b : Bool) (m : Mark) → set_of_mark m ≡ [] → flat_map set_of_mark (cond b (m ∷ []) []) ≡ []
+issue_shows : (b : Bool) (m : Glyph) → set_of_glyph m ≡ [] → flat_map set_of_glyph (cond b (m ∷ []) []) ≡ []
 issue_shows true m h = ap (λ ys. ys ++ []) h
 issue_shows false m h = refl
 
-local_adds : (w v : World) (p before row : ℕ) (o : Option Ran) → option_map (stepped w p) o ≡ Some v → Adds w v (step_marks before v.board row (Local p))
+local_adds : (w v : World) (p before row : ℕ) (o : Option Ran) → option_map (stepped w p) o ≡ Some v → Adds w v (step_glyphs before v.board row (Local p))
 local_adds w v p before row None h = cc
 local_adds w v p before row (Some done) h =
     let same : v.board.sets ≡ w.board.sets = ap (λ (u : World). u.board.sets) (sym (some_world (stepped w p done) v h)) ∙ issued_sets w.board p done.call in
-    ap (filter is_drawn) same ∙ sym (ap (λ ys. drawn w ++ ys) (issue_shows (issues before v.board p) (mark row (Issued (call_id p before))) refl) ∙ append-nil (drawn w))
+    ap (filter is_drawn) same ∙ sym (ap (λ ys. drawn w ++ ys) (issue_shows (issues before v.board p) (glyph row (Issued (call_id p before))) refl) ∙ append-nil (drawn w))
 
 joins : (w v : World) (m : MatchSet) (b : Bool) (u : World) → u.board.sets ≡ w.board.sets ++ m ∷ [] → cond b (Some u) None ≡ Some v → drawn v ≡ drawn w ++ filter is_drawn (m ∷ [])
 joins w v m false u e h = cc
@@ -74,10 +74,10 @@ joins w v m true u e h =
     let same : v.board.sets ≡ w.board.sets ++ m ∷ [] = ap (λ (x : World). x.board.sets) (sym (some_world u v h)) ∙ e in
     ap (filter is_drawn) same ∙ filter-append is_drawn w.board.sets (m ∷ [])
 
-gone_on_shows : (b : Board) (row : ℕ) (ranks : List ℕ) → flat_map set_of_mark (flat_map (went_on b row) ranks) ≡ []
-gone_on_shows b row ranks = none_given set_of_mark (went_on b row) ranks (λ p. refl)
+gone_on_shows : (b : Board) (row : ℕ) (ranks : List ℕ) → flat_map set_of_glyph (flat_map (went_on b row) ranks) ≡ []
+gone_on_shows b row ranks = none_given set_of_glyph (went_on b row) ranks (λ p. refl)
 
-step_adds : (w v : World) (row : ℕ) (a : Step) → next w a ≡ Some v → Adds w v (step_marks (calls_before w a) v.board row a)
+step_adds : (w v : World) (row : ℕ) (a : Step) → next w a ≡ Some v → Adds w v (step_glyphs (calls_before w a) v.board row a)
 step_adds w v row (Local p) h = local_adds w v p (calls_before w (Local p)) row (local_at w p) h
 step_adds w v row (Match s r) h = joins w v (Pair s r) (eligible w.board s r) (record w { board = with_set w.board (Pair s r) }) refl h
 step_adds w v row (Wake p) h = joins w v (Woke (last_call w.board p)) (can_wake w p) (woken w p) refl h
@@ -88,17 +88,17 @@ step_adds w v row Release h =
 -- ---- what steps show
 
 led_adds : (w u : World) (row : ℕ) (a : Step) (steps : List Step) (o : Option World) → next w a ≡ o → option_and_then (λ v. fold v steps) o ≡ Some u
-    → ((v : World) (k : ℕ) → fold v steps ≡ Some u → Adds v u (marks_behind v k steps))
-    → Adds w u (led (λ v. step_marks (calls_before w a) v.board row a ++ marks_behind v (row_behind (calls_before w a) v.board row a) steps) o)
+    → ((v : World) (k : ℕ) → fold v steps ≡ Some u → Adds v u (glyphs_behind v k steps))
+    → Adds w u (led (λ v. step_glyphs (calls_before w a) v.board row a ++ glyphs_behind v (row_behind (calls_before w a) v.board row a) steps) o)
 led_adds w u row a steps None e h more = cc
 led_adds w u row a steps (Some v) e h more =
-    let first : List Mark = step_marks (calls_before w a) v.board row a in
+    let first : List Glyph = step_glyphs (calls_before w a) v.board row a in
     let k : ℕ = row_behind (calls_before w a) v.board row a in
-    let rest : List Mark = marks_behind v k steps in
-    more v k h ∙ ap (λ ys. ys ++ flat_map set_of_mark rest) (step_adds w v row a e) ∙ append_assoc (drawn w) (flat_map set_of_mark first) (flat_map set_of_mark rest)
-    ∙ ap (λ ys. drawn w ++ ys) (sym (flat_map-append set_of_mark first rest))
+    let rest : List Glyph = glyphs_behind v k steps in
+    more v k h ∙ ap (λ ys. ys ++ flat_map set_of_glyph rest) (step_adds w v row a e) ∙ append_assoc (drawn w) (flat_map set_of_glyph first) (flat_map set_of_glyph rest)
+    ∙ ap (λ ys. drawn w ++ ys) (sym (flat_map-append set_of_glyph first rest))
 
-steps_add : (w u : World) (row : ℕ) (steps : List Step) → fold w steps ≡ Some u → Adds w u (marks_behind w row steps)
+steps_add : (w u : World) (row : ℕ) (steps : List Step) → fold w steps ≡ Some u → Adds w u (glyphs_behind w row steps)
 steps_add w u row [] h = ap drawn (sym (some_world w u h)) ∙ sym (append-nil (drawn w))
 steps_add w u row (a ∷ steps) h = led_adds w u row a steps (next w a) refl h (λ v k e. steps_add v u k steps e)
 
@@ -116,28 +116,28 @@ front_drawn : (b : Bool) (xs ys : List Shape) → flat_map set_of_shape xs ≡ [
 front_drawn true xs ys h k = flat_map-append set_of_shape xs ys ∙ ap (λ zs. zs ++ flat_map set_of_shape ys) h ∙ k
 front_drawn false xs ys h k = k
 
-event_drawn : (b : Board) (marks : List Mark) (rows row : ℕ) (e : Event) → flat_map set_of_shape (event_shapes b marks rows row e) ≡ set_of_event e
-event_drawn b marks rows row (Issued c) = front_drawn (is_free b c) (free_shapes c row rows (kind_at b c)) _ (free_drawn c row rows (kind_at b c)) refl
-event_drawn b marks rows row (Paired s r) = refl
-event_drawn b marks rows row (WentOn c) = refl
-event_drawn b marks rows row Released = refl
+event_drawn : (b : Board) (glyphs : List Glyph) (rows row : ℕ) (e : Event) → flat_map set_of_shape (event_shapes b glyphs rows row e) ≡ set_of_event e
+event_drawn b glyphs rows row (Issued c) = front_drawn (is_free b c) (free_shapes c row rows (kind_at b c)) _ (free_drawn c row rows (kind_at b c)) refl
+event_drawn b glyphs rows row (Paired s r) = refl
+event_drawn b glyphs rows row (WentOn c) = refl
+event_drawn b glyphs rows row Released = refl
 
-end_drawn : (w : World) (marks : List Mark) (rows p : ℕ) → flat_map set_of_shape (end_shapes w marks rows p) ≡ []
-end_drawn w marks rows p = front_drawn (waits (slice_get w.ranks p)) _ _ refl refl
+end_drawn : (w : World) (glyphs : List Glyph) (rows p : ℕ) → flat_map set_of_shape (end_shapes w glyphs rows p) ≡ []
+end_drawn w glyphs rows p = front_drawn (waits (slice_get w.ranks p)) _ _ refl refl
 
-shapes_drawn : (w : World) (marks : List Mark) → flat_map set_of_shape (shapes_of w marks) ≡ flat_map set_of_mark marks
-shapes_drawn w marks =
-    let rows : ℕ = rows_of marks in
+shapes_drawn : (w : World) (glyphs : List Glyph) → flat_map set_of_shape (shapes_of w glyphs) ≡ flat_map set_of_glyph glyphs
+shapes_drawn w glyphs =
+    let rows : ℕ = rows_of glyphs in
     let ranks : List ℕ = rank_numbers w.board in
     let lanes : List Shape = flat_map (lane_shapes rows) ranks in
-    let middle : List Shape = flat_map (mark_shapes w.board marks rows) marks in
-    let ends : List Shape = flat_map (end_shapes w marks rows) ranks in
+    let middle : List Shape = flat_map (glyph_shapes w.board glyphs rows) glyphs in
+    let ends : List Shape = flat_map (end_shapes w glyphs rows) ranks in
     flat_map-append set_of_shape (lanes ++ middle) ends
     ∙ ap (λ ys. ys ++ flat_map set_of_shape ends) (flat_map-append set_of_shape lanes middle)
     ∙ ap (λ ys. ys ++ flat_map set_of_shape middle ++ flat_map set_of_shape ends) (none_given set_of_shape (lane_shapes rows) ranks (λ p. refl))
-    ∙ ap (λ ys. flat_map set_of_shape middle ++ ys) (none_given set_of_shape (end_shapes w marks rows) ranks (end_drawn w marks rows))
+    ∙ ap (λ ys. flat_map set_of_shape middle ++ ys) (none_given set_of_shape (end_shapes w glyphs rows) ranks (end_drawn w glyphs rows))
     ∙ append-nil (flat_map set_of_shape middle)
-    ∙ given_as set_of_shape (mark_shapes w.board marks rows) set_of_mark marks (λ m. event_drawn w.board marks rows m.row m.event)
+    ∙ given_as set_of_shape (glyph_shapes w.board glyphs rows) set_of_glyph glyphs (λ m. event_drawn w.board glyphs rows m.row m.event)
 
 pub arrows : ArrowsArePairs
-arrows s mode steps w h = shapes_drawn w (marks_of s mode steps) ∙ sym (steps_add (start s mode) w 0 steps h)
+arrows s mode steps w h = shapes_drawn w (glyphs_of s mode steps) ∙ sym (steps_add (start s mode) w 0 steps h)

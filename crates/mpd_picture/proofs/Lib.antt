@@ -1,3 +1,3 @@
-pub mod MarkLemmas
+pub mod GlyphLemmas
 pub mod SvgLemmas
 pub mod LawLemmas

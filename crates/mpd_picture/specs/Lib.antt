@@ -1,4 +1,4 @@
-pub mod Marks
+pub mod Glyphs
 pub mod Shapes
 pub mod Svg
 pub mod Rows

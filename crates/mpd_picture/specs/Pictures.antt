@@ -11,11 +11,11 @@ use Rattle.mpd_model.specs.steps.World.{World, Board}
 use Rattle.mpd_model.specs.steps.Outcomes.{outcome}
 use Rattle.mpd_model.specs.texts.Texts.{line, outcome_text}
 use Rattle.mpd_model.specs.runs.Trail.{Trail, done_steps}
-use Rattle.mpd_picture.specs.declared.mark.Mark.{Mark}
+use Rattle.mpd_picture.specs.declared.glyph.Glyph.{Glyph}
 use Rattle.mpd_picture.specs.declared.shape.Shape.{Shape}
 use Rattle.mpd_picture.specs.declared.style.TheConstants.{OPENED, STYLE, LEGEND}
-use Rattle.mpd_picture.specs.declared.drawing.TheConstants.{MARKS_MAX}
-use Rattle.mpd_picture.specs.Marks.{marks_of}
+use Rattle.mpd_picture.specs.declared.drawing.TheConstants.{GLYPHS_MAX}
+use Rattle.mpd_picture.specs.Glyphs.{glyphs_of}
 use Rattle.mpd_picture.specs.Shapes.{rows_of, shapes_of}
 use Rattle.mpd_picture.specs.Svg.{column_x, row_y, attribute, text_element, opened, shape_elements}
 use Rattle.mpd_picture.specs.Rows.{rows_text}
@@ -73,19 +73,19 @@ unfoldable pub svg_by : Program → World → ℕ → ℕ → List Shape → Lis
 svg_by s w rows depth shapes =
     head_elements (column_x w.board + 460) (row_y rows + 190) (title_of w.board depth (outcome w)) ++ flat_map (shape_elements s w) shapes ++ legend_elements (row_y rows + 76)
 
-abbrev pub svg_of : Program → World → ℕ → List Mark → List ℕ
-svg_of s w depth marks = svg_by s w (rows_of marks) depth (shapes_of w marks)
+abbrev pub svg_of : Program → World → ℕ → List Glyph → List ℕ
+svg_of s w depth glyphs = svg_by s w (rows_of glyphs) depth (shapes_of w glyphs)
 
-abbrev pub few : List Mark → Bool
-few marks = nat_le (length marks) MARKS_MAX
+abbrev pub few : List Glyph → Bool
+few glyphs = nat_le (length glyphs) GLYPHS_MAX
 
-abbrev pub trail_marks : Trail → List Mark
-trail_marks t = marks_of t.program t.mode (done_steps t)
+abbrev pub trail_glyphs : Trail → List Glyph
+trail_glyphs t = glyphs_of t.program t.mode (done_steps t)
 
 -- The picture of the steps of a trail that are not undone, which lead to this world; none where they show too much.
 abbrev pub picture_svg : Trail → World → Option (List ℕ)
-picture_svg t w = if few (trail_marks t) then Some (svg_of t.program w t.depth (trail_marks t)) else None
+picture_svg t w = if few (trail_glyphs t) then Some (svg_of t.program w t.depth (trail_glyphs t)) else None
 
 -- the same as text
 abbrev pub picture_text : Trail → World → List ℕ
-picture_text t w = if few (trail_marks t) then rows_text t.program w (shapes_of w (trail_marks t)) else line (codes "refused: this run has too many calls to be drawn")
+picture_text t w = if few (trail_glyphs t) then rows_text t.program w (shapes_of w (trail_glyphs t)) else line (codes "refused: this run has too many calls to be drawn")

@@ -7,8 +7,8 @@ ghost use Rattle.mpd_picture.specs.Shapes.{shapes_of as spec_shapes_of};
 ghost use Rattle.mpd_picture.specs.Rows.{rows_text};
 
 use crate::elements::{push_attribute, push_opened, push_text};
-use crate::mark::Mark;
-use crate::marks::marks_of;
+use crate::glyph::Glyph;
+use crate::glyphs::glyphs_of;
 use crate::places::{column_x, row_y};
 use crate::rows::push_rows;
 use crate::shapes::{rows_of, shapes_of};
@@ -20,12 +20,12 @@ use mpd_trail::Debugger;
 use std::alloc::{AllocError, Global};
 
 /// How much of a run is drawn at most: so many calls that are issued, matches, releases, and ranks that go on.
-pub const MARKS_MAX: usize = 20_000;
+pub const GLYPHS_MAX: usize = 20_000;
 
 /// Why a run isn't drawn.
 #[derive(Clone, Copy)]
 pub enum DrawFault {
-    /// Its steps show more than `MARKS_MAX`.
+    /// Its steps show more than `GLYPHS_MAX`.
     TooLong,
     /// A growth was refused.
     Memory,
@@ -181,13 +181,13 @@ fn svg_of(
     alloc: Global,
     core: &Core<'_>,
     depth: usize,
-    marks: &[Mark],
+    glyphs: &[Glyph],
 ) -> Result<String, AllocError>
-    ensures { IfOk result (λ t. string_bytes t ≡ spec.svg_of core.now.program core.now.world depth marks.now) }
+    ensures { IfOk result (λ t. string_bytes t ≡ spec.svg_of core.now.program core.now.world depth glyphs.now) }
 {
     let title = title_of(alloc, core, depth)?;
-    let shapes = shapes_of(alloc, core, marks)?;
-    let bottom = row_y(rows_of(marks));
+    let shapes = shapes_of(alloc, core, glyphs)?;
+    let bottom = row_y(rows_of(glyphs));
     let mut out = String::new(alloc);
     push_head(&mut out, column_x(core) + 460, bottom + 190, &title)?;
     push_shapes(alloc, core, &mut out, &shapes)?;
@@ -200,11 +200,11 @@ pub fn draw(alloc: Global, debugger: &Debugger<'_>) -> Result<String, DrawFault>
     ensures ok { IfOk result (λ svg. spec.picture_svg debugger.now.trail debugger.now.world ≡ Some (string_bytes svg)) }
     ensures too_long { IsErrOf result DrawFault.TooLong → spec.picture_svg debugger.now.trail debugger.now.world ≡ None }
 {
-    let marks = marks_of(alloc, debugger)?;
-    if marks.len() > MARKS_MAX {
+    let glyphs = glyphs_of(alloc, debugger)?;
+    if glyphs.len() > GLYPHS_MAX {
         return Err(DrawFault::TooLong);
     }
-    let svg = svg_of(alloc, debugger.core(), debugger.depth(), &marks)?;
+    let svg = svg_of(alloc, debugger.core(), debugger.depth(), &glyphs)?;
     Ok(svg)
 }
 
@@ -213,23 +213,23 @@ fn push_few(
     alloc: Global,
     core: &Core<'_>,
     out: &mut String,
-    marks: &[Mark],
+    glyphs: &[Glyph],
 ) -> Result<(), AllocError>
-    ensures { OnOk result (string_bytes out.new ≡ string_bytes out.old ++ rows_text core.now.program core.now.world (spec_shapes_of core.now.world marks.now)) }
+    ensures { OnOk result (string_bytes out.new ≡ string_bytes out.old ++ rows_text core.now.program core.now.world (spec_shapes_of core.now.world glyphs.now)) }
 {
-    let shapes = shapes_of(alloc, core, marks)?;
+    let shapes = shapes_of(alloc, core, glyphs)?;
     push_rows(core, out, &shapes)
 }
 
 /// Adds the picture of the steps that are not undone, as text of 80 columns at most, or one line where they show more than
-/// `MARKS_MAX`. An `Err` is want of memory.
+/// `GLYPHS_MAX`. An `Err` is want of memory.
 pub fn push_picture(debugger: &Debugger<'_>, out: &mut String) -> Result<(), AllocError>
     ensures { OnOk result (string_bytes out.new ≡ string_bytes out.old ++ spec.picture_text debugger.now.trail debugger.now.world) }
 {
     let alloc = *out.allocator();
-    let marks = marks_of(alloc, debugger)?;
-    if marks.len() > MARKS_MAX {
+    let glyphs = glyphs_of(alloc, debugger)?;
+    if glyphs.len() > GLYPHS_MAX {
         return out.push_str("refused: this run has too many calls to be drawn\n");
     }
-    push_few(alloc, debugger.core(), out, &marks)
+    push_few(alloc, debugger.core(), out, &glyphs)
 }

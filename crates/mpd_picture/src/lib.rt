@@ -3,9 +3,9 @@
 
 pub mod drawing;
 mod elements;
+mod glyph;
+mod glyphs;
 pub mod laws;
-mod mark;
-mod marks;
 mod places;
 mod rows;
 mod shape;
@@ -13,5 +13,5 @@ mod shapes;
 mod style;
 mod svg;
 
-pub use drawing::{DrawFault, MARKS_MAX, draw, push_picture};
+pub use drawing::{DrawFault, GLYPHS_MAX, draw, push_picture};
 pub use laws::arrows_are_pairs;

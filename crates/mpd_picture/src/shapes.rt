@@ -6,7 +6,7 @@ ghost use Rattle.mpd_model.specs.steps.World.{kind_at, rank_numbers};
 ghost use Rattle.mpd_model.specs.steps.Next.{waits as waits_in};
 ghost use Rattle.mpd_picture.specs.Shapes as spec;
 
-use crate::mark::{Event, Mark};
+use crate::glyph::{Event, Glyph};
 use crate::shape::Shape;
 use mpd_core::Core;
 use mpd_model::{Activity, CallId, CallKind};
@@ -31,12 +31,12 @@ fn is_row(event: Event) -> bool
 }
 
 /// How many rows there are.
-pub(crate) fn rows_of(marks: &[Mark]) -> usize
-    ensures { result ≡ spec.rows_of marks.now }
+pub(crate) fn rows_of(glyphs: &[Glyph]) -> usize
+    ensures { result ≡ spec.rows_of glyphs.now }
 {
     let mut rows = 0;
-    for mark in marks {
-        if is_row(mark.event) {
+    for glyph in glyphs {
+        if is_row(glyph.event) {
             rows += 1;
         }
     }
@@ -54,12 +54,12 @@ fn is_issue(event: Event, call: CallId) -> bool
 }
 
 /// The row in which a call is issued, 0 where it isn't.
-fn row_of(marks: &[Mark], call: CallId) -> usize
-    ensures { result ≡ spec.row_of marks.now call }
+fn row_of(glyphs: &[Glyph], call: CallId) -> usize
+    ensures { result ≡ spec.row_of glyphs.now call }
 {
-    for mark in marks {
-        if is_issue(mark.event, call) {
-            return mark.row;
+    for glyph in glyphs {
+        if is_issue(glyph.event, call) {
+            return glyph.row;
         }
     }
     0
@@ -112,19 +112,19 @@ fn push_call(
 
 /// Adds what is shown of a match.
 fn push_pair(
-    marks: &[Mark],
+    glyphs: &[Glyph],
     shapes: &mut Vec<Shape>,
     send: CallId,
     receive: CallId,
     row: usize,
 ) -> Result<(), AllocError>
-    ensures { OnOk result (shapes.new.items ≡ shapes.old.items ++ spec.pair_shapes marks.now send receive row) }
+    ensures { OnOk result (shapes.new.items ≡ shapes.old.items ++ spec.pair_shapes glyphs.now send receive row) }
 {
     add(
         shapes,
         Shape::Posted {
             rank: receive.rank,
-            from: row_of(marks, receive),
+            from: row_of(glyphs, receive),
             to: row,
         },
     )?;
@@ -132,7 +132,7 @@ fn push_pair(
         shapes,
         Shape::Arrow {
             send,
-            from: row_of(marks, send),
+            from: row_of(glyphs, send),
             receive,
             to: row,
         },
@@ -140,24 +140,24 @@ fn push_pair(
 }
 
 /// Adds the shapes of what a step shows.
-fn push_mark(
+fn push_glyph(
     core: &Core<'_>,
-    marks: &[Mark],
+    glyphs: &[Glyph],
     shapes: &mut Vec<Shape>,
     rows: usize,
-    mark: Mark,
+    glyph: Glyph,
 ) -> Result<(), AllocError>
-    ensures { OnOk result (shapes.new.items ≡ shapes.old.items ++ spec.mark_shapes core.now.world.board marks.now rows mark) }
+    ensures { OnOk result (shapes.new.items ≡ shapes.old.items ++ spec.glyph_shapes core.now.world.board glyphs.now rows glyph) }
 {
-    let row = mark.row;
-    match mark.event {
+    let row = glyph.row;
+    match glyph.event {
         Event::Issued(call) => push_call(core, shapes, rows, call, row),
-        Event::Paired(send, receive) => push_pair(marks, shapes, send, receive, row),
+        Event::Paired(send, receive) => push_pair(glyphs, shapes, send, receive, row),
         Event::WentOn(call) => add(
             shapes,
             Shape::Waiting {
                 rank: call.rank,
-                from: row_of(marks, call),
+                from: row_of(glyphs, call),
                 to: row,
             },
         ),
@@ -166,16 +166,16 @@ fn push_mark(
 }
 
 /// Adds the shapes of all that the steps show.
-fn push_marks(
+fn push_glyphs(
     core: &Core<'_>,
-    marks: &[Mark],
+    glyphs: &[Glyph],
     shapes: &mut Vec<Shape>,
     rows: usize,
 ) -> Result<(), AllocError>
-    ensures { OnOk result (shapes.new.items ≡ shapes.old.items ++ flat_map (spec.mark_shapes core.now.world.board marks.now rows) marks.now) }
+    ensures { OnOk result (shapes.new.items ≡ shapes.old.items ++ flat_map (spec.glyph_shapes core.now.world.board glyphs.now rows) glyphs.now) }
 {
-    for mark in marks {
-        push_mark(core, marks, shapes, rows, *mark)?;
+    for glyph in glyphs {
+        push_glyph(core, glyphs, shapes, rows, *glyph)?;
     }
     Ok(())
 }
@@ -211,19 +211,19 @@ fn waits(core: &Core<'_>, rank: usize) -> bool
 /// Adds how a rank is at the end.
 fn push_end(
     core: &Core<'_>,
-    marks: &[Mark],
+    glyphs: &[Glyph],
     shapes: &mut Vec<Shape>,
     rows: usize,
     rank: usize,
 ) -> Result<(), AllocError>
-    ensures { OnOk result (shapes.new.items ≡ shapes.old.items ++ spec.end_shapes core.now.world marks.now rows rank) }
+    ensures { OnOk result (shapes.new.items ≡ shapes.old.items ++ spec.end_shapes core.now.world glyphs.now rows rank) }
 {
     if waits(core, rank) {
         add(
             shapes,
             Shape::Waiting {
                 rank,
-                from: row_of(marks, core.board().last_call(rank)),
+                from: row_of(glyphs, core.board().last_call(rank)),
                 to: rows,
             },
         )?;
@@ -234,15 +234,15 @@ fn push_end(
 /// Adds how all ranks are at the end.
 fn push_ends(
     core: &Core<'_>,
-    marks: &[Mark],
+    glyphs: &[Glyph],
     shapes: &mut Vec<Shape>,
     rows: usize,
 ) -> Result<(), AllocError>
-    ensures { OnOk result (shapes.new.items ≡ shapes.old.items ++ flat_map (spec.end_shapes core.now.world marks.now rows) (rank_numbers core.now.world.board)) }
+    ensures { OnOk result (shapes.new.items ≡ shapes.old.items ++ flat_map (spec.end_shapes core.now.world glyphs.now rows) (rank_numbers core.now.world.board)) }
 {
     let count = core.rank_count();
     for rank in 0..count {
-        push_end(core, marks, shapes, rows, rank)?;
+        push_end(core, glyphs, shapes, rows, rank)?;
     }
     Ok(())
 }
@@ -251,14 +251,14 @@ fn push_ends(
 pub(crate) fn shapes_of(
     alloc: Global,
     core: &Core<'_>,
-    marks: &[Mark],
+    glyphs: &[Glyph],
 ) -> Result<Vec<Shape>, AllocError>
-    ensures { IfOk result (λ shapes. shapes.items ≡ spec.shapes_of core.now.world marks.now) }
+    ensures { IfOk result (λ shapes. shapes.items ≡ spec.shapes_of core.now.world glyphs.now) }
 {
-    let rows = rows_of(marks);
+    let rows = rows_of(glyphs);
     let mut shapes = Vec::new(alloc);
     push_lanes(core, &mut shapes, rows)?;
-    push_marks(core, marks, &mut shapes, rows)?;
-    push_ends(core, marks, &mut shapes, rows)?;
+    push_glyphs(core, glyphs, &mut shapes, rows)?;
+    push_ends(core, glyphs, &mut shapes, rows)?;
     Ok(shapes)
 }

@@ -3,7 +3,7 @@ pub mod Followed
 pub mod SingleLemmas
 pub mod NumberLemmas
 pub mod PlaceLemmas
-pub mod MarkLemmas
+pub mod HitLemmas
 pub mod WatchLemmas
 pub mod RunLemmas
 pub mod BackLemmas

@@ -6,8 +6,8 @@ use Rattle.mpd_model.specs.declared.step.Step.{Step}
 use Rattle.mpd_model.specs.declared.breakpoint.Break.{Break}
 use Rattle.mpd_model.specs.script.Program.{Program}
 use Rattle.mpd_model.specs.steps.World.{World}
-use Rattle.mpd_model.specs.runs.Breakpoints.{break_at, marked_by, lowest_mark}
-use Rattle.mpd_model.specs.runs.Running.{mark_of}
+use Rattle.mpd_model.specs.runs.Breakpoints.{break_at, hit_by, lowest_hit}
+use Rattle.mpd_model.specs.runs.Running.{hit_of}
 use Rattle.mpd_model.specs.steps.Why.{first_in}
 use Rattle.mpd_policy.specs.Places.{lower}
 
@@ -90,14 +90,14 @@ pub number_begins : (t : ℕ → Bool) (n m : ℕ) → m ≡ n → number_from t
 number_begins t n m e = ap (number_from t 0) (sym e)
 
 -- where no place is taken
-pub unmarked : (s : Program) (places : List (Option Break)) (old : World) (a : Step) (new : World) → ((n : ℕ) → break_at places n ≡ None) → None ≡ lowest_mark s places old a new
-unmarked s places old a new free =
-    number_end (λ n. marked_by s (break_at places n) old a new) 0 (length places) _ (λ k le. ap (λ (place : Option Break). marked_by s place old a new) (free k)) refl
+pub no_hit : (s : Program) (places : List (Option Break)) (old : World) (a : Step) (new : World) → ((n : ℕ) → break_at places n ≡ None) → None ≡ lowest_hit s places old a new
+no_hit s places old a new free =
+    number_end (λ n. hit_by s (break_at places n) old a new) 0 (length places) _ (λ k le. ap (λ (place : Option Break). hit_by s place old a new) (free k)) refl
 
-pub unmarked_at : (s : Program) (places : List (Option Break)) → ((n : ℕ) → break_at places n ≡ None) → (old : Option World) (a : Option Step) (new : Option World) → None ≡ mark_of s places old a new
-unmarked_at s places free (Some old) (Some a) (Some new) = unmarked s places old a new free
-unmarked_at s places free (Some old) (Some a) None = refl
-unmarked_at s places free (Some old) None new = refl
-unmarked_at s places free None a new = refl
+pub no_hit_at : (s : Program) (places : List (Option Break)) → ((n : ℕ) → break_at places n ≡ None) → (old : Option World) (a : Option Step) (new : Option World) → None ≡ hit_of s places old a new
+no_hit_at s places free (Some old) (Some a) (Some new) = no_hit s places old a new free
+no_hit_at s places free (Some old) (Some a) None = refl
+no_hit_at s places free (Some old) None new = refl
+no_hit_at s places free None a new = refl
 
 pub ruleset numbering = (number_begins, number_on)

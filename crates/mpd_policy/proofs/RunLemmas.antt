@@ -18,7 +18,7 @@ use Rattle.mpd_model.specs.steps.Next.{next, fold}
 use Rattle.mpd_model.specs.steps.Outcomes.{is_stuck}
 use Rattle.mpd_model.specs.runs.Trail.{Trail, Standing, IsReached, IsRun, applied, done_steps, gone_back, forgotten, with_steps, world_of}
 use Rattle.mpd_model.specs.runs.Decisions.{forced_step, choices, chosen_from, CanFollow}
-use Rattle.mpd_model.specs.runs.Breakpoints.{lowest_mark}
+use Rattle.mpd_model.specs.runs.Breakpoints.{lowest_hit}
 use Rattle.mpd_model.specs.runs.Running.{Ran, ran_along, ran_by, ran_taking, at_most, stopped, behind, stop_of, all_applied}
 use Rattle.mpd_trail.proofs.KeptLemmas.{fold-append}
 use Rattle.mpd_policy.specs.declared.runs.Ahead.{Ahead}
@@ -114,7 +114,7 @@ ahead_few t s x a r is takes =
 -- ---- one step of a run
 
 ran_step : (t : Taking) (s : Program) (places : List (Option Break)) (n depth : ℕ) (w v : World) (a : Step) → ahead_of depth (comes t w) ≡ Take a → next w a ≡ Some v
-    → ran_along (comes t) s places (suc n) depth w ≡ behind a (lowest_mark s places w a v) (ran_along (comes t) s places n (depth + 1) v)
+    → ran_along (comes t) s places (suc n) depth w ≡ behind a (lowest_hit s places w a v) (ran_along (comes t) s places n (depth + 1) v)
 ran_step t s places n depth w v a e leads =
     let both = ahead_forced depth (comes t w) a e in
     ap (ran_by (ran_along (comes t) s places n (depth + 1)) s places depth w) both.0
@@ -196,19 +196,19 @@ fold_more : (first w v : World) (xs : List Step) (a : Step) → fold first xs �
 fold_more first w v xs a e leads =
     fold-append first xs (a ∷ []) ∙ ap (option_and_then (λ (v : World). fold v (a ∷ []))) e ∙ ap (option_and_then (λ (v : World). fold v [])) leads
 
--- what a step adds, whatever marks it
-total_more : (t : Taking) (places : List (Option Break)) (max : ℕ) (old now new : Standing) (made : ℕ) (a : Step) (x : Ahead) (mark : Option ℕ) (g : Going t places max old now made) → made < max
-    → x ≡ ahead_of now.trail.depth (comes t now.world) → x ≡ Take a → next now.world a ≡ Some new.world → mark ≡ lowest_mark now.trail.program places now.world a new.world
-    → ran_from t places max old ≡ behind_all g.taken (behind a mark (ran_along (comes t) old.trail.program places (max - (made + 1)) (now.trail.depth + 1) new.world))
-total_more t places max old now new made a x mark g lt is takes leads marks =
+-- what a step adds, whatever it hits
+total_more : (t : Taking) (places : List (Option Break)) (max : ℕ) (old now new : Standing) (made : ℕ) (a : Step) (x : Ahead) (hit : Option ℕ) (g : Going t places max old now made) → made < max
+    → x ≡ ahead_of now.trail.depth (comes t now.world) → x ≡ Take a → next now.world a ≡ Some new.world → hit ≡ lowest_hit now.trail.program places now.world a new.world
+    → ran_from t places max old ≡ behind_all g.taken (behind a hit (ran_along (comes t) old.trail.program places (max - (made + 1)) (now.trail.depth + 1) new.world))
+total_more t places max old now new made a x hit g lt is takes leads hits =
     let s : Program = old.trail.program in
     let n : ℕ = max - (made + 1) in
     let k : max - made ≡ suc n = omega (arith, lt) in
     g.total
     ∙ ap (λ (m : ℕ). behind_all g.taken (ran_along (comes t) s places m now.trail.depth now.world)) k
     ∙ ap (behind_all g.taken) (ran_step t s places n now.trail.depth now.world new.world a (sym is ∙ takes) leads)
-    ∙ ap (λ (p : Program). behind_all g.taken (behind a (lowest_mark p places now.world a new.world) (ran_along (comes t) s places n (now.trail.depth + 1) new.world))) (sym g.program)
-    ∙ ap (λ (o : Option ℕ). behind_all g.taken (behind a o (ran_along (comes t) s places n (now.trail.depth + 1) new.world))) (sym marks)
+    ∙ ap (λ (p : Program). behind_all g.taken (behind a (lowest_hit p places now.world a new.world) (ran_along (comes t) s places n (now.trail.depth + 1) new.world))) (sym g.program)
+    ∙ ap (λ (o : Option ℕ). behind_all g.taken (behind a o (ran_along (comes t) s places n (now.trail.depth + 1) new.world))) (sym hits)
 
 kept_more : (n : ℕ) (xs ys total : List Step) (a : Step) → n ≤ length xs → take n xs ≡ total → ys ≡ xs ++ a ∷ [] → take n ys ≡ total
 kept_more n xs ys total a le e more = ap (take n) more ∙ take-append-le n xs (a ∷ []) le ∙ e
@@ -216,10 +216,10 @@ kept_more n xs ys total a le e more = ap (take n) more ∙ take-append-le n xs (
 done_steps_long : (s : Standing) → IsReached s → length (done_steps s.trail) ≡ s.trail.depth
 done_steps_long s r = omega (arith, length-take s.trail.depth s.trail.steps, r.within)
 
-pub going_more : (t : Taking) (places : List (Option Break)) (max : ℕ) (old now new : Standing) (made : ℕ) (a : Step) (x : Ahead) (mark : Option ℕ) → Going t places max old now made → IsReached now → made < max
+pub going_more : (t : Taking) (places : List (Option Break)) (max : ℕ) (old now new : Standing) (made : ℕ) (a : Step) (x : Ahead) (hit : Option ℕ) → Going t places max old now made → IsReached now → made < max
     → x ≡ ahead_of now.trail.depth (comes t now.world) → x ≡ Take a → new.trail ≡ applied now.trail a → next now.world a ≡ Some new.world → done_steps new.trail ≡ done_steps now.trail ++ a ∷ []
-    → mark ≡ lowest_mark now.trail.program places now.world a new.world → mark ≡ None → Going t places max old new (made + 1)
-going_more t places max old now new made a x mark g r lt is takes notes leads steps marks none =
+    → hit ≡ lowest_hit now.trail.program places now.world a new.world → hit ≡ None → Going t places max old new (made + 1)
+going_more t places max old now new made a x hit g r lt is takes notes leads steps hits none =
     let s : Program = old.trail.program in
     let deep : new.trail.depth ≡ now.trail.depth + 1 = ap (λ (t : Trail). t.depth) notes in
     record {
@@ -229,7 +229,7 @@ going_more t places max old now new made a x mark g r lt is takes notes leads st
       trail = notes ∙ ap (λ (t : Trail). applied t a) g.trail ∙ sym (applied_more old.trail g.taken a);
       world = fold_more old.world now.world new.world g.taken a g.world leads;
       total =
-          total_more t places max old now new made a x mark g lt is takes leads marks
+          total_more t places max old now new made a x hit g lt is takes leads hits
           ∙ ap (λ (o : Option ℕ). behind_all g.taken (behind a o (ran_along (comes t) s places (max - (made + 1)) (now.trail.depth + 1) new.world))) none
           ∙ ap (λ (xs : List Step). made_of xs (ran_along (comes t) s places (max - (made + 1)) (now.trail.depth + 1) new.world).cause)
           (sym (append_assoc g.taken (a ∷ []) (ran_along (comes t) s places (max - (made + 1)) (now.trail.depth + 1) new.world).steps))
@@ -248,12 +248,12 @@ ended_with t places max old new steps cause made e count notes leads = record {
   world = ap (λ (r : Ran). fold old.world r.steps) e ∙ leads;
 }
 
-pub going_marked : (t : Taking) (places : List (Option Break)) (max : ℕ) (old now new : Standing) (made n : ℕ) (a : Step) (x : Ahead) (mark : Option ℕ) → Going t places max old now made → made < max
+pub going_hit : (t : Taking) (places : List (Option Break)) (max : ℕ) (old now new : Standing) (made n : ℕ) (a : Step) (x : Ahead) (hit : Option ℕ) → Going t places max old now made → made < max
     → x ≡ ahead_of now.trail.depth (comes t now.world) → x ≡ Take a → new.trail ≡ applied now.trail a → next now.world a ≡ Some new.world
-    → mark ≡ lowest_mark now.trail.program places now.world a new.world → mark ≡ Some n → Ended t places max old new (record { steps = made + 1; cause = for.Break n })
-going_marked t places max old now new made n a x mark g lt is takes notes leads marks some =
+    → hit ≡ lowest_hit now.trail.program places now.world a new.world → hit ≡ Some n → Ended t places max old new (record { steps = made + 1; cause = for.Break n })
+going_hit t places max old now new made n a x hit g lt is takes notes leads hits some =
     ended_with t places max old new (g.taken ++ a ∷ []) (for.Break n) (made + 1)
-    (total_more t places max old now new made a x mark g lt is takes leads marks
+    (total_more t places max old now new made a x hit g lt is takes leads hits
     ∙ ap (λ (o : Option ℕ). behind_all g.taken (behind a o (ran_along (comes t) old.trail.program places (max - (made + 1)) (now.trail.depth + 1) new.world))) some)
     (omega (arith, length-append g.taken (a ∷ []), g.count))
     (notes ∙ ap (λ (t : Trail). applied t a) g.trail ∙ sym (applied_more old.trail g.taken a))
@@ -281,7 +281,7 @@ going_halted_last t places max old now made cause x g all is halts =
     let k : made ≡ max = omega (arith, g.within, all) in
     subst (λ (n : ℕ). Ended t places max old now (stop_at n cause)) k (going_halted t places max old now made cause x g is halts)
 
-behind_some : (a : Step) (mark : Option ℕ) (more : Ran) → 0 < length (behind a mark more).steps
+behind_some : (a : Step) (hit : Option ℕ) (more : Ran) → 0 < length (behind a hit more).steps
 behind_some a (Some n) more = omega arith
 behind_some a None more = omega arith
 
@@ -291,10 +291,10 @@ makes_by : (t : Taking) (places : List (Option Break)) (max : ℕ) (old now : St
 makes_by t places max old now made a x g lt is takes None leads some = absurd (let h : ⊥ = cc in h)
 makes_by t places max old now made a x g lt is takes (Some v) leads some =
     let new : Standing = record { trail = now.trail; world = v } in
-    let mark : Option ℕ = lowest_mark now.trail.program places now.world a v in
-    let more : Ran = behind a mark (ran_along (comes t) old.trail.program places (max - (made + 1)) (now.trail.depth + 1) v) in
-    let total : ran_from t places max old ≡ behind_all g.taken more = total_more t places max old now new made a x mark g lt is takes leads refl in
-    omega (arith, ap (λ (r : Ran). length r.steps) total, length-append g.taken more.steps, behind_some a mark (ran_along (comes t) old.trail.program places (max - (made + 1)) (now.trail.depth + 1) v))
+    let hit : Option ℕ = lowest_hit now.trail.program places now.world a v in
+    let more : Ran = behind a hit (ran_along (comes t) old.trail.program places (max - (made + 1)) (now.trail.depth + 1) v) in
+    let total : ran_from t places max old ≡ behind_all g.taken more = total_more t places max old now new made a x hit g lt is takes leads refl in
+    omega (arith, ap (λ (r : Ran). length r.steps) total, length-append g.taken more.steps, behind_some a hit (ran_along (comes t) old.trail.program places (max - (made + 1)) (now.trail.depth + 1) v))
 
 some_same : (w v : World) → Some w ≡ Some v → w ≡ v
 some_same w v e = cc
@@ -369,7 +369,7 @@ back_none t places max old now new b r all forgets =
 pub back_world : (old new : Standing) → IsReached old → IsReached new → new.trail ≡ old.trail → new.world ≡ old.world
 back_world old new r q same = some_same new.world old.world (sym q.world ∙ ap world_of same ∙ r.world)
 
-pub ruleset going = (going_begins, going_more, going_marked, going_halted, going_halted_last, going_spent, going_broken, going_refused, ahead_enabled, ahead_few)
+pub ruleset going = (going_begins, going_more, going_hit, going_halted, going_halted_last, going_spent, going_broken, going_refused, ahead_enabled, ahead_few)
 
 -- ---- what was set aside
 

@@ -7,8 +7,8 @@ use Rattle.mpd_model.specs.declared.limits.TheConstants.{BREAKS_MAX}
 use Rattle.mpd_model.specs.declared.breakpoint.Break.{Break}
 use Rattle.mpd_model.specs.steps.World.{World}
 use Rattle.mpd_model.specs.runs.Breakpoints.{break_at}
-use Rattle.mpd_policy.specs.declared.marks.Watched.{Watched}
-use Rattle.mpd_policy.specs.declared.marks.Watched.TheVariants.{Nothing}
+use Rattle.mpd_policy.specs.declared.hits.Watched.{Watched}
+use Rattle.mpd_policy.specs.declared.hits.Watched.TheVariants.{Nothing}
 use Rattle.mpd_policy.specs.Places.{watched_at}
 
 -- the first so many values are those that are watched, and none stands behind them

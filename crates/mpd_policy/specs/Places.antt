@@ -1,4 +1,4 @@
--- What breakpoints in numbered places mark, told apart: by the state behind a step, and by cells and handles before it and behind it.
+-- What breakpoints in numbered places hit, told apart: by the state behind a step, and by cells and handles before it and behind it.
 use Rattle.std.specs.Prelude.{◌≡◌, ℕ, ℤ, ◌≤◌, ◌==◌, Bool, true, false, not, if◌then◌else◌, nat_lt, List, length, slice_index_or, Option, Some, None}
 use Rattle.std.specs.List.{filter, range_with_len}
 use Rattle.std.specs.Ordering.{int_eq}
@@ -9,9 +9,9 @@ use Rattle.mpd_model.specs.declared.breakpoint.Break.TheVariants.{Line, Change, 
 use Rattle.mpd_model.specs.script.Program.{Program}
 use Rattle.mpd_model.specs.steps.World.{World}
 use Rattle.mpd_model.specs.steps.Why.{first_in}
-use Rattle.mpd_model.specs.runs.Breakpoints.{break_at, cell_at, handle_at, line_marks, match_marks}
-use Rattle.mpd_policy.specs.declared.marks.Watched.{Watched}
-use Rattle.mpd_policy.specs.declared.marks.Watched.TheVariants.{Nothing, Value, Call}
+use Rattle.mpd_model.specs.runs.Breakpoints.{break_at, cell_at, handle_at, line_hits, match_hits}
+use Rattle.mpd_policy.specs.declared.hits.Watched.{Watched}
+use Rattle.mpd_policy.specs.declared.hits.Watched.TheVariants.{Nothing, Value, Call}
 
 -- so many places, of which none from a number on is taken
 pub record Uses (places : List (Option Break)) (used : ℕ) : Type 0 where
@@ -21,10 +21,10 @@ pub record Uses (places : List (Option Break)) (used : ℕ) : Type 0 where
 
 -- a breakpoint of a line or of a match
 abbrev pub told_by : Program → Option Break → Step → World → Bool
-told_by s (Some (Line line)) a w = line_marks s line a w
+told_by s (Some (Line line)) a w = line_hits s line a w
 told_by s (Some (Change p c)) a w = false
 told_by s (Some (Handle p h)) a w = false
-told_by s (Some (Match line)) a w = match_marks s line a w
+told_by s (Some (Match line)) a w = match_hits s line a w
 told_by s None a w = false
 
 -- what a breakpoint watches: what its cell holds, or the call of its handle

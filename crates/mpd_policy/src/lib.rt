@@ -3,7 +3,7 @@
 
 pub mod breaks;
 pub mod decisions;
-mod marks;
+mod hits;
 pub mod runs;
 
 pub use breaks::Breaks;

@@ -4,15 +4,15 @@ ghost use Rattle.std.specs.Prelude.{◌≡◌, ◌<◌, ◌≤◌, ◌+◌, ◌-
 ghost use Rattle.mpd_model.specs.steps.Next.{next, fold};
 ghost use Rattle.mpd_model.specs.runs.Trail.{IsReached, IsRun, applied, done_steps, gone_back, forgotten, with_steps};
 ghost use Rattle.mpd_model.specs.runs.Decisions as decisions;
-ghost use Rattle.mpd_model.specs.runs.Breakpoints.{lowest_mark};
-ghost use Rattle.mpd_model.specs.runs.Running.{ran, ran_along, stop_of, all_applied, mark_at, ran_back};
+ghost use Rattle.mpd_model.specs.runs.Breakpoints.{lowest_hit};
+ghost use Rattle.mpd_model.specs.runs.Running.{ran, ran_along, stop_of, all_applied, hit_at, ran_back};
 ghost use Rattle.mpd_trail.specs.Views.{standing_of};
 ghost use Rattle.mpd_policy.specs.Ahead.{comes, forced_in, ahead_of, Lists, Wants, Went};
 ghost use Rattle.mpd_policy.specs.Single.{ran_on};
 
 use crate::breaks::Breaks;
 use crate::decisions::{forced_step, only_step};
-use crate::marks::lower;
+use crate::hits::lower;
 use mpd_core::Core;
 use mpd_model::{Cause, STEPS_MAX, Step, Stop};
 use mpd_trail::Debugger;
@@ -68,7 +68,7 @@ fn look_ahead(alloc: Global, debugger: &Debugger<'_>, taking: Taking) -> Result<
     Ok(Ahead::Halt(Cause::Choice))
 }
 
-/// Takes a step that is enabled, and answers the lowest number that marks it. An `Err` is want of memory, and nothing has changed.
+/// Takes a step that is enabled, and answers the lowest breakpoint that it hits. An `Err` is want of memory, and nothing has changed.
 fn take_watched(
     debugger: &mut Debugger<'_>,
     breaks: &Breaks,
@@ -76,7 +76,7 @@ fn take_watched(
 ) -> Result<Option<usize>, AllocError>
     requires enabled { IsSome (next debugger.old.world step) }
     requires few { debugger.old.trail.depth < STEPS_MAX }
-    ensures mark { IfOk result (λ n. n ≡ lowest_mark debugger.old.trail.program breaks.now debugger.old.world step debugger.new.world) }
+    ensures hit { IfOk result (λ n. n ≡ lowest_hit debugger.old.trail.program breaks.now debugger.old.world step debugger.new.world) }
     ensures ok { OnOk result (debugger.new.trail ≡ applied debugger.old.trail step) }
     ensures world { OnOk result (next debugger.old.world step ≡ Some debugger.new.world) }
     ensures steps { OnOk result (done_steps debugger.new.trail ≡ done_steps debugger.old.trail ++ step ∷ []) }
@@ -92,7 +92,7 @@ fn take_watched(
     Ok(lower(told, changed))
 }
 
-/// Takes a step that is enabled, and answers the lowest number that marks it; where no breakpoint is set, nothing is looked at for
+/// Takes a step that is enabled, and answers the lowest breakpoint that it hits; where no breakpoint is set, nothing is looked at for
 /// them. An `Err` is want of memory, and nothing has changed.
 fn take(
     debugger: &mut Debugger<'_>,
@@ -101,7 +101,7 @@ fn take(
 ) -> Result<Option<usize>, AllocError>
     requires enabled { IsSome (next debugger.old.world step) }
     requires few { debugger.old.trail.depth < STEPS_MAX }
-    ensures mark { IfOk result (λ n. n ≡ lowest_mark debugger.old.trail.program breaks.now debugger.old.world step debugger.new.world) }
+    ensures hit { IfOk result (λ n. n ≡ lowest_hit debugger.old.trail.program breaks.now debugger.old.world step debugger.new.world) }
     ensures ok { OnOk result (debugger.new.trail ≡ applied debugger.old.trail step) }
     ensures world { OnOk result (next debugger.old.world step ≡ Some debugger.new.world) }
     ensures steps { OnOk result (done_steps debugger.new.trail ≡ done_steps debugger.old.trail ++ step ∷ []) }
@@ -136,8 +136,8 @@ fn go(
             Ahead::Halt(cause) => return Ok(Stop { steps: made, cause }),
             Ahead::Take(step) => step,
         };
-        let mark = take(debugger, breaks, step)?;
-        if let Some(number) = mark {
+        let hit = take(debugger, breaks, step)?;
+        if let Some(number) = hit {
             return Ok(Stop {
                 steps: made + 1,
                 cause: Cause::Break(number),
@@ -186,7 +186,7 @@ fn put_back(debugger: &mut Debugger<'_>, depth: usize, saved: Option<Vec<Step>>)
     }
 }
 
-/// Runs, and stops behind the first step that a breakpoint marks, and before a step at a leaf, at a choice, where 1,000,000 steps are
+/// Runs, and stops behind the first step that hits a breakpoint, and before a step at a leaf, at a choice, where 1,000,000 steps are
 /// not undone, or after `max` steps, in this order. An `Err` is want of memory, and then the state and all steps, undone ones too, are
 /// as before.
 fn run_by(
@@ -217,7 +217,7 @@ fn run_by(
 }
 
 /// Runs along decisions (docs/DEFINITIONS.md, "Runs"): it makes every forced step, and stops behind the first that a breakpoint
-/// marks, and before a step at a leaf, at a choice, where 1,000,000 steps are not undone, or after `max` steps, in this order. An
+/// hits, and before a step at a leaf, at a choice, where 1,000,000 steps are not undone, or after `max` steps, in this order. An
 /// `Err` is want of memory, and then the state and all steps, undone ones too, are as before; it comes only where steps are undone,
 /// whose list is set aside, or where the run makes a step.
 pub fn run(
@@ -258,10 +258,10 @@ pub fn run_on(
     run_by(alloc, debugger, breaks, max, Taking::Single)
 }
 
-/// Takes the last step back, and answers the lowest number that marks it.
+/// Takes the last step back, and answers the lowest breakpoint that it hits.
 fn take_back_watched(debugger: &mut Debugger<'_>, breaks: &Breaks) -> Option<usize>
     requires { 0 < debugger.old.trail.depth }
-    ensures mark { result ≡ mark_at breaks.now debugger.old.trail (debugger.old.trail.depth - 1) }
+    ensures hit { result ≡ hit_at breaks.now debugger.old.trail (debugger.old.trail.depth - 1) }
     ensures trail { debugger.new.trail ≡ gone_back debugger.old.trail (debugger.old.trail.depth - 1) }
     ensures reached { IsReached (standing_of debugger.new) }
 {
@@ -275,10 +275,10 @@ fn take_back_watched(debugger: &mut Debugger<'_>, breaks: &Breaks) -> Option<usi
     lower(told, changed)
 }
 
-/// Takes the last step back, and answers the lowest number that marks it; where no breakpoint is set, nothing is looked at for them.
+/// Takes the last step back, and answers the lowest breakpoint that it hits; where no breakpoint is set, nothing is looked at for them.
 fn take_back(debugger: &mut Debugger<'_>, breaks: &Breaks) -> Option<usize>
     requires { 0 < debugger.old.trail.depth }
-    ensures mark { result ≡ mark_at breaks.now debugger.old.trail (debugger.old.trail.depth - 1) }
+    ensures hit { result ≡ hit_at breaks.now debugger.old.trail (debugger.old.trail.depth - 1) }
     ensures trail { debugger.new.trail ≡ gone_back debugger.old.trail (debugger.old.trail.depth - 1) }
     ensures reached { IsReached (standing_of debugger.new) }
 {
@@ -289,7 +289,7 @@ fn take_back(debugger: &mut Debugger<'_>, breaks: &Breaks) -> Option<usize>
     take_back_watched(debugger, breaks)
 }
 
-/// Runs back: it takes steps back until it has taken back one that a breakpoint marks, or to the start. It takes no memory.
+/// Runs back: it takes steps back until it has taken back one that hits a breakpoint, or to the start. It takes no memory.
 #[tactic(auto, using(crate::proofs::BackLemmas::backing))]
 pub fn run_back(debugger: &mut Debugger<'_>, breaks: &Breaks) -> Stop
     ensures stop { result ≡ ran_back breaks.now debugger.old.trail debugger.old.trail.depth }
@@ -299,8 +299,8 @@ pub fn run_back(debugger: &mut Debugger<'_>, breaks: &Breaks) -> Stop
     debugger.state_is_reached();
     let depth = debugger.depth();
     for undone in 0..depth {
-        let mark = take_back(debugger, breaks);
-        if let Some(number) = mark {
+        let hit = take_back(debugger, breaks);
+        if let Some(number) = hit {
             return Stop {
                 steps: undone + 1,
                 cause: Cause::Break(number),

@@ -2,7 +2,7 @@
 use Rattle.std.proofs.Common.{◌≡◌, ℕ, suc, ◌+◌, ◌-◌, ◌<◌, ◌≤◌, Err, refl, arith, List, [], ◌∷◌, ◌++◌, Bool, true, if◌then◌else◌}
 use Rattle.mpd_model.specs.script.Tree.{Tree}
 use Rattle.mpd_model.specs.declared.read_fault.FaultCode.TheVariants.{TooDeep}
-use Rattle.mpd_model.specs.declared.token.Mark.TheVariants as m
+use Rattle.mpd_model.specs.declared.token.Symbol.TheVariants as m
 use Rattle.mpd_model.specs.grammar.Input.{Parser, Input, token, sees, fail, refuse, refusal, ◌>>=◌, ◌>>◌, pure, expect}
 use Rattle.mpd_model.specs.grammar.Grammar.{stmt, stmts, body, closes, block, declares, decls_by, decls_from}
 use Rattle.mpd_laws.proofs.complete.Turns.{body_turns, decls_turns}

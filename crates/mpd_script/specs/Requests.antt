@@ -4,8 +4,8 @@ use Rattle.mpd_model.specs.declared.stmt.RecvStmt.{RecvStmt}
 use Rattle.mpd_model.specs.declared.stmt.SendStmt.{SendStmt}
 use Rattle.mpd_model.specs.declared.stmt.Simple.{Simple}
 use Rattle.mpd_model.specs.declared.stmt.Simple.TheVariants as st
-use Rattle.mpd_model.specs.declared.token.Mark.TheVariants as m
-use Rattle.mpd_model.specs.script.Parts.{Hole, mark_hole, term_hole, source_hole, status_hole}
+use Rattle.mpd_model.specs.declared.token.Symbol.TheVariants as m
+use Rattle.mpd_model.specs.script.Parts.{Hole, symbol_hole, term_hole, source_hole, status_hole}
 use Rattle.mpd_model.specs.script.Term.{Target}
 
 abbrev pub send_of : Bool → Option Target → SendStmt → Simple
@@ -20,10 +20,10 @@ recv_of (Some t) s = st.Irecv (record { request = t; recv = s })
 
 -- what follows the value of a send, the place that a receive writes, and its source
 abbrev pub to_holes : List Hole
-to_holes = mark_hole m.To ∷ term_hole ∷ mark_hole m.Tag ∷ term_hole ∷ []
+to_holes = symbol_hole m.To ∷ term_hole ∷ symbol_hole m.Tag ∷ term_hole ∷ []
 
 abbrev pub from_holes : List Hole
-from_holes = mark_hole m.From ∷ source_hole ∷ mark_hole m.Tag ∷ source_hole ∷ status_hole ∷ []
+from_holes = symbol_hole m.From ∷ source_hole ∷ symbol_hole m.Tag ∷ source_hole ∷ status_hole ∷ []
 
 abbrev pub tag_holes : List Hole
-tag_holes = mark_hole m.Tag ∷ source_hole ∷ status_hole ∷ []
+tag_holes = symbol_hole m.Tag ∷ source_hole ∷ status_hole ∷ []

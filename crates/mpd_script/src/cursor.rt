@@ -12,8 +12,8 @@ ghost use Rattle.mpd_script.specs.Cursor.{first};
 
 use crate::lex;
 use mpd_model::{
-    CELLS_MAX, Decl, DeclKind, FaultCode, HANDLES_MAX, Mark, NESTING_MAX, ReadFault,
-    STATEMENTS_MAX, Slot, Token,
+    CELLS_MAX, Decl, DeclKind, FaultCode, HANDLES_MAX, NESTING_MAX, ReadFault, STATEMENTS_MAX,
+    Slot, Symbol, Token,
 };
 use std::alloc::Global;
 use std::collections::BTreeMap;
@@ -165,29 +165,29 @@ impl<'a> Tokens<'a> {
         }
     }
 
-    pub(crate) fn sees(&self, mark: Mark) -> bool
-        ensures { result ≡ spec.sees mark self.now }
+    pub(crate) fn sees(&self, symbol: Symbol) -> bool
+        ensures { result ≡ spec.sees symbol self.now }
     {
-        is_mark(mark, self.peek())
+        is_symbol(symbol, self.peek())
     }
 
-    /// Takes the mark, if it comes next.
-    pub(crate) fn eat(&mut self, mark: Mark) -> bool
-        ensures found { result ≡ spec.sees mark self.old }
-        ensures after { self.new ≡ spec.after mark self.old }
+    /// Takes the symbol, if it comes next.
+    pub(crate) fn eat(&mut self, symbol: Symbol) -> bool
+        ensures found { result ≡ spec.sees symbol self.old }
+        ensures after { self.new ≡ spec.after symbol self.old }
         ensures decls { self.new.decls ≡ self.old.decls }
     {
-        let found = self.sees(mark);
+        let found = self.sees(symbol);
         if found {
             self.advance();
         }
         found
     }
 
-    pub(crate) fn expect(&mut self, mark: Mark) -> Result<(), ReadFault>
-        ensures { Reads (spec.expect mark self.old) result self.new }
+    pub(crate) fn expect(&mut self, symbol: Symbol) -> Result<(), ReadFault>
+        ensures { Reads (spec.expect symbol self.old) result self.new }
     {
-        if self.sees(mark) {
+        if self.sees(symbol) {
             self.advance();
             Ok(())
         } else {
@@ -388,18 +388,18 @@ fn same_kind(a: DeclKind, b: DeclKind) -> bool
     )
 }
 
-fn is_mark(mark: Mark, token: Token) -> bool
-    ensures { result ≡ spec.is_mark mark token }
+fn is_symbol(symbol: Symbol, token: Token) -> bool
+    ensures { result ≡ spec.is_symbol symbol token }
 {
     match token {
-        Token::Is(found) => same_mark(found, mark),
+        Token::Is(found) => same_symbol(found, symbol),
         _ => false,
     }
 }
 
-#[tactic(auto, unfolding(mpd_model::specs::grammar::Input::same_mark))]
-fn same_mark(a: Mark, b: Mark) -> bool
-    ensures { result ≡ spec.same_mark a b }
+#[tactic(auto, unfolding(mpd_model::specs::grammar::Input::same_symbol))]
+fn same_symbol(a: Symbol, b: Symbol) -> bool
+    ensures { result ≡ spec.same_symbol a b }
 {
     a == b
 }

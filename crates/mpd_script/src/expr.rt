@@ -8,7 +8,7 @@ ghost use Rattle.mpd_model.specs.declared.token.Token.TheVariants.{Is};
 use crate::cursor::Tokens;
 use crate::place::{bracket, place_of};
 use mpd_model::{
-    BinaryOp, DeclKind, Expr, ExprNode, FaultCode, Mark, NESTING_MAX, ReadFault, Token, UnaryOp,
+    BinaryOp, DeclKind, Expr, ExprNode, FaultCode, NESTING_MAX, ReadFault, Symbol, Token, UnaryOp,
 };
 use std::alloc::Global;
 
@@ -30,24 +30,24 @@ const DISJUNCTION: usize = 5;
 /// The level of a whole expression.
 const WHOLE: usize = DISJUNCTION;
 
-/// The operator that a mark is, and its level.
-fn operator_of(mark: Mark) -> Option<(BinaryOp, usize)>
-    ensures { result ≡ spec.operator (Is mark) }
+/// The operator that a symbol is, and its level.
+fn operator_of(symbol: Symbol) -> Option<(BinaryOp, usize)>
+    ensures { result ≡ spec.operator (Is symbol) }
 {
-    match mark {
-        Mark::Or => Some((BinaryOp::Or, DISJUNCTION)),
-        Mark::And => Some((BinaryOp::And, CONJUNCTION)),
-        Mark::Equal => Some((BinaryOp::Equal, COMPARISON)),
-        Mark::NotEqual => Some((BinaryOp::NotEqual, COMPARISON)),
-        Mark::Less => Some((BinaryOp::Less, COMPARISON)),
-        Mark::AtMost => Some((BinaryOp::AtMost, COMPARISON)),
-        Mark::Greater => Some((BinaryOp::Greater, COMPARISON)),
-        Mark::AtLeast => Some((BinaryOp::AtLeast, COMPARISON)),
-        Mark::Plus => Some((BinaryOp::Add, SUM)),
-        Mark::Minus => Some((BinaryOp::Subtract, SUM)),
-        Mark::Times => Some((BinaryOp::Multiply, PRODUCT)),
-        Mark::Divide => Some((BinaryOp::Divide, PRODUCT)),
-        Mark::Remainder => Some((BinaryOp::Remainder, PRODUCT)),
+    match symbol {
+        Symbol::Or => Some((BinaryOp::Or, DISJUNCTION)),
+        Symbol::And => Some((BinaryOp::And, CONJUNCTION)),
+        Symbol::Equal => Some((BinaryOp::Equal, COMPARISON)),
+        Symbol::NotEqual => Some((BinaryOp::NotEqual, COMPARISON)),
+        Symbol::Less => Some((BinaryOp::Less, COMPARISON)),
+        Symbol::AtMost => Some((BinaryOp::AtMost, COMPARISON)),
+        Symbol::Greater => Some((BinaryOp::Greater, COMPARISON)),
+        Symbol::AtLeast => Some((BinaryOp::AtLeast, COMPARISON)),
+        Symbol::Plus => Some((BinaryOp::Add, SUM)),
+        Symbol::Minus => Some((BinaryOp::Subtract, SUM)),
+        Symbol::Times => Some((BinaryOp::Multiply, PRODUCT)),
+        Symbol::Divide => Some((BinaryOp::Divide, PRODUCT)),
+        Symbol::Remainder => Some((BinaryOp::Remainder, PRODUCT)),
         _ => None,
     }
 }
@@ -57,7 +57,7 @@ fn operator(token: Token) -> Option<(BinaryOp, usize)>
     ensures { result ≡ spec.operator token }
 {
     match token {
-        Token::Is(mark) => operator_of(mark),
+        Token::Is(symbol) => operator_of(symbol),
         _ => None,
     }
 }
@@ -159,22 +159,22 @@ fn atom(alloc: Global, tokens: &mut Tokens<'_>, depth: usize) -> Result<Expr, Re
                 node: ExprNode::Number(value),
             })
         }
-        Token::Is(Mark::Rank) => {
+        Token::Is(Symbol::Rank) => {
             tokens.advance();
             Ok(Expr {
                 node: ExprNode::Rank,
             })
         }
-        Token::Is(Mark::Size) => {
+        Token::Is(Symbol::Size) => {
             tokens.advance();
             Ok(Expr {
                 node: ExprNode::Size,
             })
         }
         Token::Name => place_inside(alloc, tokens, depth),
-        Token::Is(Mark::RoundOpen) => rounds(alloc, tokens, depth),
-        Token::Is(Mark::Minus) => unary(alloc, tokens, depth, UnaryOp::Negate),
-        Token::Is(Mark::Not) => unary(alloc, tokens, depth, UnaryOp::Not),
+        Token::Is(Symbol::RoundOpen) => rounds(alloc, tokens, depth),
+        Token::Is(Symbol::Minus) => unary(alloc, tokens, depth, UnaryOp::Negate),
+        Token::Is(Symbol::Not) => unary(alloc, tokens, depth, UnaryOp::Not),
         _ => Err(tokens.refuse()),
     }
 }
@@ -194,7 +194,7 @@ fn place_inside(alloc: Global, tokens: &mut Tokens<'_>, depth: usize) -> Result<
     }
     bracket(tokens)?;
     let index = expr(alloc, tokens, depth, WHOLE)?;
-    tokens.expect(Mark::SquareClose)?;
+    tokens.expect(Symbol::SquareClose)?;
     Ok(Expr::element(alloc, place_of(slot), index)?)
 }
 
@@ -206,7 +206,7 @@ fn rounds(alloc: Global, tokens: &mut Tokens<'_>, depth: usize) -> Result<Expr, 
 {
     tokens.spend()?;
     let inner = expr(alloc, tokens, depth, WHOLE)?;
-    tokens.expect(Mark::RoundClose)?;
+    tokens.expect(Symbol::RoundClose)?;
     Ok(inner)
 }
 

@@ -3,7 +3,7 @@
 ghost use Rattle.std.specs.Prelude.{ℕ, ◌≡◌, ◌≢◌, ◌<◌, ◌≤◌, ◌+◌, map, length, slice_index, drop, true, false};
 ghost use Rattle.mpd_model.specs.grammar.Tokens as spec;
 
-use mpd_model::{Class, Mark, NAME_MAX, RESERVED, Token};
+use mpd_model::{Class, NAME_MAX, RESERVED, Symbol, Token};
 
 fn is_in(class: Class, b: u8) -> bool
     ensures { result ≡ spec.is_in class b }
@@ -41,7 +41,7 @@ fn number(digits: &[u8]) -> Token
     Token::Number(value as i64)
 }
 
-fn word_in(mut table: &[(&[u8], Mark)], word: &[u8]) -> Token
+fn word_in(mut table: &[(&[u8], Symbol)], word: &[u8]) -> Token
     ensures { result ≡ spec.word_in (map (λ k. (k.0.now, k.1)) table.entry.now) word.now }
 {
     while let [entry, rest @ ..] = table {
@@ -64,7 +64,7 @@ fn word(word: &[u8]) -> Token
     word_in(&RESERVED, word)
 }
 
-fn two(is_long: bool, long: Mark, short: Mark) -> (Token, usize)
+fn two(is_long: bool, long: Symbol, short: Symbol) -> (Token, usize)
     ensures { result ≡ spec.two is_long long short }
 {
     if is_long {
@@ -80,24 +80,24 @@ fn sign(b: u8, next: u8) -> (Token, usize)
     ensures within { (1 ≤ result.1) × (result.1 ≤ 2) × (next ≡ 0 → result.1 ≡ 1) }
 {
     match b {
-        b';' => (Token::Is(Mark::Semicolon), 1),
-        b'{' => (Token::Is(Mark::BraceOpen), 1),
-        b'}' => (Token::Is(Mark::BraceClose), 1),
-        b'(' => (Token::Is(Mark::RoundOpen), 1),
-        b')' => (Token::Is(Mark::RoundClose), 1),
-        b'[' => (Token::Is(Mark::SquareOpen), 1),
-        b']' => (Token::Is(Mark::SquareClose), 1),
-        b'=' => two(next == b'=', Mark::Equal, Mark::Assign),
-        b'!' => two(next == b'=', Mark::NotEqual, Mark::Not),
-        b'<' => two(next == b'=', Mark::AtMost, Mark::Less),
-        b'>' => two(next == b'=', Mark::AtLeast, Mark::Greater),
-        b'+' => (Token::Is(Mark::Plus), 1),
-        b'-' => (Token::Is(Mark::Minus), 1),
-        b'*' => (Token::Is(Mark::Times), 1),
-        b'/' => (Token::Is(Mark::Divide), 1),
-        b'%' => (Token::Is(Mark::Remainder), 1),
-        b'&' if next == b'&' => (Token::Is(Mark::And), 2),
-        b'|' if next == b'|' => (Token::Is(Mark::Or), 2),
+        b';' => (Token::Is(Symbol::Semicolon), 1),
+        b'{' => (Token::Is(Symbol::BraceOpen), 1),
+        b'}' => (Token::Is(Symbol::BraceClose), 1),
+        b'(' => (Token::Is(Symbol::RoundOpen), 1),
+        b')' => (Token::Is(Symbol::RoundClose), 1),
+        b'[' => (Token::Is(Symbol::SquareOpen), 1),
+        b']' => (Token::Is(Symbol::SquareClose), 1),
+        b'=' => two(next == b'=', Symbol::Equal, Symbol::Assign),
+        b'!' => two(next == b'=', Symbol::NotEqual, Symbol::Not),
+        b'<' => two(next == b'=', Symbol::AtMost, Symbol::Less),
+        b'>' => two(next == b'=', Symbol::AtLeast, Symbol::Greater),
+        b'+' => (Token::Is(Symbol::Plus), 1),
+        b'-' => (Token::Is(Symbol::Minus), 1),
+        b'*' => (Token::Is(Symbol::Times), 1),
+        b'/' => (Token::Is(Symbol::Divide), 1),
+        b'%' => (Token::Is(Symbol::Remainder), 1),
+        b'&' if next == b'&' => (Token::Is(Symbol::And), 2),
+        b'|' if next == b'|' => (Token::Is(Symbol::Or), 2),
         _ => (Token::Bad, 1),
     }
 }

@@ -6,7 +6,7 @@ ghost use Rattle.mpd_model.specs.grammar.Input.{Reads};
 
 use crate::cursor::Tokens;
 use crate::expr::expression;
-use mpd_model::{DeclKind, Mark, Place, ReadFault, Slot, Target, Token};
+use mpd_model::{DeclKind, Place, ReadFault, Slot, Symbol, Target, Token};
 use std::alloc::Global;
 
 /// What a name stands for.
@@ -25,7 +25,7 @@ pub(crate) fn place_of(slot: Slot) -> Place
 pub(crate) fn bracket(tokens: &mut Tokens<'_>) -> Result<(), ReadFault>
     ensures { Reads (spec.bracket tokens.old) result tokens.new }
 {
-    if tokens.sees(Mark::SquareOpen) {
+    if tokens.sees(Symbol::SquareOpen) {
         tokens.spend()
     } else {
         Err(tokens.refuse())
@@ -44,9 +44,9 @@ pub(crate) fn index_outside(
     if slot.size.is_none() {
         return Ok(Target { place, index: None });
     }
-    tokens.expect(Mark::SquareOpen)?;
+    tokens.expect(Symbol::SquareOpen)?;
     let index = expression(alloc, tokens)?;
-    tokens.expect(Mark::SquareClose)?;
+    tokens.expect(Symbol::SquareClose)?;
     Ok(Target {
         place,
         index: Some(index),

@@ -15,8 +15,8 @@ use crate::stmt::body;
 use mpd_laws::reading::scripts_are_of_version;
 use mpd_laws::round_trip::read_scripts_are_printable;
 use mpd_model::{
-    BLOCKS_MAX, DeclKind, FaultCode, LANGUAGE_MAX, Mark, RANKS_MAX, ReadFault, SCRIPT_MAX, Script,
-    Token,
+    BLOCKS_MAX, DeclKind, FaultCode, LANGUAGE_MAX, RANKS_MAX, ReadFault, SCRIPT_MAX, Script,
+    Symbol, Token,
 };
 use std::alloc::Global;
 
@@ -103,8 +103,8 @@ fn array_size<'a>(tokens: &mut Tokens<'a>, kind: DeclKind, name: &'a [u8]) -> Re
                 let place = tokens.place();
                 tokens.add(kind, name, Some(size), place)?;
                 tokens.advance();
-                tokens.expect(Mark::SquareClose)?;
-                tokens.expect(Mark::Semicolon)
+                tokens.expect(Symbol::SquareClose)?;
+                tokens.expect(Symbol::Semicolon)
             }
             None => Err(tokens.refuse()),
         },
@@ -125,7 +125,7 @@ fn single<'a>(
     ensures { Reads (spec.single kind name.now place tokens.old) result tokens.new }
 {
     tokens.add(kind, name, None, place)?;
-    tokens.expect(Mark::Semicolon)
+    tokens.expect(Symbol::Semicolon)
 }
 
 /// The name in a declaration, and what is behind it.
@@ -137,7 +137,7 @@ fn declarator(tokens: &mut Tokens<'_>, kind: DeclKind) -> Result<(), ReadFault>
     let place = tokens.place();
     tokens.fresh()?;
     tokens.advance();
-    if tokens.eat(Mark::SquareOpen) {
+    if tokens.eat(Symbol::SquareOpen) {
         array_size(tokens, kind, name)
     } else {
         single(tokens, kind, name, place)
@@ -160,8 +160,8 @@ fn declares(token: Token) -> Option<DeclKind>
     ensures { result ≡ spec.declares token }
 {
     match token {
-        Token::Is(Mark::Var) => Some(DeclKind::Variable),
-        Token::Is(Mark::Req) => Some(DeclKind::Handle),
+        Token::Is(Symbol::Var) => Some(DeclKind::Variable),
+        Token::Is(Symbol::Req) => Some(DeclKind::Handle),
         _ => None,
     }
 }
@@ -188,12 +188,12 @@ fn header(tokens: &mut Tokens<'_>) -> Result<usize, ReadFault>
     ensures value { Reads (spec.header tokens.old) result tokens.new }
     ensures within { IfOk result (λ n. (1 ≤ n) × (n ≤ RANKS_MAX)) }
 {
-    tokens.expect(Mark::Mpd)?;
+    tokens.expect(Symbol::Mpd)?;
     version(tokens)?;
-    tokens.expect(Mark::Semicolon)?;
-    tokens.expect(Mark::Ranks)?;
+    tokens.expect(Symbol::Semicolon)?;
+    tokens.expect(Symbol::Ranks)?;
     let count = ranks(tokens)?;
-    tokens.expect(Mark::Semicolon)?;
+    tokens.expect(Symbol::Semicolon)?;
     decls(tokens)?;
     Ok(count)
 }

@@ -12,57 +12,61 @@ use crate::expr::expression;
 use crate::place::{index_outside, statement_name, statement_place};
 use crate::stmt::begin_statement;
 use mpd_model::{
-    AssignStmt, DeclKind, Expr, IrecvStmt, IsendStmt, Mark, ReadFault, RecvStmt, SendStmt, Simple,
-    Slot, StatusStmt, Stmt, StmtNode, Target, WaitanyStmt,
+    AssignStmt, DeclKind, Expr, IrecvStmt, IsendStmt, ReadFault, RecvStmt, SendStmt, Simple, Slot,
+    StatusStmt, Stmt, StmtNode, Symbol, Target, WaitanyStmt,
 };
 use std::alloc::Global;
 
 /// A statement that begins with the word, which comes next.
-pub(crate) fn by_form(alloc: Global, tokens: &mut Tokens<'_>, word: Mark) -> Result<Stmt, ReadFault>
+pub(crate) fn by_form(
+    alloc: Global,
+    tokens: &mut Tokens<'_>,
+    word: Symbol,
+) -> Result<Stmt, ReadFault>
     ensures { Reads (spec.by_form (spec.form_of word) tokens.old) result tokens.new }
 {
     match word {
-        Mark::Print => {
+        Symbol::Print => {
             begin_statement(tokens)?;
             print_statement(alloc, tokens)
         }
-        Mark::Assert => {
+        Symbol::Assert => {
             begin_statement(tokens)?;
             assert_statement(alloc, tokens)
         }
-        Mark::Send => {
+        Symbol::Send => {
             begin_statement(tokens)?;
             send_statement(alloc, tokens)
         }
-        Mark::Ssend => {
+        Symbol::Ssend => {
             begin_statement(tokens)?;
             ssend_statement(alloc, tokens)
         }
-        Mark::Recv => {
+        Symbol::Recv => {
             begin_statement(tokens)?;
             recv_statement(alloc, tokens)
         }
-        Mark::Isend => {
+        Symbol::Isend => {
             begin_statement(tokens)?;
             isend_statement(alloc, tokens)
         }
-        Mark::Issend => {
+        Symbol::Issend => {
             begin_statement(tokens)?;
             issend_statement(alloc, tokens)
         }
-        Mark::Irecv => {
+        Symbol::Irecv => {
             begin_statement(tokens)?;
             irecv_statement(alloc, tokens)
         }
-        Mark::Wait => {
+        Symbol::Wait => {
             begin_statement(tokens)?;
             wait_statement(alloc, tokens)
         }
-        Mark::Waitany => {
+        Symbol::Waitany => {
             begin_statement(tokens)?;
             waitany_statement(alloc, tokens)
         }
-        Mark::Barrier => {
+        Symbol::Barrier => {
             begin_statement(tokens)?;
             end_statement(tokens, Simple::Barrier)
         }
@@ -74,7 +78,7 @@ pub(crate) fn by_form(alloc: Global, tokens: &mut Tokens<'_>, word: Mark) -> Res
 fn end_statement(tokens: &mut Tokens<'_>, made: Simple) -> Result<Stmt, ReadFault>
     ensures { Reads (spec.fill [] (λ c. simple made) tokens.old) result tokens.new }
 {
-    match tokens.expect(Mark::Semicolon) {
+    match tokens.expect(Symbol::Semicolon) {
         Ok(()) => Ok(Stmt {
             node: StmtNode::Simple(made),
         }),
@@ -104,7 +108,7 @@ pub(crate) fn assignment(
     ensures { Reads (spec.assignment slot tokens.old) result tokens.new }
 {
     let into = index_outside(alloc, tokens, slot)?;
-    tokens.expect(Mark::Assign)?;
+    tokens.expect(Symbol::Assign)?;
     let value = expression(alloc, tokens)?;
     end_statement(tokens, Simple::Assign(AssignStmt { into, value }))
 }
@@ -162,9 +166,9 @@ fn send_behind_value(
 ) -> Result<Stmt, ReadFault>
     ensures { Reads (spec.fill to_holes (λ c. simple (requests.send_of synchronous request (spec.send_in (value, c)))) tokens.old) result tokens.new }
 {
-    tokens.expect(Mark::To)?;
+    tokens.expect(Symbol::To)?;
     let to = expression(alloc, tokens)?;
-    tokens.expect(Mark::Tag)?;
+    tokens.expect(Symbol::Tag)?;
     let tag = expression(alloc, tokens)?;
     let send = SendStmt { value, to, tag };
     end_statement(tokens, send_of(synchronous, request, send))
@@ -175,7 +179,7 @@ fn send_behind_value(
 fn source(alloc: Global, tokens: &mut Tokens<'_>) -> Result<Option<Expr>, ReadFault>
     ensures { Reads (spec.source tokens.old) result tokens.new }
 {
-    if tokens.eat(Mark::Any) {
+    if tokens.eat(Symbol::Any) {
         Ok(None)
     } else {
         Ok(Some(expression(alloc, tokens)?))
@@ -187,7 +191,7 @@ fn source(alloc: Global, tokens: &mut Tokens<'_>) -> Result<Option<Expr>, ReadFa
 fn status(alloc: Global, tokens: &mut Tokens<'_>) -> Result<Option<StatusStmt>, ReadFault>
     ensures { Reads (spec.status tokens.old) result tokens.new }
 {
-    if tokens.eat(Mark::Status) {
+    if tokens.eat(Symbol::Status) {
         let source = statement_place(alloc, tokens, DeclKind::Variable)?;
         let tag = statement_place(alloc, tokens, DeclKind::Variable)?;
         Ok(Some(StatusStmt { source, tag }))
@@ -217,7 +221,7 @@ fn recv_behind_place(
 ) -> Result<Stmt, ReadFault>
     ensures { Reads (spec.fill from_holes (λ c. simple (requests.recv_of request (spec.recv_in (into, c)))) tokens.old) result tokens.new }
 {
-    tokens.expect(Mark::From)?;
+    tokens.expect(Symbol::From)?;
     let from = source(alloc, tokens)?;
     recv_behind_source(alloc, tokens, request, into, from)
 }
@@ -232,7 +236,7 @@ fn recv_behind_source(
 ) -> Result<Stmt, ReadFault>
     ensures { Reads (spec.fill tag_holes (λ c. simple (requests.recv_of request (spec.recv_in (into, (from, c))))) tokens.old) result tokens.new }
 {
-    tokens.expect(Mark::Tag)?;
+    tokens.expect(Symbol::Tag)?;
     let tag = source(alloc, tokens)?;
     let status = status(alloc, tokens)?;
     let recv = RecvStmt {
@@ -302,7 +306,7 @@ fn waitany_statement(alloc: Global, tokens: &mut Tokens<'_>) -> Result<Stmt, Rea
     ensures { Reads (spec.behind_word spec.waitany_form tokens.old) result tokens.new }
 {
     let requests = statement_name(tokens, DeclKind::Handle)?;
-    tokens.expect(Mark::To)?;
+    tokens.expect(Symbol::To)?;
     let into = statement_place(alloc, tokens, DeclKind::Variable)?;
     end_statement(tokens, Simple::Waitany(WaitanyStmt { requests, into }))
 }

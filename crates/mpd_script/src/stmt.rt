@@ -1,14 +1,14 @@
 //! Statements and blocks (docs/LANGUAGE.md, "Statements").
 
 ghost use Rattle.std.specs.Prelude.{◌≡◌};
-ghost use Rattle.mpd_model.specs.declared.token.Mark.TheVariants.{Waitany};
+ghost use Rattle.mpd_model.specs.declared.token.Symbol.TheVariants.{Waitany};
 ghost use Rattle.mpd_model.specs.grammar.Grammar as spec;
 ghost use Rattle.mpd_model.specs.grammar.Input.{Reads, ReadsAll};
 
 use crate::cursor::Tokens;
 use crate::expr::expression;
 use crate::simple::{assignment, by_form};
-use mpd_model::{DeclKind, FaultCode, Mark, ReadFault, Stmt, StmtNode, Token};
+use mpd_model::{DeclKind, FaultCode, ReadFault, Stmt, StmtNode, Symbol, Token};
 use std::alloc::Global;
 
 /// The version that brought `waitany`.
@@ -19,7 +19,7 @@ fn closes(inside: bool, token: Token) -> bool
     ensures { result ≡ spec.closes inside token }
 {
     match token {
-        Token::Is(Mark::BraceClose) => inside,
+        Token::Is(Symbol::BraceClose) => inside,
         Token::End => !inside,
         _ => false,
     }
@@ -63,15 +63,15 @@ fn block(alloc: Global, tokens: &mut Tokens<'_>, depth: usize) -> Result<Vec<Stm
     ensures { ReadsAll (spec.block depth tokens.old) result tokens.new }
 {
     if depth == 0 {
-        return Err(if tokens.sees(Mark::BraceOpen) {
+        return Err(if tokens.sees(Symbol::BraceOpen) {
             tokens.fail(FaultCode::TooDeep)
         } else {
             tokens.refuse()
         });
     }
-    tokens.expect(Mark::BraceOpen)?;
+    tokens.expect(Symbol::BraceOpen)?;
     let found = body(alloc, tokens, depth - 1, true)?;
-    tokens.expect(Mark::BraceClose)?;
+    tokens.expect(Symbol::BraceClose)?;
     Ok(found)
 }
 
@@ -81,7 +81,7 @@ fn block(alloc: Global, tokens: &mut Tokens<'_>, depth: usize) -> Result<Vec<Stm
 fn otherwise(alloc: Global, tokens: &mut Tokens<'_>, depth: usize) -> Result<Vec<Stmt>, ReadFault>
     ensures { ReadsAll (spec.otherwise (spec.block depth) tokens.old) result tokens.new }
 {
-    if tokens.eat(Mark::Else) {
+    if tokens.eat(Symbol::Else) {
         block(alloc, tokens, depth)
     } else {
         Ok(Vec::new(alloc))
@@ -123,7 +123,7 @@ fn waitany(alloc: Global, tokens: &mut Tokens<'_>) -> Result<Stmt, ReadFault>
         tokens.count()?;
         return Err(tokens.fail(FaultCode::NotInVersion));
     }
-    by_form(alloc, tokens, Mark::Waitany)
+    by_form(alloc, tokens, Symbol::Waitany)
 }
 
 #[cycle(block)]
@@ -137,16 +137,16 @@ fn stmt(alloc: Global, tokens: &mut Tokens<'_>, depth: usize) -> Result<Stmt, Re
             begin_statement(tokens)?;
             assignment(alloc, tokens, slot)
         }
-        Token::Is(Mark::If) => {
+        Token::Is(Symbol::If) => {
             begin_statement(tokens)?;
             if_statement(alloc, tokens, depth)
         }
-        Token::Is(Mark::While) => {
+        Token::Is(Symbol::While) => {
             begin_statement(tokens)?;
             while_statement(alloc, tokens, depth)
         }
-        Token::Is(Mark::Waitany) => waitany(alloc, tokens),
-        Token::Is(mark) => by_form(alloc, tokens, mark),
+        Token::Is(Symbol::Waitany) => waitany(alloc, tokens),
+        Token::Is(symbol) => by_form(alloc, tokens, symbol),
         _ => Err(tokens.refuse()),
     }
 }

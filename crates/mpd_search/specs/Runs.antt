@@ -60,13 +60,13 @@ more_words true = codes ", and there are more"
 more_words false = codes ", and no more"
 
 -- what stands before the first way that is told, and before each other
-abbrev pub mark : Bool → List ℕ
-mark true = codes " ("
-mark false = codes ", "
+abbrev pub separator : Bool → List ℕ
+separator true = codes " ("
+separator false = codes ", "
 
 -- `, 3 cut`, where any run ends so
 abbrev pub way_words : Bool → ℕ → Way → List ℕ
-way_words first n x = if n == 0 then [] else mark first ++ decimal n ++ 32 ∷ way_name x
+way_words first n x = if n == 0 then [] else separator first ++ decimal n ++ 32 ∷ way_name x
 
 -- whether a way that comes behind is still the first that is told
 abbrev pub still_first : Bool → ℕ → Bool

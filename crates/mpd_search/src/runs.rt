@@ -144,8 +144,8 @@ fn push_leaves(alloc: Global, out: &mut String, leaves: &[Leaf]) -> Result<(), A
 }
 
 /// What stands before a way that is told.
-fn mark(is_first: bool) -> &'static str
-    ensures { result.now ≡ spec.mark is_first }
+fn separator(is_first: bool) -> &'static str
+    ensures { result.now ≡ spec.separator is_first }
 {
     if is_first { " (" } else { ", " }
 }
@@ -157,7 +157,7 @@ fn push_way(out: &mut String, is_first: bool, count: usize, way: Way) -> Result<
     if count == 0 {
         return Ok(());
     }
-    out.push_str(mark(is_first))?;
+    out.push_str(separator(is_first))?;
     write!(out, "{count} ")?;
     out.push_str(way.name())
 }

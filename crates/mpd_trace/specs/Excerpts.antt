@@ -23,18 +23,18 @@ abbrev pub shown_from : ℕ → ℕ
 shown_from column = if nat_lt column SHOWN_MAX then 0 else column - SHOWN_BEFORE
 
 -- what stands where the line was cut
-abbrev pub cut_mark : Bool → List ℕ
-cut_mark true = codes "..."
-cut_mark false = []
+abbrev pub ellipsis : Bool → List ℕ
+ellipsis true = codes "..."
+ellipsis false = []
 
--- the part of a line from this byte on, with a mark at each end that was cut
+-- the part of a line from this byte on, with a dots at each end that was cut
 abbrev pub part_shown : List ℕ → ℕ → List ℕ
 part_shown line from =
-    cut_mark (nat_lt 0 from) ++ map shown (take SHOWN_MAX (drop from line)) ++ cut_mark (nat_lt SHOWN_MAX (length (drop from line)))
+    ellipsis (nat_lt 0 from) ++ map shown (take SHOWN_MAX (drop from line)) ++ ellipsis (nat_lt SHOWN_MAX (length (drop from line)))
 
 -- what stands before the caret
 abbrev pub under : ℕ → ℕ → List ℕ
-under column from = replicate (2 + length (cut_mark (nat_lt 0 from)) + (column - from)) 32
+under column from = replicate (2 + length (ellipsis (nat_lt 0 from)) + (column - from)) 32
 
 -- the line of the place, indented by two, and a caret below its byte
 abbrev pub excerpt_of : List ℕ → ℕ → List ℕ

@@ -1,7 +1,7 @@
 //! What is shown of a text that is refused: the line of the fault, and a caret under its byte.
 ghost use Rattle.std.specs.Prelude.{◌≡◌, ◌+◌, ◌-◌, ◌≤◌, ◌++◌, ◌∷◌, [], nat_lt, length, map, take, drop, reverse, replicate, IfOk, OnOk, string_bytes};
 ghost use Rattle.std.specs.List.{position_or_len, before_first};
-ghost use Rattle.mpd_trace.specs.Excerpts.{is_feed, column_of, line_around, shown, shown_from, cut_mark, part_shown, under, excerpt_of};
+ghost use Rattle.mpd_trace.specs.Excerpts.{is_feed, column_of, line_around, shown, shown_from, ellipsis, part_shown, under, excerpt_of};
 
 use std::alloc::{AllocError, Global};
 use std::cmp;
@@ -70,8 +70,8 @@ fn push_shown(out: &mut String, line: &[u8]) -> Result<(), AllocError>
 }
 
 /// What stands where a line was cut.
-fn cut_mark(is_cut: bool) -> &'static str
-    ensures { result.now ≡ cut_mark is_cut }
+fn ellipsis(is_cut: bool) -> &'static str
+    ensures { result.now ≡ ellipsis is_cut }
 {
     if is_cut { "..." } else { "" }
 }
@@ -120,9 +120,9 @@ pub(crate) fn push_part(out: &mut String, line: &[u8], from: usize) -> Result<()
     ensures { OnOk result (string_bytes out.new ≡ string_bytes out.old ++ part_shown line.now from) }
 {
     let rest = from_byte(line, from);
-    out.push_str(cut_mark(from > 0))?;
+    out.push_str(ellipsis(from > 0))?;
     push_shown(out, front_shown(rest))?;
-    out.push_str(cut_mark(rest.len() > SHOWN_MAX))?;
+    out.push_str(ellipsis(rest.len() > SHOWN_MAX))?;
     Ok(())
 }
 
@@ -131,8 +131,8 @@ fn push_under(out: &mut String, column: usize, from: usize) -> Result<(), AllocE
     requires { from ≤ column }
     ensures { OnOk result (string_bytes out.new ≡ string_bytes out.old ++ under column from) }
 {
-    let mark = cut_mark(from > 0).len();
-    push_spaces(out, 2 + mark)?;
+    let dots = ellipsis(from > 0).len();
+    push_spaces(out, 2 + dots)?;
     push_spaces(out, column - from)
 }
 

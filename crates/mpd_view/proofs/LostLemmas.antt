@@ -1,4 +1,4 @@
--- Calls that handles and waits keep, one mark at a time; and a rank that has no request.
+-- Calls that handles and waits keep, one keep at a time; and a rank that has no request.
 use Rattle.std.proofs.Common.{◌≡◌, ◌≢◌, ℕ, suc, zero, ◌<◌, ◌≤◌, ◌==◌, Bool, true, false, ◌&&◌, ◌||◌, not, cond, List, [], ◌∷◌, ◌++◌, length, set, get_or, slice_get, Some, None, refl, sym, ap, ◌∙◌, arith, append-nil}
 use Rattle.std.proofs.Math.Bool.{or_assoc}
 use Rattle.std.proofs.lemmas.Bool.Decides.{nat_tests}
@@ -11,7 +11,7 @@ use Rattle.mpd_model.specs.steps.World.{World, call_id, listed_calls, kind_of, c
 use Rattle.mpd_model.specs.runs.Breakpoints.{is_number}
 use Rattle.mpd_view.specs.Lost.{is_request, is_kept, has_waitany, is_lost, lost_line, lost_text}
 
--- ---- marks
+-- ---- kept
 
 or_false : (b : Bool) → b ≡ b || false
 or_false true = refl
@@ -21,25 +21,25 @@ or_true : (b : Bool) → true ≡ b || true
 or_true true = refl
 or_true false = refl
 
--- no number marks nothing, and neither does one that is no place
-pub unmarked : (b : Bool) (i : ℕ) → b ≡ b || is_number None i
-unmarked b i = or_false b
+-- no number kept nothing, and neither does one that is no place
+pub kept_none : (b : Bool) (i : ℕ) → b ≡ b || is_number None i
+kept_none b i = or_false b
 
-pub marked_past : (b : Bool) (n i m : ℕ) → i < n → n ≤ m → b ≡ b || is_number (Some m) i
-marked_past b n i m within past = let other : (m == i) ≡ false = grind (arith, nat_tests) in or_false b ∙ sym (ap (λ x. b || x) other)
+pub kept_past : (b : Bool) (n i m : ℕ) → i < n → n ≤ m → b ≡ b || is_number (Some m) i
+kept_past b n i m within past = let other : (m == i) ≡ false = grind (arith, nat_tests) in or_false b ∙ sym (ap (λ x. b || x) other)
 
-marked_by : (xs : List Bool) (m i : ℕ) (t : Bool) → (m == i) ≡ t → m < length xs → get_or (set xs m true) i false ≡ get_or xs i false || t
-marked_by xs m i true e within = let same : i ≡ m = grind (arith, nat_tests) in rw same (get_or-set_same xs m true false within ∙ or_true (get_or xs m false))
-marked_by xs m i false e within = let other : i ≢ m = grind (arith, nat_tests) in get_or-set_other xs m i true false other ∙ or_false (get_or xs i false)
+kept_by : (xs : List Bool) (m i : ℕ) (t : Bool) → (m == i) ≡ t → m < length xs → get_or (set xs m true) i false ≡ get_or xs i false || t
+kept_by xs m i true e within = let same : i ≡ m = grind (arith, nat_tests) in rw same (get_or-set_same xs m true false within ∙ or_true (get_or xs m false))
+kept_by xs m i false e within = let other : i ≢ m = grind (arith, nat_tests) in get_or-set_other xs m i true false other ∙ or_false (get_or xs i false)
 
-pub marked_at : (xs : List Bool) (m i : ℕ) → m < length xs → get_or (set xs m true) i false ≡ get_or xs i false || is_number (Some m) i
-marked_at xs m i within = marked_by xs m i (m == i) refl within
+pub kept_at : (xs : List Bool) (m i : ℕ) → m < length xs → get_or (set xs m true) i false ≡ get_or xs i false || is_number (Some m) i
+kept_at xs m i within = kept_by xs m i (m == i) refl within
 
-pub ruleset marking = (unmarked, marked_past, marked_at)
+pub ruleset keeping = (kept_none, kept_past, kept_at)
 
--- what one more element marks
-pub marks_more : {A : Type 0} (t : A → Bool) (xs rest : List A) (x : A) (old now total : Bool) → xs ≡ x ∷ rest → now ≡ old || t x → old || list_any t xs ≡ total → now || list_any t rest ≡ total
-marks_more t xs rest x old now total is more e =
+-- what one more element kept
+pub kept_more : {A : Type 0} (t : A → Bool) (xs rest : List A) (x : A) (old now total : Bool) → xs ≡ x ∷ rest → now ≡ old || t x → old || list_any t xs ≡ total → now || list_any t rest ≡ total
+kept_more t xs rest x old now total is more e =
     ap (λ b. b || list_any t rest) more ∙ or_assoc old (t x) (list_any t rest) ∙ sym (ap (λ ys. old || list_any t ys) is) ∙ e
 
 -- ---- a rank without a request

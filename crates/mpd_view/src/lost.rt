@@ -65,52 +65,52 @@ fn has_request(calls: &[Call]) -> bool
     false
 }
 
-/// Marks the call of a number, where there is one.
-#[tactic(auto, using(crate::proofs::LostLemmas::marking))]
-fn mark(marks: &mut [bool], number: Option<usize>)
-    ensures count { length marks.new ≡ length marks.old }
-    ensures marked { (i : ℕ) → i < length marks.old → get_or marks.new i false ≡ (get_or marks.old i false || is_number number i) }
+/// Notes that the call of a number is kept, where there is one.
+#[tactic(auto, using(crate::proofs::LostLemmas::keeping))]
+fn keep(kept: &mut [bool], number: Option<usize>)
+    ensures count { length kept.new ≡ length kept.old }
+    ensures kept { (i : ℕ) → i < length kept.old → get_or kept.new i false ≡ (get_or kept.old i false || is_number number i) }
 {
     let Some(number) = number else {
         return;
     };
-    if number < marks.len() {
-        marks[number] = true;
+    if number < kept.len() {
+        kept[number] = true;
     }
 }
 
-/// Marks the calls that handles hold.
-fn mark_held(marks: &mut [bool], handles: &[Option<usize>])
-    ensures count { length marks.new ≡ length marks.old }
-    ensures marked { (i : ℕ) → i < length marks.old → get_or marks.new i false ≡ (get_or marks.old i false || list_any (λ h. is_number h i) handles.now) }
+/// Notes the calls that handles hold.
+fn keep_held(kept: &mut [bool], handles: &[Option<usize>])
+    ensures count { length kept.new ≡ length kept.old }
+    ensures kept { (i : ℕ) → i < length kept.old → get_or kept.new i false ≡ (get_or kept.old i false || list_any (λ h. is_number h i) handles.now) }
 {
     for handle in handles {
-        mark(marks, *handle);
+        keep(kept, *handle);
     }
 }
 
-/// Marks the calls that waits are for.
-fn mark_waited(marks: &mut [bool], calls: &[Call])
-    ensures count { length marks.new ≡ length marks.old }
-    ensures marked { (i : ℕ) → i < length marks.old → get_or marks.new i false ≡ (get_or marks.old i false || lost.is_waited calls.now i) }
+/// Notes the calls that waits are for.
+fn keep_waited(kept: &mut [bool], calls: &[Call])
+    ensures count { length kept.new ≡ length kept.old }
+    ensures kept { (i : ℕ) → i < length kept.old → get_or kept.new i false ≡ (get_or kept.old i false || lost.is_waited calls.now i) }
 {
     for call in calls {
-        mark(marks, target_of(call.kind));
+        keep(kept, target_of(call.kind));
     }
 }
 
-/// A mark for each call of a rank: whether a handle holds it, or a wait is for it.
+/// For each call of a rank, whether a handle holds it, or a wait is for it.
 fn kept_calls(alloc: Global, core: &Core<'_>, rank: usize) -> Result<Vec<bool>, AllocError>
     requires rank { rank < length core.now.world.ranks }
     requires calls { rank < length core.now.world.board.calls }
-    ensures count { IfOk result (λ marks. length marks.items ≡ length (calls_of core.now.world.board rank)) }
-    ensures marked { IfOk result (λ marks. (i : ℕ) → i < length (calls_of core.now.world.board rank) → get_or marks.items i false ≡ lost.is_kept core.now.world (call_id rank i)) }
+    ensures count { IfOk result (λ kept. length kept.items ≡ length (calls_of core.now.world.board rank)) }
+    ensures kept { IfOk result (λ kept. (i : ℕ) → i < length (calls_of core.now.world.board rank) → get_or kept.items i false ≡ lost.is_kept core.now.world (call_id rank i)) }
 {
     let calls = core.board().calls(rank);
-    let mut marks = vec![in alloc; false; calls.len()]?;
-    mark_held(&mut marks, core.rank(rank).handles());
-    mark_waited(&mut marks, calls);
-    Ok(marks)
+    let mut kept = vec![in alloc; false; calls.len()]?;
+    keep_held(&mut kept, core.rank(rank).handles());
+    keep_waited(&mut kept, calls);
+    Ok(kept)
 }
 
 /// Whether a request of a rank is lost, where it is known whether it is kept and whether the rank has issued a waitany.

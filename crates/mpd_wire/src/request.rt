@@ -19,7 +19,7 @@ pub enum Command {
     Redo(usize),
     /// Take steps back until so many are left.
     Goto(usize),
-    /// Run back to a step that a breakpoint marks, or to the start.
+    /// Run back to a step that hits a breakpoint, or to the start.
     RunBack,
     /// List the steps that are enabled.
     Enabled,

@@ -5,8 +5,8 @@ use Rattle.std.specs.List.{onto_first}
 use Rattle.mpd_model.specs.texts.Words.{stop_len}
 use Rattle.mpd_witness.specs.WitnessText.{cut_at, parts_at}
 
-abbrev marks : ℕ → ℕ → Bool
-marks c b = b == c
+abbrev separates : ℕ → ℕ → Bool
+separates c b = b == c
 
 abbrev cut : ℕ → List ℕ → Option (List ℕ × List ℕ) → Bool → Option (List ℕ × List ℕ)
 cut b z rest true = Some ([], z)
@@ -18,21 +18,21 @@ cut_is false c b z e = rw e refl
 
 -- ---- a cut
 
-missing_at : (v : Bool) (c b : ℕ) (z : List ℕ) → (b == c) ≡ v → (drop (stop_len (marks c) z) z ≡ [] → cut_at c z ≡ None)
-    → drop (if v then 0 else suc (stop_len (marks c) z)) (b ∷ z) ≡ [] → cut_at c (b ∷ z) ≡ None
+missing_at : (v : Bool) (c b : ℕ) (z : List ℕ) → (b == c) ≡ v → (drop (stop_len (separates c) z) z ≡ [] → cut_at c z ≡ None)
+    → drop (if v then 0 else suc (stop_len (separates c) z)) (b ∷ z) ≡ [] → cut_at c (b ∷ z) ≡ None
 missing_at true c b z e h d = absurd (let k : ⊥ = cc in k)
 missing_at false c b z e h d = cut_is false c b z e ∙ rw (h d) refl
 
-missing : (c : ℕ) (z : List ℕ) → drop (stop_len (marks c) z) z ≡ [] → cut_at c z ≡ None
+missing : (c : ℕ) (z : List ℕ) → drop (stop_len (separates c) z) z ≡ [] → cut_at c z ≡ None
 missing c [] d = refl
 missing c (b ∷ z) d = missing_at (b == c) c b z refl (missing c z) d
 
-found_at : (v : Bool) (c b d : ℕ) (z rest : List ℕ) → (b == c) ≡ v → (drop (stop_len (marks c) z) z ≡ d ∷ rest → cut_at c z ≡ Some (take (stop_len (marks c) z) z, rest))
-    → drop (if v then 0 else suc (stop_len (marks c) z)) (b ∷ z) ≡ d ∷ rest → cut_at c (b ∷ z) ≡ Some (take (if v then 0 else suc (stop_len (marks c) z)) (b ∷ z), rest)
+found_at : (v : Bool) (c b d : ℕ) (z rest : List ℕ) → (b == c) ≡ v → (drop (stop_len (separates c) z) z ≡ d ∷ rest → cut_at c z ≡ Some (take (stop_len (separates c) z) z, rest))
+    → drop (if v then 0 else suc (stop_len (separates c) z)) (b ∷ z) ≡ d ∷ rest → cut_at c (b ∷ z) ≡ Some (take (if v then 0 else suc (stop_len (separates c) z)) (b ∷ z), rest)
 found_at true c b d z rest e h k = cut_is true c b z e ∙ (let s : z ≡ rest = cc in rw s refl)
 found_at false c b d z rest e h k = cut_is false c b z e ∙ rw (h k) refl
 
-found : (c d : ℕ) (z rest : List ℕ) → drop (stop_len (marks c) z) z ≡ d ∷ rest → cut_at c z ≡ Some (take (stop_len (marks c) z) z, rest)
+found : (c d : ℕ) (z rest : List ℕ) → drop (stop_len (separates c) z) z ≡ d ∷ rest → cut_at c z ≡ Some (take (stop_len (separates c) z) z, rest)
 found c d [] rest k = absurd (let k : ⊥ = cc in k)
 found c d (b ∷ z) rest k = found_at (b == c) c b d z rest refl (found c d z rest) k
 

@@ -7,12 +7,12 @@ ghost use Rattle.mpd_witness.specs.WitnessText.{cut_at, parts_at};
 use std::marker::Model;
 
 /// How many bytes stand before the first such byte, or all.
-fn mark_len(text: &[u8], mark: u8) -> usize
-    ensures value { result ≡ stop_len (λ b. b == mark) text.now }
+fn len_before(text: &[u8], separator: u8) -> usize
+    ensures value { result ≡ stop_len (λ b. b == separator) text.now }
     ensures bound { result ≤ length text.now }
 {
     for (i, byte) in text.iter().enumerate() {
-        if *byte == mark {
+        if *byte == separator {
             return i;
         }
     }
@@ -21,10 +21,10 @@ fn mark_len(text: &[u8], mark: u8) -> usize
 
 /// What stands before the first such byte, and what stands behind it.
 #[tactic(auto, using(crate::proofs::PieceLemmas::cutting))]
-pub(crate) fn cut(text: &[u8], mark: u8) -> Option<(&[u8], &[u8])>
-    ensures { MatchOption result (cut_at mark text.now ≡ None) (λ q. cut_at mark text.now ≡ Some (q.0.now, q.1.now)) }
+pub(crate) fn cut(text: &[u8], separator: u8) -> Option<(&[u8], &[u8])>
+    ensures { MatchOption result (cut_at separator text.now ≡ None) (λ q. cut_at separator text.now ≡ Some (q.0.now, q.1.now)) }
 {
-    let (before, from) = text.split_at(mark_len(text, mark));
+    let (before, from) = text.split_at(len_before(text, separator));
     match from.split_first() {
         None => None,
         Some((_, behind)) => Some((before, behind)),
@@ -35,7 +35,7 @@ pub(crate) fn cut(text: &[u8], mark: u8) -> Option<(&[u8], &[u8])>
 #[derive(Drop)]
 pub(crate) struct Pieces<'a> {
     rest: &'a [u8],
-    mark: u8,
+    separator: u8,
     over: bool,
 }
 
@@ -45,19 +45,19 @@ impl<'a> Model for Pieces<'a> {
 
     ghost Value = { List (List ℕ) };
 
-    ghost view = { λ p. parts_left p.over p.mark p.rest.now };
+    ghost view = { λ p. parts_left p.over p.separator p.rest.now };
 }
 
 impl<'a> Pieces<'a> {
     /// All pieces of a text: one at least, and no more than there are bytes, and one.
     #[tactic(auto, using(crate::proofs::PieceLemmas::limiting))]
-    pub(crate) fn new(text: &'a [u8], mark: u8) -> Pieces<'a>
-        ensures parts { result ≡ parts_at mark text.now }
+    pub(crate) fn new(text: &'a [u8], separator: u8) -> Pieces<'a>
+        ensures parts { result ≡ parts_at separator text.now }
         ensures few { length result ≤ length text.now + 1 }
     {
         Pieces {
             rest: text,
-            mark,
+            separator,
             over: false,
         }
     }
@@ -70,7 +70,7 @@ impl<'a> Pieces<'a> {
         if self.over {
             return None;
         }
-        match cut(self.rest, self.mark) {
+        match cut(self.rest, self.separator) {
             None => {
                 self.over = true;
                 Some(self.rest)

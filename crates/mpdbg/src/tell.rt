@@ -309,7 +309,7 @@ pub(crate) fn tell<R: Print + Eprint + AllocGlobal>(
             WRONG
         }
         Fault::LongPicture => {
-            let _unwritten = eprintln!(rt; "mpdbg: picture of more than 20000 marks");
+            let _unwritten = eprintln!(rt; "mpdbg: picture of more than 20000 glyphs");
             WRONG
         }
         Fault::Plain(fault) => tell_plain(rt, fault, notes),

@@ -301,12 +301,12 @@ slots_with_pair b s r q free other =
     others : (i : ℕ) → i ≢ s.index → before i ≡ after i
     others i ne = other_than_send b s r (call_id s.rank i) other (λ is. ne (sym (ap (λ (c : CallId). c.index) is)))
 
-    by_mark : (x : Bool) → is_buffered (kind_at b s) ≡ x → slots_used b s.rank ≡ slots_used (with_set b (Pair s r)) s.rank + one_if x
-    by_mark true e =
+    by_symbol : (x : Bool) → is_buffered (kind_at b s) ≡ x → slots_used b s.rank ≡ slots_used (with_set b (Pair s r)) s.rank + one_if x
+    by_symbol true e =
         let within = known_within (calls_of b s.rank) s.index (buffered_known (kind_at b s) e) in
         count_one_less before after s.index 0 (length (calls_of b s.rank)) (omega arith) (omega (arith, within)) others (send_after b s r)
         ∙ ap (λ (x : Bool). slots_used (with_set b (Pair s r)) s.rank + one_if x) (send_before b s free ∙ e)
-    by_mark false e =
+    by_symbol false e =
         let same = count_same before after 0 (length (calls_of b s.rank)) (λ i le lt. each i) in
         omega (arith, same)
       where
@@ -318,7 +318,7 @@ slots_with_pair b s r q free other =
             ]
 
     of_sender : slots_used b s.rank ≡ slots_used (with_set b (Pair s r)) s.rank + slots_of (kind_at b s)
-    of_sender = by_mark (is_buffered (kind_at b s)) refl
+    of_sender = by_symbol (is_buffered (kind_at b s)) refl
 
 -- a receive is never buffered
 unbuffered : (k : Option CallKind) → receives k ≡ true → is_buffered k ≡ false

@@ -17,7 +17,7 @@ use Rattle.mpd_model.specs.script.Program.{Program}
 use Rattle.mpd_model.specs.steps.World.{World, Board, start, call_id, calls_of, call_numbers, kind_of, kind_at, partner, is_buffered, eligible, holds_slot, slots_used, last_call}
 use Rattle.mpd_model.specs.steps.Next.{Ran, local_at, stepped, can_wake, woken, can_wake_any, woken_any, can_release, released, with_call, with_set, buffers_one, has_buffer, buffered_by, entered, next, fold}
 use Rattle.mpd_laws.proofs.ordered.CallsInOrder.{no_calls, start_orderly, chosen, joined_from, next_orderly, orderly}
-use Rattle.mpd_laws.proofs.ordered.Orderly.{Orderly, IsMarked}
+use Rattle.mpd_laws.proofs.ordered.Orderly.{Orderly, HasAllowedBuffer}
 use Rattle.mpd_laws.proofs.ordered.OrderSteps.{paired_named}
 use Rattle.mpd_laws.proofs.ordered.Releases.{one_if}
 use Rattle.mpd_laws.proofs.buffered.Slots.{slots_of, at_rank, count_same, slots_within, slots_with_call, slots_without_rank, slots_with_match, slots_with_woke, slots_with_release}
@@ -171,16 +171,16 @@ abbrev is_plain : Option CallKind → Bool
 is_plain (Some (Send s)) = not s.synchronous
 is_plain kind = false
 
--- where the mode buffers all, the mark of a call is whether it is a standard send
-marked_standard : (k : Option CallKind) → IsMarked Buffered k → is_buffered k ≡ is_plain k
-marked_standard (Some (Send s)) h = h
-marked_standard k h = refl
+-- where the mode buffers all, a call is buffered exactly where it is a standard send
+allowed_standard : (k : Option CallKind) → HasAllowedBuffer Buffered k → is_buffered k ≡ is_plain k
+allowed_standard (Some (Send s)) h = h
+allowed_standard k h = refl
 
 pub each_free_holds_one : (s : Program) (steps : List Step) (w : World) → fold (start s Buffered) steps ≡ Some w → (p : ℕ)
     → slots_used w.board p ≡ length (filter (λ i. is_plain (kind_at w.board (call_id p i)) && is_none (partner w.board.sets (call_id p i))) (call_numbers w.board p))
 each_free_holds_one s steps w e p =
     count_same (λ i. holds_slot w.board (call_id p i)) (λ i. is_plain (kind_at w.board (call_id p i)) && is_none (partner w.board.sets (call_id p i))) 0 (length (calls_of w.board p))
-    (λ i le lt. ap (λ (x : Bool). x && is_none (partner w.board.sets (call_id p i))) (marked (call_id p i)))
+    (λ i le lt. ap (λ (x : Bool). x && is_none (partner w.board.sets (call_id p i))) (allowed_buffer (call_id p i)))
   where
-    marked : (c : CallId) → is_buffered (kind_at w.board c) ≡ is_plain (kind_at w.board c)
-    marked c = marked_standard (kind_at w.board c) (subst (λ (mode : Mode). IsMarked mode (kind_at w.board c)) (mode_stays s Buffered steps w e) ((orderly s Buffered steps w e).marked c))
+    allowed_buffer : (c : CallId) → is_buffered (kind_at w.board c) ≡ is_plain (kind_at w.board c)
+    allowed_buffer c = allowed_standard (kind_at w.board c) (subst (λ (mode : Mode). HasAllowedBuffer mode (kind_at w.board c)) (mode_stays s Buffered steps w e) ((orderly s Buffered steps w e).allowed_buffer c))

@@ -3,19 +3,19 @@ use Rattle.std.proofs.Common.{◌≡◌, ◌≢◌, ℕ, zero, suc, ◌+◌, ◌
 use Rattle.std.proofs.lemmas.Bool.{cases_Bool}
 use Rattle.std.proofs.lemmas.Bool.Decides.{nat_tests}
 use denote.Enum.Bare.{true_same}
-use Rattle.mpd_model.specs.contracts.token.Mark.{the_type}
+use Rattle.mpd_model.specs.contracts.token.Symbol.{the_type}
 use Rattle.mpd_model.specs.declared.expr.BinaryOp.{BinaryOp}
 use Rattle.mpd_model.specs.declared.expr.UnaryOp.{UnaryOp}
 use Rattle.mpd_model.specs.declared.expr.UnaryOp.TheVariants as u
 use Rattle.mpd_model.specs.declared.place.DeclKind.TheVariants.{Variable}
 use Rattle.mpd_model.specs.declared.place.Place.{Place}
-use Rattle.mpd_model.specs.declared.token.Mark.{Mark}
-use Rattle.mpd_model.specs.declared.token.Mark.TheVariants as m
+use Rattle.mpd_model.specs.declared.token.Symbol.{Symbol}
+use Rattle.mpd_model.specs.declared.token.Symbol.TheVariants as m
 use Rattle.mpd_model.specs.declared.token.Token.{Token}
 use Rattle.mpd_model.specs.declared.token.Token.TheVariants.{Number, Name, Is}
 use Rattle.mpd_model.specs.grammar.Costs.{price, cost, Stops, at}
 use Rattle.mpd_model.specs.grammar.Grammar.{atom_by, atom, bracket, index_inside, place_inside, rounds, sign, unary, chain, level, expr, turns, operator, operator_at, at_level}
-use Rattle.mpd_model.specs.grammar.Input.{Input, Outcome, Parser, and_then, token, spelling, advanced, spend, expect, sees, same_mark, seek}
+use Rattle.mpd_model.specs.grammar.Input.{Input, Outcome, Parser, and_then, token, spelling, advanced, spend, expect, sees, same_symbol, seek}
 use Rattle.mpd_model.specs.script.Term.{Term, lit, own_rank, size, cell, element, op1, op2}
 use Rattle.mpd_model.specs.grammar.Tokens.{Spot}
 use Rattle.mpd_model.specs.grammar.Written.{Names, WrittenTerm, number, rank, ranks, name, entry, round, signs, higher, joins, left_level}
@@ -27,12 +27,12 @@ use Rattle.mpd_laws.proofs.sound.Prices.{cost_append, sign_costs, operator_costs
 pub bind_to : {A B : Type 0} (o : Outcome A) (f : A → Parser B) (x : A × Input) (y : Outcome B) → o ≡ Ok x → f x.0 x.1 ≡ y → and_then o f ≡ y
 bind_to o f x y e h = rw e h
 
-pub expect_at : (wanted : Mark) (s : Spot) (rest : List Spot) (b : ℕ) (i : Input) → s.token ≡ Is wanted → expect wanted (at (s ∷ rest) b i) ≡ Ok (tt, at rest b i)
-unfolding expect sees token advanced same_mark
+pub expect_at : (wanted : Symbol) (s : Spot) (rest : List Spot) (b : ℕ) (i : Input) → s.token ≡ Is wanted → expect wanted (at (s ∷ rest) b i) ≡ Ok (tt, at rest b i)
+unfolding expect sees token advanced same_symbol
 expect_at wanted s rest b i e = rw (e, true_same the_type wanted wanted refl) refl
 
-sees_at : (wanted : Mark) (s : Spot) (rest : List Spot) (b : ℕ) (i : Input) → s.token ≡ Is wanted → sees wanted (at (s ∷ rest) b i) ≡ true
-unfolding sees token same_mark
+sees_at : (wanted : Symbol) (s : Spot) (rest : List Spot) (b : ℕ) (i : Input) → s.token ≡ Is wanted → sees wanted (at (s ∷ rest) b i) ≡ true
+unfolding sees token same_symbol
 sees_at wanted s rest b i e = rw e (true_same the_type wanted wanted refl)
 
 spend_at : (s : Spot) (rest : List Spot) (b : ℕ) (i : Input) → spend (at (s ∷ rest) (suc b) i) ≡ Ok (tt, at rest b i)
@@ -197,8 +197,8 @@ one_read : (i : Input) (s : Spot) (t : Term) → price s.token ≡ 0 → ((n b :
 unfolding level
 one_read i s t z h n b c rest e le st = let eb : b ≡ c = omega arith in rw eb (h n c rest)
 
-pub mark_stops : (k : ℕ) (s : Spot) (rest : List Spot) (tk : Token) → s.token ≡ tk → operator tk ≡ None → Stops k (s ∷ rest)
-mark_stops k s rest tk e h j le = ap (λ u. at_level j (operator u)) e ∙ ap (at_level j) h
+pub symbol_stops : (k : ℕ) (s : Spot) (rest : List Spot) (tk : Token) → s.token ≡ tk → operator tk ≡ None → Stops k (s ∷ rest)
+symbol_stops k s rest tk e h j le = ap (λ u. at_level j (operator u)) e ∙ ap (at_level j) h
 
 round_from : (n n' bud b' c : ℕ) (a z : Spot) (ss rest : List Spot) (t : Term) (i : Input) → n ≡ suc n' → bud ≡ suc b' → a.token ≡ Is m.RoundOpen → z.token ≡ Is m.RoundClose
     → level (expr n') 5 (at (ss ++ z ∷ rest) b' i) ≡ Ok (t, at (z ∷ rest) c i) → level (expr n) 0 (at ((a ∷ ss ++ z ∷ []) ++ rest) bud i) ≡ Ok (t, at rest c i)
@@ -215,7 +215,7 @@ round_reads i a z ss t ea ez h n b c rest e le st =
     let en : n ≡ suc (n - 1) = omega arith in
     let eb : b ≡ suc (c + cost ss) = omega arith in
     let le' : c + cost ss ≤ n - 1 = omega arith in
-    round_from n (n - 1) b (c + cost ss) c a z ss rest t i en eb ea ez (h (n - 1) (c + cost ss) c (z ∷ rest) refl le' (mark_stops 5 z rest (Is m.RoundClose) ez refl))
+    round_from n (n - 1) b (c + cost ss) c a z ss rest t i en eb ea ez (h (n - 1) (c + cost ss) c (z ∷ rest) refl le' (symbol_stops 5 z rest (Is m.RoundClose) ez refl))
 
 entry_from : (n n' bud b' c : ℕ) (s a z : Spot) (ss rest : List Spot) (p : Place) (t : Term) (i : Input) → n ≡ suc n' → bud ≡ suc b' → Names i.decls Variable s true p
     → a.token ≡ Is m.SquareOpen → z.token ≡ Is m.SquareClose → level (expr n') 5 (at (ss ++ z ∷ rest) b' i) ≡ Ok (t, at (z ∷ rest) c i)
@@ -235,7 +235,7 @@ entry_reads i s a z ss p t names ea ez h n b c rest e le st =
     let en : n ≡ suc (n - 1) = omega arith in
     let eb : b ≡ suc (c + cost ss) = omega arith in
     let le' : c + cost ss ≤ n - 1 = omega arith in
-    entry_from n (n - 1) b (c + cost ss) c s a z ss rest p t i en eb names ea ez (h (n - 1) (c + cost ss) c (z ∷ rest) refl le' (mark_stops 5 z rest (Is m.SquareClose) ez refl))
+    entry_from n (n - 1) b (c + cost ss) c s a z ss rest p t i en eb names ea ez (h (n - 1) (c + cost ss) c (z ∷ rest) refl le' (symbol_stops 5 z rest (Is m.SquareClose) ez refl))
 
 unary_from : (n n' bud b' c : ℕ) (s : Spot) (ss rest : List Spot) (op : UnaryOp) (t : Term) (i : Input) → n ≡ suc n' → bud ≡ suc b' → sign s.token ≡ Some op
     → level (expr n') 0 (at (ss ++ rest) b' i) ≡ Ok (t, at rest c i) → level (expr n) 0 (at ((s ∷ ss) ++ rest) bud i) ≡ Ok (op1 op t, at rest c i)

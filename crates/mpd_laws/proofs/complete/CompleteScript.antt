@@ -4,17 +4,17 @@ use Rattle.std.proofs.lemmas.Bool.Decides.{nat_tests}
 use Rattle.std.specs.List.{prefix_len}
 use denote.Enum.Bare.{true_same}
 use Rattle.mpd_model.specs.declared.limits.TheConstants.{BLOCKS_MAX, CELLS_MAX, HANDLES_MAX, NESTING_MAX, RANKS_MAX, SCRIPT_MAX, STATEMENTS_MAX, LANGUAGE_MAX}
-use Rattle.mpd_model.specs.contracts.token.Mark.{the_type}
+use Rattle.mpd_model.specs.contracts.token.Symbol.{the_type}
 use Rattle.mpd_model.specs.declared.place.DeclKind.{DeclKind}
-use Rattle.mpd_model.specs.declared.token.Mark.{Mark}
-use Rattle.mpd_model.specs.declared.token.Mark.TheVariants as m
+use Rattle.mpd_model.specs.declared.token.Symbol.{Symbol}
+use Rattle.mpd_model.specs.declared.token.Symbol.TheVariants as m
 use Rattle.mpd_model.specs.declared.token.Token.{Token}
 use Rattle.mpd_model.specs.declared.token.Token.TheVariants.{Number, Name, Is}
 use Rattle.mpd_model.specs.script.Declaration.{Declared, variable_cells, handle_cells, variables_in, handles_in}
 use Rattle.mpd_model.specs.grammar.Costs.{Gives, blocks_in, dearest_body, dearest_script}
 use Rattle.mpd_model.specs.grammar.Grammar.{version_in, version_of, version_by, version, rank_count, ranks_by, ranks, array_size_at, array_size_by, array_size, single, declarator, decl_by, decl, declares, decls_by, decls_from, decls, header, body, block, max_text, is_text, read_of, reading}
 use Rattle.mpd_model.specs.grammar.Grammar as grammar
-use Rattle.mpd_model.specs.grammar.Input.{Input, Outcome, Parser, and_then, start_of, token, token_of, spelling, place, advanced, expect, sees, is_mark, same_mark, after, fresh, add, cells_fit, slot_in}
+use Rattle.mpd_model.specs.grammar.Input.{Input, Outcome, Parser, and_then, start_of, token, token_of, spelling, place, advanced, expect, sees, is_symbol, same_symbol, after, fresh, add, cells_fit, slot_in}
 use Rattle.mpd_model.specs.script.Program.{Program, IsBlockOf, IsLegal}
 use Rattle.mpd_model.specs.grammar.Tokens.{Spot, tokens}
 use Rattle.mpd_model.specs.script.Tree.{Tree, block_of}
@@ -28,12 +28,12 @@ use Rattle.mpd_laws.proofs.sound.SoundScript.{in_version}
 abbrev pub has : List Spot → List Declared → Input → Input
 has ss ds i = record i { tokens = ss; decls = ds }
 
-pub expect_has : (wanted : Mark) (s : Spot) (rest : List Spot) (ds : List Declared) (i : Input) → s.token ≡ Is wanted → expect wanted (has (s ∷ rest) ds i) ≡ Ok (tt, has rest ds i)
+pub expect_has : (wanted : Symbol) (s : Spot) (rest : List Spot) (ds : List Declared) (i : Input) → s.token ≡ Is wanted → expect wanted (has (s ∷ rest) ds i) ≡ Ok (tt, has rest ds i)
 expect_has wanted s rest ds i e = expect_at wanted s rest i.budget (has rest ds i) e
 
-pub mark_seen : (wanted : Mark) (t : Token) → t ≡ Is wanted → is_mark wanted t ≡ true
-unfolding same_mark
-mark_seen wanted t e = ap (is_mark wanted) e ∙ true_same the_type wanted wanted refl
+pub symbol_seen : (wanted : Symbol) (t : Token) → t ≡ Is wanted → is_symbol wanted t ≡ true
+unfolding same_symbol
+symbol_seen wanted t e = ap (is_symbol wanted) e ∙ true_same the_type wanted wanted refl
 
 -- ---- a declaration
 
@@ -46,9 +46,9 @@ add_has : (kind : DeclKind) (name : List ℕ) (size : Option ℕ) (p : ℕ) (ss 
 unfolding add
 add_has kind name size p ss ds i h = rw h refl
 
-pub no_size : (s : Spot) → s.token ≡ Is m.Semicolon → is_mark m.SquareOpen s.token ≡ false
-unfolding same_mark
-no_size s e = ap (is_mark m.SquareOpen) e
+pub no_size : (s : Spot) → s.token ≡ Is m.Semicolon → is_symbol m.SquareOpen s.token ≡ false
+unfolding same_symbol
+no_size s e = ap (is_symbol m.SquareOpen) e
 
 single_has : (kind : DeclKind) (name : List ℕ) (p : ℕ) (end : Spot) (rest : List Spot) (ds : List Declared) (i : Input) → end.token ≡ Is m.Semicolon → cells_fit kind None ds ≡ true
     → single kind name p (has (end ∷ rest) ds i) ≡ Ok (tt, has rest (ds ++ declared_as kind name None ∷ []) i)
@@ -78,7 +78,7 @@ declarator_has : (kind : DeclKind) (n end : Spot) (rest : List Spot) (ds : List 
 unfolding declarator advanced spelling sees token after
 declarator_has kind n end rest ds i free e h =
     bind_to _ _ _ _ (fresh_has n (end ∷ rest) ds i free)
-    (chosen (is_mark m.SquareOpen end.token) false _ _ _ _ _ (no_size end e) (single_has kind n.text (place (has (n ∷ end ∷ rest) ds i)) end rest ds i e h))
+    (chosen (is_symbol m.SquareOpen end.token) false _ _ _ _ _ (no_size end e) (single_has kind n.text (place (has (n ∷ end ∷ rest) ds i)) end rest ds i e h))
 
 array_has : (kind : DeclKind) (n a c z end : Spot) (cells : ℕ) (rest : List Spot) (ds : List Declared) (i : Input) → slot_in ds n.text ≡ None → a.token ≡ Is m.SquareOpen
     → c.token ≡ Number (pos cells) → z.token ≡ Is m.SquareClose → end.token ≡ Is m.Semicolon → cells_fit kind (Some cells) ds ≡ true
@@ -86,7 +86,7 @@ array_has : (kind : DeclKind) (n a c z end : Spot) (cells : ℕ) (rest : List Sp
 unfolding declarator advanced spelling sees token after
 array_has kind n a c z end cells rest ds i free ea ec ez e h =
     bind_to _ _ _ _ (fresh_has n (a ∷ c ∷ z ∷ end ∷ rest) ds i free)
-    (chosen (is_mark m.SquareOpen a.token) true _ _ _ _ _ (mark_seen m.SquareOpen a.token ea) (array_size_has kind n.text cells c z end rest ds i ec ez e h))
+    (chosen (is_symbol m.SquareOpen a.token) true _ _ _ _ _ (symbol_seen m.SquareOpen a.token ea) (array_size_has kind n.text cells c z end rest ds i ec ez e h))
 
 pub decl_as : (kind : DeclKind) (n : Spot) (ss : List Spot) (ds : List Declared) (i : Input) → n.token ≡ Name → decl kind (has (n ∷ ss) ds i) ≡ declarator kind (has (n ∷ ss) ds i)
 unfolding decl token

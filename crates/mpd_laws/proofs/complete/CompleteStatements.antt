@@ -7,22 +7,22 @@ use Rattle.mpd_model.specs.declared.place.DeclKind.TheVariants.{Variable}
 use Rattle.mpd_model.specs.declared.slot.Slot.{Slot}
 use Rattle.mpd_model.specs.declared.stmt.Simple.{Simple}
 use Rattle.mpd_model.specs.declared.stmt.Simple.TheVariants as st
-use Rattle.mpd_model.specs.declared.token.Mark.{Mark}
-use Rattle.mpd_model.specs.declared.token.Mark.TheVariants as m
+use Rattle.mpd_model.specs.declared.token.Symbol.{Symbol}
+use Rattle.mpd_model.specs.declared.token.Symbol.TheVariants as m
 use Rattle.mpd_model.specs.declared.token.Token.{Token}
 use Rattle.mpd_model.specs.declared.token.Token.TheVariants.{Name, Is, End}
 use Rattle.mpd_model.specs.script.Declaration.{Declared}
 use Rattle.mpd_model.specs.grammar.Costs.{cost, Stops, on, Gives, blocks, blocks_in, dearest_part, dearest, dearest_block, dearest_body}
 use Rattle.mpd_model.specs.grammar.Grammar.{begin_statement, closes, declares, place_of_slot, index_outside, fill, Form, form_of, behind_word, by_form, HasForm, all_formed, waitany_form, since, assignment, otherwise, if_statement, while_statement, stmt_by, stmt, stmts, body, block}
-use Rattle.mpd_model.specs.grammar.Input.{Input, Outcome, Parser, and_then, token, token_of, advanced, slot_in, sees, is_mark, same_mark, first_line, after}
-use Rattle.mpd_model.specs.script.Parts.{Part, of_mark, of_target, parts_of, mark_hole, term_hole, Contents, filled}
+use Rattle.mpd_model.specs.grammar.Input.{Input, Outcome, Parser, and_then, token, token_of, advanced, slot_in, sees, is_symbol, same_symbol, first_line, after}
+use Rattle.mpd_model.specs.script.Parts.{Part, of_symbol, of_target, parts_of, symbol_hole, term_hole, Contents, filled}
 use Rattle.mpd_model.specs.script.Program.{first_version, IsTreeOf, IsBlockOf}
 use Rattle.mpd_model.specs.script.Term.{Term, Target}
 use Rattle.mpd_model.specs.grammar.Tokens.{Spot}
 use Rattle.mpd_model.specs.script.Tree.{Tree, simple, branch, repeat, no_more, block_of}
-use Rattle.mpd_model.specs.grammar.Written.{WrittenTerm, WrittenTarget, whole, part, by_mark, by_target, WrittenParts, then_part, WrittenTree, simply, repeats, chooses, chooses_else, WrittenBlock, braces, WrittenBody, ended, follows}
-use Rattle.mpd_laws.proofs.complete.Complete.{bind_to, mark_stops}
-use Rattle.mpd_laws.proofs.complete.CompleteParts.{expect_on, begin_statement_on, expression_on, target_begins, seek_on, mark_seen, fill_on}
+use Rattle.mpd_model.specs.grammar.Written.{WrittenTerm, WrittenTarget, whole, part, by_symbol, by_target, WrittenParts, then_part, WrittenTree, simply, repeats, chooses, chooses_else, WrittenBlock, braces, WrittenBody, ended, follows}
+use Rattle.mpd_laws.proofs.complete.Complete.{bind_to, symbol_stops}
+use Rattle.mpd_laws.proofs.complete.CompleteParts.{expect_on, begin_statement_on, expression_on, target_begins, seek_on, symbol_seen, fill_on}
 use Rattle.mpd_laws.proofs.complete.Turns.{some_token}
 
 -- ---- the first token of a statement
@@ -55,12 +55,12 @@ while_statement_read B e xs rest t x ls ms b i w le s inside =
     let f = inside (NESTING_MAX - cost e) in
     record { left = f.left; is = bind_to _ _ _ _ (expression_on e xs t ls b i w le s) (bind_to _ _ _ _ f.is refl) }
 
-pub otherwise_none : (B : Parser (List Tree)) (rest : List Spot) (ls : List ℕ) (b : ℕ) (i : Input) → is_mark m.Else (token_of rest) ≡ false
+pub otherwise_none : (B : Parser (List Tree)) (rest : List Spot) (ls : List ℕ) (b : ℕ) (i : Input) → is_symbol m.Else (token_of rest) ≡ false
     → otherwise B (on rest ls b i) ≡ Ok ([], on rest ls b i)
 unfolding otherwise sees after token
 otherwise_none B rest ls b i h = rw h refl
 
-pub otherwise_some : (B : Parser (List Tree)) (w : Spot) (rest : List Spot) (ls : List ℕ) (b : ℕ) (i : Input) → is_mark m.Else w.token ≡ true
+pub otherwise_some : (B : Parser (List Tree)) (w : Spot) (rest : List Spot) (ls : List ℕ) (b : ℕ) (i : Input) → is_symbol m.Else w.token ≡ true
     → otherwise B (on (w ∷ rest) ls b i) ≡ B (on rest ls b i)
 unfolding otherwise sees after token advanced
 otherwise_some B w rest ls b i h = rw h refl
@@ -80,7 +80,7 @@ if_statement_read B e xs ys rest t x y ls ms ns b i w le s first second =
 -- ---- statements, by what is written
 
 abbrev TreeReads : Input → ℕ → List Spot → Tree → List ℕ → Type 0
-TreeReads i n ss t ms = (b : ℕ) (ls : List ℕ) (rest : List Spot) → length ls + length ms ≤ STATEMENTS_MAX → is_mark m.Else (token_of rest) ≡ false
+TreeReads i n ss t ms = (b : ℕ) (ls : List ℕ) (rest : List Spot) → length ls + length ms ≤ STATEMENTS_MAX → is_symbol m.Else (token_of rest) ≡ false
     → Gives (stmt (block n) (on (ss ++ rest) ls b i)) t rest (ls ++ ms) i
 
 abbrev BlockReads : Input → ℕ → List Spot → List Tree → List ℕ → Type 0
@@ -98,9 +98,9 @@ same_gives p a ss us rest ls ms ns b i d e g = rw (d, ← e) g
 -- a statement by its word
 form_reads : (i : Input) (n : ℕ) (f : Form) (c : Contents f.holes) (ss : List Spot) (end : Spot)
     → ((us : List Spot) (ls : List ℕ) (b : ℕ) → stmt_by (block n) (Is f.word) (on us ls b i) ≡ by_form (Some f) (on us ls b i))
-    → (w : WrittenParts i.decls ss (of_mark f.word ∷ filled f.holes c)) → dearest_part i.decls ss (of_mark f.word ∷ filled f.holes c) w ≤ NESTING_MAX → end.token ≡ Is m.Semicolon
+    → (w : WrittenParts i.decls ss (of_symbol f.word ∷ filled f.holes c)) → dearest_part i.decls ss (of_symbol f.word ∷ filled f.holes c) w ≤ NESTING_MAX → end.token ≡ Is m.Semicolon
     → TreeReads i n (ss ++ end ∷ []) (simple (f.made c)) (first_line ss ∷ [])
-form_reads i n f c _ end by (then_part _ rs _ _ (by_mark s _ h) w) le he b ls rest few last =
+form_reads i n f c _ end by (then_part _ rs _ _ (by_symbol s _ h) w) le he b ls rest few last =
     same_gives (stmt (block n)) (simple (f.made c)) _ (s ∷ (rs ++ (end ∷ rest))) rest ls _ _ b i (simp append_assoc) refl
     (begins_read (block n) (behind_word f) s (rs ++ (end ∷ rest)) rest (simple (f.made c)) ls _ b (Is f.word) i h (by (s ∷ (rs ++ (end ∷ rest))) ls b) (omega arith)
     (fill_on f.holes (λ d. simple (f.made d)) c rs end rest (ls ++ s.line ∷ []) b i f.clear w (omega arith) he))
@@ -117,14 +117,14 @@ waitany_read : (f : Form) → waitany_form ≡ f → ReadsWaitany f
 waitany_read f e = subst ReadsWaitany e (λ c i v. since_is 2 (by_form (Some waitany_form)) i v)
 
 -- where a word has a form, that reads the statement, where the text's version has it
-pub stmt_by_form : (B : Parser (List Tree)) (k : Mark) (f : Form) (c : Contents f.holes) (i : Input) → form_of k ≡ Some f → first_version (f.made c) ≤ i.version → stmt_by B (Is k) i ≡ by_form (Some f) i
+pub stmt_by_form : (B : Parser (List Tree)) (k : Symbol) (f : Form) (c : Contents f.holes) (i : Input) → form_of k ≡ Some f → first_version (f.made c) ≤ i.version → stmt_by B (Is k) i ≡ by_form (Some f) i
 stmt_by_form B m.If f c i h v = absurd (cc)
 stmt_by_form B m.While f c i h v = absurd (cc)
 stmt_by_form B m.Waitany f c i h v = waitany_read f (cc) c i v
 stmt_by_form B k f c i h v = ap (λ o. by_form o i) h
 
 behind_place_read : (slot : Slot) (xs us rest : List Spot) (t : Target) (e : Term) (ls : List ℕ) (b : ℕ) (i : Input) → Gives (index_outside (place_of_slot slot) slot.size (on xs ls b i)) t us ls i
-    → ((c : ℕ) → Gives (fill (mark_hole m.Assign ∷ term_hole ∷ []) (λ c. simple (st.Assign (record { into = t; value = c.0 }))) (on us ls c i)) (simple (st.Assign (record { into = t; value = e }))) rest ls i)
+    → ((c : ℕ) → Gives (fill (symbol_hole m.Assign ∷ term_hole ∷ []) (λ c. simple (st.Assign (record { into = t; value = c.0 }))) (on us ls c i)) (simple (st.Assign (record { into = t; value = e }))) rest ls i)
     → Gives (assignment slot (on xs ls b i)) (simple (st.Assign (record { into = t; value = e }))) rest ls i
 unfolding assignment
 behind_place_read slot xs us rest t e ls b i g f =
@@ -148,7 +148,7 @@ assigns_reads i n t e _ end (then_part v rs _ _ (by_target _ _ _ names) w) le he
     (assigned_tokens x.first v x.behind rs end rest x.is) (ap (λ r. ls ++ r ∷ []) (assigned_line x.first v x.behind rs x.is))
     (assignment_read (block n) x.first x.slot (x.behind ++ (rs ++ (end ∷ rest))) rest made ls line b i x.token x.declared x.kind (omega arith)
     (behind_place_read x.slot (x.behind ++ (rs ++ (end ∷ rest))) (rs ++ (end ∷ rest)) rest t e line b i (x.reads line b (rs ++ (end ∷ rest)))
-    (λ c. fill_on (mark_hole m.Assign ∷ term_hole ∷ []) (λ d. simple (st.Assign (record { into = t; value = d.0 }))) (e, tt) rs end rest line c i (tt, tt) w (omega arith) he)))
+    (λ c. fill_on (symbol_hole m.Assign ∷ term_hole ∷ []) (λ d. simple (st.Assign (record { into = t; value = d.0 }))) (e, tt) rs end rest line c i (tt, tt) w (omega arith) he)))
 
 -- a statement that holds no other, as it is written
 abbrev SimpleReads : Input → ℕ → Simple → Type 0
@@ -162,7 +162,7 @@ PartsRead i n t ps = (ss : List Spot) (end : Spot) → (w : WrittenParts i.decls
 formed_reads : (i : Input) (n : ℕ) (s : Simple) → first_version s ≤ i.version → HasForm s → SimpleReads i n s
 formed_reads i n s v x =
     let known : first_version (x.form.made x.contents) ≤ i.version = subst (λ s. first_version s ≤ i.version) (sym x.is) v in
-    let formed : PartsRead i n (simple (x.form.made x.contents)) (of_mark x.form.word ∷ filled x.form.holes x.contents) =
+    let formed : PartsRead i n (simple (x.form.made x.contents)) (of_symbol x.form.word ∷ filled x.form.holes x.contents) =
     λ ss end w le he. form_reads i n x.form x.contents ss end (λ us ls b. stmt_by_form (block n) x.form.word x.form x.contents (on us ls b i) x.found known) w le he in
     subst (SimpleReads i n) x.is (subst (PartsRead i n (simple (x.form.made x.contents))) (sym (x.form.parts x.contents)) formed)
 
@@ -180,12 +180,12 @@ repeats_reads i n k e a t x ms hk w le s f b ls rest few last =
     (begins_read (block n) (while_statement (block n)) k (e ++ (a ++ rest)) rest (repeat t (block_of x)) ls _ b (Is m.While) i hk refl (omega arith)
     (while_statement_read (block n) e (a ++ rest) rest t x ks (ks ++ ms) b i w le (s rest) (λ c. f c ks rest more)))
 
-otherwise_nothing : (B : Parser (List Tree)) (rest : List Spot) (ls : List ℕ) (b : ℕ) (i : Input) → is_mark m.Else (token_of rest) ≡ false → Gives (otherwise B (on rest ls b i)) [] rest ls i
+otherwise_nothing : (B : Parser (List Tree)) (rest : List Spot) (ls : List ℕ) (b : ℕ) (i : Input) → is_symbol m.Else (token_of rest) ≡ false → Gives (otherwise B (on rest ls b i)) [] rest ls i
 otherwise_nothing B rest ls b i h = record { left = b; is = otherwise_none B rest ls b i h }
 
 otherwise_gives : (B : Parser (List Tree)) (w : Spot) (ss rest : List Spot) (y : List Tree) (ls ms : List ℕ) (b : ℕ) (i : Input) → w.token ≡ Is m.Else
     → Gives (B (on ss ls b i)) y rest ms i → Gives (otherwise B (on (w ∷ ss) ls b i)) y rest ms i
-otherwise_gives B w ss rest y ls ms b i h g = record { left = g.left; is = otherwise_some B w ss ls b i (mark_seen m.Else w h) ∙ g.is }
+otherwise_gives B w ss rest y ls ms b i h g = record { left = g.left; is = otherwise_some B w ss ls b i (symbol_seen m.Else w h) ∙ g.is }
 
 chooses_reads : (i : Input) (n : ℕ) (k : Spot) (e a : List Spot) (t : Term) (x : List Tree) (ms : List ℕ)
     → k.token ≡ Is m.If → WrittenTerm i.decls 5 e t → cost e ≤ NESTING_MAX → ((r : List Spot) → Stops 5 (a ++ r)) → BlockReads i n a x ms
@@ -239,18 +239,18 @@ braces_reads i n k a z ss ts ms en ha hz h b ls rest few =
     (rw en (braces_read k a z (ss ++ z ∷ rest) rest ts ls (ls ++ ms) b i ha hz inner))
 
 pub block_stops : (ds : List Declared) (ss : List Spot) (ts : List Tree) (ls : List ℕ) → WrittenBlock ds ss ts ls → (r : List Spot) → Stops 5 (ss ++ r)
-block_stops ds _ _ _ (braces a z ss ts ls ha w hz) r = mark_stops 5 a (ss ++ z ∷ [] ++ r) (Is m.BraceOpen) ha refl
+block_stops ds _ _ _ (braces a z ss ts ls ha w hz) r = symbol_stops 5 a (ss ++ z ∷ [] ++ r) (Is m.BraceOpen) ha refl
 
 -- ---- bodies
 
 -- the token begins a statement: it closes no block, goes on with no `if`, and declares nothing
 pub record Opens (t : Token) : Type 0 where
   pub goes_on : (inside : Bool) → closes inside t ≡ false
-  pub other : is_mark m.Else t ≡ false
+  pub other : is_symbol m.Else t ≡ false
   pub no_decl : declares t ≡ None
 
-form_opens : (k : Mark) (f : Form) → form_of k ≡ Some f → Opens (Is k)
-unfolding same_mark
+form_opens : (k : Symbol) (f : Form) → form_of k ≡ Some f → Opens (Is k)
+unfolding same_symbol
 form_opens m.BraceClose f h = absurd (cc)
 form_opens m.Else f h = absurd (cc)
 form_opens m.Var f h = absurd (cc)
@@ -258,11 +258,11 @@ form_opens m.Req f h = absurd (cc)
 form_opens k f h = record { goes_on = elim [ true ↦ refl | false ↦ refl ]; other = refl; no_decl = refl }
 
 if_opens : Opens (Is m.If)
-unfolding same_mark
+unfolding same_symbol
 if_opens = record { goes_on = elim [ true ↦ refl | false ↦ refl ]; other = refl; no_decl = refl }
 
 while_opens : Opens (Is m.While)
-unfolding same_mark
+unfolding same_symbol
 while_opens = record { goes_on = elim [ true ↦ refl | false ↦ refl ]; other = refl; no_decl = refl }
 
 name_opens : Opens Name
@@ -279,8 +279,8 @@ target_opens : (ds : List Declared) (kind : DeclKind) (ss : List Spot) (t : Targ
 target_opens ds kind _ _ (whole s p n) us = opens_by s.token Name n.token name_opens
 target_opens ds kind _ _ (part s a z ss p t n ha w hz) us = opens_by s.token Name n.token name_opens
 
-mark_first_opens : (ds : List Declared) (k : Mark) (ps : List Part) (ss us : List Spot) → Opens (Is k) → WrittenParts ds ss (of_mark k ∷ ps) → Opens (token_of (ss ++ us))
-mark_first_opens ds k ps _ us x (then_part _ rs _ _ (by_mark s _ h) w) = opens_by s.token (Is k) h x
+symbol_first_opens : (ds : List Declared) (k : Symbol) (ps : List Part) (ss us : List Spot) → Opens (Is k) → WrittenParts ds ss (of_symbol k ∷ ps) → Opens (token_of (ss ++ us))
+symbol_first_opens ds k ps _ us x (then_part _ rs _ _ (by_symbol s _ h) w) = opens_by s.token (Is k) h x
 
 target_first_opens : (ds : List Declared) (kind : DeclKind) (t : Target) (ps : List Part) (ss us : List Spot) → WrittenParts ds ss (of_target kind t ∷ ps) → Opens (token_of (ss ++ us))
 target_first_opens ds kind t ps _ us (then_part n rs _ _ (by_target _ _ _ h) w) = tokens_open (n ++ rs ++ us) (n ++ (rs ++ us)) (append_assoc n rs us) (target_opens ds kind n t h (rs ++ us))
@@ -290,9 +290,9 @@ PartsOpen ds ps = (ss us : List Spot) → WrittenParts ds ss ps → Opens (token
 
 formed_opens : (ds : List Declared) (s : Simple) → HasForm s → PartsOpen ds (parts_of s)
 formed_opens ds s x =
-    let marked : PartsOpen ds (of_mark x.form.word ∷ filled x.form.holes x.contents) =
-    λ ss us w. mark_first_opens ds x.form.word (filled x.form.holes x.contents) ss us (form_opens x.form.word x.form x.found) w in
-    subst (λ s. PartsOpen ds (parts_of s)) x.is (subst (PartsOpen ds) (sym (x.form.parts x.contents)) marked)
+    let opened : PartsOpen ds (of_symbol x.form.word ∷ filled x.form.holes x.contents) =
+    λ ss us w. symbol_first_opens ds x.form.word (filled x.form.holes x.contents) ss us (form_opens x.form.word x.form x.found) w in
+    subst (λ s. PartsOpen ds (parts_of s)) x.is (subst (PartsOpen ds) (sym (x.form.parts x.contents)) opened)
 
 simple_opens : (ds : List Declared) (s : Simple) → PartsOpen ds (parts_of s)
 simple_opens ds (st.Assign s) ss us w = target_first_opens ds Variable s.into _ ss us w
@@ -304,19 +304,19 @@ tree_opens ds _ _ _ (repeats k e a v x ms h1 h2 b) r = opens_by k.token (Is m.Wh
 tree_opens ds _ _ _ (chooses k e a v x ms h1 h2 b) r = opens_by k.token (Is m.If) h1 if_opens
 tree_opens ds _ _ _ (chooses_else k w e a b v x y ms ns h1 h2 f h3 g) r = opens_by k.token (Is m.If) h1 if_opens
 
-closing_is_other : (inside : Bool) (t : Token) → closes inside t ≡ true → is_mark m.Else t ≡ false
-unfolding same_mark
+closing_is_other : (inside : Bool) (t : Token) → closes inside t ≡ true → is_symbol m.Else t ≡ false
+unfolding same_symbol
 closing_is_other true (Is m.BraceClose) h = refl
 closing_is_other false End h = refl
 closing_is_other _ _ h = absurd (cc)
 
 pub body_other : (ds : List Declared) (ss : List Spot) (ts : List Tree) (ls : List ℕ) → WrittenBody ds ss ts ls → (inside : Bool) (rest : List Spot) → closes inside (token_of rest) ≡ true
-    → is_mark m.Else (token_of (ss ++ rest)) ≡ false
+    → is_symbol m.Else (token_of (ss ++ rest)) ≡ false
 body_other ds _ _ _ ended inside rest h = closing_is_other inside (token_of rest) h
 body_other ds _ _ _ (follows ss rs t ts ls ms v w) inside rest h =
     let same : ss ++ rs ++ rest ≡ ss ++ (rs ++ rest) = append_assoc ss rs rest in
     let x = tree_opens ds ss t ls v (rs ++ rest) in
-    ap (λ r. is_mark m.Else (token_of r)) same ∙ x.other
+    ap (λ r. is_symbol m.Else (token_of r)) same ∙ x.other
 
 pub stmts_end : (B : Parser (List Tree)) (inside : Bool) (n : ℕ) (found : List Tree) (ss : List Spot) (ls : List ℕ) (b : ℕ) (i : Input) → closes inside (token_of ss) ≡ true
     → stmts B inside (suc n) found (on ss ls b i) ≡ Ok (found, on ss ls b i)
@@ -342,7 +342,7 @@ as_gives : (o : Outcome (List Tree)) (a c : List Tree) (rest : List Spot) (ls ms
 as_gives o a c rest ls ms i d e g = rw (← d, ← e) g
 
 follows_reads : (i : Input) (n : ℕ) (ss rs : List Spot) (t : Tree) (ts : List Tree) (ls ms : List ℕ) → ((r : List Spot) → Opens (token_of (ss ++ r))) → 0 < length ss
-    → ((inside : Bool) (rest : List Spot) → closes inside (token_of rest) ≡ true → is_mark m.Else (token_of (rs ++ rest)) ≡ false)
+    → ((inside : Bool) (rest : List Spot) → closes inside (token_of rest) ≡ true → is_symbol m.Else (token_of (rs ++ rest)) ≡ false)
     → TreeReads i n ss t ls → BodyReads i n rs ts ms → BodyReads i n (ss ++ rs) (t ∷ ts) (ls ++ ms)
 follows_reads i n ss rs t ts ls ms o some other f g inside zero found b ks rest few h less = absurd (omega arith)
 follows_reads i n ss rs t ts ls ms o some other f g inside (suc turns) found b ks rest few h less =
@@ -391,7 +391,7 @@ mutual
 -- ---- at an input as it is
 
 pub tree_complete : (depth : ℕ) (ss rest : List Spot) (t : Tree) (ls : List ℕ) (i : Input) (w : WrittenTree i.decls ss t ls)
-    → i.tokens ≡ ss ++ rest → is_mark m.Else (token_of rest) ≡ false → IsTreeOf i.version t → blocks t ≤ depth → dearest i.decls ss t ls w ≤ NESTING_MAX → length i.lines + length ls ≤ STATEMENTS_MAX
+    → i.tokens ≡ ss ++ rest → is_symbol m.Else (token_of rest) ≡ false → IsTreeOf i.version t → blocks t ≤ depth → dearest i.decls ss t ls w ≤ NESTING_MAX → length i.lines + length ls ≤ STATEMENTS_MAX
     → Gives (stmt (block depth) i) t rest (i.lines ++ ls) i
 tree_complete depth ss rest t ls i w e last known deep dear few =
     let g = tree_read i.decls i ss t ls w depth known deep dear i.budget i.lines rest few last in

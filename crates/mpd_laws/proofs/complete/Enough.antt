@@ -9,8 +9,8 @@ use Rattle.mpd_model.specs.declared.place.DeclKind.TheVariants.{Variable}
 use Rattle.mpd_model.specs.declared.place.Place.{Place}
 use Rattle.mpd_model.specs.declared.read_fault.FaultCode.TheVariants.{UnknownName}
 use Rattle.mpd_model.specs.declared.slot.Slot.{Slot}
-use Rattle.mpd_model.specs.declared.token.Mark.{Mark}
-use Rattle.mpd_model.specs.declared.token.Mark.TheVariants as m
+use Rattle.mpd_model.specs.declared.token.Symbol.{Symbol}
+use Rattle.mpd_model.specs.declared.token.Symbol.TheVariants as m
 use Rattle.mpd_model.specs.declared.token.Token.{Token}
 use Rattle.mpd_model.specs.declared.token.Token.TheVariants.{Number, Name, Is}
 use Rattle.mpd_model.specs.grammar.Grammar.{atom_by, atom, bracket, index_inside, place_inside, place_of_slot, rounds, unary, chain, chain_by, level, expr, turns, operator_at}
@@ -221,7 +221,7 @@ cond_more : {A : Type 0} (e : ℕ) (b : Bool) (x y u v : Outcome A) → u ≡ le
 cond_more e true x y u v a c = a
 cond_more e false x y u v a c = c
 
-expect_more : (e : ℕ) (wanted : Mark) → Follows e (expect wanted) (expect wanted)
+expect_more : (e : ℕ) (wanted : Symbol) → Follows e (expect wanted) (expect wanted)
 unfolding expect sees token place refusal advanced
 expect_more e wanted i h = cond_more e _ _ _ _ _ refl refl
 

@@ -11,8 +11,8 @@ use Rattle.mpd_model.specs.declared.place.Place.{Place}
 use Rattle.mpd_model.specs.declared.read_fault.FaultCode.TheVariants.{UnknownName, NotInVersion, Memory}
 use Rattle.mpd_model.specs.declared.read_fault.ReadFault.{ReadFault}
 use Rattle.mpd_model.specs.declared.slot.Slot.{Slot}
-use Rattle.mpd_model.specs.declared.token.Mark.{Mark}
-use Rattle.mpd_model.specs.declared.token.Mark.TheVariants as m
+use Rattle.mpd_model.specs.declared.token.Symbol.{Symbol}
+use Rattle.mpd_model.specs.declared.token.Symbol.TheVariants as m
 use Rattle.mpd_model.specs.declared.token.Token.{Token}
 use Rattle.mpd_model.specs.declared.token.Token.TheVariants.{Number, Name, Is, Bad}
 use Rattle.mpd_model.specs.grammar.Grammar.{atom_by, atom, bracket, index_inside, place_inside, place_of_slot, rounds, unary, chain, chain_by, level, expr, turns, operator_at, expression, begin_statement, closes, index_outside, target, statement_place_by, statement_place, statement_name_by, statement_name, source_by, source, status_by, status, fill, Form, form_of, by_form, since, assignment, otherwise, if_statement, while_statement, stmt_by, stmt, stmts, body, block, max_blocks, version_in, version_of, version_by, version, rank_count, ranks_of, ranks_by, ranks, natural, array_size_at, array_size_by, array_size, single, declarator, decl_by, decl, declares, decls_by, decls_from, decls, header, max_text, is_text, read_of, reading}
@@ -21,7 +21,7 @@ use Rattle.mpd_model.specs.grammar.Input.{Input, Outcome, Parser, and_then, star
 use Rattle.mpd_model.specs.script.Program.{Program}
 use Rattle.mpd_model.specs.script.Term.{Term, op2}
 use Rattle.mpd_model.specs.declared.stmt.Simple.TheVariants as st
-use Rattle.mpd_model.specs.script.Parts.{Hole, mark_hole, term_hole, target_hole, name_hole, source_hole, status_hole, Contents}
+use Rattle.mpd_model.specs.script.Parts.{Hole, symbol_hole, term_hole, target_hole, name_hole, source_hole, status_hole, Contents}
 use Rattle.mpd_model.specs.script.Tree.{Tree, simple}
 
 abbrev IsSure : {A : Type 0} → Result A ReadFault → Type 0
@@ -52,7 +52,7 @@ refusal_sure : (i : Input) → (refusal i).code ≢ Memory
 unfolding refusal
 refusal_sure i = code_sure (token i)
 
-expect_sure : (k : Mark) → AllSure (expect k)
+expect_sure : (k : Symbol) → AllSure (expect k)
 unfolding expect
 expect_sure k i = cond_sure (sees k i) _ _ tt (refusal_sure i)
 
@@ -181,7 +181,7 @@ status_sure i = status_case (sees m.Status i) (after m.Status i)
 
 fill_sure : {A : Type 0} (hs : List Hole) (made : Contents hs → A) → AllSure (fill hs made)
 fill_sure [] made i = bind_sure (expect m.Semicolon i) _ (expect_sure m.Semicolon i) (λ u x. tt)
-fill_sure (mark_hole k ∷ hs) made i = bind_sure (expect k i) _ (expect_sure k i) (λ u x. fill_sure hs made x)
+fill_sure (symbol_hole k ∷ hs) made i = bind_sure (expect k i) _ (expect_sure k i) (λ u x. fill_sure hs made x)
 fill_sure (term_hole ∷ hs) made i = bind_sure (expression i) _ (expression_sure i) (λ e x. fill_sure hs (λ c. made (e, c)) x)
 fill_sure (target_hole k ∷ hs) made i = bind_sure (statement_place k i) _ (statement_place_sure k i) (λ t x. fill_sure hs (λ c. made (t, c)) x)
 fill_sure (name_hole k ∷ hs) made i = bind_sure (statement_name k i) _ (statement_name_sure k i) (λ p x. fill_sure hs (λ c. made (p, c)) x)
@@ -202,7 +202,7 @@ assignment_sure : (slot : Slot) → AllSure (assignment slot)
 unfolding assignment
 assignment_sure slot i =
     bind_sure (index_outside (place_of_slot slot) slot.size i) _ (index_outside_sure (place_of_slot slot) slot.size i)
-    (λ t x. fill_sure (mark_hole m.Assign ∷ term_hole ∷ []) (λ c. simple (st.Assign (record { into = t; value = c.0 }))) x)
+    (λ t x. fill_sure (symbol_hole m.Assign ∷ term_hole ∷ []) (λ c. simple (st.Assign (record { into = t; value = c.0 }))) x)
 
 otherwise_sure : (p : Parser (List Tree)) → AllSure p → AllSure (otherwise p)
 unfolding otherwise

@@ -3,8 +3,8 @@ use Rattle.std.proofs.Common.{◌≡◌, ◌≢◌, ℕ, zero, suc, ◌+◌, ◌
 use Rattle.std.specs.Char.{is_ascii_digit}
 use Rattle.std.specs.Str.{bytes_eq}
 use Rattle.mpd_model.specs.declared.token.Class.TheVariants as class
-use Rattle.mpd_model.specs.declared.token.Mark.{Mark}
-use Rattle.mpd_model.specs.declared.token.Mark.TheVariants as m
+use Rattle.mpd_model.specs.declared.token.Symbol.{Symbol}
+use Rattle.mpd_model.specs.declared.token.Symbol.TheVariants as m
 use Rattle.mpd_model.specs.declared.token.Token.{Token}
 use Rattle.mpd_model.specs.declared.token.Token.TheVariants.{Number, Name, Is, Bad, End}
 use Rattle.mpd_model.specs.grammar.Input.{token_of}
@@ -17,9 +17,9 @@ real_number : (n : ℕ) → IsReal (Number (pos n))
 unfolding IsReal
 real_number n e = absurd (cc)
 
-real_mark : (k : Mark) → IsReal (Is k)
+real_symbol : (k : Symbol) → IsReal (Is k)
 unfolding IsReal
-real_mark k e = absurd (cc)
+real_symbol k e = absurd (cc)
 
 real_name : IsReal Name
 unfolding IsReal
@@ -41,24 +41,24 @@ pair : (t : Token) (n : ℕ) → IsReal t → IsRealPair (t, n)
 unfolding IsRealPair
 pair t n h = h
 
-pair_mark : (k : Mark) (n : ℕ) → IsRealPair (Is k, n)
-pair_mark k n = pair (Is k) n (real_mark k)
+pair_symbol : (k : Symbol) (n : ℕ) → IsRealPair (Is k, n)
+pair_symbol k n = pair (Is k) n (real_symbol k)
 
 pair_if : (c : Bool) (x y : Token × ℕ) → IsRealPair x → IsRealPair y → IsRealPair (cond c x y)
 pair_if true x y a b = a
 pair_if false x y a b = b
 
-pair_two_if : (c d : Bool) (k l : Mark) (n o : ℕ) (y : Token × ℕ) → IsRealPair y → IsRealPair (cond c (cond d (Is k, n) (Is l, o)) y)
-pair_two_if c d k l n o y b = pair_if c (cond d (Is k, n) (Is l, o)) y (pair_if d (Is k, n) (Is l, o) (pair_mark k n) (pair_mark l o)) b
+pair_two_if : (c d : Bool) (k l : Symbol) (n o : ℕ) (y : Token × ℕ) → IsRealPair y → IsRealPair (cond c (cond d (Is k, n) (Is l, o)) y)
+pair_two_if c d k l n o y b = pair_if c (cond d (Is k, n) (Is l, o)) y (pair_if d (Is k, n) (Is l, o) (pair_symbol k n) (pair_symbol l o)) b
 
 -- signs, each with its tests: the long one, or the short one where the next byte doesn't fit
 abbrev Sign : Type 0
-Sign = Bool × (Bool × (Mark × (ℕ × (Mark × ℕ))))
+Sign = Bool × (Bool × (Symbol × (ℕ × (Symbol × ℕ))))
 
-abbrev single : Bool → Mark → ℕ → Sign
+abbrev single : Bool → Symbol → ℕ → Sign
 single c k n = (c, (true, (k, (n, (k, n)))))
 
-abbrev double : Bool → Bool → Mark → Mark → Sign
+abbrev double : Bool → Bool → Symbol → Symbol → Sign
 double c d long short = (c, (d, (long, (2, (short, 1)))))
 
 abbrev chosen : List Sign → Token × ℕ
@@ -101,9 +101,9 @@ number_real : (ds : List ℕ) → IsReal (number ds)
 unfolding number
 number_real ds = real_if (nat_lt (decimal_after 0 ds) (2 ^ 63)) (Number (pos (decimal_after 0 ds))) Bad (real_number (decimal_after 0 ds)) real_bad
 
-word_in_real : (table : List (List ℕ × Mark)) (w : List ℕ) → IsReal (word_in table w)
+word_in_real : (table : List (List ℕ × Symbol)) (w : List ℕ) → IsReal (word_in table w)
 word_in_real [] w = real_if (nat_le (length w) 64) Name Bad real_name real_bad
-word_in_real (k ∷ ks) w = real_if (bytes_eq k.0 w) (Is k.1) (word_in ks w) (real_mark k.1) (word_in_real ks w)
+word_in_real (k ∷ ks) w = real_if (bytes_eq k.0 w) (Is k.1) (word_in ks w) (real_symbol k.1) (word_in_real ks w)
 
 word_real : (w : List ℕ) → IsReal (word w)
 unfolding word

@@ -7,8 +7,8 @@ use Rattle.std.specs.Char.{is_ascii_digit}
 use Rattle.std.specs.List.{list_all, prefix_len}
 use Rattle.std.specs.Str.{bytes_eq}
 use Rattle.mpd_model.specs.declared.token.Class.TheVariants as class
-use Rattle.mpd_model.specs.declared.token.Mark.{Mark}
-use Rattle.mpd_model.specs.declared.token.Mark.TheVariants as m
+use Rattle.mpd_model.specs.declared.token.Symbol.{Symbol}
+use Rattle.mpd_model.specs.declared.token.Symbol.TheVariants as m
 use Rattle.mpd_model.specs.declared.token.Token.{Token}
 use Rattle.mpd_model.specs.declared.token.Token.TheVariants.{Number, Name}
 use Rattle.mpd_model.specs.grammar.Printable.{IsName, IsWritable}
@@ -51,7 +51,7 @@ choice : (v : Bool) (x y : Token × ℕ) → is_plain x.0 ≡ true → is_plain 
 choice true x y h k = h
 choice false x y h k = k
 
-two_plain : (v : Bool) (a b : Mark) → is_plain (two v a b).0 ≡ true
+two_plain : (v : Bool) (a b : Symbol) → is_plain (two v a b).0 ≡ true
 two_plain true a b = refl
 two_plain false a b = refl
 
@@ -65,7 +65,7 @@ sign_plain b n =
     (choice (b == 38 && n == 38) _ _ refl (choice (b == 124 && n == 124) _ _ refl refl)))))))))))))))))
 
 -- a word is no number
-word_no_number : (z : ℤ) (ks : List (List ℕ × Mark)) (w : List ℕ) → word_in ks w ≡ Number z → ⊥
+word_no_number : (z : ℤ) (ks : List (List ℕ × Symbol)) (w : List ℕ) → word_in ks w ≡ Number z → ⊥
 word_no_number z [] w h =
     elim (cases_Bool (nat_le (length w) 64)) [
       | inl is ↦ let e = rw is at h in cc

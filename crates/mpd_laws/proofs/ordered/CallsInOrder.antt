@@ -12,7 +12,7 @@ use Rattle.mpd_model.specs.script.Program.{Program}
 use Rattle.mpd_model.specs.steps.World.{World, Board, start, start_rank, start_board, call_id, listed_calls, calls_of, kind_of, kind_at, is_barrier, last_call, eligible}
 use Rattle.mpd_model.specs.steps.Next.{local, local_at, stepped, waits, can_wake, woken, can_wake_any, woken_any, can_release, released, with_set, next, fold}
 use Rattle.mpd_model.specs.steps.Order.{blocks_rank, barriers, before, Ordered}
-use Rattle.mpd_laws.proofs.ordered.Orderly.{Orderly, IsMarked, held}
+use Rattle.mpd_laws.proofs.ordered.Orderly.{Orderly, HasAllowedBuffer, held}
 use Rattle.mpd_laws.proofs.ordered.OrderIssues.{local_keeps}
 use Rattle.mpd_laws.proofs.ordered.OrderReleases.{release_keeps}
 use Rattle.mpd_laws.proofs.ordered.OrderSteps.{match_keeps, wake_keeps, wake_any_keeps}
@@ -35,7 +35,7 @@ start_orderly s mode = record {
   went_on = λ x blocking. absurd (none_blocks _ (no_kind s.ranks mode x) blocking);
   released = λ p r at. ap barriers (no_calls s.ranks p) ∙ sym (ap (λ (n : ℕ). 0 + n) (none_held p));
   ordered = λ p i j lt known. absurd (none_known _ (no_kind s.ranks mode (call_id p j)) known);
-  marked = λ c. subst (IsMarked mode) (sym (no_kind s.ranks mode c)) tt;
+  allowed_buffer = λ c. subst (HasAllowedBuffer mode) (sym (no_kind s.ranks mode c)) tt;
 }
   where
     none_blocks : (k : Option CallKind) → k ≡ None → blocks_rank k ≡ true → ⊥

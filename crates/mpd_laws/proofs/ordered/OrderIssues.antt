@@ -16,7 +16,7 @@ use Rattle.mpd_model.specs.steps.Next.{Ran, local, blocks, stepped, with_call, w
 use Rattle.mpd_model.specs.steps.Order.{matches_first, waits_for, blocks_rank, barriers, releases, barriers_before, is_released_by, names, is_exit, WentOn, Ordered}
 use Rattle.mpd_laws.proofs.ordered.Eligible.{clash, known_within}
 use Rattle.mpd_laws.proofs.ordered.LocalActivity.{BlocksOn, local_blocks}
-use Rattle.mpd_laws.proofs.ordered.Orderly.{Orderly, IsAwaited, IsMarked, may_be, mentions, id_same}
+use Rattle.mpd_laws.proofs.ordered.Orderly.{Orderly, IsAwaited, HasAllowedBuffer, may_be, mentions, id_same}
 use Rattle.mpd_laws.proofs.ordered.Releases.{one_if, releases_cut, barriers_more}
 use Rattle.mpd_laws.proofs.ordered.Splits.{IsSame, any_at_cut, read_written, none_written, others_kept, same_or_end, end_read}
 
@@ -284,12 +284,12 @@ local_counts w p r after call at runs blocked h q s is =
           ap barriers calls ∙ h.released q s (sym rank ∙ is) ∙ (λ i. releases w.board.sets + held_by (sym rank i) (sym calls i))
     ]
 
--- ---- the mark of a send
+-- ---- whether a send is buffered
 
-mark_allowed : (mode : Mode) (count : ℕ) (standard : Bool) → (buffers_one mode count && standard) ≡ (may_be mode (buffers_one mode count && standard) && standard)
-mark_allowed Rendezvous count standard = refl
-mark_allowed Buffered count standard = refl
-mark_allowed (Slots room) count standard = twice (nat_lt count room) standard
+symbol_allowed : (mode : Mode) (count : ℕ) (standard : Bool) → (buffers_one mode count && standard) ≡ (may_be mode (buffers_one mode count && standard) && standard)
+symbol_allowed Rendezvous count standard = refl
+symbol_allowed Buffered count standard = refl
+symbol_allowed (Slots room) count standard = twice (nat_lt count room) standard
   where
     twice : (x y : Bool) → (x && y) ≡ ((x && y) && y)
     twice true y = sym (same y)
@@ -299,15 +299,15 @@ mark_allowed (Slots room) count standard = twice (nat_lt count room) standard
         same false = refl
     twice false y = refl
 
-entered_marked : (b : Board) (p : ℕ) (k : CallKind) → IsMarked b.mode (Some (buffered_by (has_buffer b p) k))
-entered_marked b p (Send s) = mark_allowed b.mode (slots_used b p) (not s.synchronous)
-entered_marked b p k = tt
+entered_allowed : (b : Board) (p : ℕ) (k : CallKind) → HasAllowedBuffer b.mode (Some (buffered_by (has_buffer b p) k))
+entered_allowed b p (Send s) = symbol_allowed b.mode (slots_used b p) (not s.synchronous)
+entered_allowed b p k = tt
 
-marked_issued : (w : World) (p : ℕ) (issued : Call) (x : CallId) → Orderly w → IsMarked w.board.mode (kind_at (with_call w.board p (entered w.board p issued)) x)
-marked_issued w p issued x h =
+issued_allowed : (w : World) (p : ℕ) (issued : Call) (x : CallId) → Orderly w → HasAllowedBuffer w.board.mode (kind_at (with_call w.board p (entered w.board p issued)) x)
+issued_allowed w p issued x h =
     elim (old_or_new w.board p (entered w.board p issued) x) [
-      | inl same ↦ subst (IsMarked w.board.mode) (sym same.kind) (h.marked x)
-      | inr new ↦ subst (IsMarked w.board.mode) (sym new.kind) (entered_marked w.board p issued.kind)
+      | inl same ↦ subst (HasAllowedBuffer w.board.mode) (sym same.kind) (h.allowed_buffer x)
+      | inr new ↦ subst (HasAllowedBuffer w.board.mode) (sym new.kind) (entered_allowed w.board p issued.kind)
     ]
 
 -- ---- the whole step
@@ -322,7 +322,7 @@ local_keeps_by w p r after None at runs blocked h = record {
   ];
   released = local_counts w p r after None at runs blocked h;
   ordered = h.ordered;
-  marked = h.marked;
+  allowed_buffer = h.allowed_buffer;
 }
 local_keeps_by w p r after (Some issued) at runs blocked h =
     let c : Call = entered w.board p issued in
@@ -332,7 +332,7 @@ local_keeps_by w p r after (Some issued) at runs blocked h =
       went_on = λ x blocking. went_issued w p r after c x at runs joined_blocked h blocking;
       released = local_counts w p r after (Some issued) at runs blocked h;
       ordered = ordered_issued w p r c at h;
-      marked = λ x. marked_issued w p issued x h;
+      allowed_buffer = λ x. issued_allowed w p issued x h;
     }
 
 pub local_keeps : (w : World) (p : ℕ) (r : RankWorld) (done : Ran) → slice_get w.ranks p ≡ Some r → local p (length w.ranks) (length (calls_of w.board p)) r ≡ Some done → Orderly w → Orderly (stepped w p done)

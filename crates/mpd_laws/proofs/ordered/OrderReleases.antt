@@ -75,5 +75,5 @@ release_keeps w e h = record {
   ];
   released = counts w e h;
   ordered = ordered_more w set.Barrier (barrier_may_join w.board) h;
-  marked = h.marked;
+  allowed_buffer = h.allowed_buffer;
 }

@@ -55,7 +55,7 @@ match_keeps w s r e h = record {
   ];
   released = λ p q at. h.released p q at ∙ ap (λ (n : ℕ). n + held w p) (sym (releases_same w.board.sets (Pair s r) refl));
   ordered = ordered_more w (Pair s r) (pair_may_join w.board s r e) h;
-  marked = h.marked;
+  allowed_buffer = h.allowed_buffer;
 }
 
 -- ---- a wake
@@ -181,7 +181,7 @@ on_keeps w p writes handle blocked other may h = record {
   ];
   released = wake_counts w p writes handle blocked other h;
   ordered = ordered_more w (Woke (last_call w.board p)) may h;
-  marked = h.marked;
+  allowed_buffer = h.allowed_buffer;
 }
 
 pub wake_keeps : (w : World) (p : ℕ) → can_wake w p ≡ true → Orderly w → Orderly (woken w p)

@@ -37,25 +37,25 @@ pub record IsAwaited (w : World) (x : CallId) : Type 0 where
   pub last : length (calls_of w.board x.rank) ≡ suc x.index
   pub blocked : waits (slice_get w.ranks x.rank) ≡ true
 
--- what the mode makes of a mark of a standard send: a mode with slots leaves it as it is
+-- what the mode makes of whether a standard send is buffered: a mode with slots leaves it as it is
 abbrev pub may_be : Mode → Bool → Bool
 may_be Rendezvous buffered = false
 may_be Buffered buffered = true
 may_be (Slots count) buffered = buffered
 
--- a standard send is marked as the mode allows, and a synchronous one never is buffered
-abbrev pub IsMarked : Mode → Option CallKind → Type 0
-IsMarked mode (Some (Send s)) = s.buffered ≡ (may_be mode s.buffered && not s.synchronous)
-IsMarked mode kind = Unit {0}
+-- a standard send is allowed_buffer as the mode allows, and a synchronous one never is buffered
+abbrev pub HasAllowedBuffer : Mode → Option CallKind → Type 0
+HasAllowedBuffer mode (Some (Send s)) = s.buffered ≡ (may_be mode s.buffered && not s.synchronous)
+HasAllowedBuffer mode kind = Unit {0}
 
 -- Match sets name calls that were issued; a rank went on from each blocking call, or is blocked on it; each rank has issued a
--- barrier for each release, and one more where it is blocked on that; calls are in order; the mark of each send is one that the mode allows.
+-- barrier for each release, and one more where it is blocked on that; calls are in order; each send is buffered as the mode allows.
 pub record Orderly (w : World) : Type 0 where
   pub named : (c : CallId) → is_named w.board.sets c ≡ true → is_some (kind_at w.board c) ≡ true
   pub went_on : (x : CallId) → blocks_rank (kind_at w.board x) ≡ true → WentOn w.board w.board.sets x ⊎ IsAwaited w x
   pub released : (p : ℕ) (r : RankWorld) → slice_get w.ranks p ≡ Some r → barriers (calls_of w.board p) ≡ releases w.board.sets + held w p
   pub ordered : (p i j : ℕ) → i < j → is_some (kind_at w.board (call_id p j)) ≡ true → Ordered w.board (call_id p i) (call_id p j)
-  pub marked : (c : CallId) → IsMarked w.board.mode (kind_at w.board c)
+  pub allowed_buffer : (c : CallId) → HasAllowedBuffer w.board.mode (kind_at w.board c)
 
 pub waiting : (o : Option RankWorld) → waits o ≡ true → (r : RankWorld) × (o ≡ Some r)
 waiting None e = absurd (cc)

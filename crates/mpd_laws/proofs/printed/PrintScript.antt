@@ -6,8 +6,8 @@ use Rattle.std.specs.List.{flat_map, list_all, prefix_len}
 use Rattle.mpd_model.specs.declared.limits.TheConstants.{CELLS_MAX, HANDLES_MAX}
 use Rattle.mpd_model.specs.declared.place.DeclKind.{DeclKind}
 use Rattle.mpd_model.specs.declared.place.DeclKind.TheVariants.{Variable, Handle}
-use Rattle.mpd_model.specs.declared.token.Mark.{Mark}
-use Rattle.mpd_model.specs.declared.token.Mark.TheVariants as m
+use Rattle.mpd_model.specs.declared.token.Symbol.{Symbol}
+use Rattle.mpd_model.specs.declared.token.Symbol.TheVariants as m
 use Rattle.mpd_model.specs.declared.token.Token.TheVariants.{Number, Name, Is}
 use Rattle.mpd_model.specs.grammar.Canonical.{kind_word, decl_text, block_text, canonical}
 use Rattle.mpd_model.specs.script.Declaration.{Declared, cells_of, variable_cells, handle_cells, variables_in, handles_in}
@@ -29,7 +29,7 @@ use Rattle.mpd_laws.proofs.cutting.Signs.{square_open, square_close, end_sign}
 -- ---- declarations
 
 -- the word that begins a declaration
-abbrev word_of : DeclKind → Mark
+abbrev word_of : DeclKind → Symbol
 word_of Variable = m.Var
 word_of Handle = m.Req
 

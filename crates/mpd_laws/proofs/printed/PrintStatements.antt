@@ -3,10 +3,10 @@ use Rattle.std.proofs.Common.{◌≡◌, ℕ, zero, suc, ◌≤◌, max, true, f
 use Rattle.std.specs.Prelude.{codes}
 use Rattle.mpd_model.specs.declared.place.DeclKind.{DeclKind}
 use Rattle.mpd_model.specs.declared.place.Place.{Place}
-use Rattle.mpd_model.specs.declared.token.Mark.TheVariants as m
+use Rattle.mpd_model.specs.declared.token.Symbol.TheVariants as m
 use Rattle.mpd_model.specs.declared.token.Token.{Token}
 use Rattle.mpd_model.specs.declared.token.Token.TheVariants.{Name, Is}
-use Rattle.mpd_model.specs.grammar.Canonical.{name_text, whole_text, index_text, target_text, indent, else_text, mark_text, part_text, parts_text, tree_text, block_text}
+use Rattle.mpd_model.specs.grammar.Canonical.{name_text, whole_text, index_text, target_text, indent, else_text, symbol_text, part_text, parts_text, tree_text, block_text}
 use Rattle.mpd_model.specs.script.Declaration.{Declared}
 use Rattle.mpd_model.specs.grammar.Costs.{cost, index_cost, part_cost, dearest_part, dearest, dearest_body}
 use Rattle.mpd_model.specs.grammar.Input.{first_line, max_budget}
@@ -14,13 +14,13 @@ use Rattle.mpd_model.specs.grammar.Printable.{HasName, IsPrintableWhole, IsPrint
 use Rattle.mpd_model.specs.script.Term.{Term, Target}
 use Rattle.mpd_model.specs.grammar.Tokens.{Spot, tokens_after}
 use Rattle.mpd_model.specs.declared.stmt.Simple.{Simple}
-use Rattle.mpd_model.specs.declared.token.Mark.{Mark}
-use Rattle.mpd_model.specs.script.Parts.{Part, of_mark, of_term, of_target, of_name, parts_of}
+use Rattle.mpd_model.specs.declared.token.Symbol.{Symbol}
+use Rattle.mpd_model.specs.script.Parts.{Part, of_symbol, of_term, of_target, of_name, parts_of}
 use Rattle.mpd_model.specs.script.Tree.{Tree, Block, simple, branch, repeat, no_more, then_more, block_of, trees, statements, statements_in}
-use Rattle.mpd_model.specs.grammar.Written.{WrittenTerm, WrittenTarget, whole, part, WrittenPart, by_mark, by_term, by_target, by_name, WrittenParts, no_part, then_part, WrittenTree, simply, repeats, chooses, chooses_else, braces, WrittenBody, ended, follows}
+use Rattle.mpd_model.specs.grammar.Written.{WrittenTerm, WrittenTarget, whole, part, WrittenPart, by_symbol, by_term, by_target, by_name, WrittenParts, no_part, then_part, WrittenTree, simply, repeats, chooses, chooses_else, braces, WrittenBody, ended, follows}
 use Rattle.mpd_laws.proofs.sound.Cheap.{max_small}
 use Rattle.mpd_laws.proofs.cutting.Cuts.{Ends, Any, Spelled, join, turned, narrowed, fixed, blank_before, blank_behind, Both, both, IsOne, one, IsWord, one_word, IsNone, nothing}
-use Rattle.mpd_laws.proofs.cutting.Marks.{Parted, spaced, closed, parted_ends, mark_spelled}
+use Rattle.mpd_laws.proofs.cutting.Symbols.{Parted, spaced, closed, parted_ends, symbol_spelled}
 use Rattle.mpd_laws.proofs.printed.PrintTerms.{TermSpots, term_spelled, name_spelled, names_of}
 use Rattle.mpd_laws.proofs.cutting.Signs.{square_open, square_close, if_word, while_word, end_sign, brace_open, brace_close, brace_end, else_word, brace_behind, line_end, two_spaces}
 
@@ -117,14 +117,14 @@ record PartsSpots (ds : List Declared) (ps : List Part) (ss : List Spot) : Type 
   written : WrittenParts ds ss ps
   cheap : dearest_part ds ss ps written ≤ max_budget
 
-mark_spots : (ds : List Declared) (k : Mark) (ss : List Spot) → IsOne (Is k) ss → PartSpots ds (of_mark k) ss
-mark_spots ds k _ (one s h) = record { written = by_mark s k h; cheap = omega arith }
+symbol_spots : (ds : List Declared) (k : Symbol) (ss : List Spot) → IsOne (Is k) ss → PartSpots ds (of_symbol k) ss
+symbol_spots ds k _ (one s h) = record { written = by_symbol s k h; cheap = omega arith }
 
 name_spots : (ds : List Declared) (kind : DeclKind) (p : Place) → IsPrintablePart ds (of_name kind p) → (ss : List Spot) → IsWord Name (name_text ds p) ss → PartSpots ds (of_name kind p) ss
 name_spots ds kind p x _ (one_word s h e) = record { written = by_name s kind x.0 p (names_of ds kind x.0 p s x.1 h e); cheap = omega arith }
 
 part_spelled : (ds : List Declared) (p : Part) → IsPrintablePart ds p → Spelled Parted (PartSpots ds p) (part_text ds p)
-part_spelled ds (of_mark k) h = turned (mark_text k) (mark_spots ds k) (mark_spelled k)
+part_spelled ds (of_symbol k) h = turned (symbol_text k) (symbol_spots ds k) (symbol_spelled k)
 part_spelled ds (of_term e) h =
     turned (whole_text ds e) (λ ss x. record { written = by_term ss e x.written; cheap = x.cheap }) (narrowed (whole_text ds e) parted_ends (whole_spelled ds e h))
 part_spelled ds (of_target kind t) h =

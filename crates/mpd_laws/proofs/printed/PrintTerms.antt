@@ -10,7 +10,7 @@ use Rattle.mpd_model.specs.declared.expr.UnaryOp.TheVariants.{Negate, Not}
 use Rattle.mpd_model.specs.declared.place.DeclKind.{DeclKind}
 use Rattle.mpd_model.specs.declared.place.DeclKind.TheVariants.{Variable}
 use Rattle.mpd_model.specs.declared.place.Place.{Place}
-use Rattle.mpd_model.specs.declared.token.Mark.TheVariants as m
+use Rattle.mpd_model.specs.declared.token.Symbol.TheVariants as m
 use Rattle.mpd_model.specs.declared.token.Token.TheVariants.{Number, Name, Is}
 use Rattle.mpd_model.specs.grammar.Canonical.{name_text, below, op_text, in_brackets, term_text}
 use Rattle.mpd_model.specs.script.Declaration.{Declared}

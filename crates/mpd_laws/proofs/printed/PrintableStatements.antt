@@ -10,7 +10,7 @@ use Rattle.mpd_model.specs.script.Term.{Term, Target}
 use Rattle.mpd_model.specs.grammar.Tokens.{Spot, tokens}
 use Rattle.mpd_model.specs.script.Parts.{Part, parts_of}
 use Rattle.mpd_model.specs.script.Tree.{Tree, block_of}
-use Rattle.mpd_model.specs.grammar.Written.{WrittenTerm, WrittenTarget, whole, part, WrittenPart, by_mark, by_term, by_target, by_name, WrittenParts, no_part, then_part, WrittenTree, simply, repeats, chooses, chooses_else, WrittenBlock, braces, WrittenBody, ended, follows, declared_as, WrittenDecls, none, declares_one, declares_array, WrittenScript, script}
+use Rattle.mpd_model.specs.grammar.Written.{WrittenTerm, WrittenTarget, whole, part, WrittenPart, by_symbol, by_term, by_target, by_name, WrittenParts, no_part, then_part, WrittenTree, simply, repeats, chooses, chooses_else, WrittenBlock, braces, WrittenBody, ended, follows, declared_as, WrittenDecls, none, declares_one, declares_array, WrittenScript, script}
 use Rattle.mpd_laws.proofs.cutting.GoodSpots.{AllGood, good_left, good_right, tokens_good}
 use Rattle.mpd_laws.proofs.printed.PrintableTerms.{term_printable, has_name}
 use Rattle.mpd_laws.proofs.printed.ReadTrees.{IsCheap, IsCheapIndex, IsCheapPart, AreCheap, IsCheapTree, IsCheapBlock, reading_fine}
@@ -25,7 +25,7 @@ target_printable ds kind _ _ (whole s p h) g c = has_name ds kind false s p g.0 
 target_printable ds kind _ _ (part s a b ss p t h h1 w h2) g c = (has_name ds kind true s p g.0 h, whole_printable ds ss t w (good_left ss (b ∷ []) g.1.1) c)
 
 part_printable : (ds : List Declared) (ss : List Spot) (p : Part) → WrittenPart ds ss p → AllGood ss → IsCheapPart p → IsPrintablePart ds p
-part_printable ds _ _ (by_mark s k h) g c = tt
+part_printable ds _ _ (by_symbol s k h) g c = tt
 part_printable ds _ _ (by_term ss t w) g c = whole_printable ds ss t w g c
 part_printable ds _ _ (by_target ss kind t w) g c = target_printable ds kind ss t w g c
 part_printable ds _ _ (by_name s kind is_array p n) g c = (is_array, has_name ds kind is_array s p g.0 n)

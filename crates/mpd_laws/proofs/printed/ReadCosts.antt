@@ -10,8 +10,8 @@ use Rattle.mpd_model.specs.declared.place.DeclKind.TheVariants.{Variable}
 use Rattle.mpd_model.specs.declared.place.Place.{Place}
 use Rattle.mpd_model.specs.declared.read_fault.FaultCode.TheVariants.{UnknownName}
 use Rattle.mpd_model.specs.declared.slot.Slot.{Slot}
-use Rattle.mpd_model.specs.declared.token.Mark.{Mark}
-use Rattle.mpd_model.specs.declared.token.Mark.TheVariants as m
+use Rattle.mpd_model.specs.declared.token.Symbol.{Symbol}
+use Rattle.mpd_model.specs.declared.token.Symbol.TheVariants as m
 use Rattle.mpd_model.specs.declared.token.Token.{Token}
 use Rattle.mpd_model.specs.declared.token.Token.TheVariants.{Number, Name, Is}
 use Rattle.mpd_model.specs.grammar.Canonical.{below}
@@ -25,7 +25,7 @@ use Rattle.mpd_laws.proofs.sound.Sound.{bind_ok, ok_of, ok_parts, test_ok, spend
 
 -- ---- what a success of a step says
 
-expect_keeps : (wanted : Mark) (i : Input) (y : Unit {0} × Input) → expect wanted i ≡ Ok y → y.1.budget ≡ i.budget
+expect_keeps : (wanted : Symbol) (i : Input) (y : Unit {0} × Input) → expect wanted i ≡ Ok y → y.1.budget ≡ i.budget
 unfolding expect advanced
 expect_keeps wanted i y h = sym (ap (λ p. p.1.budget) (test_ok (sees wanted i) _ _ y h).1)
 

@@ -7,7 +7,7 @@ use Rattle.mpd_model.specs.declared.place.Place.{Place}
 use Rattle.mpd_model.specs.declared.read_fault.FaultCode.TheVariants.{TooDeep}
 use Rattle.mpd_model.specs.declared.slot.Slot.{Slot}
 use Rattle.mpd_model.specs.declared.stmt.StatusStmt.{StatusStmt}
-use Rattle.mpd_model.specs.declared.token.Mark.TheVariants as m
+use Rattle.mpd_model.specs.declared.token.Symbol.TheVariants as m
 use Rattle.mpd_model.specs.declared.token.Token.{Token}
 use Rattle.mpd_model.specs.declared.token.Token.TheVariants.{Name, Is}
 use Rattle.mpd_model.specs.grammar.Costs.{blocks, blocks_in}
@@ -17,7 +17,7 @@ use Rattle.mpd_model.specs.grammar.Printable.{term_cost}
 use Rattle.mpd_model.specs.script.Program.{Program}
 use Rattle.mpd_model.specs.script.Term.{Term, Target}
 use Rattle.mpd_model.specs.declared.stmt.Simple.TheVariants as st
-use Rattle.mpd_model.specs.script.Parts.{Part, of_mark, of_term, of_target, of_name, parts_of, Hole, mark_hole, term_hole, target_hole, name_hole, source_hole, status_hole, source_part, status_parts, Contents, filled}
+use Rattle.mpd_model.specs.script.Parts.{Part, of_symbol, of_term, of_target, of_name, parts_of, Hole, symbol_hole, term_hole, target_hole, name_hole, source_hole, status_hole, source_part, status_parts, Contents, filled}
 use Rattle.mpd_model.specs.script.Tree.{Tree, Block, simple, branch, repeat, no_more, then_more, block_of}
 use Rattle.mpd_laws.proofs.sound.Cheap.{max_small}
 use Rattle.mpd_laws.proofs.printed.ReadCosts.{expression_cheap}
@@ -36,7 +36,7 @@ IsCheapIndex None = Unit {0}
 IsCheapIndex (Some t) = IsCheap t
 
 abbrev pub IsCheapPart : Part → Type 0
-IsCheapPart (of_mark k) = Unit {0}
+IsCheapPart (of_symbol k) = Unit {0}
 IsCheapPart (of_term e) = IsCheap e
 IsCheapPart (of_target kind t) = IsCheapIndex t.index
 IsCheapPart (of_name kind p) = Unit {0}
@@ -120,7 +120,7 @@ fill_cheap : {A : Type 0} (hs : List Hole) (made : Contents hs → A) (i : Input
 fill_cheap [] made i y h =
     let b = bind_ok (expect m.Semicolon i) _ y h in
     record { contents = tt; is = (ok_parts (made tt, b.0.1) y b.2).0; cheap = tt }
-fill_cheap (mark_hole k ∷ hs) made i y h =
+fill_cheap (symbol_hole k ∷ hs) made i y h =
     let b = bind_ok (expect k i) _ y h in
     let r = fill_cheap hs made b.0.1 y b.2 in
     record { contents = r.contents; is = r.is; cheap = (tt, r.cheap) }
@@ -159,7 +159,7 @@ assignment_fine : (d : ℕ) (s : Slot) → Reads d (assignment s)
 unfolding assignment
 assignment_fine d s i y h =
     let a = bind_ok (index_outside (place_of_slot s) s.size i) _ y h in
-    let r = fill_cheap (mark_hole m.Assign ∷ term_hole ∷ []) (λ c. simple (st.Assign (record { into = a.0.0; value = c.0 }))) a.0.1 y a.2 in
+    let r = fill_cheap (symbol_hole m.Assign ∷ term_hole ∷ []) (λ c. simple (st.Assign (record { into = a.0.0; value = c.0 }))) a.0.1 y a.2 in
     subst (Fine d) r.is (record { cheap = (index_outside_cheap (place_of_slot s) s.size i a.0 a.1, r.cheap); open_blocks = omega arith })
 
 -- ---- blocks

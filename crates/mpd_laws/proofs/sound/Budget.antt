@@ -6,8 +6,8 @@ use Rattle.mpd_model.specs.declared.expr.UnaryOp.{UnaryOp}
 use Rattle.mpd_model.specs.declared.expr.UnaryOp.TheVariants as u
 use Rattle.mpd_model.specs.declared.place.DeclKind.TheVariants.{Variable}
 use Rattle.mpd_model.specs.declared.place.Place.{Place}
-use Rattle.mpd_model.specs.declared.token.Mark.{Mark}
-use Rattle.mpd_model.specs.declared.token.Mark.TheVariants as m
+use Rattle.mpd_model.specs.declared.token.Symbol.{Symbol}
+use Rattle.mpd_model.specs.declared.token.Symbol.TheVariants as m
 use Rattle.mpd_model.specs.declared.token.Token.{Token}
 use Rattle.mpd_model.specs.declared.token.Token.TheVariants.{Number, Name, Is}
 use Rattle.mpd_model.specs.grammar.Costs.{price, cost}
@@ -40,7 +40,7 @@ next_pays i j t e p h =
     let same : j.budget ≡ i.budget = ap (λ k. k.budget) h in
     omega (arith, free, next, same)
 
-expect_pays : (wanted : Mark) (i : Input) (y : Unit {0} × Input) → price (Is wanted) ≡ 0 → expect wanted i ≡ Ok y → Pays i y.1
+expect_pays : (wanted : Symbol) (i : Input) (y : Unit {0} × Input) → price (Is wanted) ≡ 0 → expect wanted i ≡ Ok y → Pays i y.1
 expect_pays wanted i y p h = let e = expect_ok wanted i y h in next_pays i y.1 (Is wanted) e.0 p e.1
 
 -- ---- expressions

@@ -3,13 +3,13 @@ use Rattle.std.proofs.Common.{◌≡◌, ℕ, ◌≤◌, max, Bool, true, false,
 use Rattle.mpd_model.specs.declared.place.DeclKind.{DeclKind}
 use Rattle.mpd_model.specs.declared.place.Place.{Place}
 use Rattle.mpd_model.specs.declared.stmt.Simple.{Simple}
-use Rattle.mpd_model.specs.declared.token.Mark.{Mark}
-use Rattle.mpd_model.specs.declared.token.Mark.TheVariants as m
+use Rattle.mpd_model.specs.declared.token.Symbol.{Symbol}
+use Rattle.mpd_model.specs.declared.token.Symbol.TheVariants as m
 use Rattle.mpd_model.specs.declared.token.Token.TheVariants.{Is}
 use Rattle.mpd_model.specs.grammar.Costs.{cost, index_cost, part_cost, dearest_part, dearest, dearest_block, dearest_body}
 use Rattle.mpd_model.specs.script.Declaration.{Declared}
 use Rattle.mpd_model.specs.grammar.Input.{first_line, max_budget}
-use Rattle.mpd_model.specs.script.Parts.{Part, of_mark, of_term, of_target, of_name, parts_of}
+use Rattle.mpd_model.specs.script.Parts.{Part, of_symbol, of_term, of_target, of_name, parts_of}
 use Rattle.mpd_model.specs.script.Term.{Term, Target}
 use Rattle.mpd_model.specs.grammar.Tokens.{Spot}
 use Rattle.mpd_model.specs.script.Tree.{Tree, simple, branch, repeat, no_more, block_of}
@@ -52,8 +52,8 @@ module _ {ds : List Declared} where
       → CheapTarget ds kind (s ∷ a ∷ ss ++ b ∷ []) (record { place = p; index = Some t })
   part s a b ss p t n h w k = (written.part s a b ss p t n h w.0 k, w.1)
 
-  pub by_mark : (s : Spot) (k : Mark) → s.token ≡ Is k → CheapPart ds (s ∷ []) (of_mark k)
-  by_mark s k h = (written.by_mark s k h, omega arith)
+  pub by_symbol : (s : Spot) (k : Symbol) → s.token ≡ Is k → CheapPart ds (s ∷ []) (of_symbol k)
+  by_symbol s k h = (written.by_symbol s k h, omega arith)
 
   pub by_term : (ss : List Spot) (t : Term) → CheapTerm ds ss t → CheapPart ds ss (of_term t)
   by_term ss t w = (written.by_term ss t w.0, w.1)

@@ -7,13 +7,13 @@ use Rattle.mpd_model.specs.declared.read_fault.FaultCode.TheVariants.{TooDeep}
 use Rattle.mpd_model.specs.declared.slot.Slot.{Slot}
 use Rattle.mpd_model.specs.declared.stmt.Simple.{Simple}
 use Rattle.mpd_model.specs.declared.stmt.Simple.TheVariants as st
-use Rattle.mpd_model.specs.declared.token.Mark.{Mark}
-use Rattle.mpd_model.specs.declared.token.Mark.TheVariants as m
+use Rattle.mpd_model.specs.declared.token.Symbol.{Symbol}
+use Rattle.mpd_model.specs.declared.token.Symbol.TheVariants as m
 use Rattle.mpd_model.specs.declared.token.Token.{Token}
 use Rattle.mpd_model.specs.declared.token.Token.TheVariants.{Name, Is}
 use Rattle.mpd_model.specs.grammar.Grammar.{expression, begin_statement, closes, place_of_slot, index_outside, Form, form_of, by_form, assignment, otherwise, if_statement, while_statement, stmt_by, stmt, stmts, body, block, header, is_text, max_blocks, max_text, reading, script as whole_script}
 use Rattle.mpd_model.specs.grammar.Input.{Input, Parser, token, advanced, expect, seek, sees, after, pure, fail, refuse, start_of, ◌>>=◌}
-use Rattle.mpd_model.specs.script.Parts.{Part, of_mark, parts_of, mark_hole, term_hole, filled}
+use Rattle.mpd_model.specs.script.Parts.{Part, of_symbol, parts_of, symbol_hole, term_hole, filled}
 use Rattle.mpd_model.specs.script.Program.{Program, first_version, IsTreeOf, IsBlockOf}
 use Rattle.mpd_model.specs.script.Tree.{Tree, simple, branch, repeat, block_of}
 use Rattle.mpd_laws.proofs.sound.Sound.{bind_ok, ok_parts, expect_ok}
@@ -31,7 +31,7 @@ ReadsBlock p = (v : ℕ) (i : Input) (y : List Tree × Input) → 1 ≤ v → i.
 -- ---- statements that hold no other
 
 -- A statement of version 1 is all but a waitany, whose first part is its word.
-first_by_word : (s : Simple) (k : Mark) (ps : List Part) → parts_of s ≡ of_mark k ∷ ps → (k ≡ m.Waitany → ⊥) → first_version s ≤ 1
+first_by_word : (s : Simple) (k : Symbol) (ps : List Part) → parts_of s ≡ of_symbol k ∷ ps → (k ≡ m.Waitany → ⊥) → first_version s ≤ 1
 first_by_word (st.Waitany s) k ps e other = absurd (other (cc))
 first_by_word s k ps e other = omega arith
 
@@ -41,7 +41,7 @@ waitany_version s = omega arith
 
 -- what a form makes is of this version
 abbrev MadeBy : ℕ → Option Form → Type 0
-MadeBy v o = (f : Form) → o ≡ Some f → (s : Simple) (ps : List Part) → parts_of s ≡ of_mark f.word ∷ ps → first_version s ≤ v
+MadeBy v o = (f : Form) → o ≡ Some f → (s : Simple) (ps : List Part) → parts_of s ≡ of_symbol f.word ∷ ps → first_version s ≤ v
 
 made_in : (v : ℕ) (o : Option Form) (i : Input) (y : Tree × Input) → MadeBy v o → by_form o i ≡ Ok y → IsTreeOf v y.0
 made_in v None i y made h = absurd (cc)
@@ -54,7 +54,7 @@ assignment_in : (slot : Slot) (v : ℕ) (i : Input) (y : Tree × Input) → 1 �
 unfolding assignment
 assignment_in slot v i y some h =
     let a = bind_ok (index_outside (place_of_slot slot) slot.size i) _ y h in
-    let r = fill_ok (mark_hole m.Assign ∷ term_hole ∷ []) (λ c. simple (st.Assign (record { into = a.0.0; value = c.0 }))) a.0.1 y.1 y.0 a.2 in
+    let r = fill_ok (symbol_hole m.Assign ∷ term_hole ∷ []) (λ c. simple (st.Assign (record { into = a.0.0; value = c.0 }))) a.0.1 y.1 y.0 a.2 in
     subst (IsTreeOf v) r.is some
 
 -- ---- statements that hold others
@@ -90,7 +90,7 @@ while_statement_in p q v i y some e h =
 at_least : (v : ℕ) (s : Simple) → 1 ≤ v → first_version s ≤ 1 → first_version s ≤ v
 at_least v s some h = omega arith
 
-form_in : (k : Mark) → (k ≡ m.Waitany → ⊥) → Reads (by_form (form_of k))
+form_in : (k : Symbol) → (k ≡ m.Waitany → ⊥) → Reads (by_form (form_of k))
 form_in k other v i y some e h =
     made_in v (form_of k) i y (λ f is s ps parts. at_least v s some (first_by_word s f.word ps parts (λ w. other (sym (form_word k f is) ∙ w)))) h
 
@@ -98,7 +98,7 @@ waitany_in : (v : ℕ) (i : Input) (y : Tree × Input) → 2 ≤ v → by_form (
 waitany_in v i y known h = made_in v (form_of m.Waitany) i y (λ f is s ps parts. omega (arith, waitany_version s)) h
 
 -- behind the word, the input is in the same version
-begun_in : (p : Parser Tree) (k : Mark) → Reads p → (v : ℕ) (i : Input) (y : Tree × Input) → token i ≡ Is k → 1 ≤ v → i.version ≡ v → (begin_statement >>= λ u. p) i ≡ Ok y → IsTreeOf v y.0
+begun_in : (p : Parser Tree) (k : Symbol) → Reads p → (v : ℕ) (i : Input) (y : Tree × Input) → token i ≡ Is k → 1 ≤ v → i.version ≡ v → (begin_statement >>= λ u. p) i ≡ Ok y → IsTreeOf v y.0
 begun_in p k q v i y t some e h =
     let b = bind_ok (begin_statement i) _ y h in
     q v b.0.1 y some ((begin_statement_ok i b.0 (λ x. absurd (cc)) b.1).version ∙ e) b.2

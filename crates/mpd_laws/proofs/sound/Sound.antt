@@ -3,7 +3,7 @@ use Rattle.std.proofs.Common.{◌≡◌, ◌≢◌, ℕ, zero, suc, ◌-◌, ◌
 use Rattle.std.proofs.lemmas.Bool.{cases_Bool}
 use Rattle.std.proofs.lemmas.Bool.Decides.{nat_tests}
 use denote.Enum.Bare.{same_true}
-use Rattle.mpd_model.specs.contracts.token.Mark.{the_type}
+use Rattle.mpd_model.specs.contracts.token.Symbol.{the_type}
 use Rattle.mpd_model.specs.declared.expr.BinaryOp.{BinaryOp}
 use Rattle.mpd_model.specs.declared.expr.UnaryOp.{UnaryOp}
 use Rattle.mpd_model.specs.declared.expr.UnaryOp.TheVariants as u
@@ -13,13 +13,13 @@ use Rattle.mpd_model.specs.declared.place.Place.{Place}
 use Rattle.mpd_model.specs.declared.read_fault.FaultCode.TheVariants.{UnknownName}
 use Rattle.mpd_model.specs.declared.read_fault.ReadFault.{ReadFault}
 use Rattle.mpd_model.specs.declared.slot.Slot.{Slot}
-use Rattle.mpd_model.specs.declared.token.Mark.{Mark}
-use Rattle.mpd_model.specs.declared.token.Mark.TheVariants as m
+use Rattle.mpd_model.specs.declared.token.Symbol.{Symbol}
+use Rattle.mpd_model.specs.declared.token.Symbol.TheVariants as m
 use Rattle.mpd_model.specs.declared.token.Token.{Token}
 use Rattle.mpd_model.specs.declared.token.Token.TheVariants.{Number, Name, Is, Bad, End}
 use Rattle.mpd_model.specs.grammar.Grammar.{atom_by, atom, bracket, index_inside, place_inside, place_of_slot, rounds, unary, sign, chain, chain_by, level, expr, turns, operator_at}
 use Rattle.mpd_model.specs.script.Declaration.{Declared}
-use Rattle.mpd_model.specs.grammar.Input.{Input, Outcome, Parser, and_then, token, token_of, text_of, spelling, advanced, behind, spend, expect, sees, is_mark, same_mark, same_kind, sought, seek, slot_in, pure, fail, refuse}
+use Rattle.mpd_model.specs.grammar.Input.{Input, Outcome, Parser, and_then, token, token_of, text_of, spelling, advanced, behind, spend, expect, sees, is_symbol, same_symbol, same_kind, sought, seek, slot_in, pure, fail, refuse}
 use Rattle.mpd_model.specs.script.Term.{Term, lit, own_rank, size, cell, element, op1, op2}
 use Rattle.mpd_model.specs.grammar.Tokens.{Spot}
 use Rattle.mpd_model.specs.grammar.Written.{Names, WrittenTerm, number, rank, ranks, name, entry, round, signs, higher, joins, TermBetween, IsSound, left_level}
@@ -106,26 +106,26 @@ spend_takes i y h =
 pub spend_step : (i : Input) (y : Unit {0} × Input) → token i ≢ End → spend i ≡ Ok y → Step i y.1
 spend_step i y some h = let s = spend_ok i y h in step i y.1 some s.0 s.1 s.2 s.3
 
-mark_is : (wanted : Mark) (t : Token) → is_mark wanted t ≡ true → t ≡ Is wanted
-unfolding same_mark
-mark_is wanted (Is k) h = ap Is (same_true the_type (search rules) k wanted h)
-mark_is wanted (Number n) h = absurd (cc)
-mark_is wanted Name h = absurd (cc)
-mark_is wanted Bad h = absurd (cc)
-mark_is wanted End h = absurd (cc)
+symbol_is : (wanted : Symbol) (t : Token) → is_symbol wanted t ≡ true → t ≡ Is wanted
+unfolding same_symbol
+symbol_is wanted (Is k) h = ap Is (same_true the_type (search rules) k wanted h)
+symbol_is wanted (Number n) h = absurd (cc)
+symbol_is wanted Name h = absurd (cc)
+symbol_is wanted Bad h = absurd (cc)
+symbol_is wanted End h = absurd (cc)
 
-pub sees_is : (wanted : Mark) (i : Input) → sees wanted i ≡ true → token i ≡ Is wanted
+pub sees_is : (wanted : Symbol) (i : Input) → sees wanted i ≡ true → token i ≡ Is wanted
 unfolding sees
-sees_is wanted i h = mark_is wanted (token i) h
+sees_is wanted i h = symbol_is wanted (token i) h
 
-pub expect_ok : (wanted : Mark) (i : Input) (y : Unit {0} × Input) → expect wanted i ≡ Ok y → (token i ≡ Is wanted) × (y.1 ≡ advanced i)
+pub expect_ok : (wanted : Symbol) (i : Input) (y : Unit {0} × Input) → expect wanted i ≡ Ok y → (token i ≡ Is wanted) × (y.1 ≡ advanced i)
 unfolding expect
 expect_ok wanted i y h =
     let e = test_ok (sees wanted i) _ _ y h in
     (sees_is wanted i e.0, sym (ap (λ p. p.1) e.1))
 
--- a mark that was expected is there
-pub expect_step : (wanted : Mark) (i : Input) (y : Unit {0} × Input) → expect wanted i ≡ Ok y → (s : Step i y.1) × (s.spot.token ≡ Is wanted)
+-- a symbol that was expected is there
+pub expect_step : (wanted : Symbol) (i : Input) (y : Unit {0} × Input) → expect wanted i ≡ Ok y → (s : Step i y.1) × (s.spot.token ≡ Is wanted)
 expect_step wanted i y h =
     let e = expect_ok wanted i y h in
     let s = next_step i y.1 (λ x. absurd (cc)) e.1 in

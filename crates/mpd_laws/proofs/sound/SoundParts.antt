@@ -6,18 +6,18 @@ use Rattle.mpd_model.specs.declared.place.DeclKind.TheVariants.{Variable}
 use Rattle.mpd_model.specs.declared.place.Place.{Place}
 use Rattle.mpd_model.specs.declared.slot.Slot.{Slot}
 use Rattle.mpd_model.specs.declared.stmt.StatusStmt.{StatusStmt}
-use Rattle.mpd_model.specs.declared.token.Mark.TheVariants as m
+use Rattle.mpd_model.specs.declared.token.Symbol.TheVariants as m
 use Rattle.mpd_model.specs.declared.token.Token.{Token}
 use Rattle.mpd_model.specs.declared.token.Token.TheVariants.{Name, Is}
 use Rattle.mpd_model.specs.script.Declaration.{Declared}
 use Rattle.mpd_model.specs.grammar.Grammar.{expression, place_of_slot, index_outside, target, statement_place_by, statement_place, statement_name_by, statement_name, source_by, source, status_by, status, fill}
 use Rattle.mpd_model.specs.grammar.Input.{Input, token, advanced, expect, seek, sees, max_budget, after}
-use Rattle.mpd_model.specs.script.Parts.{Part, of_mark, of_term, of_target, of_name, Hole, mark_hole, term_hole, target_hole, name_hole, source_hole, status_hole, source_part, status_parts, Contents, filled}
+use Rattle.mpd_model.specs.script.Parts.{Part, of_symbol, of_term, of_target, of_name, Hole, symbol_hole, term_hole, target_hole, name_hole, source_hole, status_hole, source_part, status_parts, Contents, filled}
 use Rattle.mpd_model.specs.script.Term.{Term, Target}
 use Rattle.mpd_model.specs.grammar.Tokens.{Spot}
 use Rattle.mpd_model.specs.grammar.Written.{Names, TermBetween}
 use Rattle.mpd_laws.proofs.sound.Budget.{expression_within}
-use Rattle.mpd_laws.proofs.sound.Cheap.{CheapTerm, CheapTarget, CheapPart, CheapParts, whole, part, by_mark, by_term, by_target, by_name, no_part, then_part}
+use Rattle.mpd_laws.proofs.sound.Cheap.{CheapTerm, CheapTarget, CheapPart, CheapParts, whole, part, by_symbol, by_term, by_target, by_name, no_part, then_part}
 use Rattle.mpd_laws.proofs.sound.Sound.{bind_ok, ok_parts, carried, Moves, no_move, then_moves, Step, next_step, sees_is, expect_step, NamedBy, name_step, expr_sound}
 
 -- ---- expressions that stand in no other
@@ -143,7 +143,7 @@ source_case true i y e h =
     let o = ok_parts (None, advanced i) y h in
     let is = sees_is m.Any i e in
     let s = next_step i (advanced i) (λ x. absurd (cc)) refl in
-    carried (λ o j. SourceBetween o i j) _ _ _ _ o.0 o.1 (record { used = s.spot ∷ []; moves = s.moves; written = by_mark s.spot m.Any (s.token ∙ is) })
+    carried (λ o j. SourceBetween o i j) _ _ _ _ o.0 o.1 (record { used = s.spot ∷ []; moves = s.moves; written = by_symbol s.spot m.Any (s.token ∙ is) })
 source_case false i y e h =
     let b = bind_ok (expression i) _ y h in
     let o = ok_parts (Some b.0.0, b.0.1) y b.2 in
@@ -172,7 +172,7 @@ status_before p q i x y j s is n o = record {
   used = s.spot ∷ (n.used ++ o.used);
   moves = then_moves (s.spot ∷ []) (n.used ++ o.used) i x j s.moves (then_moves n.used o.used x y j n.moves o.moves);
   written = λ ps rs w. subst (λ u. CheapParts i.decls (s.spot ∷ u) (status_parts (Some (status_of p q)) ps)) (sym (append_assoc n.used o.used rs))
-      (then_part (s.spot ∷ []) (n.used ++ (o.used ++ rs)) (of_mark m.Status) (of_target Variable p ∷ of_target Variable q ∷ ps) (by_mark s.spot m.Status is)
+      (then_part (s.spot ∷ []) (n.used ++ (o.used ++ rs)) (of_symbol m.Status) (of_target Variable p ∷ of_target Variable q ∷ ps) (by_symbol s.spot m.Status is)
       (place_first p (of_target Variable q ∷ ps) n.used (o.used ++ rs) i x s.moves.decls n.written
       (place_first q ps o.used rs i y (n.moves.decls ∙ s.moves.decls) o.written w)));
 }
@@ -223,7 +223,7 @@ fill_ok [] made i j a h =
     let o = ok_parts (made tt, b.0.1) (a, j) b.2 in
     let z = expect_step m.Semicolon i b.0 b.1 in
     carried (λ a j. Fills [] made a i j) _ _ _ _ o.0 o.1 (record { contents = tt; is = refl; used = []; end = z.0.spot; moves = z.0.moves; written = no_part; closed = z.1 })
-fill_ok (mark_hole k ∷ hs) made i j a h =
+fill_ok (symbol_hole k ∷ hs) made i j a h =
     let b = bind_ok (expect k i) _ (a, j) h in
     let e = expect_step k i b.0 b.1 in
     let r = fill_ok hs made b.0.1 j a b.2 in
@@ -233,7 +233,7 @@ fill_ok (mark_hole k ∷ hs) made i j a h =
       used = e.0.spot ∷ [] ++ r.used;
       end = r.end;
       moves = part_moves (e.0.spot ∷ []) r.used r.end i b.0.1 j e.0.moves r.moves;
-      written = part_first (of_mark k) (filled hs r.contents) (e.0.spot ∷ []) r.used i b.0.1 e.0.moves.decls (by_mark e.0.spot k e.1) r.written;
+      written = part_first (of_symbol k) (filled hs r.contents) (e.0.spot ∷ []) r.used i b.0.1 e.0.moves.decls (by_symbol e.0.spot k e.1) r.written;
       closed = r.closed;
     }
 fill_ok (term_hole ∷ hs) made i j a h =

@@ -5,20 +5,20 @@ use Rattle.mpd_model.specs.declared.limits.TheConstants.{STATEMENTS_MAX}
 use Rattle.mpd_model.specs.declared.place.DeclKind.TheVariants.{Variable}
 use Rattle.mpd_model.specs.declared.read_fault.FaultCode.TheVariants.{NotInVersion, TooDeep}
 use Rattle.mpd_model.specs.declared.slot.Slot.{Slot}
-use Rattle.mpd_model.specs.declared.token.Mark.{Mark}
-use Rattle.mpd_model.specs.declared.token.Mark.TheVariants as m
+use Rattle.mpd_model.specs.declared.token.Symbol.{Symbol}
+use Rattle.mpd_model.specs.declared.token.Symbol.TheVariants as m
 use Rattle.mpd_model.specs.declared.token.Token.{Token}
 use Rattle.mpd_model.specs.declared.token.Token.TheVariants.{Name, Is, End}
 use Rattle.mpd_model.specs.script.Declaration.{Declared}
 use Rattle.mpd_model.specs.grammar.Grammar.{expression, begin_statement, closes, place_of_slot, index_outside, Form, form_of, behind_word, by_form, since, assignment, otherwise, if_statement, while_statement, stmt_by, stmt, stmts, body, block}
 use Rattle.mpd_model.specs.grammar.Input.{Input, Outcome, Parser, token, token_of, spelling, advanced, behind, expect, seek, sees, count, slot_in, first_line, after, pure, fail, refuse, ◌>>=◌, ◌>>◌}
-use Rattle.mpd_model.specs.script.Parts.{of_mark, of_target, mark_hole, term_hole, filled}
+use Rattle.mpd_model.specs.script.Parts.{of_symbol, of_target, symbol_hole, term_hole, filled}
 use Rattle.mpd_model.specs.declared.stmt.Simple.TheVariants as st
 use Rattle.mpd_model.specs.script.Term.{Term}
 use Rattle.mpd_model.specs.grammar.Tokens.{Spot}
 use Rattle.mpd_model.specs.script.Tree.{Tree, simple, branch, repeat, no_more, block_of}
 use Rattle.mpd_model.specs.grammar.Written as written
-use Rattle.mpd_laws.proofs.sound.Cheap.{CheapParts, then_part, by_mark, by_target, CheapTree, simply, repeats, chooses, chooses_else, CheapBlock, braces, CheapBody, ended, follows}
+use Rattle.mpd_laws.proofs.sound.Cheap.{CheapParts, then_part, by_symbol, by_target, CheapTree, simply, repeats, chooses, chooses_else, CheapBlock, braces, CheapBody, ended, follows}
 use Rattle.mpd_laws.proofs.sound.Sound.{bind_ok, ok_parts, carried, test_ok, first_spot, Moves, Step, next_step, sees_is, expect_step, seek_ok, NamedBy}
 use Rattle.mpd_laws.proofs.sound.SoundParts.{Read, expression_ok, index_outside_ok, part_moves, part_first, fill_ok}
 
@@ -99,7 +99,7 @@ begin_statement_ok i y some h =
 -- ---- what follows the first token
 
 -- the tokens behind the first one write the statement, wherever it stands
-pub record Rest (k : Mark) (t : Tree) (i j : Input) : Type 0 where
+pub record Rest (k : Symbol) (t : Tree) (i j : Input) : Type 0 where
   pub used : List Spot
   pub begun : List ℕ
   pub is : i.tokens ≡ used ++ j.tokens
@@ -114,7 +114,7 @@ append_none A [] = refl
 append_none A (x ∷ xs) = ap (λ r. x ∷ r) (append_none A xs)
 
 -- a statement that holds no other
-flat : (k : Mark) (t : Tree) (used : List Spot) (i j : Input) → Moves used i j → ((s : Spot) → s.token ≡ Is k → CheapTree i.decls (s ∷ used) t (s.line ∷ [])) → Rest k t i j
+flat : (k : Symbol) (t : Tree) (used : List Spot) (i j : Input) → Moves used i j → ((s : Spot) → s.token ≡ Is k → CheapTree i.decls (s ∷ used) t (s.line ∷ [])) → Rest k t i j
 flat k t used i j x w = record { used = used; begun = []; is = x.is; version = x.version; decls = x.decls; lines = x.lines ∙ append_none ℕ i.lines; few = same_lines i j x.lines; written = w }
 
 form_rest : (f : Form) (i j : Input) (t : Tree) → behind_word f i ≡ Ok (t, j) → Rest f.word t i j
@@ -122,7 +122,7 @@ form_rest f i j t h =
     let r = fill_ok f.holes (λ c. simple (f.made c)) i j t h in
     subst (λ t. Rest f.word t i j) r.is (flat f.word (simple (f.made r.contents)) (r.used ++ r.end ∷ []) i j r.moves
     (λ s is. simply (s ∷ r.used) r.end (f.made r.contents)
-    (subst (CheapParts i.decls (s ∷ r.used)) (sym (f.parts r.contents)) (then_part (s ∷ []) r.used (of_mark f.word) (filled f.holes r.contents) (by_mark s f.word is) r.written)) r.closed))
+    (subst (CheapParts i.decls (s ∷ r.used)) (sym (f.parts r.contents)) (then_part (s ∷ []) r.used (of_symbol f.word) (filled f.holes r.contents) (by_symbol s f.word is) r.written)) r.closed))
 
 -- what follows the name that an assignment begins with
 record Assigns (slot : Slot) (t : Tree) (i j : Input) : Type 0 where
@@ -135,13 +135,13 @@ unfolding assignment
 assignment_ok slot i j t h =
     let a = bind_ok (index_outside (place_of_slot slot) slot.size i) _ (t, j) h in
     let o = index_outside_ok Variable slot i a.0.1 a.0.0 a.1 in
-    let r = fill_ok (mark_hole m.Assign ∷ term_hole ∷ []) (λ c. simple (st.Assign (record { into = a.0.0; value = c.0 }))) a.0.1 j t a.2 in
+    let r = fill_ok (symbol_hole m.Assign ∷ term_hole ∷ []) (λ c. simple (st.Assign (record { into = a.0.0; value = c.0 }))) a.0.1 j t a.2 in
     subst (λ t. Assigns slot t i j) r.is
     (record {
       used = o.used ++ r.used ++ r.end ∷ [];
       moves = part_moves o.used r.used r.end i a.0.1 j o.moves r.moves;
       written = λ s n. simply (s ∷ o.used ++ r.used) r.end (st.Assign (record { into = a.0.0; value = r.contents.0 }))
-          (part_first (of_target Variable a.0.0) (filled (mark_hole m.Assign ∷ term_hole ∷ []) r.contents) (s ∷ o.used) r.used i a.0.1 o.moves.decls (by_target (s ∷ o.used) Variable a.0.0 (o.written s n)) r.written) r.closed;
+          (part_first (of_target Variable a.0.0) (filled (symbol_hole m.Assign ∷ term_hole ∷ []) r.contents) (s ∷ o.used) r.used i a.0.1 o.moves.decls (by_target (s ∷ o.used) Variable a.0.0 (o.written s n)) r.written) r.closed;
     })
 
 -- ---- statements that hold others
@@ -260,7 +260,7 @@ while_statement_rest p s i j t h =
     (repeated i a.0.1 b.0.1 a.0.0 b.0.0 (expression_ok i a.0 a.1) (s a.0.1 b.0.1 b.0.0 b.1))
 
 -- the first token and the rest
-all_of : (k : Mark) (t : Tree) (i x j : Input) → token i ≡ Is k → Begun i x → Rest k t x j → TreeBetween t i j
+all_of : (k : Symbol) (t : Tree) (i x j : Input) → token i ≡ Is k → Begun i x → Rest k t x j → TreeBetween t i j
 all_of k t i x j e b r = record {
   used = b.spot ∷ r.used;
   begun = b.spot.line ∷ r.begun;
@@ -272,7 +272,7 @@ all_of k t i x j e b r = record {
   few = λ h. r.few b.few;
 }
 
-begin_statement_then : (k : Mark) (p : Parser Tree) → ((x j : Input) (t : Tree) → p x ≡ Ok (t, j) → Rest k t x j)
+begin_statement_then : (k : Symbol) (p : Parser Tree) → ((x j : Input) (t : Tree) → p x ≡ Ok (t, j) → Rest k t x j)
     → (i j : Input) (t : Tree) → token i ≡ Is k → (begin_statement >> p) i ≡ Ok (t, j) → TreeBetween t i j
 begin_statement_then k p s i j t e h =
     let b = bind_ok (begin_statement i) _ (t, j) h in
@@ -316,11 +316,11 @@ since_ok version p i y h =
     (grind (arith, nat_tests), c.1)
 
 -- a form stands under its own word
-pub form_word : (k : Mark) (f : Form) → form_of k ≡ Some f → f.word ≡ k
+pub form_word : (k : Symbol) (f : Form) → form_of k ≡ Some f → f.word ≡ k
 form_word m.Semicolon f h = cc
 form_word k f h = cc
 
-form_case : (k : Mark) (o : Option Form) (i j : Input) (t : Tree) → token i ≡ Is k → form_of k ≡ o → by_form o i ≡ Ok (t, j) → TreeBetween t i j
+form_case : (k : Symbol) (o : Option Form) (i j : Input) (t : Tree) → token i ≡ Is k → form_of k ≡ o → by_form o i ≡ Ok (t, j) → TreeBetween t i j
 form_case k None i j t e o h = absurd (cc)
 form_case k (Some f) i j t e o h = begin_statement_then f.word (behind_word f) (form_rest f) i j t (e ∙ ap Is (sym (form_word k f o))) h
 

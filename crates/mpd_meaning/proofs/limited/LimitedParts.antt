@@ -5,17 +5,17 @@ use Rattle.mpd_model.specs.declared.place.DeclKind.TheVariants.{Variable}
 use Rattle.mpd_model.specs.declared.place.Place.{Place}
 use Rattle.mpd_model.specs.declared.slot.Slot.{Slot}
 use Rattle.mpd_model.specs.declared.stmt.StatusStmt.{StatusStmt}
-use Rattle.mpd_model.specs.declared.token.Mark.TheVariants as m
+use Rattle.mpd_model.specs.declared.token.Symbol.TheVariants as m
 use Rattle.mpd_model.specs.declared.token.Token.TheVariants.{Name, Is}
 use Rattle.mpd_model.specs.grammar.Costs.{Stops, on}
 use Rattle.mpd_model.specs.grammar.Grammar.{expression, place_of_slot, index_outside, target, statement_place, source, status, fill, AreClear}
-use Rattle.mpd_model.specs.grammar.Input.{Input, Parser, token, token_of, advanced, slot_in, sees, is_mark, after}
-use Rattle.mpd_model.specs.script.Parts.{Part, Hole, mark_hole, term_hole, target_hole, name_hole, source_hole, status_hole, source_part, status_parts, Contents, filled}
+use Rattle.mpd_model.specs.grammar.Input.{Input, Parser, token, token_of, advanced, slot_in, sees, is_symbol, after}
+use Rattle.mpd_model.specs.script.Parts.{Part, Hole, symbol_hole, term_hole, target_hole, name_hole, source_hole, status_hole, source_part, status_parts, Contents, filled}
 use Rattle.mpd_model.specs.script.Term.{Term, Target}
 use Rattle.mpd_model.specs.grammar.Tokens.{Spot}
-use Rattle.mpd_model.specs.grammar.Written.{WrittenTerm, WrittenTarget, whole, part, WrittenPart, by_mark, by_term, by_target, by_name, WrittenParts, no_part, then_part}
-use Rattle.mpd_laws.proofs.complete.Complete.{mark_stops}
-use Rattle.mpd_laws.proofs.complete.CompleteParts.{expect_on, whole_on, seek_on, statement_place_as, statement_name_on, mark_seen, holes_stop, no_status, term_is_other, any_on, absent_on}
+use Rattle.mpd_model.specs.grammar.Written.{WrittenTerm, WrittenTarget, whole, part, WrittenPart, by_symbol, by_term, by_target, by_name, WrittenParts, no_part, then_part}
+use Rattle.mpd_laws.proofs.complete.Complete.{symbol_stops}
+use Rattle.mpd_laws.proofs.complete.CompleteParts.{expect_on, whole_on, seek_on, statement_place_as, statement_name_on, symbol_seen, holes_stop, no_status, term_is_other, any_on, absent_on}
 use Rattle.mpd_laws.proofs.sound.SoundParts.{status_of}
 use Rattle.mpd_meaning.proofs.limited.Limited.{GivesOrLimited, then_limited, step_limited, same_limited, given, expression_limited}
 
@@ -42,7 +42,7 @@ part_limited : (p : Place) (o : Option ℕ) (a z : Spot) (ss rest : List Spot) (
 part_limited p None a z ss rest t ls b i h ha w hz = absurd (cc)
 part_limited p (Some n) a z ss rest t ls b i h ha w hz =
     step_limited _ _ _ _ _ _ _ (expect_on m.SquareOpen a (ss ++ (z ∷ rest)) ls b i ha)
-    (then_limited _ _ _ _ _ _ _ _ _ (expression_limited ss (z ∷ rest) t ls b i w (mark_stops 5 z rest (Is m.SquareClose) hz refl))
+    (then_limited _ _ _ _ _ _ _ _ _ (expression_limited ss (z ∷ rest) t ls b i w (symbol_stops 5 z rest (Is m.SquareClose) hz refl))
     (λ c. step_limited _ _ _ _ _ _ _ (expect_on m.SquareClose z rest ls c i hz) (given (record { place = p; index = Some t }) rest ls c i)))
 
 same_place : (p q : Place) (o : Option ℕ) (t : Target) (ss us rest : List Spot) (ls : List ℕ) (b : ℕ) (i : Input) → p ≡ q → ss ≡ us
@@ -87,18 +87,18 @@ statement_place_limited kind ss rest t ls b i w =
 
 -- ---- a source
 
-value_limited : (ss us : List Spot) (t : Term) (ls : List ℕ) (b : ℕ) (i : Input) → is_mark m.Any (token_of ss) ≡ false → GivesOrLimited (expression (on ss ls b i)) t us ls i
+value_limited : (ss us : List Spot) (t : Term) (ls : List ℕ) (b : ℕ) (i : Input) → is_symbol m.Any (token_of ss) ≡ false → GivesOrLimited (expression (on ss ls b i)) t us ls i
     → GivesOrLimited (source (on ss ls b i)) (Some t) us ls i
 unfolding source sees after token
 value_limited ss us t ls b i h g = rw h (then_limited _ _ _ _ _ _ _ _ _ g (λ c. given (Some t) us ls c i))
 
 source_limited : (o : Option Term) (ss us : List Spot) (ls : List ℕ) (b : ℕ) (i : Input) → WrittenPart i.decls ss (source_part o) → Stops 5 us → GivesOrLimited (source (on (ss ++ us) ls b i)) o us ls i
-source_limited None _ us ls b i (by_mark s _ h) x = inl (record { left = b; is = any_on s us ls b i (mark_seen m.Any s h) })
+source_limited None _ us ls b i (by_symbol s _ h) x = inl (record { left = b; is = any_on s us ls b i (symbol_seen m.Any s h) })
 source_limited (Some e) _ us ls b i (by_term ss _ w) x = value_limited (ss ++ us) us e ls b i (term_is_other i.decls 5 ss e w us) (expression_limited ss us e ls b i w x)
 
 -- ---- a status
 
-present_limited : (s : Spot) (ss us vs : List Spot) (p q : Target) (ls : List ℕ) (b : ℕ) (i : Input) → is_mark m.Status s.token ≡ true → GivesOrLimited (statement_place Variable (on ss ls b i)) p us ls i
+present_limited : (s : Spot) (ss us vs : List Spot) (p q : Target) (ls : List ℕ) (b : ℕ) (i : Input) → is_symbol m.Status s.token ≡ true → GivesOrLimited (statement_place Variable (on ss ls b i)) p us ls i
     → ((c : ℕ) → GivesOrLimited (statement_place Variable (on us ls c i)) q vs ls i) → GivesOrLimited (status (on (s ∷ ss) ls b i)) (Some (status_of p q)) vs ls i
 unfolding status sees after token advanced
 present_limited s ss us vs p q ls b i h g k =
@@ -118,12 +118,12 @@ record StatusLimited (o : Option StatusStmt) (ps : List Part) (ss us : List Spot
   gives : GivesOrLimited (status (on (ss ++ us) ls b i)) o (others ++ us) ls i
 
 status_limited : (o : Option StatusStmt) (ps : List Part) (ss us : List Spot) (ls : List ℕ) (b : ℕ) (i : Input) → WrittenParts i.decls ss (status_parts o ps)
-    → ((rs : List Spot) → WrittenParts i.decls rs ps → is_mark m.Status (token_of (rs ++ us)) ≡ false) → StatusLimited o ps ss us ls b i
+    → ((rs : List Spot) → WrittenParts i.decls rs ps → is_symbol m.Status (token_of (rs ++ us)) ≡ false) → StatusLimited o ps ss us ls b i
 status_limited None ps ss us ls b i w ends = record { others = ss; written = w; gives = inl (record { left = b; is = absent_on (ss ++ us) ls b i (ends ss w) }) }
-status_limited (Some c) ps _ us ls b i (then_part _ _ _ _ (by_mark s _ h) (then_part ts _ _ _ (by_target _ _ _ x) (then_part vs rs _ _ (by_target _ _ _ y) w))) ends = record {
+status_limited (Some c) ps _ us ls b i (then_part _ _ _ _ (by_symbol s _ h) (then_part ts _ _ _ (by_target _ _ _ x) (then_part vs rs _ _ (by_target _ _ _ y) w))) ends = record {
   others = rs;
   written = w;
-  gives = present_limited s (ts ++ (vs ++ rs) ++ us) (vs ++ (rs ++ us)) (rs ++ us) c.source c.tag ls b i (mark_seen m.Status s h) (first_limited ts vs rs us c.source ls b i x)
+  gives = present_limited s (ts ++ (vs ++ rs) ++ us) (vs ++ (rs ++ us)) (rs ++ us) c.source c.tag ls b i (symbol_seen m.Status s h) (first_limited ts vs rs us c.source ls b i x)
       (λ d. statement_place_limited Variable vs (rs ++ us) c.tag ls d i y);
 }
 
@@ -132,7 +132,7 @@ status_limited (Some c) ps _ us ls b i (then_part _ _ _ _ (by_mark s _ h) (then_
 pub fill_limited : {A : Type 0} (hs : List Hole) (made : Contents hs → A) (c : Contents hs) (ss : List Spot) (end : Spot) (rest : List Spot) (ls : List ℕ) (b : ℕ) (i : Input) → AreClear hs
     → WrittenParts i.decls ss (filled hs c) → end.token ≡ Is m.Semicolon → GivesOrLimited (fill hs made (on (ss ++ (end ∷ rest)) ls b i)) (made c) rest ls i
 fill_limited [] made c _ end rest ls b i p no_part e = step_limited _ _ _ _ _ _ _ (expect_on m.Semicolon end rest ls b i e) (given (made c) rest ls b i)
-fill_limited (mark_hole k ∷ hs) made c _ end rest ls b i p (then_part _ rs _ _ (by_mark s _ x) w) e =
+fill_limited (symbol_hole k ∷ hs) made c _ end rest ls b i p (then_part _ rs _ _ (by_symbol s _ x) w) e =
     step_limited _ _ _ _ _ _ _ (expect_on k s (rs ++ (end ∷ rest)) ls b i x) (fill_limited hs made c rs end rest ls b i p w e)
 fill_limited (term_hole ∷ hs) made c _ end rest ls b i p (then_part ss rs _ _ (by_term _ _ x) w) e =
     same_tokens (fill (term_hole ∷ hs) made) (made c) (ss ++ rs ++ (end ∷ rest)) (ss ++ (rs ++ (end ∷ rest))) rest ls ls b i (append_assoc ss rs (end ∷ rest))

@@ -2,17 +2,17 @@
 use Rattle.std.proofs.Common.{◌≡◌, ◌⊎◌, ℕ, zero, suc, ◌+◌, ◌<◌, pos, Bool, true, false, nat_le, ◌&&◌, List, [], ◌∷◌, ◌++◌, length, length-append, Option, Some, None, Ok, inl, inr, refl, ap, arith}
 use Rattle.mpd_model.specs.declared.limits.TheConstants.{BLOCKS_MAX, RANKS_MAX, LANGUAGE_MAX}
 use Rattle.mpd_model.specs.declared.place.DeclKind.{DeclKind}
-use Rattle.mpd_model.specs.declared.token.Mark.TheVariants as m
+use Rattle.mpd_model.specs.declared.token.Symbol.TheVariants as m
 use Rattle.mpd_model.specs.declared.token.Token.TheVariants.{Number, Is}
 use Rattle.mpd_model.specs.script.Declaration.{Declared}
 use Rattle.mpd_model.specs.grammar.Costs.{on}
 use Rattle.mpd_model.specs.grammar.Grammar.{version_in, version_of, version_by, version, rank_count, ranks_of, ranks_by, ranks, array_size_at, array_size_by, array_size, single, declarator, declares, decls_from, decls, header, body, block}
 use Rattle.mpd_model.specs.grammar.Grammar as grammar
-use Rattle.mpd_model.specs.grammar.Input.{Input, Outcome, Parser, and_then, token, token_of, spelling, place, advanced, sees, is_mark, after, add, cells_fit, slot_in}
+use Rattle.mpd_model.specs.grammar.Input.{Input, Outcome, Parser, and_then, token, token_of, spelling, place, advanced, sees, is_symbol, after, add, cells_fit, slot_in}
 use Rattle.mpd_model.specs.script.Program.{Program}
 use Rattle.mpd_model.specs.grammar.Tokens.{Spot}
 use Rattle.mpd_model.specs.grammar.Written.{WrittenDecls, none, declares_one, declares_array, declared_as, WrittenScript, script}
-use Rattle.mpd_laws.proofs.complete.CompleteScript.{has, expect_has, mark_seen, fresh_has, no_size, chosen, decl_as, decls_more, decls_end, body_is_no_decl}
+use Rattle.mpd_laws.proofs.complete.CompleteScript.{has, expect_has, symbol_seen, fresh_has, no_size, chosen, decl_as, decls_more, decls_end, body_is_no_decl}
 use Rattle.mpd_laws.proofs.sound.SoundScript.{in_version}
 use Rattle.mpd_meaning.specs.FaultLaws.{IsRefusedByALimit}
 use Rattle.mpd_meaning.proofs.limited.Limited.{GivesOrLimited, limited_bind}
@@ -68,7 +68,7 @@ declarator_or : (kind : DeclKind) (n end : Spot) (rest : List Spot) (ds : List D
 unfolding declarator advanced spelling sees token after
 declarator_or kind n end rest ds i free e =
     then_or _ _ _ _ (inl (fresh_has n (end ∷ rest) ds i free))
-    (same_or _ _ _ (chosen (is_mark m.SquareOpen end.token) false _ _ _ _ _ (no_size end e) refl) (single_or kind n.text (place (has (n ∷ end ∷ rest) ds i)) end rest ds i e))
+    (same_or _ _ _ (chosen (is_symbol m.SquareOpen end.token) false _ _ _ _ _ (no_size end e) refl) (single_or kind n.text (place (has (n ∷ end ∷ rest) ds i)) end rest ds i e))
 
 array_or : (kind : DeclKind) (n a c z end : Spot) (cells : ℕ) (rest : List Spot) (ds : List Declared) (i : Input) → slot_in ds n.text ≡ None → a.token ≡ Is m.SquareOpen
     → c.token ≡ Number (pos cells) → z.token ≡ Is m.SquareClose → end.token ≡ Is m.Semicolon
@@ -76,7 +76,7 @@ array_or : (kind : DeclKind) (n a c z end : Spot) (cells : ℕ) (rest : List Spo
 unfolding declarator advanced spelling sees token after
 array_or kind n a c z end cells rest ds i free ea ec ez e =
     then_or _ _ _ _ (inl (fresh_has n (a ∷ c ∷ z ∷ end ∷ rest) ds i free))
-    (same_or _ _ _ (chosen (is_mark m.SquareOpen a.token) true _ _ _ _ _ (mark_seen m.SquareOpen a.token ea) refl) (size_or kind n.text cells c z end rest ds i ec ez e))
+    (same_or _ _ _ (chosen (is_symbol m.SquareOpen a.token) true _ _ _ _ _ (symbol_seen m.SquareOpen a.token ea) refl) (size_or kind n.text cells c z end rest ds i ec ez e))
 
 -- ---- all declarations
 

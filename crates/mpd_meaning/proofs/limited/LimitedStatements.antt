@@ -5,20 +5,20 @@ use Rattle.mpd_model.specs.declared.slot.Slot.{Slot}
 use Rattle.mpd_model.specs.declared.stmt.Simple.{Simple}
 use Rattle.mpd_model.specs.declared.stmt.Simple.TheVariants as st
 use Rattle.mpd_model.specs.declared.read_fault.FaultCode.TheVariants.{NotInVersion, TooMany}
-use Rattle.mpd_model.specs.declared.token.Mark.{Mark}
-use Rattle.mpd_model.specs.declared.token.Mark.TheVariants as m
+use Rattle.mpd_model.specs.declared.token.Symbol.{Symbol}
+use Rattle.mpd_model.specs.declared.token.Symbol.TheVariants as m
 use Rattle.mpd_model.specs.declared.token.Token.{Token}
 use Rattle.mpd_model.specs.declared.token.Token.TheVariants.{Name, Is}
 use Rattle.mpd_model.specs.script.Declaration.{Declared}
 use Rattle.mpd_model.specs.grammar.Costs.{Stops, on}
 use Rattle.mpd_model.specs.grammar.Grammar.{begin_statement, closes, place_of_slot, index_outside, fill, Form, form_of, behind_word, by_form, HasForm, all_formed, assignment, otherwise, if_statement, while_statement, stmt_by, stmt, stmts, body, block}
-use Rattle.mpd_model.specs.grammar.Input.{Input, Outcome, Parser, and_then, token, token_of, slot_in, is_mark, first_line, sees, count, max_statements, fail, ◌>>◌}
-use Rattle.mpd_model.specs.script.Parts.{Part, of_mark, parts_of, mark_hole, term_hole, Contents, filled}
+use Rattle.mpd_model.specs.grammar.Input.{Input, Outcome, Parser, and_then, token, token_of, slot_in, is_symbol, first_line, sees, count, max_statements, fail, ◌>>◌}
+use Rattle.mpd_model.specs.script.Parts.{Part, of_symbol, parts_of, symbol_hole, term_hole, Contents, filled}
 use Rattle.mpd_model.specs.script.Term.{Term, Target}
 use Rattle.mpd_model.specs.grammar.Tokens.{Spot}
 use Rattle.mpd_model.specs.script.Tree.{Tree, simple, branch, repeat, no_more, block_of}
-use Rattle.mpd_model.specs.grammar.Written.{WrittenTerm, by_mark, by_target, WrittenParts, then_part, WrittenTree, simply, repeats, chooses, chooses_else, WrittenBlock, braces, WrittenBody, ended, follows}
-use Rattle.mpd_laws.proofs.complete.CompleteParts.{expect_on, seek_on, mark_seen}
+use Rattle.mpd_model.specs.grammar.Written.{WrittenTerm, by_symbol, by_target, WrittenParts, then_part, WrittenTree, simply, repeats, chooses, chooses_else, WrittenBlock, braces, WrittenBody, ended, follows}
+use Rattle.mpd_laws.proofs.complete.CompleteParts.{expect_on, seek_on, symbol_seen}
 use Rattle.mpd_laws.proofs.complete.CompleteStatements.{otherwise_none, otherwise_some, assigned_tokens, assigned_line, brace_closes, block_stops, body_other, stmts_end, Opens, tree_opens}
 use Rattle.mpd_laws.proofs.complete.Turns.{some_token}
 use Rattle.mpd_meaning.specs.FaultLaws.{IsRefusedByALimit}
@@ -69,7 +69,7 @@ if_limited B e xs ys rest t x y ls ms ns b i w s first second =
 -- ---- statements, by what is written
 
 abbrev TreeLimited : Input → ℕ → List Spot → Tree → List ℕ → Type 0
-TreeLimited i n ss t ms = (b : ℕ) (ls : List ℕ) (rest : List Spot) → is_mark m.Else (token_of rest) ≡ false → GivesOrLimited (stmt (block n) (on (ss ++ rest) ls b i)) t rest (ls ++ ms) i
+TreeLimited i n ss t ms = (b : ℕ) (ls : List ℕ) (rest : List Spot) → is_symbol m.Else (token_of rest) ≡ false → GivesOrLimited (stmt (block n) (on (ss ++ rest) ls b i)) t rest (ls ++ ms) i
 
 abbrev BlockLimited : Input → ℕ → List Spot → List Tree → List ℕ → Type 0
 BlockLimited i n ss ts ms = (b : ℕ) (ls : List ℕ) (rest : List Spot) → GivesOrLimited (block n (on (ss ++ rest) ls b i)) ts rest (ls ++ ms) i
@@ -97,7 +97,7 @@ since_limited true p i = inl refl
 since_limited false p i = inr (older_limited i)
 
 -- where a word has a form, that reads the statement, or a limit refuses it
-by_form_limited : (B : Parser (List Tree)) (k : Mark) (f : Form) (i : Input) → form_of k ≡ Some f → Begins (stmt_by B (Is k) i) (by_form (Some f) i)
+by_form_limited : (B : Parser (List Tree)) (k : Symbol) (f : Form) (i : Input) → form_of k ≡ Some f → Begins (stmt_by B (Is k) i) (by_form (Some f) i)
 by_form_limited B m.If f i h = absurd (cc)
 by_form_limited B m.While f i h = absurd (cc)
 by_form_limited B m.Waitany f i h = subst (λ o. Begins (stmt_by B (Is m.Waitany) i) (by_form o i)) h (since_limited (nat_le 2 i.version) (by_form (form_of m.Waitany)) i)
@@ -105,14 +105,14 @@ by_form_limited B k f i h = inl (ap (λ o. by_form o i) h)
 
 -- a statement by its word
 form_limited : (i : Input) (n : ℕ) (f : Form) (c : Contents f.holes) (ss : List Spot) (end : Spot) → form_of f.word ≡ Some f
-    → WrittenParts i.decls ss (of_mark f.word ∷ filled f.holes c) → end.token ≡ Is m.Semicolon → TreeLimited i n (ss ++ end ∷ []) (simple (f.made c)) (first_line ss ∷ [])
-form_limited i n f c _ end found (then_part _ rs _ _ (by_mark s _ h) w) he b ls rest last =
+    → WrittenParts i.decls ss (of_symbol f.word ∷ filled f.holes c) → end.token ≡ Is m.Semicolon → TreeLimited i n (ss ++ end ∷ []) (simple (f.made c)) (first_line ss ∷ [])
+form_limited i n f c _ end found (then_part _ rs _ _ (by_symbol s _ h) w) he b ls rest last =
     same_of (stmt (block n)) (simple (f.made c)) _ (s ∷ (rs ++ (end ∷ rest))) rest ls _ _ b i (simp append_assoc) refl
     (begins_limited (block n) (behind_word f) s (rs ++ (end ∷ rest)) rest (simple (f.made c)) ls _ b (Is f.word) i h (by_form_limited (block n) f.word f (on (s ∷ (rs ++ (end ∷ rest))) ls b i) found)
     (λ d. fill_limited f.holes (λ d. simple (f.made d)) c rs end rest (ls ++ s.line ∷ []) d i f.clear w he))
 
 behind_place_limited : (slot : Slot) (xs us rest : List Spot) (t : Target) (e : Term) (ls : List ℕ) (b : ℕ) (i : Input) → GivesOrLimited (index_outside (place_of_slot slot) slot.size (on xs ls b i)) t us ls i
-    → ((c : ℕ) → GivesOrLimited (fill (mark_hole m.Assign ∷ term_hole ∷ []) (λ c. simple (st.Assign (record { into = t; value = c.0 }))) (on us ls c i)) (simple (st.Assign (record { into = t; value = e }))) rest ls i)
+    → ((c : ℕ) → GivesOrLimited (fill (symbol_hole m.Assign ∷ term_hole ∷ []) (λ c. simple (st.Assign (record { into = t; value = c.0 }))) (on us ls c i)) (simple (st.Assign (record { into = t; value = e }))) rest ls i)
     → GivesOrLimited (assignment slot (on xs ls b i)) (simple (st.Assign (record { into = t; value = e }))) rest ls i
 unfolding assignment
 behind_place_limited slot xs us rest t e ls b i g f = then_limited _ _ _ _ _ _ _ _ _ g f
@@ -127,7 +127,7 @@ assigns_limited i n t e _ end (then_part v rs _ _ (by_target _ _ _ names) w) he 
     (assigned_tokens x.first v x.behind rs end rest x.is) (ap (λ r. ls ++ r ∷ []) (assigned_line x.first v x.behind rs x.is))
     (assignment_limited (block n) x.first x.slot (x.behind ++ (rs ++ (end ∷ rest))) rest made ls line b i x.token x.declared x.kind
     (λ d. behind_place_limited x.slot (x.behind ++ (rs ++ (end ∷ rest))) (rs ++ (end ∷ rest)) rest t e line d i (x.reads line d (rs ++ (end ∷ rest)))
-    (λ c. fill_limited (mark_hole m.Assign ∷ term_hole ∷ []) (λ d. simple (st.Assign (record { into = t; value = d.0 }))) (e, tt) rs end rest line c i (tt, tt) w he)))
+    (λ c. fill_limited (symbol_hole m.Assign ∷ term_hole ∷ []) (λ d. simple (st.Assign (record { into = t; value = d.0 }))) (e, tt) rs end rest line c i (tt, tt) w he)))
 
 -- a statement that holds no other, by its parts
 abbrev PartsLimited : Input → ℕ → Tree → List Part → Type 0
@@ -138,7 +138,7 @@ SimpleLimited i n s = PartsLimited i n (simple s) (parts_of s)
 
 formed_limited : (i : Input) (n : ℕ) (s : Simple) → HasForm s → SimpleLimited i n s
 formed_limited i n s x =
-    let formed : PartsLimited i n (simple (x.form.made x.contents)) (of_mark x.form.word ∷ filled x.form.holes x.contents) =
+    let formed : PartsLimited i n (simple (x.form.made x.contents)) (of_symbol x.form.word ∷ filled x.form.holes x.contents) =
     λ ss end w he. form_limited i n x.form x.contents ss end x.found w he in
     subst (SimpleLimited i n) x.is (subst (PartsLimited i n (simple (x.form.made x.contents))) (sym (x.form.parts x.contents)) formed)
 
@@ -154,12 +154,12 @@ repeats_limited i n k e a t x ms hk w s f b ls rest last =
     (begins_limited (block n) (while_statement (block n)) k (e ++ (a ++ rest)) rest (repeat t (block_of x)) ls _ b (Is m.While) i hk (inl refl)
     (λ d. while_limited (block n) e (a ++ rest) rest t x ks (ks ++ ms) d i w (s rest) (λ c. f c ks rest)))
 
-nothing_else : (B : Parser (List Tree)) (rest : List Spot) (ls : List ℕ) (b : ℕ) (i : Input) → is_mark m.Else (token_of rest) ≡ false → GivesOrLimited (otherwise B (on rest ls b i)) [] rest ls i
+nothing_else : (B : Parser (List Tree)) (rest : List Spot) (ls : List ℕ) (b : ℕ) (i : Input) → is_symbol m.Else (token_of rest) ≡ false → GivesOrLimited (otherwise B (on rest ls b i)) [] rest ls i
 nothing_else B rest ls b i h = inl (record { left = b; is = otherwise_none B rest ls b i h })
 
 else_limited : (B : Parser (List Tree)) (w : Spot) (ss rest : List Spot) (y : List Tree) (ls ms : List ℕ) (b : ℕ) (i : Input) → w.token ≡ Is m.Else
     → GivesOrLimited (B (on ss ls b i)) y rest ms i → GivesOrLimited (otherwise B (on (w ∷ ss) ls b i)) y rest ms i
-else_limited B w ss rest y ls ms b i h g = same_limited _ _ y rest ms i (otherwise_some B w ss ls b i (mark_seen m.Else w h)) g
+else_limited B w ss rest y ls ms b i h g = same_limited _ _ y rest ms i (otherwise_some B w ss ls b i (symbol_seen m.Else w h)) g
 
 chooses_limited : (i : Input) (n : ℕ) (k : Spot) (e a : List Spot) (t : Term) (x : List Tree) (ms : List ℕ)
     → k.token ≡ Is m.If → WrittenTerm i.decls 5 e t → ((r : List Spot) → Stops 5 (a ++ r)) → BlockLimited i n a x ms → TreeLimited i n (k ∷ e ++ a) (branch t (block_of x) no_more) (k.line ∷ ms)
@@ -183,7 +183,7 @@ chooses_else_limited i n k o e a z t x y ms ns hk w s f ho g b ls rest last =
 -- ---- blocks
 
 -- no more block may be opened
-none_opened : (a : Spot) (ss rest : List Spot) (ts : List Tree) (ls ms : List ℕ) (b : ℕ) (i : Input) → is_mark m.BraceOpen a.token ≡ true → GivesOrLimited (block zero (on (a ∷ ss) ls b i)) ts rest ms i
+none_opened : (a : Spot) (ss rest : List Spot) (ts : List Tree) (ls ms : List ℕ) (b : ℕ) (i : Input) → is_symbol m.BraceOpen a.token ≡ true → GivesOrLimited (block zero (on (a ∷ ss) ls b i)) ts rest ms i
 unfolding block sees token
 none_opened a ss rest ts ls ms b i h = rw h (inr tt)
 
@@ -196,7 +196,7 @@ one_opened n a z ss rest ts ls ms b i ha hz g =
 
 braces_limited : (i : Input) (n : ℕ) (a z : Spot) (ss : List Spot) (ts : List Tree) (ms : List ℕ) → a.token ≡ Is m.BraceOpen → z.token ≡ Is m.BraceClose
     → ((k : ℕ) → BodyLimited i k ss ts ms) → BlockLimited i n (a ∷ ss ++ z ∷ []) ts ms
-braces_limited i zero a z ss ts ms ha hz h b ls rest = none_opened a (ss ++ z ∷ [] ++ rest) rest ts ls (ls ++ ms) b i (mark_seen m.BraceOpen a ha)
+braces_limited i zero a z ss ts ms ha hz h b ls rest = none_opened a (ss ++ z ∷ [] ++ rest) rest ts ls (ls ++ ms) b i (symbol_seen m.BraceOpen a ha)
 braces_limited i (suc k) a z ss ts ms ha hz h b ls rest =
     let turns : length ss < length (ss ++ z ∷ rest) + 1 = omega (arith, length-append ss (z ∷ rest)) in
     same_of (block (suc k)) ts _ (a ∷ (ss ++ z ∷ rest)) rest ls (ls ++ ms) (ls ++ ms) b i (simp append_assoc) refl
@@ -221,7 +221,7 @@ as_limited : (o : Outcome (List Tree)) (a c : List Tree) (rest : List Spot) (ls 
 as_limited o a c rest ls ms i d e g = rw (← d, ← e) g
 
 follows_limited : (i : Input) (n : ℕ) (ss rs : List Spot) (t : Tree) (ts : List Tree) (ls ms : List ℕ) → ((r : List Spot) → Opens (token_of (ss ++ r))) → 0 < length ss
-    → ((inside : Bool) (rest : List Spot) → closes inside (token_of rest) ≡ true → is_mark m.Else (token_of (rs ++ rest)) ≡ false)
+    → ((inside : Bool) (rest : List Spot) → closes inside (token_of rest) ≡ true → is_symbol m.Else (token_of (rs ++ rest)) ≡ false)
     → TreeLimited i n ss t ls → BodyLimited i n rs ts ms → BodyLimited i n (ss ++ rs) (t ∷ ts) (ls ++ ms)
 follows_limited i n ss rs t ts ls ms o some other f g inside zero found b ks rest h less = absurd (omega arith)
 follows_limited i n ss rs t ts ls ms o some other f g inside (suc turns) found b ks rest h less =

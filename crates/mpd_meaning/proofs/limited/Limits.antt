@@ -5,8 +5,8 @@ use Rattle.std.proofs.lemmas.Bool.Decides.{nat_tests}
 use Rattle.mpd_model.specs.declared.limits.TheConstants.{RANKS_MAX, CELLS_MAX, HANDLES_MAX}
 use Rattle.mpd_model.specs.declared.place.DeclKind.{DeclKind}
 use Rattle.mpd_model.specs.declared.read_fault.FaultCode.TheVariants.{TooMany}
-use Rattle.mpd_model.specs.declared.token.Mark.{Mark}
-use Rattle.mpd_model.specs.declared.token.Mark.TheVariants as m
+use Rattle.mpd_model.specs.declared.token.Symbol.{Symbol}
+use Rattle.mpd_model.specs.declared.token.Symbol.TheVariants as m
 use Rattle.mpd_model.specs.declared.token.Token.{Token}
 use Rattle.mpd_model.specs.declared.token.Token.TheVariants.{Number, Name}
 use Rattle.mpd_model.specs.script.Declaration.{Declared, variables_in, handles_in, variable_cells, handle_cells}
@@ -68,7 +68,7 @@ kept : (i j : Input) → j ≡ advanced i → Fits i.decls → Fits j.decls
 unfolding advanced
 kept i j e f = subst (λ k. Fits k.decls) (sym e) f
 
-expect_keeps : (wanted : Mark) (i : Input) (y : Unit {0} × Input) → expect wanted i ≡ Ok y → Fits i.decls → Fits y.1.decls
+expect_keeps : (wanted : Symbol) (i : Input) (y : Unit {0} × Input) → expect wanted i ≡ Ok y → Fits i.decls → Fits y.1.decls
 expect_keeps wanted i y h f = kept i y.1 (expect_ok wanted i y h).1 f
 
 single_fits : (kind : DeclKind) (name : List ℕ) (at : ℕ) (i : Input) (y : Unit {0} × Input) → single kind name at i ≡ Ok y → Fits y.1.decls

@@ -5,7 +5,7 @@ use Rattle.mpd_model.specs.declared.read_fault.FaultCode.{FaultCode}
 use Rattle.mpd_model.specs.declared.read_fault.FaultCode.TheVariants.{UnknownName, TooDeep, TooMany}
 use Rattle.mpd_model.specs.declared.read_fault.ReadFault.{ReadFault}
 use Rattle.mpd_model.specs.declared.slot.Slot.{Slot}
-use Rattle.mpd_model.specs.declared.token.Mark.{Mark}
+use Rattle.mpd_model.specs.declared.token.Symbol.{Symbol}
 use Rattle.mpd_model.specs.grammar.Faults.{fault}
 use Rattle.mpd_model.specs.grammar.Grammar.{written_in}
 use Rattle.mpd_model.specs.grammar.Input.{Input, Outcome, Parser, and_then, token, place_of, spelling, place, advanced, behind, pure, fail, refusal, refuse, peek, advance, sees, after, eat, expect, max_budget, begin, spend, max_statements, count, first_line, same_kind, sought, seek, slot_in, cells_fit, add, ◌>>=◌}
@@ -177,19 +177,19 @@ module _ (late : ℕ) where
   eaten true = give_local true
   eaten false = pure_local false
 
-  sees_seen : (k : Mark) → IsSeen (sees k)
+  sees_seen : (k : Symbol) → IsSeen (sees k)
   unfolding sees token
   sees_seen k s f xs ys e e' b = refl
 
-  pub eat_local : (k : Mark) → IsLocal late (eat k)
+  pub eat_local : (k : Symbol) → IsLocal late (eat k)
   unfolding after
   eat_local k = seen_local (sees k) (λ c i. Ok (c, cond c (advanced i) i)) (sees_seen k) eaten
 
-  -- by whether the mark comes next
-  pub sees_local : {A : Type 0} (k : Mark) (p q : Parser A) → IsLocal late p → IsLocal late q → IsLocal late (λ i. cond (sees k i) (p i) (q i))
+  -- by whether the symbol comes next
+  pub sees_local : {A : Type 0} (k : Symbol) (p q : Parser A) → IsLocal late p → IsLocal late q → IsLocal late (λ i. cond (sees k i) (p i) (q i))
   sees_local k p q h r = seen_local (sees k) (λ c i. cond c (p i) (q i)) (sees_seen k) (λ c. if_at c p q h r)
 
-  pub expect_local : (k : Mark) → IsLocal late (expect k)
+  pub expect_local : (k : Symbol) → IsLocal late (expect k)
   unfolding expect
   expect_local k = sees_local k advance refuse advance_local refuse_local
 

@@ -10,14 +10,14 @@ use Rattle.mpd_model.specs.declared.place.Place.{Place}
 use Rattle.mpd_model.specs.declared.read_fault.FaultCode.TheVariants.{Twice, TooDeep, BadRanks, NotInVersion}
 use Rattle.mpd_model.specs.declared.slot.Slot.{Slot}
 use Rattle.mpd_model.specs.declared.stmt.Simple.TheVariants as st
-use Rattle.mpd_model.specs.declared.token.Mark.TheVariants as m
+use Rattle.mpd_model.specs.declared.token.Symbol.TheVariants as m
 use Rattle.mpd_model.specs.declared.token.Token.{Token}
 use Rattle.mpd_model.specs.declared.token.Token.TheVariants.{Number, Name, Is}
 use Rattle.mpd_model.specs.script.Declaration.{Declared}
 use Rattle.mpd_model.specs.grammar.Grammar.{operator_at, turns, chain_by, chain, place_of_slot, bracket, index_inside, place_inside, rounds, unary, atom_by, atom, level, expr, expression, begin_statement, closes, index_outside, target, statement_place_by, statement_place, statement_name_by, statement_name, source_by, source, status_by, status, fill, Form, form_of, behind_word, by_form, since, assignment, otherwise, if_statement, while_statement, stmt_by, stmt, stmts, body, block, max_blocks, version_in, version_of, version_by, written_in, version, rank_count, ranks_of, ranks_by, ranks, natural, array_size_at, array_size_by, array_size, single, declarator, decl_by, decl, declares, decls_by, decls_from, decls, header, with_body}
 use Rattle.mpd_model.specs.grammar.Grammar as grammar
-use Rattle.mpd_model.specs.grammar.Input.{Input, Outcome, Parser, and_then, token, spelling, place, advanced, pure, fail, refuse, peek, advance, is_mark, sees, after, eat, expect, begin, spend, count, seek, slot_in, is_known, fresh, add, ◌>>=◌, ◌>>◌}
-use Rattle.mpd_model.specs.script.Parts.{Hole, mark_hole, term_hole, target_hole, name_hole, source_hole, status_hole, Contents}
+use Rattle.mpd_model.specs.grammar.Input.{Input, Outcome, Parser, and_then, token, spelling, place, advanced, pure, fail, refuse, peek, advance, is_symbol, sees, after, eat, expect, begin, spend, count, seek, slot_in, is_known, fresh, add, ◌>>=◌, ◌>>◌}
+use Rattle.mpd_model.specs.script.Parts.{Hole, symbol_hole, term_hole, target_hole, name_hole, source_hole, status_hole, Contents}
 use Rattle.mpd_model.specs.grammar.ReaderLaws.{TurnsAreEnough}
 use Rattle.mpd_model.specs.script.Term.{Term, lit, own_rank, size, cell, element, op1, op2}
 use Rattle.mpd_model.specs.grammar.Tokens.{Spot}
@@ -145,7 +145,7 @@ module _ (late : ℕ) where
 
   fill_local : {A : Type 0} (hs : List Hole) (made : Contents hs → A) → Loc (fill hs made)
   fill_local [] made = then_ (expect m.Semicolon) _ (expect_local late m.Semicolon) (λ x. pure_local late (made tt))
-  fill_local (mark_hole k ∷ hs) made = then_ (expect k) _ (expect_local late k) (λ x. fill_local hs made)
+  fill_local (symbol_hole k ∷ hs) made = then_ (expect k) _ (expect_local late k) (λ x. fill_local hs made)
   fill_local (term_hole ∷ hs) made = then_ expression _ expression_local (λ e. fill_local hs (λ c. made (e, c)))
   fill_local (target_hole kind ∷ hs) made = then_ (statement_place kind) _ (statement_place_local kind) (λ t. fill_local hs (λ c. made (t, c)))
   fill_local (name_hole kind ∷ hs) made = then_ (statement_name kind) _ (statement_name_local kind) (λ p. fill_local hs (λ c. made (p, c)))
@@ -165,7 +165,7 @@ module _ (late : ℕ) where
   unfolding assignment
   assignment_local s =
       then_ (index_outside (place_of_slot s) s.size) _ (index_outside_local (place_of_slot s) s.size)
-      (λ t. fill_local (mark_hole m.Assign ∷ term_hole ∷ []) (λ c. simple (st.Assign (record { into = t; value = c.0 }))))
+      (λ t. fill_local (symbol_hole m.Assign ∷ term_hole ∷ []) (λ c. simple (st.Assign (record { into = t; value = c.0 }))))
 
   -- ---- any statement
 
@@ -315,7 +315,7 @@ module _ (late : ℕ) where
       → Tied late (behind_name kind name s.place (has (f ++ xs) e b)) (behind_name kind name s.place (has (f ++ ys) e' b))
   unfolding sees after token advanced
   behind_same kind name s [] xs ys e e' b ends all end = inr (behind_later kind name s.place (has xs e b) ends (record { all = all; end = end }))
-  behind_same kind name s (t ∷ f) xs ys e e' b ends all end = size_same kind name s.place t f xs ys e e' b (is_mark m.SquareOpen t.token) ends all end
+  behind_same kind name s (t ∷ f) xs ys e e' b ends all end = size_same kind name s.place t f xs ys e e' b (is_symbol m.SquareOpen t.token) ends all end
 
   new_later : (c : Bool) (i : Input) → Beyond late i → Later {A = Unit {0}} late (cond c (fail Twice i) (Ok (tt, i)))
   new_later true i x = let h : IsLocal late (fail {A = Unit {0}} Twice) = fail_local late Twice in h.later i x

@@ -10,7 +10,7 @@ use Rattle.std.specs.Char.{is_ascii_digit}
 use Rattle.std.specs.List.{All, AllByRecursion, count_by, prefix_len}
 use Rattle.std.specs.Prelude.{slice_index}
 use Rattle.mpd_model.specs.declared.token.Class.TheVariants as class
-use Rattle.mpd_model.specs.declared.token.Mark.TheVariants as m
+use Rattle.mpd_model.specs.declared.token.Symbol.TheVariants as m
 use Rattle.mpd_model.specs.declared.token.Token.{Token}
 use Rattle.mpd_model.specs.declared.token.Token.TheVariants.{Is}
 use Rattle.mpd_model.specs.grammar.Tokens.{Spot, spot, tokens, tokens_after, front, sign, word, number, run_len, begins_name, is_in_name, is_in_comment, is_blank, feeds}

@@ -10,18 +10,18 @@ use Rattle.mpd_model.specs.declared.stmt.RecvStmt.{RecvStmt}
 use Rattle.mpd_model.specs.declared.stmt.StatusStmt.{StatusStmt}
 use Rattle.mpd_model.specs.declared.stmt.Simple.{Simple}
 use Rattle.mpd_model.specs.declared.stmt.Simple.TheVariants as st
-use Rattle.mpd_model.specs.declared.token.Mark.TheVariants as m
+use Rattle.mpd_model.specs.declared.token.Symbol.TheVariants as m
 use Rattle.mpd_model.specs.declared.token.Token.{Token}
 use Rattle.mpd_model.specs.declared.token.Token.TheVariants.{Number, Name, Is}
 use Rattle.mpd_model.specs.script.Declaration.{Declared, variable_cells, handle_cells}
 use Rattle.mpd_model.specs.grammar.Grammar.{declares, operator_at, sign}
 use Rattle.mpd_model.specs.grammar.Input.{slot_from, slot_in, same_kind}
-use Rattle.mpd_model.specs.script.Parts.{Part, of_mark, of_term, of_target, of_name, source_part, status_parts, recv_parts, parts_of}
+use Rattle.mpd_model.specs.script.Parts.{Part, of_symbol, of_term, of_target, of_name, source_part, status_parts, recv_parts, parts_of}
 use Rattle.mpd_model.specs.script.Program.{Program}
 use Rattle.mpd_model.specs.script.Term.{Term, Target}
 use Rattle.mpd_model.specs.grammar.Tokens.{Spot}
 use Rattle.mpd_model.specs.script.Tree.{Tree}
-use Rattle.mpd_model.specs.grammar.Written.{WrittenTerm, number, rank, ranks, name, entry, round, signs, higher, joins, WrittenTarget, whole, part, by_mark, by_term, by_target, by_name, WrittenParts, no_part, then_part, WrittenTree, simply, repeats, chooses, chooses_else, WrittenBlock, braces, WrittenBody, ended, follows, WrittenDecls, none, declares_one, declares_array, declared_as, WrittenScript, script}
+use Rattle.mpd_model.specs.grammar.Written.{WrittenTerm, number, rank, ranks, name, entry, round, signs, higher, joins, WrittenTarget, whole, part, by_symbol, by_term, by_target, by_name, WrittenParts, no_part, then_part, WrittenTree, simply, repeats, chooses, chooses_else, WrittenBlock, braces, WrittenBody, ended, follows, WrittenDecls, none, declares_one, declares_array, declared_as, WrittenScript, script}
 use Rattle.mpd_meaning.specs.PrefixLaws.{CanBeCompleted, names, announces, some_names, some_declares, HasWhatItNames}
 use Rattle.mpd_meaning.proofs.viable.ViableScript.{or_first, or_left, or_right, or_second, Known}
 
@@ -96,21 +96,21 @@ silent_target ds k _ _ (part s a b ss p t n ha w hb) kind =
 
 abbrev word_in : DeclKind → List Part → Bool
 word_in kind [] = false
-word_in kind (of_mark k ∷ ps) = names kind (Is k) || word_in kind ps
+word_in kind (of_symbol k ∷ ps) = names kind (Is k) || word_in kind ps
 word_in kind (of_term t ∷ ps) = word_in kind ps
 word_in kind (of_target k t ∷ ps) = word_in kind ps
 word_in kind (of_name k p ∷ ps) = word_in kind ps
 
 abbrev target_in : DeclKind → List Part → Bool
 target_in kind [] = false
-target_in kind (of_mark k ∷ ps) = target_in kind ps
+target_in kind (of_symbol k ∷ ps) = target_in kind ps
 target_in kind (of_term t ∷ ps) = target_in kind ps
 target_in kind (of_target k t ∷ ps) = same_kind k kind || target_in kind ps
 target_in kind (of_name k p ∷ ps) = same_kind k kind || target_in kind ps
 
 parts_names : (ds : List Declared) (ss : List Spot) (ps : List Part) → WrittenParts ds ss ps → (kind : DeclKind) → some_names kind ss ≡ true → word_in kind ps ≡ true
 parts_names ds _ _ no_part kind h = h
-parts_names ds _ _ (then_part _ rs _ ps (by_mark s k e) w) kind h =
+parts_names ds _ _ (then_part _ rs _ ps (by_symbol s k e) w) kind h =
     elim (or_first (names kind s.token) (some_names kind rs) h) [
       | inl a ↦ or_left (names kind (Is k)) (word_in kind ps) (ap (names kind) (sym e) ∙ a)
       | inr b ↦ or_right (names kind (Is k)) (word_in kind ps) (parts_names ds rs ps w kind b)
@@ -131,7 +131,7 @@ status_silent None = refl
 status_silent (Some s) = refl
 
 recv_silent : (s : RecvStmt) → word_in Handle (recv_parts s) ≡ false
-recv_silent s = source_silent s.from (of_mark m.Tag ∷ source_part s.tag ∷ status_parts s.status []) ∙ source_silent s.tag (status_parts s.status []) ∙ status_silent s.status
+recv_silent s = source_silent s.from (of_symbol m.Tag ∷ source_part s.tag ∷ status_parts s.status []) ∙ source_silent s.tag (status_parts s.status []) ∙ status_silent s.status
 
 words_have_targets : (s : Simple) (kind : DeclKind) → word_in kind (parts_of s) ≡ true → target_in kind (parts_of s) ≡ true
 words_have_targets (st.Recv s) Variable h = refl
@@ -171,7 +171,7 @@ target_known ds k _ _ (part s a b ss p t n ha w hb) = record { name = s.text; sl
 
 targets_known : (ds : List Declared) (ss : List Spot) (ps : List Part) → WrittenParts ds ss ps → (kind : DeclKind) → target_in kind ps ≡ true → Known ds kind
 targets_known ds _ _ no_part kind h = absurd (cc)
-targets_known ds _ _ (then_part _ rs _ ps (by_mark s k e) w) kind h = targets_known ds rs ps w kind h
+targets_known ds _ _ (then_part _ rs _ ps (by_symbol s k e) w) kind h = targets_known ds rs ps w kind h
 targets_known ds _ _ (then_part _ rs _ ps (by_term us t v) w) kind h = targets_known ds rs ps w kind h
 targets_known ds _ _ (then_part _ rs _ ps (by_target us k t v) w) kind h =
     elim (or_first (same_kind k kind) (target_in kind ps) h) [

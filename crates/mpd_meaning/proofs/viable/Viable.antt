@@ -6,7 +6,7 @@ use Rattle.mpd_model.specs.declared.read_fault.FaultCode.{FaultCode}
 use Rattle.mpd_model.specs.declared.read_fault.FaultCode.TheVariants.{UnknownName, TooDeep}
 use Rattle.mpd_model.specs.declared.read_fault.ReadFault.{ReadFault}
 use Rattle.mpd_model.specs.declared.slot.Slot.{Slot}
-use Rattle.mpd_model.specs.declared.token.Mark.{Mark}
+use Rattle.mpd_model.specs.declared.token.Symbol.{Symbol}
 use Rattle.mpd_model.specs.declared.token.Token.{Token}
 use Rattle.mpd_model.specs.declared.token.Token.TheVariants.{Is, End}
 use Rattle.mpd_model.specs.script.Declaration.{Declared}
@@ -205,15 +205,15 @@ spot_of t text = record { token = t; text = text; place = 0; line = 0 }
 pub some_token : (t : Token) → Default (One (HasToken t))
 some_token t = record { tokens = spot_of t [] ∷ []; written = one (spot_of t []) refl }
 
-pub mark_default : (k : Mark) → Default (One (HasToken (Is k)))
-mark_default k = some_token (Is k)
+pub symbol_default : (k : Symbol) → Default (One (HasToken (Is k)))
+symbol_default k = some_token (Is k)
 
-seen_case : (C : List Spot → Type 0) (k : Mark) (i : Input) (c : Bool) → sees k i ≡ c → declares (Is k) ≡ None
+seen_case : (C : List Spot → Type 0) (k : Symbol) (i : Input) (c : Bool) → sees k i ≡ c → declares (Is k) ≡ None
     → Stops {A = Unit {0}} C (One (HasToken (Is k))) i (cond c (Ok (tt, advanced i)) (Err (refusal i)))
 seen_case C k i true e bare = next_read (One (HasToken (Is k))) i (Is k) (sees_is k i e) (λ x. absurd (cc)) bare (λ s h g. one s h)
-seen_case C k i false e bare = refused_here C (One (HasToken (Is k))) i (λ c. mark_default k)
+seen_case C k i false e bare = refused_here C (One (HasToken (Is k))) i (λ c. symbol_default k)
 
-pub expect_viable : (ds : List Declared) (C : List Spot → Type 0) (k : Mark) → declares (Is k) ≡ None → IsViable ds C (One (HasToken (Is k))) (expect k)
+pub expect_viable : (ds : List Declared) (C : List Spot → Type 0) (k : Symbol) → declares (Is k) ≡ None → IsViable ds C (One (HasToken (Is k))) (expect k)
 unfolding expect
 expect_viable ds C k bare i e = seen_case C k i (sees k i) refl bare
 

@@ -9,7 +9,7 @@ use Rattle.mpd_model.specs.declared.read_fault.FaultCode.{FaultCode}
 use Rattle.mpd_model.specs.declared.read_fault.FaultCode.TheVariants.{Twice, TooMany, BadRanks, NotInVersion}
 use Rattle.mpd_model.specs.declared.read_fault.ReadFault.{ReadFault}
 use Rattle.mpd_model.specs.declared.slot.Slot.{Slot}
-use Rattle.mpd_model.specs.declared.token.Mark.TheVariants as m
+use Rattle.mpd_model.specs.declared.token.Symbol.TheVariants as m
 use Rattle.mpd_model.specs.declared.token.Token.{Token}
 use Rattle.mpd_model.specs.declared.token.Token.TheVariants.{Number, Name, Is, End}
 use Rattle.mpd_model.specs.script.Declaration.{Declared, variable_cells, handle_cells}
@@ -151,8 +151,8 @@ behind_bracket ds kind v n a ev en free ea =
     let c : Spot = spot_of (Number (pos 1)) [] in
     record { tokens = c ∷ close_spot ∷ end_spot ∷ []; written = array_declared ds kind v n a c close_spot end_spot 1 ev en free ea refl refl refl }
 
-stops_mark : (i : Input) → Stops Free (One (HasToken (Is m.Semicolon))) i (expect m.Semicolon i)
-stops_mark i = expect_viable i.decls Free m.Semicolon refl i refl
+stops_symbol : (i : Input) → Stops Free (One (HasToken (Is m.Semicolon))) i (expect m.Semicolon i)
+stops_symbol i = expect_viable i.decls Free m.Semicolon refl i refl
 
 stops_close : (i : Input) → Stops Free (One (HasToken (Is m.SquareClose))) i (expect m.SquareClose i)
 stops_close i = expect_viable i.decls Free m.SquareClose refl i refl
@@ -176,7 +176,7 @@ module _ (ds : List Declared) (kind : DeclKind) (v : Spot) (ev : declares v.toke
       breaks_spot (λ ts. SomeDecls ds (v ∷ n ∷ a ∷ ts)) i j (Number (pos k)) is (λ x. absurd (cc)) refl refl _
       (λ s es et. breaks_one (λ ts. SomeDecls ds (v ∷ n ∷ a ∷ s ∷ ts)) (HasToken (Is m.SquareClose)) j (expect m.SquareClose j) _ (stops_close j)
       (λ b eb. record { tokens = end_spot ∷ []; written = array_declared ds kind v n a s b end_spot k ev en free ea es eb refl })
-      (λ x l b eb same. breaks_last (λ ts. SomeDecls ds (v ∷ n ∷ a ∷ s ∷ b ∷ ts)) (HasToken (Is m.Semicolon)) l (expect m.Semicolon l) (stops_mark l)
+      (λ x l b eb same. breaks_last (λ ts. SomeDecls ds (v ∷ n ∷ a ∷ s ∷ b ∷ ts)) (HasToken (Is m.Semicolon)) l (expect m.Semicolon l) (stops_symbol l)
       (λ z ez. array_declared ds kind v n a s b z k ev en free ea es eb ez)))
   add_size n a k false name i en free ea is = broken_here (λ ts. SomeDecls ds (v ∷ n ∷ a ∷ ts)) TooMany i (behind_bracket ds kind v n a ev en free ea)
 
@@ -199,7 +199,7 @@ module _ (ds : List Declared) (kind : DeclKind) (v : Spot) (ev : declares v.toke
   add_single true name i e is free =
       let j : Input = record i { tokens = behind i.tokens; decls = i.decls ++ declared_as kind name None ∷ [] } in
       breaks_spot (λ ts. SomeDecls ds (v ∷ ts)) i j Name is (λ x. absurd (cc)) refl refl _
-      (λ n en et. breaks_last (λ ts. SomeDecls ds (v ∷ n ∷ ts)) (HasToken (Is m.Semicolon)) j (expect m.Semicolon j) (stops_mark j)
+      (λ n en et. breaks_last (λ ts. SomeDecls ds (v ∷ n ∷ ts)) (HasToken (Is m.Semicolon)) j (expect m.Semicolon j) (stops_symbol j)
       (λ z ez. one_declared ds kind v n z ev en (ap (slot_in ds) et ∙ free) ez))
   add_single false name i e is free = broken_here (λ ts. SomeDecls ds (v ∷ ts)) TooMany i (behind_word ds kind v ev)
 
@@ -353,8 +353,8 @@ unfolding header
 header_breaks i e =
     breaks_one SomeScript (HasToken (Is m.Mpd)) i (expect m.Mpd i) _ (expect_viable i.decls Free m.Mpd refl i refl) from_mpd
     (λ x1 j1 mpd hm e1. breaks_one (λ ts. SomeScript (mpd ∷ ts)) IsNumber j1 (version j1) _ (version_stops j1) (λ v hv. from_version mpd v hm hv)
-    (λ x2 j2 v hv e2. breaks_one (λ ts. SomeScript (mpd ∷ v ∷ ts)) (HasToken (Is m.Semicolon)) j2 (expect m.Semicolon j2) _ (stops_mark j2) (λ a ha. from_first mpd v a hm hv ha)
+    (λ x2 j2 v hv e2. breaks_one (λ ts. SomeScript (mpd ∷ v ∷ ts)) (HasToken (Is m.Semicolon)) j2 (expect m.Semicolon j2) _ (stops_symbol j2) (λ a ha. from_first mpd v a hm hv ha)
     (λ x3 j3 a ha e3. breaks_one (λ ts. SomeScript (mpd ∷ v ∷ a ∷ ts)) (HasToken (Is m.Ranks)) j3 (expect m.Ranks j3) _ (expect_viable j3.decls Free m.Ranks refl j3 refl) (λ r hr. from_ranks mpd v a r hm hv ha hr)
     (λ x4 j4 r hr e4. breaks_one (λ ts. SomeScript (mpd ∷ v ∷ a ∷ r ∷ ts)) IsNumber j4 (ranks j4) _ (ranks_stops j4) (λ c hc. from_count mpd v a r c hm hv ha hr hc)
-    (λ n j5 c hc e5. breaks_one (λ ts. SomeScript (mpd ∷ v ∷ a ∷ r ∷ c ∷ ts)) (HasToken (Is m.Semicolon)) j5 (expect m.Semicolon j5) _ (stops_mark j5) (λ b hb. head_done mpd v a r c b (hm, (hv, (ha, (hr, (hc, hb))))))
+    (λ n j5 c hc e5. breaks_one (λ ts. SomeScript (mpd ∷ v ∷ a ∷ r ∷ c ∷ ts)) (HasToken (Is m.Semicolon)) j5 (expect m.Semicolon j5) _ (stops_symbol j5) (λ b hb. head_done mpd v a r c b (hm, (hv, (ha, (hr, (hc, hb))))))
     (λ x6 j6 b hb e6. behind_head n mpd v a r c b (hm, (hv, (ha, (hr, (hc, hb))))) j6 (e6 ∙ e5 ∙ e4 ∙ e3 ∙ e2 ∙ e1 ∙ e)))))))

@@ -5,20 +5,20 @@ use Rattle.mpd_model.specs.declared.place.DeclKind.TheVariants.{Variable}
 use Rattle.mpd_model.specs.declared.place.Place.{Place}
 use Rattle.mpd_model.specs.declared.slot.Slot.{Slot}
 use Rattle.mpd_model.specs.declared.stmt.StatusStmt.{StatusStmt}
-use Rattle.mpd_model.specs.declared.token.Mark.{Mark}
-use Rattle.mpd_model.specs.declared.token.Mark.TheVariants as m
+use Rattle.mpd_model.specs.declared.token.Symbol.{Symbol}
+use Rattle.mpd_model.specs.declared.token.Symbol.TheVariants as m
 use Rattle.mpd_model.specs.declared.token.Token.{Token}
 use Rattle.mpd_model.specs.declared.token.Token.TheVariants.{Name, Is}
 use Rattle.mpd_model.specs.script.Declaration.{Declared}
 use Rattle.mpd_model.specs.grammar.Grammar.{declares, place_of_slot, expression, index_outside, target, statement_place_by, statement_place, statement_name_by, statement_name, source_by, source, status_by, status, fill}
 use Rattle.mpd_model.specs.grammar.Input.{Input, token, spelling, advanced, slot_in, sees, after, expect, pure, ◌>>=◌}
-use Rattle.mpd_model.specs.script.Parts.{Part, of_mark, of_term, of_target, of_name, Hole, mark_hole, term_hole, target_hole, name_hole, source_hole, status_hole, source_part, status_parts, Contents, filled}
+use Rattle.mpd_model.specs.script.Parts.{Part, of_symbol, of_term, of_target, of_name, Hole, symbol_hole, term_hole, target_hole, name_hole, source_hole, status_hole, source_part, status_parts, Contents, filled}
 use Rattle.mpd_model.specs.script.Term.{Term, Target}
 use Rattle.mpd_model.specs.grammar.Tokens.{Spot}
-use Rattle.mpd_model.specs.grammar.Written.{Names, WrittenTarget, whole, part, WrittenPart, by_mark, by_term, by_target, by_name, WrittenParts, no_part, then_part}
+use Rattle.mpd_model.specs.grammar.Written.{Names, WrittenTarget, whole, part, WrittenPart, by_symbol, by_term, by_target, by_name, WrittenParts, no_part, then_part}
 use Rattle.mpd_meaning.specs.PrefixLaws.{names}
 use Rattle.mpd_laws.proofs.sound.Sound.{sees_is}
-use Rattle.mpd_meaning.proofs.viable.Viable.{One, one, Seq, seq, HasToken, Default, both_default, Stops, IsViable, HoldsBehind, behind_spot, then_viable, stops_as, in_larger, refused_here, nothing_read, next_read, mark_default, expect_viable, Found, seek_stops}
+use Rattle.mpd_meaning.proofs.viable.Viable.{One, one, Seq, seq, HasToken, Default, both_default, Stops, IsViable, HoldsBehind, behind_spot, then_viable, stops_as, in_larger, refused_here, nothing_read, next_read, symbol_default, expect_viable, Found, seek_stops}
 use Rattle.mpd_meaning.proofs.viable.ViableTerms.{AtLevel, some_term, expression_viable}
 
 -- some place of the kind, some source, some status before other parts
@@ -48,8 +48,8 @@ status_in : (ds : List Declared) (s : Spot) → s.token ≡ Is m.Status → (ss 
 status_in ds s h _ (seq us vs a b) = (
   Some (record { source = a.0; tag = b.0 }),
   λ ps rs w.
-      subst (λ x. WrittenParts ds (s ∷ x) (of_mark m.Status ∷ of_target Variable a.0 ∷ of_target Variable b.0 ∷ ps)) (sym (append_assoc us vs rs))
-      (then_part (s ∷ []) (us ++ (vs ++ rs)) (of_mark m.Status) (of_target Variable a.0 ∷ of_target Variable b.0 ∷ ps) (by_mark s m.Status h)
+      subst (λ x. WrittenParts ds (s ∷ x) (of_symbol m.Status ∷ of_target Variable a.0 ∷ of_target Variable b.0 ∷ ps)) (sym (append_assoc us vs rs))
+      (then_part (s ∷ []) (us ++ (vs ++ rs)) (of_symbol m.Status) (of_target Variable a.0 ∷ of_target Variable b.0 ∷ ps) (by_symbol s m.Status h)
       (then_part us (vs ++ rs) (of_target Variable a.0) (of_target Variable b.0 ∷ ps) (by_target us Variable a.0 a.1)
       (then_part vs rs (of_target Variable b.0) ps (by_target vs Variable b.0 b.1) w))),
 )
@@ -63,8 +63,8 @@ part_in : (ds : List Declared) (hs gs : List Hole) (us ss : List Spot) (end : Sp
 part_in ds hs gs us ss end p ps c e v w z =
     subst (Fills ds gs) (append_assoc us ss (end ∷ [])) (fills (us ++ ss) end c (subst (WrittenParts ds (us ++ ss)) (sym e) (then_part us ss p ps v w)) z)
 
-mark_in : (ds : List Declared) (k : Mark) (hs : List Hole) (ss : List Spot) → Seq (One (HasToken (Is k))) (Fills ds hs) ss → Fills ds (mark_hole k ∷ hs) ss
-mark_in ds k hs _ (seq _ _ (one s h) (fills ss end c w z)) = part_in ds hs (mark_hole k ∷ hs) (s ∷ []) ss end (of_mark k) (filled hs c) c refl (by_mark s k h) w z
+symbol_in : (ds : List Declared) (k : Symbol) (hs : List Hole) (ss : List Spot) → Seq (One (HasToken (Is k))) (Fills ds hs) ss → Fills ds (symbol_hole k ∷ hs) ss
+symbol_in ds k hs _ (seq _ _ (one s h) (fills ss end c w z)) = part_in ds hs (symbol_hole k ∷ hs) (s ∷ []) ss end (of_symbol k) (filled hs c) c refl (by_symbol s k h) w z
 
 term_in : (ds : List Declared) (hs : List Hole) (ss : List Spot) → Seq (AtLevel ds 5) (Fills ds hs) ss → Fills ds (term_hole ∷ hs) ss
 term_in ds hs _ (seq us _ t (fills ss end c w z)) = part_in ds hs (term_hole ∷ hs) us ss end (of_term t.0) (filled hs c) (t.0, c) refl (by_term us t.0 t.1) w z
@@ -85,10 +85,10 @@ statuses_in ds hs _ (seq us _ t (fills ss end c w z)) =
 
 -- ---- holes behind a word
 
--- The word's statement names what stands in them, and their marks begin no declaration.
+-- The word's statement names what stands in them, and their symbols begin no declaration.
 abbrev pub Suits : Token → List Hole → Type 0
 Suits t [] = Unit {0}
-Suits t (mark_hole k ∷ hs) = (declares (Is k) ≡ None) × Suits t hs
+Suits t (symbol_hole k ∷ hs) = (declares (Is k) ≡ None) × Suits t hs
 Suits t (term_hole ∷ hs) = Suits t hs
 Suits t (target_hole kind ∷ hs) = (names kind t ≡ true) × Suits t hs
 Suits t (name_hole kind ∷ hs) = (names kind t ≡ true) × Suits t hs
@@ -117,8 +117,8 @@ joined : (L M N : List Spot → Type 0) → ((ss : List Spot) → Seq L M ss →
 joined L M N join d e = let x = both_default L M d e in record { tokens = x.tokens; written = join x.tokens x.written }
 
 pub fills_default : (ds : List Declared) (t : Token) (hs : List Hole) → Suits t hs → IsServed ds t → Default (Fills ds hs)
-fills_default ds t [] h s = let d = mark_default m.Semicolon in record { tokens = d.tokens; written = end_in ds d.tokens d.written }
-fills_default ds t (mark_hole k ∷ hs) h s = joined _ _ _ (mark_in ds k hs) (mark_default k) (fills_default ds t hs h.1 s)
+fills_default ds t [] h s = let d = symbol_default m.Semicolon in record { tokens = d.tokens; written = end_in ds d.tokens d.written }
+fills_default ds t (symbol_hole k ∷ hs) h s = joined _ _ _ (symbol_in ds k hs) (symbol_default k) (fills_default ds t hs h.1 s)
 fills_default ds t (term_hole ∷ hs) h s = joined _ _ _ (term_in ds hs) (some_term ds 5) (fills_default ds t hs h s)
 fills_default ds t (target_hole kind ∷ hs) h s = joined _ _ _ (target_in ds kind hs) (s kind h.0) (fills_default ds t hs h.1 s)
 fills_default ds t (name_hole kind ∷ hs) h s = joined _ _ _ (name_in ds kind hs) (name_default ds kind (s kind h.0)) (fills_default ds t hs h.1 s)
@@ -129,13 +129,13 @@ fills_default ds t (status_hole ∷ hs) h s = joined _ _ _ (statuses_in ds hs) (
 
 module _ (ds : List Declared) (C : List Spot → Type 0) (less : HoldsBehind C) where
   closed_default : Default (Seq (AtLevel ds 5) (One (HasToken (Is m.SquareClose))))
-  closed_default = both_default (AtLevel ds 5) (One (HasToken (Is m.SquareClose))) (some_term ds 5) (mark_default m.SquareClose)
+  closed_default = both_default (AtLevel ds 5) (One (HasToken (Is m.SquareClose))) (some_term ds 5) (symbol_default m.SquareClose)
 
   closed_viable : {A : Type 0} (f : Term → A) → IsViable ds C (Seq (AtLevel ds 5) (One (HasToken (Is m.SquareClose)))) (expression >>= λ t. expect m.SquareClose >>= λ x. pure (f t))
   closed_viable f =
       then_viable ds C (AtLevel ds 5) (One (HasToken (Is m.SquareClose))) expression _ less (expression_viable ds C less)
       (λ t i e. stops_as C (One (HasToken (Is m.SquareClose))) (One (HasToken (Is m.SquareClose))) i (expect m.SquareClose i) (λ x. f t) (λ ss w. w) (expect_viable ds C m.SquareClose refl i e))
-      (λ us c. mark_default m.SquareClose)
+      (λ us c. symbol_default m.SquareClose)
 
   pub index_viable : (kind : DeclKind) (s : Spot) (at : Place) (cells : Option ℕ) → ((is_array : Bool) → is_some cells ≡ is_array → Names ds kind s is_array at)
       → IsViable ds C (λ ss. SomeTarget ds kind (s ∷ ss)) (index_outside at cells)
@@ -183,7 +183,7 @@ module _ (ds : List Declared) (C : List Spot → Type 0) (less : HoldsBehind C) 
   statement_name_viable kind d i e = name_stops kind d (token i) i e refl
 
   source_case : (c : Bool) (i : Input) → i.decls ≡ ds → sees m.Any i ≡ c → Stops C (SomeSource ds) i (source_by c (cond c (advanced i) i))
-  source_case true i e is = next_read (SomeSource ds) i (Is m.Any) (sees_is m.Any i is) (λ x. absurd (cc)) refl (λ s h g. (None, by_mark s m.Any h))
+  source_case true i e is = next_read (SomeSource ds) i (Is m.Any) (sees_is m.Any i is) (λ x. absurd (cc)) refl (λ s h g. (None, by_symbol s m.Any h))
   source_case false i e is = stops_as C (AtLevel ds 5) (SomeSource ds) i (expression i) (λ t. Some t) (λ ss w. (Some w.0, by_term ss w.0 w.1)) (expression_viable ds C less i e)
 
   source_viable : IsViable ds C (SomeSource ds) source
@@ -206,8 +206,8 @@ module _ (ds : List Declared) (C : List Spot → Type 0) (less : HoldsBehind C) 
 
   pub fill_viable : {A : Type 0} (t : Token) (hs : List Hole) (made : Contents hs → A) → Suits t hs → ((us : List Spot) → C us → IsServed ds t) → IsViable ds C (Fills ds hs) (fill hs made)
   fill_viable t [] made h s i e = stops_as C (One (HasToken (Is m.Semicolon))) (Fills ds []) i (expect m.Semicolon i) (λ x. made tt) (end_in ds) (expect_viable ds C m.Semicolon refl i e)
-  fill_viable t (mark_hole k ∷ hs) made h s i e =
-      in_larger C (Seq (One (HasToken (Is k))) (Fills ds hs)) (Fills ds (mark_hole k ∷ hs)) i _ (mark_in ds k hs)
+  fill_viable t (symbol_hole k ∷ hs) made h s i e =
+      in_larger C (Seq (One (HasToken (Is k))) (Fills ds hs)) (Fills ds (symbol_hole k ∷ hs)) i _ (symbol_in ds k hs)
       (then_viable ds C (One (HasToken (Is k))) (Fills ds hs) (expect k) _ less (expect_viable ds C k h.0) (λ x. fill_viable t hs made h.1 s) (λ us c. fills_default ds t hs h.1 (s us c)) i e)
   fill_viable t (term_hole ∷ hs) made h s i e =
       in_larger C (Seq (AtLevel ds 5) (Fills ds hs)) (Fills ds (term_hole ∷ hs)) i _ (term_in ds hs)

@@ -10,8 +10,8 @@ use Rattle.mpd_model.specs.declared.place.DeclKind.TheVariants.{Variable}
 use Rattle.mpd_model.specs.declared.place.Place.{Place}
 use Rattle.mpd_model.specs.declared.read_fault.FaultCode.TheVariants.{TooDeep}
 use Rattle.mpd_model.specs.declared.slot.Slot.{Slot}
-use Rattle.mpd_model.specs.declared.token.Mark.{Mark}
-use Rattle.mpd_model.specs.declared.token.Mark.TheVariants as m
+use Rattle.mpd_model.specs.declared.token.Symbol.{Symbol}
+use Rattle.mpd_model.specs.declared.token.Symbol.TheVariants as m
 use Rattle.mpd_model.specs.declared.token.Token.{Token}
 use Rattle.mpd_model.specs.declared.token.Token.TheVariants.{Number, Name, Is, End}
 use Rattle.mpd_model.specs.script.Declaration.{Declared}
@@ -21,7 +21,7 @@ use Rattle.mpd_model.specs.script.Term.{Term, lit, own_rank, size, cell, element
 use Rattle.mpd_model.specs.grammar.Tokens.{Spot}
 use Rattle.mpd_model.specs.grammar.Written.{Names, WrittenTerm, number, rank, ranks, name, entry, round, signs, higher, joins, left_level}
 use Rattle.mpd_laws.proofs.sound.Sound.{sees_is}
-use Rattle.mpd_meaning.proofs.viable.Viable.{One, one, Seq, seq, HasToken, Default, both_default, Reads, Stops, IsViable, HoldsBehind, behind_spot, stops_then, then_viable, stops_as, in_larger, stuck_here, refused_here, nothing_read, next_read, some_token, mark_default, expect_viable, spend_stops, Found, seek_stops}
+use Rattle.mpd_meaning.proofs.viable.Viable.{One, one, Seq, seq, HasToken, Default, both_default, Reads, Stops, IsViable, HoldsBehind, behind_spot, stops_then, then_viable, stops_as, in_larger, stuck_here, refused_here, nothing_read, next_read, some_token, symbol_default, expect_viable, spend_stops, Found, seek_stops}
 
 -- some expression of a level
 abbrev pub AtLevel : List Declared → ℕ → List Spot → Type 0
@@ -129,8 +129,8 @@ module _ (ds : List Declared) (C : List Spot → Type 0) (less : HoldsBehind C) 
 
   bracket_case : (i : Input) (c : Bool) → sees m.SquareOpen i ≡ c → Stops C (One (HasToken (Is m.SquareOpen))) i (cond c (spend i) (Err (refusal i)))
   bracket_case i true is =
-      spend_stops C (One (HasToken (Is m.SquareOpen))) i (Is m.SquareOpen) (sees_is m.SquareOpen i is) (λ x. absurd (cc)) refl (λ s x. one s x) (λ c. mark_default m.SquareOpen)
-  bracket_case i false is = refused_here C (One (HasToken (Is m.SquareOpen))) i (λ c. mark_default m.SquareOpen)
+      spend_stops C (One (HasToken (Is m.SquareOpen))) i (Is m.SquareOpen) (sees_is m.SquareOpen i is) (λ x. absurd (cc)) refl (λ s x. one s x) (λ c. symbol_default m.SquareOpen)
+  bracket_case i false is = refused_here C (One (HasToken (Is m.SquareOpen))) i (λ c. symbol_default m.SquareOpen)
 
   bracket_viable : IsViable ds C (One (HasToken (Is m.SquareOpen))) bracket
   unfolding bracket
@@ -143,12 +143,12 @@ module _ (ds : List Declared) (C : List Spot → Type 0) (less : HoldsBehind C) 
   closed_default Closes d = both_default (AtLevel ds 5) Closes (some_term ds 5) d
 
   -- an expression and what closes it
-  closed_viable : {A : Type 0} (p : Parser Term) → IsViable ds C (AtLevel ds 5) p → (k : Mark) → declares (Is k) ≡ None → (f : Term → A)
+  closed_viable : {A : Type 0} (p : Parser Term) → IsViable ds C (AtLevel ds 5) p → (k : Symbol) → declares (Is k) ≡ None → (f : Term → A)
       → IsViable ds C (Seq (AtLevel ds 5) (One (HasToken (Is k)))) (p >>= λ t. expect k >>= λ x. pure (f t))
   closed_viable p h k bare f =
       then_viable ds C (AtLevel ds 5) (One (HasToken (Is k))) p _ less h
       (λ t i e. stops_as C (One (HasToken (Is k))) (One (HasToken (Is k))) i (expect k i) (λ x. f t) (λ ss w. w) (expect_viable ds C k bare i e))
-      (λ us c. mark_default k)
+      (λ us c. symbol_default k)
 
   index_stops : (p : ℕ → Parser Term) → AllViable p → (s : Spot) (at : Place) (cells : Option ℕ) → ((is_array : Bool) → is_some cells ≡ is_array → Names ds Variable s is_array at)
       → IsViable ds C (λ ss. AtLevel ds 0 (s ∷ ss)) (index_inside p at cells)
@@ -156,7 +156,7 @@ module _ (ds : List Declared) (C : List Spot → Type 0) (less : HoldsBehind C) 
   index_stops p h s at (Some cells) n i e =
       in_larger C (Inside (One (HasToken (Is m.SquareOpen))) (One (HasToken (Is m.SquareClose)))) (λ ss. AtLevel ds 0 (s ∷ ss)) i _ (entry_in ds s at (n true refl))
       (then_viable ds C (One (HasToken (Is m.SquareOpen))) (Seq (AtLevel ds 5) (One (HasToken (Is m.SquareClose)))) bracket _ less bracket_viable
-      (λ x. closed_viable (p 5) (h 5) m.SquareClose refl (λ t. element at t)) (λ us c. closed_default _ (mark_default m.SquareClose)) i e)
+      (λ x. closed_viable (p 5) (h 5) m.SquareClose refl (λ t. element at t)) (λ us c. closed_default _ (symbol_default m.SquareClose)) i e)
 
   -- a name, and what is behind it
   place_case : (p : ℕ → Parser Term) → AllViable p → (i : Input) → i.decls ≡ ds → token i ≡ Name → (t : Slot) → Found ds Variable (spelling i) t
@@ -177,8 +177,8 @@ module _ (ds : List Declared) (C : List Spot → Type 0) (less : HoldsBehind C) 
   rounds_stops p h i e is =
       in_larger C (Inside (One (HasToken (Is m.RoundOpen))) (One (HasToken (Is m.RoundClose)))) (AtLevel ds 0) i _ (round_in ds)
       (stops_then ds C (One (HasToken (Is m.RoundOpen))) (Seq (AtLevel ds 5) (One (HasToken (Is m.RoundClose)))) i (spend i) _ less
-      (spend_stops C (One (HasToken (Is m.RoundOpen))) i (Is m.RoundOpen) is (λ x. absurd (cc)) refl (λ s x. one s x) (λ c. mark_default m.RoundOpen)) e
-      (λ x. closed_viable (p 5) (h 5) m.RoundClose refl (λ t. t)) (λ us c. closed_default _ (mark_default m.RoundClose)))
+      (spend_stops C (One (HasToken (Is m.RoundOpen))) i (Is m.RoundOpen) is (λ x. absurd (cc)) refl (λ s x. one s x) (λ c. symbol_default m.RoundOpen)) e
+      (λ x. closed_viable (p 5) (h 5) m.RoundClose refl (λ t. t)) (λ us c. closed_default _ (symbol_default m.RoundClose)))
 
   unary_stops : (p : ℕ → Parser Term) → AllViable p → (op : UnaryOp) (t : Token) (i : Input) → i.decls ≡ ds → token i ≡ t → t ≢ End → declares t ≡ None → sign t ≡ Some op
       → Stops C (AtLevel ds 0) i (unary p op i)

@@ -5,21 +5,21 @@ use Rattle.mpd_model.specs.declared.place.DeclKind.TheVariants.{Variable, Handle
 use Rattle.mpd_model.specs.declared.read_fault.FaultCode.TheVariants.{TooMany, TooDeep, NotInVersion}
 use Rattle.mpd_model.specs.declared.slot.Slot.{Slot}
 use Rattle.mpd_model.specs.declared.stmt.Simple.TheVariants as st
-use Rattle.mpd_model.specs.declared.token.Mark.{Mark}
-use Rattle.mpd_model.specs.declared.token.Mark.TheVariants as m
+use Rattle.mpd_model.specs.declared.token.Symbol.{Symbol}
+use Rattle.mpd_model.specs.declared.token.Symbol.TheVariants as m
 use Rattle.mpd_model.specs.declared.token.Token.{Token}
 use Rattle.mpd_model.specs.declared.token.Token.TheVariants.{Name, Is, End}
 use Rattle.mpd_model.specs.script.Declaration.{Declared}
 use Rattle.mpd_model.specs.grammar.Faults.{fault}
 use Rattle.mpd_model.specs.grammar.Grammar.{declares, place_of_slot, expression, index_outside, begin_statement, Form, form_of, behind_word, by_form, assignment, otherwise, if_statement, while_statement, closes, stmt_by, stmt, stmts, body, block}
 use Rattle.mpd_model.specs.grammar.Input.{Input, Parser, and_then, token, spelling, place, advanced, max_statements, count, slot_in, sees, after, expect, pure, fail, refuse, seek, ◌>>=◌, ◌>>◌}
-use Rattle.mpd_model.specs.script.Parts.{of_mark, mark_hole, term_hole, filled}
+use Rattle.mpd_model.specs.script.Parts.{of_symbol, symbol_hole, term_hole, filled}
 use Rattle.mpd_model.specs.grammar.Tokens.{Spot}
 use Rattle.mpd_model.specs.script.Tree.{Tree, simple, branch, repeat, no_more, block_of}
-use Rattle.mpd_model.specs.grammar.Written.{WrittenParts, no_part, then_part, by_mark, by_target, WrittenTree, simply, repeats, chooses, chooses_else, WrittenBlock, braces, WrittenBody, ended, follows}
+use Rattle.mpd_model.specs.grammar.Written.{WrittenParts, no_part, then_part, by_symbol, by_target, WrittenTree, simply, repeats, chooses, chooses_else, WrittenBlock, braces, WrittenBody, ended, follows}
 use Rattle.mpd_meaning.specs.PrefixLaws.{names}
 use Rattle.mpd_laws.proofs.sound.Sound.{sees_is}
-use Rattle.mpd_meaning.proofs.viable.Viable.{One, one, Seq, seq, HasToken, Default, both_default, spot_of, Stops, IsViable, HoldsBehind, behind_spot, then_viable, stops_as, in_larger, under, stuck_here, refused_here, nothing_read, mark_default, expect_viable, seek_stops}
+use Rattle.mpd_meaning.proofs.viable.Viable.{One, one, Seq, seq, HasToken, Default, both_default, spot_of, Stops, IsViable, HoldsBehind, behind_spot, then_viable, stops_as, in_larger, under, stuck_here, refused_here, nothing_read, symbol_default, expect_viable, seek_stops}
 use Rattle.mpd_meaning.proofs.viable.ViableTerms.{AtLevel, expression_viable}
 use Rattle.mpd_meaning.proofs.viable.ViableParts.{SomeTarget, Fills, fills, Suits, IsServed, fills_default, index_viable, fill_viable}
 
@@ -50,9 +50,9 @@ data SomeElse (ds : List Declared) : List Spot → Type 0 where
 
 form_in : (ds : List Declared) (f : Form) (s : Spot) → s.token ≡ Is f.word → (ss : List Spot) → Fills ds f.holes ss → SomeTree ds (s ∷ ss)
 form_in ds f s h _ (fills ss end c w z) =
-    (simple (f.made c), _, simply (s ∷ ss) end (f.made c) (subst (WrittenParts ds (s ∷ ss)) (sym (f.parts c)) (then_part (s ∷ []) ss (of_mark f.word) (filled f.holes c) (by_mark s f.word h) w)) z)
+    (simple (f.made c), _, simply (s ∷ ss) end (f.made c) (subst (WrittenParts ds (s ∷ ss)) (sym (f.parts c)) (then_part (s ∷ []) ss (of_symbol f.word) (filled f.holes c) (by_symbol s f.word h) w)) z)
 
-assign_in : (ds : List Declared) (s : Spot) (ss : List Spot) → Seq (λ us. SomeTarget ds Variable (s ∷ us)) (Fills ds (mark_hole m.Assign ∷ term_hole ∷ [])) ss → SomeTree ds (s ∷ ss)
+assign_in : (ds : List Declared) (s : Spot) (ss : List Spot) → Seq (λ us. SomeTarget ds Variable (s ∷ us)) (Fills ds (symbol_hole m.Assign ∷ term_hole ∷ [])) ss → SomeTree ds (s ∷ ss)
 assign_in ds s _ (seq us _ t (fills ss end c w z)) =
     subst (SomeTree ds) (append_assoc (s ∷ us) ss (end ∷ []))
     (simple (st.Assign (record { into = t.0; value = c.0 })), _, simply (s ∷ us ++ ss) end (st.Assign (record { into = t.0; value = c.0 })) (then_part (s ∷ us) ss _ _ (by_target (s ∷ us) Variable t.0 t.1) w) z)
@@ -90,15 +90,15 @@ some_tree : (ds : List Declared) → Default (SomeTree ds)
 some_tree ds =
     let s = spot_of (Is m.Barrier) [] in
     let z = spot_of (Is m.Semicolon) [] in
-    record { tokens = s ∷ z ∷ []; written = (simple st.Barrier, _, simply (s ∷ []) z st.Barrier (then_part (s ∷ []) [] (of_mark m.Barrier) [] (by_mark s m.Barrier refl) no_part) refl) }
+    record { tokens = s ∷ z ∷ []; written = (simple st.Barrier, _, simply (s ∷ []) z st.Barrier (then_part (s ∷ []) [] (of_symbol m.Barrier) [] (by_symbol s m.Barrier refl) no_part) refl) }
 
 -- ---- the words of statements
 
-abbrev FormSuits : Mark → Option Form → Type 0
+abbrev FormSuits : Symbol → Option Form → Type 0
 FormSuits k None = Unit {0}
 FormSuits k (Some f) = Suits (Is k) f.holes × (f.word ≡ k) × (declares (Is k) ≡ None)
 
-forms_suit : (k : Mark) → FormSuits k (form_of k)
+forms_suit : (k : Symbol) → FormSuits k (form_of k)
 forms_suit m.Print = (tt, refl, refl)
 forms_suit m.Assert = (tt, refl, refl)
 forms_suit m.Send = ((refl, (refl, tt)), refl, refl)
@@ -139,7 +139,7 @@ module _ (ds : List Declared) where
   less_with : (s : Spot) → HoldsBehind (λ ts. AreServed ds (s ∷ ts))
   less_with s us ts c = (c.0, served_behind ds us ts c.1)
 
-  form_case : (k : Mark) (o : Option Form) (i : Input) → i.decls ≡ ds → token i ≡ Is k → FormSuits k o → Stops (AreServed ds) (SomeTree ds) i (by_form o i)
+  form_case : (k : Symbol) (o : Option Form) (i : Input) → i.decls ≡ ds → token i ≡ Is k → FormSuits k o → Stops (AreServed ds) (SomeTree ds) i (by_form o i)
   form_case k None i e is h = refused_here (AreServed ds) (SomeTree ds) i (λ c. some_tree ds)
   form_case k (Some f) i e is h =
       begun_stops (SomeTree ds) i (Is k) (behind_word f) e is (λ x. absurd (cc)) h.2 (some_tree ds)
@@ -150,12 +150,12 @@ module _ (ds : List Declared) where
   unfolding assignment
   assignment_stops t s a found kind i e =
       let C : List Spot → Type 0 = λ ts. AreServed ds (s ∷ ts) in
-      in_larger C (Seq (λ us. SomeTarget ds Variable (s ∷ us)) (Fills ds (mark_hole m.Assign ∷ term_hole ∷ []))) (λ ts. SomeTree ds (s ∷ ts)) i _ (assign_in ds s)
-      (then_viable ds C (λ us. SomeTarget ds Variable (s ∷ us)) (Fills ds (mark_hole m.Assign ∷ term_hole ∷ [])) (index_outside (place_of_slot t) t.size) _ (less_with s)
+      in_larger C (Seq (λ us. SomeTarget ds Variable (s ∷ us)) (Fills ds (symbol_hole m.Assign ∷ term_hole ∷ []))) (λ ts. SomeTree ds (s ∷ ts)) i _ (assign_in ds s)
+      (then_viable ds C (λ us. SomeTarget ds Variable (s ∷ us)) (Fills ds (symbol_hole m.Assign ∷ term_hole ∷ [])) (index_outside (place_of_slot t) t.size) _ (less_with s)
       (index_viable ds C (less_with s) Variable s (place_of_slot t) t.size
       (λ is_array size_is. record { token = a; slot = t; declared = found; kind = kind; size = size_is; place = refl }))
-      (λ x. fill_viable ds C (less_with s) Name (mark_hole m.Assign ∷ term_hole ∷ []) (λ c. simple (st.Assign (record { into = x; value = c.0 }))) (refl, tt) (λ us c k h. absurd (no_name k h)))
-      (λ us c. fills_default ds Name (mark_hole m.Assign ∷ term_hole ∷ []) (refl, tt) (λ k h. absurd (no_name k h))) i e)
+      (λ x. fill_viable ds C (less_with s) Name (symbol_hole m.Assign ∷ term_hole ∷ []) (λ c. simple (st.Assign (record { into = x; value = c.0 }))) (refl, tt) (λ us c k h. absurd (no_name k h)))
+      (λ us c. fills_default ds Name (symbol_hole m.Assign ∷ term_hole ∷ []) (refl, tt) (λ k h. absurd (no_name k h))) i e)
 
   -- ---- statements that hold others
 
@@ -257,7 +257,7 @@ module _ (ds : List Declared) where
     body_viable inside i e = stmts_viable inside (length i.tokens + 1) [] i e
 
   shut_default : Default (Seq (SomeBody ds) (One (HasToken (Is m.BraceClose))))
-  shut_default = both_default (SomeBody ds) (One (HasToken (Is m.BraceClose))) (some_body ds) (mark_default m.BraceClose)
+  shut_default = both_default (SomeBody ds) (One (HasToken (Is m.BraceClose))) (some_body ds) (symbol_default m.BraceClose)
 
   too_deep_case : (c : Bool) (i : Input) → Stops {A = List Tree} (AreServed ds) (SomeBlock ds) i (cond c (fail TooDeep i) (refuse i))
   too_deep_case true i = stuck_here (AreServed ds) (SomeBlock ds) TooDeep i (λ c. some_block ds)
@@ -272,5 +272,5 @@ module _ (ds : List Declared) where
       (expect_viable ds (AreServed ds) m.BraceOpen refl)
       (λ x. then_viable ds (AreServed ds) (SomeBody ds) (One (HasToken (Is m.BraceClose))) (body (block n) true) _ (served_behind ds) (body_viable (block n) (block_viable n) true)
       (λ found j f. stops_as (AreServed ds) (One (HasToken (Is m.BraceClose))) (One (HasToken (Is m.BraceClose))) j (expect m.BraceClose j) (λ y. found) (λ ss w. w) (expect_viable ds (AreServed ds) m.BraceClose refl j f))
-      (λ us c. mark_default m.BraceClose))
+      (λ us c. symbol_default m.BraceClose))
       (λ us c. shut_default) i e)

@@ -9,10 +9,10 @@ use Rattle.mpd_model.specs.declared.expr.UnaryOp.TheVariants.{Negate, Not}
 use Rattle.mpd_model.specs.declared.place.DeclKind.{DeclKind}
 use Rattle.mpd_model.specs.declared.place.DeclKind.TheVariants.{Variable, Handle}
 use Rattle.mpd_model.specs.declared.place.Place.{Place}
-use Rattle.mpd_model.specs.declared.token.Mark.{Mark}
-use Rattle.mpd_model.specs.declared.token.Mark.TheVariants as m
+use Rattle.mpd_model.specs.declared.token.Symbol.{Symbol}
+use Rattle.mpd_model.specs.declared.token.Symbol.TheVariants as m
 use Rattle.mpd_model.specs.script.Declaration.{Declared}
-use Rattle.mpd_model.specs.script.Parts.{Part, of_mark, of_term, of_target, of_name, parts_of}
+use Rattle.mpd_model.specs.script.Parts.{Part, of_symbol, of_term, of_target, of_name, parts_of}
 use Rattle.mpd_model.specs.script.Program.{Program}
 use Rattle.mpd_model.specs.script.Term.{Term, lit, own_rank, size, cell, element, op1, op2, Target}
 use Rattle.mpd_model.specs.script.Tree.{Tree, Block, simple, branch, repeat, no_more, then_more, block_of}
@@ -94,57 +94,57 @@ abbrev pub target_text : List Declared → Target → List ℕ
 target_text ds t = name_text ds t.place ++ index_text ds t.index
 
 -- a sign or a reserved word
-abbrev pub mark_text : Mark → List ℕ
-mark_text m.Semicolon = codes ";"
-mark_text m.BraceOpen = codes "{"
-mark_text m.BraceClose = codes "}"
-mark_text m.RoundOpen = codes "("
-mark_text m.RoundClose = codes ")"
-mark_text m.SquareOpen = codes "["
-mark_text m.SquareClose = codes "]"
-mark_text m.Assign = codes "="
-mark_text m.Equal = codes "=="
-mark_text m.NotEqual = codes "!="
-mark_text m.Less = codes "<"
-mark_text m.AtMost = codes "<="
-mark_text m.Greater = codes ">"
-mark_text m.AtLeast = codes ">="
-mark_text m.Plus = codes "+"
-mark_text m.Minus = codes "-"
-mark_text m.Times = codes "*"
-mark_text m.Divide = codes "/"
-mark_text m.Remainder = codes "%"
-mark_text m.Not = codes "!"
-mark_text m.And = codes "&&"
-mark_text m.Or = codes "||"
-mark_text m.Mpd = codes "mpd"
-mark_text m.Ranks = codes "ranks"
-mark_text m.Var = codes "var"
-mark_text m.Req = codes "req"
-mark_text m.If = codes "if"
-mark_text m.Else = codes "else"
-mark_text m.While = codes "while"
-mark_text m.Print = codes "print"
-mark_text m.Assert = codes "assert"
-mark_text m.Send = codes "send"
-mark_text m.Ssend = codes "ssend"
-mark_text m.Isend = codes "isend"
-mark_text m.Issend = codes "issend"
-mark_text m.Recv = codes "recv"
-mark_text m.Irecv = codes "irecv"
-mark_text m.Wait = codes "wait"
-mark_text m.Waitany = codes "waitany"
-mark_text m.Barrier = codes "barrier"
-mark_text m.To = codes "to"
-mark_text m.From = codes "from"
-mark_text m.Tag = codes "tag"
-mark_text m.Any = codes "any"
-mark_text m.Status = codes "status"
-mark_text m.Rank = codes "rank"
-mark_text m.Size = codes "size"
+abbrev pub symbol_text : Symbol → List ℕ
+symbol_text m.Semicolon = codes ";"
+symbol_text m.BraceOpen = codes "{"
+symbol_text m.BraceClose = codes "}"
+symbol_text m.RoundOpen = codes "("
+symbol_text m.RoundClose = codes ")"
+symbol_text m.SquareOpen = codes "["
+symbol_text m.SquareClose = codes "]"
+symbol_text m.Assign = codes "="
+symbol_text m.Equal = codes "=="
+symbol_text m.NotEqual = codes "!="
+symbol_text m.Less = codes "<"
+symbol_text m.AtMost = codes "<="
+symbol_text m.Greater = codes ">"
+symbol_text m.AtLeast = codes ">="
+symbol_text m.Plus = codes "+"
+symbol_text m.Minus = codes "-"
+symbol_text m.Times = codes "*"
+symbol_text m.Divide = codes "/"
+symbol_text m.Remainder = codes "%"
+symbol_text m.Not = codes "!"
+symbol_text m.And = codes "&&"
+symbol_text m.Or = codes "||"
+symbol_text m.Mpd = codes "mpd"
+symbol_text m.Ranks = codes "ranks"
+symbol_text m.Var = codes "var"
+symbol_text m.Req = codes "req"
+symbol_text m.If = codes "if"
+symbol_text m.Else = codes "else"
+symbol_text m.While = codes "while"
+symbol_text m.Print = codes "print"
+symbol_text m.Assert = codes "assert"
+symbol_text m.Send = codes "send"
+symbol_text m.Ssend = codes "ssend"
+symbol_text m.Isend = codes "isend"
+symbol_text m.Issend = codes "issend"
+symbol_text m.Recv = codes "recv"
+symbol_text m.Irecv = codes "irecv"
+symbol_text m.Wait = codes "wait"
+symbol_text m.Waitany = codes "waitany"
+symbol_text m.Barrier = codes "barrier"
+symbol_text m.To = codes "to"
+symbol_text m.From = codes "from"
+symbol_text m.Tag = codes "tag"
+symbol_text m.Any = codes "any"
+symbol_text m.Status = codes "status"
+symbol_text m.Rank = codes "rank"
+symbol_text m.Size = codes "size"
 
 abbrev pub part_text : List Declared → Part → List ℕ
-part_text ds (of_mark k) = mark_text k
+part_text ds (of_symbol k) = symbol_text k
 part_text ds (of_term e) = whole_text ds e
 part_text ds (of_target kind t) = target_text ds t
 part_text ds (of_name kind p) = name_text ds p

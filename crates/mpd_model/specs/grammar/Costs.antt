@@ -2,7 +2,7 @@
 use Rattle.std.specs.Prelude.{◌≡◌, ℕ, suc, ◌+◌, ◌≤◌, max, List, [], ◌∷◌, Option, None, Some, Ok}
 use Rattle.mpd_model.specs.declared.expr.BinaryOp.{BinaryOp}
 use Rattle.mpd_model.specs.declared.place.DeclKind.{DeclKind}
-use Rattle.mpd_model.specs.declared.token.Mark.TheVariants as m
+use Rattle.mpd_model.specs.declared.token.Symbol.TheVariants as m
 use Rattle.mpd_model.specs.declared.token.Token.{Token}
 use Rattle.mpd_model.specs.declared.token.Token.TheVariants.{Is}
 use Rattle.mpd_model.specs.script.Term.{Target}
@@ -13,7 +13,7 @@ use Rattle.mpd_model.specs.script.Program.{Program}
 use Rattle.mpd_model.specs.grammar.Tokens.{Spot}
 use Rattle.mpd_model.specs.script.Parts.{Part, parts_of}
 use Rattle.mpd_model.specs.script.Tree.{Tree, Block, simple, branch, repeat, no_more, then_more}
-use Rattle.mpd_model.specs.grammar.Written.{WrittenTarget, whole, part, WrittenPart, by_mark, by_term, by_target, by_name, WrittenParts, no_part, then_part, WrittenTree, simply, repeats, chooses, chooses_else, WrittenBlock, braces, WrittenBody, ended, follows, WrittenScript, script}
+use Rattle.mpd_model.specs.grammar.Written.{WrittenTarget, whole, part, WrittenPart, by_symbol, by_term, by_target, by_name, WrittenParts, no_part, then_part, WrittenTree, simply, repeats, chooses, chooses_else, WrittenBlock, braces, WrittenBody, ended, follows, WrittenScript, script}
 
 -- ---- expressions
 
@@ -68,7 +68,7 @@ index_cost ds kind _ _ (whole s p h) = 0
 index_cost ds kind _ _ (part s a b ss p t h h1 w h2) = cost ss
 
 abbrev pub part_cost : (ds : List Declared) (ss : List Spot) (p : Part) → WrittenPart ds ss p → ℕ
-part_cost ds _ _ (by_mark s k h) = 0
+part_cost ds _ _ (by_symbol s k h) = 0
 part_cost ds _ _ (by_term ss t w) = cost ss
 part_cost ds _ _ (by_target ss kind t w) = index_cost ds kind ss t w
 part_cost ds _ _ (by_name s kind is_array p h) = 0

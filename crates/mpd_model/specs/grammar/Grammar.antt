@@ -17,16 +17,16 @@ use Rattle.mpd_model.specs.declared.stmt.StatusStmt.{StatusStmt}
 use Rattle.mpd_model.specs.declared.stmt.SendStmt.{SendStmt}
 use Rattle.mpd_model.specs.declared.stmt.Simple.{Simple}
 use Rattle.mpd_model.specs.declared.stmt.Simple.TheVariants as st
-use Rattle.mpd_model.specs.declared.token.Mark.{Mark}
-use Rattle.mpd_model.specs.declared.token.Mark.TheVariants as m
+use Rattle.mpd_model.specs.declared.token.Symbol.{Symbol}
+use Rattle.mpd_model.specs.declared.token.Symbol.TheVariants as m
 use Rattle.mpd_model.specs.declared.token.Token.{Token}
 use Rattle.mpd_model.specs.declared.token.Token.TheVariants.{Number, Name, Is, End}
 use Rattle.mpd_model.specs.script.Declaration.{cells_of}
 use Rattle.mpd_model.specs.grammar.Faults.{fault}
-use Rattle.mpd_model.specs.grammar.Input.{Parser, Outcome, Input, start_of, same_mark, ◌>>=◌, ◌>>◌, pure, fail, refuse, peek, advance, eat, expect, begin, spend, count, sees, seek, fresh, add, spelling, place}
+use Rattle.mpd_model.specs.grammar.Input.{Parser, Outcome, Input, start_of, same_symbol, ◌>>=◌, ◌>>◌, pure, fail, refuse, peek, advance, eat, expect, begin, spend, count, sees, seek, fresh, add, spelling, place}
 use Rattle.mpd_model.specs.script.Program.{Program}
 use Rattle.mpd_model.specs.script.Term.{Term, lit, own_rank, size, cell, element, op1, op2, Target}
-use Rattle.mpd_model.specs.script.Parts.{parts_of, of_mark, Hole, mark_hole, term_hole, target_hole, name_hole, source_hole, status_hole, Contents, filled}
+use Rattle.mpd_model.specs.script.Parts.{parts_of, of_symbol, Hole, symbol_hole, term_hole, target_hole, name_hole, source_hole, status_hole, Contents, filled}
 use Rattle.mpd_model.specs.script.Tree.{Tree, simple, branch, repeat, block_of}
 
 -- ---- expressions
@@ -203,7 +203,7 @@ status = eat m.Status >>= status_by
 -- what fills the holes of a statement, and the `;` behind them
 abbrev pub fill : {A : Type 0} → (hs : List Hole) → (Contents hs → A) → Parser A
 fill [] made = expect m.Semicolon >> pure (made tt)
-fill (mark_hole k ∷ hs) made = expect k >> fill hs made
+fill (symbol_hole k ∷ hs) made = expect k >> fill hs made
 fill (term_hole ∷ hs) made = expression >>= λ e. fill hs (λ c. made (e, c))
 fill (target_hole kind ∷ hs) made = statement_place kind >>= λ t. fill hs (λ c. made (t, c))
 fill (name_hole kind ∷ hs) made = statement_name kind >>= λ p. fill hs (λ c. made (p, c))
@@ -215,20 +215,20 @@ fill (status_hole ∷ hs) made = status >>= λ o. fill hs (λ c. made (o, c))
 -- What comes before such holes ends there: no operator goes on with an expression.
 abbrev pub EndsTerm : List Hole → Type 0
 EndsTerm [] = Unit {0}
-EndsTerm (mark_hole k ∷ hs) = operator (Is k) ≡ None
+EndsTerm (symbol_hole k ∷ hs) = operator (Is k) ≡ None
 EndsTerm (status_hole ∷ hs) = EndsTerm hs
 EndsTerm _ = ⊥
 
 -- Where the hole of a status is left empty, no `status` comes next.
 abbrev pub EndsStatus : List Hole → Type 0
 EndsStatus [] = Unit {0}
-EndsStatus (mark_hole k ∷ hs) = same_mark k m.Status ≡ false
+EndsStatus (symbol_hole k ∷ hs) = same_symbol k m.Status ≡ false
 EndsStatus _ = ⊥
 
 -- it is clear where each hole ends
 abbrev pub AreClear : List Hole → Type 0
 AreClear [] = Unit {0}
-AreClear (mark_hole k ∷ hs) = AreClear hs
+AreClear (symbol_hole k ∷ hs) = AreClear hs
 AreClear (term_hole ∷ hs) = EndsTerm hs × AreClear hs
 AreClear (target_hole kind ∷ hs) = AreClear hs
 AreClear (name_hole kind ∷ hs) = AreClear hs
@@ -237,10 +237,10 @@ AreClear (status_hole ∷ hs) = EndsStatus hs × AreClear hs
 
 -- the statements of one word: the holes behind it, and what is made of what fills them
 pub record Form : Type 0 where
-  pub word : Mark
+  pub word : Symbol
   pub holes : List Hole
   pub made : Contents holes → Simple
-  pub parts : (c : Contents holes) → parts_of (made c) ≡ of_mark word ∷ filled holes c
+  pub parts : (c : Contents holes) → parts_of (made c) ≡ of_symbol word ∷ filled holes c
   pub clear : AreClear holes
 
 abbrev pub print_form : Form
@@ -250,13 +250,13 @@ abbrev pub assert_form : Form
 assert_form = record { word = m.Assert; holes = term_hole ∷ []; made = λ c. st.Assert c.0; parts = λ c. refl; clear = (tt, tt) }
 
 abbrev pub send_holes : List Hole
-send_holes = term_hole ∷ mark_hole m.To ∷ term_hole ∷ mark_hole m.Tag ∷ term_hole ∷ []
+send_holes = term_hole ∷ symbol_hole m.To ∷ term_hole ∷ symbol_hole m.Tag ∷ term_hole ∷ []
 
 abbrev pub send_in : Contents send_holes → SendStmt
 send_in c = record { value = c.0; to = c.1.0; tag = c.1.1.0 }
 
 abbrev pub recv_holes : List Hole
-recv_holes = target_hole Variable ∷ mark_hole m.From ∷ source_hole ∷ mark_hole m.Tag ∷ source_hole ∷ status_hole ∷ []
+recv_holes = target_hole Variable ∷ symbol_hole m.From ∷ source_hole ∷ symbol_hole m.Tag ∷ source_hole ∷ status_hole ∷ []
 
 abbrev pub recv_in : Contents recv_holes → RecvStmt
 recv_in c = record { into = c.0; from = c.1.0; tag = c.1.1.0; status = c.1.1.1.0 }
@@ -303,7 +303,7 @@ wait_form = record { word = m.Wait; holes = target_hole Handle ∷ []; made = λ
 abbrev pub waitany_form : Form
 waitany_form = record {
   word = m.Waitany;
-  holes = name_hole Handle ∷ mark_hole m.To ∷ target_hole Variable ∷ [];
+  holes = name_hole Handle ∷ symbol_hole m.To ∷ target_hole Variable ∷ [];
   made = λ c. st.Waitany (record { requests = c.0; into = c.1.0 });
   parts = λ c. refl;
   clear = tt;
@@ -313,7 +313,7 @@ abbrev pub barrier_form : Form
 barrier_form = record { word = m.Barrier; holes = []; made = λ c. st.Barrier; parts = λ c. refl; clear = tt }
 
 -- the form of a word
-abbrev pub form_of : Mark → Option Form
+abbrev pub form_of : Symbol → Option Form
 form_of m.Print = Some print_form
 form_of m.Assert = Some assert_form
 form_of m.Send = Some send_form
@@ -337,7 +337,7 @@ by_form (Some f) = begin_statement >> behind_word f
 
 -- An assignment has no word: it begins with the name of its place, which is sought before the statement is counted.
 unfoldable pub assignment : Slot → Parser Tree
-assignment s = index_outside (place_of_slot s) s.size >>= λ t. fill (mark_hole m.Assign ∷ term_hole ∷ []) (λ c. simple (st.Assign (record { into = t; value = c.0 })))
+assignment s = index_outside (place_of_slot s) s.size >>= λ t. fill (symbol_hole m.Assign ∷ term_hole ∷ []) (λ c. simple (st.Assign (record { into = t; value = c.0 })))
 
 -- each statement that holds no other is an assignment or has its form
 pub record HasForm (s : Simple) : Type 0 where

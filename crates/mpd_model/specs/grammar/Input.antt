@@ -5,12 +5,12 @@ use Rattle.std.specs.Coded.{Coded, code_by, coded×, coded_ℕ, coded_list}
 use Rattle.std.specs.Str.{bytes_eq}
 use denote.Enum.Bare.{sameb}
 use Rattle.mpd_model.specs.declared.limits.TheConstants.{CELLS_MAX, HANDLES_MAX, NESTING_MAX, STATEMENTS_MAX}
-use Rattle.mpd_model.specs.contracts.token.Mark.{the_type}
+use Rattle.mpd_model.specs.contracts.token.Symbol.{the_type}
 use Rattle.mpd_model.specs.contracts.token.Token as token_row
 use Rattle.mpd_model.specs.declared.slot.Slot.{Slot}
 use Rattle.mpd_model.specs.declared.place.DeclKind.{DeclKind}
 use Rattle.mpd_model.specs.declared.place.DeclKind.TheVariants.{Variable, Handle}
-use Rattle.mpd_model.specs.declared.token.Mark.{Mark}
+use Rattle.mpd_model.specs.declared.token.Symbol.{Symbol}
 use Rattle.mpd_model.specs.declared.token.Token.{Token}
 use Rattle.mpd_model.specs.declared.token.Token.TheVariants.{Is, Bad, End}
 use Rattle.mpd_model.specs.declared.read_fault.FaultCode.{FaultCode}
@@ -127,24 +127,24 @@ abbrev pub advance : Parser (Unit {0})
 advance = λ i. Ok (tt, advanced i)
 
 -- `==` on signs and words
-unfoldable pub same_mark : Mark → Mark → Bool
-same_mark = sameb the_type
+unfoldable pub same_symbol : Symbol → Symbol → Bool
+same_symbol = sameb the_type
 
-abbrev pub is_mark : Mark → Token → Bool
-is_mark wanted (Is k) = same_mark k wanted
-is_mark wanted _ = false
+abbrev pub is_symbol : Symbol → Token → Bool
+is_symbol wanted (Is k) = same_symbol k wanted
+is_symbol wanted _ = false
 
-unfoldable pub sees : Mark → Input → Bool
-sees wanted i = is_mark wanted (token i)
+unfoldable pub sees : Symbol → Input → Bool
+sees wanted i = is_symbol wanted (token i)
 
-unfoldable pub after : Mark → Input → Input
+unfoldable pub after : Symbol → Input → Input
 after wanted i = if sees wanted i then advanced i else i
 
--- takes the mark, if it comes next
-abbrev pub eat : Mark → Parser Bool
+-- takes the symbol, if it comes next
+abbrev pub eat : Symbol → Parser Bool
 eat wanted = λ i. Ok (sees wanted i, after wanted i)
 
-unfoldable pub expect : Mark → Parser (Unit {0})
+unfoldable pub expect : Symbol → Parser (Unit {0})
 expect wanted = λ i. if sees wanted i then Ok (tt, advanced i) else refuse i
 
 -- ---- what is counted

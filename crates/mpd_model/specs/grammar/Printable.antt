@@ -14,7 +14,7 @@ use Rattle.mpd_model.specs.grammar.Input.{slot_in, max_budget}
 use Rattle.mpd_model.specs.script.Program.{Program, IsLegal}
 use Rattle.mpd_model.specs.script.Term.{Term, lit, own_rank, size, cell, element, op1, op2, Target}
 use Rattle.mpd_model.specs.grammar.Tokens.{begins_name, is_in_name, word, Spot}
-use Rattle.mpd_model.specs.script.Parts.{Part, of_mark, of_term, of_target, of_name, parts_of}
+use Rattle.mpd_model.specs.script.Parts.{Part, of_symbol, of_term, of_target, of_name, parts_of}
 use Rattle.mpd_model.specs.script.Tree.{Tree, Block, simple, branch, repeat, no_more, then_more, block_of}
 use Rattle.mpd_model.specs.grammar.Written.{left_level, WrittenTerm}
 
@@ -91,7 +91,7 @@ abbrev pub IsPrintableTarget : List Declared → DeclKind → Target → Type 0
 IsPrintableTarget ds kind t = IsPrintableAt ds kind t.place t.index
 
 abbrev pub IsPrintablePart : List Declared → Part → Type 0
-IsPrintablePart ds (of_mark k) = Unit {0}
+IsPrintablePart ds (of_symbol k) = Unit {0}
 IsPrintablePart ds (of_term e) = IsPrintableWhole ds e
 IsPrintablePart ds (of_target kind t) = IsPrintableTarget ds kind t
 IsPrintablePart ds (of_name kind p) = (is_array : Bool) × HasName ds kind is_array p

@@ -6,8 +6,8 @@ use Rattle.mpd_model.specs.grammar.Grammar.{expr, closes, stmt, stmts, body, blo
 use Rattle.mpd_model.specs.declared.limits.TheConstants.{LANGUAGE_MAX}
 use Rattle.mpd_model.specs.declared.read_fault.FaultCode.TheVariants.{TooDeep, Memory}
 use Rattle.mpd_model.specs.declared.read_fault.ReadFault.{ReadFault}
-use Rattle.mpd_model.specs.declared.token.Mark.TheVariants.{Else}
-use Rattle.mpd_model.specs.grammar.Input.{Input, Outcome, token_of, is_mark, max_budget, max_statements}
+use Rattle.mpd_model.specs.declared.token.Symbol.TheVariants.{Else}
+use Rattle.mpd_model.specs.grammar.Input.{Input, Outcome, token_of, is_symbol, max_budget, max_statements}
 use Rattle.mpd_model.specs.script.Program.{Program, IsTreeOf, IsBlockOf, IsLegal}
 use Rattle.mpd_model.specs.script.Term.{Term}
 use Rattle.mpd_model.specs.grammar.Tokens.{Spot, tokens}
@@ -77,7 +77,7 @@ WrittenExpressionsAreRead =
 -- What is written as a statement is read as that, where the text's version has it, each expression is within the budget, no more blocks are open at once and no more statements begin than may. No `else` follows: it would go on with an `if`.
 abbrev pub WrittenTreesAreRead : Type 0
 WrittenTreesAreRead =
-    (depth : ℕ) (ss rest : List Spot) (t : Tree) (ls : List ℕ) (i : Input) (w : WrittenTree i.decls ss t ls) → i.tokens ≡ ss ++ rest → is_mark Else (token_of rest) ≡ false
+    (depth : ℕ) (ss rest : List Spot) (t : Tree) (ls : List ℕ) (i : Input) (w : WrittenTree i.decls ss t ls) → i.tokens ≡ ss ++ rest → is_symbol Else (token_of rest) ≡ false
     → IsTreeOf i.version t → blocks t ≤ depth → dearest i.decls ss t ls w ≤ max_budget → length i.lines + length ls ≤ max_statements
     → Gives (stmt (block depth) i) t rest (i.lines ++ ls) i
 

@@ -4,8 +4,8 @@ use Rattle.std.specs.Char.{is_ascii_digit, is_ascii_alphabetic, is_ascii_alphanu
 use Rattle.std.specs.List.{prefix_len}
 use Rattle.std.specs.Str.{bytes_eq}
 use Rattle.mpd_model.specs.declared.limits.TheConstants.{NAME_MAX}
-use Rattle.mpd_model.specs.declared.token.Mark.{Mark}
-use Rattle.mpd_model.specs.declared.token.Mark.TheVariants as m
+use Rattle.mpd_model.specs.declared.token.Symbol.{Symbol}
+use Rattle.mpd_model.specs.declared.token.Symbol.TheVariants as m
 use Rattle.mpd_model.specs.declared.token.Token.{Token}
 use Rattle.mpd_model.specs.declared.token.Token.TheVariants.{Number, Name, Is, Bad}
 use Rattle.mpd_model.specs.declared.token.TheConstants.{RESERVED}
@@ -45,7 +45,7 @@ decimal_after n (d ∷ ds) = decimal_after (n * 10 + (d - 48)) ds
 unfoldable pub number : List ℕ → Token
 number digits = if nat_lt (decimal_after 0 digits) (2 ^ 63) then Number (pos (decimal_after 0 digits)) else Bad
 
-abbrev pub reserved : List (List ℕ × Mark)
+abbrev pub reserved : List (List ℕ × Symbol)
 reserved =
     (codes "mpd", m.Mpd) ∷ (codes "ranks", m.Ranks) ∷ (codes "var", m.Var) ∷ (codes "req", m.Req) ∷ (codes "if", m.If) ∷ (codes "else", m.Else)
     ∷ (codes "while", m.While) ∷ (codes "print", m.Print) ∷ (codes "assert", m.Assert) ∷ (codes "send", m.Send) ∷ (codes "ssend", m.Ssend)
@@ -57,7 +57,7 @@ reserved =
 pub reserved_is : map (λ k. (k.0.now, k.1)) RESERVED ≡ reserved
 reserved_is = refl
 
-abbrev pub word_in : List (List ℕ × Mark) → List ℕ → Token
+abbrev pub word_in : List (List ℕ × Symbol) → List ℕ → Token
 word_in [] w = if nat_le (length w) NAME_MAX then Name else Bad
 word_in (k ∷ ks) w = if bytes_eq k.0 w then Is k.1 else word_in ks w
 
@@ -65,7 +65,7 @@ unfoldable pub word : List ℕ → Token
 word w = word_in reserved w
 
 -- a sign by its first byte and the next, with its length
-abbrev pub two : Bool → Mark → Mark → Token × ℕ
+abbrev pub two : Bool → Symbol → Symbol → Token × ℕ
 two is_long long short = if is_long then (Is long, 2) else (Is short, 1)
 
 unfoldable pub sign : ℕ → ℕ → Token × ℕ

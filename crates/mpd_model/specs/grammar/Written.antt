@@ -7,8 +7,8 @@ use Rattle.mpd_model.specs.declared.place.DeclKind.TheVariants.{Variable}
 use Rattle.mpd_model.specs.declared.place.Place.{Place}
 use Rattle.mpd_model.specs.declared.slot.Slot.{Slot}
 use Rattle.mpd_model.specs.declared.stmt.Simple.{Simple}
-use Rattle.mpd_model.specs.declared.token.Mark.{Mark}
-use Rattle.mpd_model.specs.declared.token.Mark.TheVariants as m
+use Rattle.mpd_model.specs.declared.token.Symbol.{Symbol}
+use Rattle.mpd_model.specs.declared.token.Symbol.TheVariants as m
 use Rattle.mpd_model.specs.declared.token.Token.TheVariants.{Number, Name, Is}
 use Rattle.mpd_model.specs.script.Declaration.{Declared}
 use Rattle.mpd_model.specs.grammar.Grammar.{operator_at, sign, place_of_slot, declares}
@@ -16,7 +16,7 @@ use Rattle.mpd_model.specs.grammar.Input.{Input, Parser, slot_in, first_line}
 use Rattle.mpd_model.specs.script.Program.{Program}
 use Rattle.mpd_model.specs.script.Term.{Term, lit, own_rank, size, cell, element, op1, op2, Target}
 use Rattle.mpd_model.specs.grammar.Tokens.{Spot}
-use Rattle.mpd_model.specs.script.Parts.{Part, of_mark, of_term, of_target, of_name, parts_of}
+use Rattle.mpd_model.specs.script.Parts.{Part, of_symbol, of_term, of_target, of_name, parts_of}
 use Rattle.mpd_model.specs.script.Tree.{Tree, simple, branch, repeat, no_more, block_of}
 
 -- ---- expressions, by how loosely they bind
@@ -71,7 +71,7 @@ pub data WrittenTarget (ds : List Declared) (kind : DeclKind) : List Spot → Ta
 
 -- a part of a statement that holds no other
 pub data WrittenPart (ds : List Declared) : List Spot → Part → Type 0 where
-  by_mark : (s : Spot) (k : Mark) → s.token ≡ Is k → WrittenPart ds (s ∷ []) (of_mark k)
+  by_symbol : (s : Spot) (k : Symbol) → s.token ≡ Is k → WrittenPart ds (s ∷ []) (of_symbol k)
   by_term : (ss : List Spot) (t : Term) → WrittenTerm ds 5 ss t → WrittenPart ds ss (of_term t)
   by_target : (ss : List Spot) (kind : DeclKind) (t : Target) → WrittenTarget ds kind ss t → WrittenPart ds ss (of_target kind t)
   by_name : (s : Spot) (kind : DeclKind) (is_array : Bool) (p : Place) → Names ds kind s is_array p → WrittenPart ds (s ∷ []) (of_name kind p)

@@ -1,4 +1,4 @@
--- Breakpoints: which steps they mark, and their places.
+-- Breakpoints: which steps hit them, and their places.
 use Rattle.std.specs.Prelude.{ℕ, ℤ, Bool, true, false, not, ◌&&◌, ◌||◌, ◌==◌, List, length, replicate, slice_get, slice_index_or, Option, Some, None, option_and_then, is_none}
 use Rattle.std.specs.Ordering.{int_eq}
 use Rattle.std.specs.Option.{option_map}
@@ -16,7 +16,7 @@ use Rattle.mpd_model.specs.steps.World.{RankWorld, World, Board, rank_numbers, c
 use Rattle.mpd_model.specs.steps.Outcomes.{first_number}
 use Rattle.mpd_model.specs.steps.Why.{first_in}
 
--- ---- what a breakpoint marks
+-- ---- what hits a breakpoint
 
 -- whether a statement is there, and stands on a line
 abbrev pub is_number : Option ℕ → ℕ → Bool
@@ -74,25 +74,25 @@ same_number (Some m) (Some n) = m == n
 abbrev pub issued_on : Program → ℕ → Board → CallId → Bool
 issued_on s line b c = on_line s line (option_map (λ call. call.statement) (call_at b c))
 
--- a line marks a local step or a wake, by a waitany or not, behind which its rank comes to the line, and a release behind which some rank does
-abbrev pub line_marks : Program → ℕ → Step → World → Bool
-line_marks s line (Local p) new = comes_at s line (slice_get new.ranks p)
-line_marks s line (Wake p) new = comes_at s line (slice_get new.ranks p)
-line_marks s line (WakeAny p i) new = comes_at s line (slice_get new.ranks p)
-line_marks s line Release new = some_comes s line new
-line_marks s line a new = false
+-- a line is hit by a local step or a wake, by a waitany or not, behind which its rank comes to the line, and by a release behind which some rank does
+abbrev pub line_hits : Program → ℕ → Step → World → Bool
+line_hits s line (Local p) new = comes_at s line (slice_get new.ranks p)
+line_hits s line (Wake p) new = comes_at s line (slice_get new.ranks p)
+line_hits s line (WakeAny p i) new = comes_at s line (slice_get new.ranks p)
+line_hits s line Release new = some_comes s line new
+line_hits s line a new = false
 
 -- a match of a call that was issued on a line
-abbrev pub match_marks : Program → ℕ → Step → World → Bool
-match_marks s line (Match u v) new = issued_on s line new.board u || issued_on s line new.board v
-match_marks s line a new = false
+abbrev pub match_hits : Program → ℕ → Step → World → Bool
+match_hits s line (Match u v) new = issued_on s line new.board u || issued_on s line new.board v
+match_hits s line a new = false
 
--- whether a breakpoint marks the step that led from one world to the next
-abbrev pub marked : Program → Break → World → Step → World → Bool
-marked s (on.Line line) old a new = line_marks s line a new
-marked s (on.Change p c) old a new = not (same_value (cell_at old p c) (cell_at new p c))
-marked s (on.Handle p h) old a new = not (same_number (handle_at old p h) (handle_at new p h))
-marked s (on.Match line) old a new = match_marks s line a new
+-- whether a breakpoint is hit by the step that led from one world to the next
+abbrev pub is_hit : Program → Break → World → Step → World → Bool
+is_hit s (on.Line line) old a new = line_hits s line a new
+is_hit s (on.Change p c) old a new = not (same_value (cell_at old p c) (cell_at new p c))
+is_hit s (on.Handle p h) old a new = not (same_number (handle_at old p h) (handle_at new p h))
+is_hit s (on.Match line) old a new = match_hits s line a new
 
 -- ---- numbered places, each for a breakpoint
 
@@ -106,10 +106,10 @@ break_at places n = slice_index_or places n None
 abbrev pub lowest_free : List (Option Break) → Option ℕ
 lowest_free places = first_in (filter (λ n. is_none (break_at places n)) (range_with_len 0 (length places)))
 
-abbrev pub marked_by : Program → Option Break → World → Step → World → Bool
-marked_by s None old a new = false
-marked_by s (Some b) old a new = marked s b old a new
+abbrev pub hit_by : Program → Option Break → World → Step → World → Bool
+hit_by s None old a new = false
+hit_by s (Some b) old a new = is_hit s b old a new
 
--- the lowest number that marks a step
-abbrev pub lowest_mark : Program → List (Option Break) → World → Step → World → Option ℕ
-lowest_mark s places old a new = first_in (filter (λ n. marked_by s (break_at places n) old a new) (range_with_len 0 (length places)))
+-- the lowest breakpoint that a step hits
+abbrev pub lowest_hit : Program → List (Option Break) → World → Step → World → Option ℕ
+lowest_hit s places old a new = first_in (filter (λ n. hit_by s (break_at places n) old a new) (range_with_len 0 (length places)))

@@ -12,7 +12,7 @@ use Rattle.mpd_model.specs.script.Program.{Program}
 use Rattle.mpd_model.specs.steps.World.{World, start}
 use Rattle.mpd_model.specs.steps.Next.{next, fold}
 use Rattle.mpd_model.specs.runs.Decisions.{decision}
-use Rattle.mpd_model.specs.runs.Breakpoints.{lowest_mark}
+use Rattle.mpd_model.specs.runs.Breakpoints.{lowest_hit}
 use Rattle.mpd_model.specs.runs.Trail.{Trail, applied}
 
 -- the steps that a run makes, and why it stops
@@ -23,7 +23,7 @@ pub record Ran : Type 0 where
 abbrev pub stopped : Cause → Ran
 stopped cause = record { steps = []; cause = cause }
 
--- a step, and what the run makes behind it, where no breakpoint marks the step
+-- a step, and what the run makes behind it, where the step hits no breakpoint
 abbrev pub behind : Step → Option ℕ → Ran → Ran
 behind a (Some n) more = record { steps = a ∷ []; cause = for.Break n }
 behind a None more = record { steps = a ∷ more.steps; cause = more.cause }
@@ -31,7 +31,7 @@ behind a None more = record { steps = a ∷ more.steps; cause = more.cause }
 -- Before a step the run stops at a leaf, at a choice, and where so many steps are not undone.
 abbrev pub ran_taking : (World → Ran) → Program → List (Option Break) → World → Step → Option World → Ran
 ran_taking more s places w a None = stopped for.Leaf
-ran_taking more s places w a (Some v) = behind a (lowest_mark s places w a v) (more v)
+ran_taking more s places w a (Some v) = behind a (lowest_hit s places w a v) (more v)
 
 abbrev pub ran_by : (World → Ran) → Program → List (Option Break) → ℕ → World → Decision → Ran
 ran_by more s places depth w (next_is.Forced a) = if depth == STEPS_MAX then stopped for.Full else ran_taking more s places w a (next w a)
@@ -66,21 +66,21 @@ stop_of r = record { steps = length r.steps; cause = r.cause }
 abbrev pub world_at : Trail → ℕ → Option World
 world_at t n = fold (start t.program t.mode) (take n t.steps)
 
-abbrev pub mark_of : Program → List (Option Break) → Option World → Option Step → Option World → Option ℕ
-mark_of s places (Some old) (Some a) (Some new) = lowest_mark s places old a new
-mark_of s places (Some old) (Some a) None = None
-mark_of s places (Some old) None new = None
-mark_of s places None a new = None
+abbrev pub hit_of : Program → List (Option Break) → Option World → Option Step → Option World → Option ℕ
+hit_of s places (Some old) (Some a) (Some new) = lowest_hit s places old a new
+hit_of s places (Some old) (Some a) None = None
+hit_of s places (Some old) None new = None
+hit_of s places None a new = None
 
--- the lowest number that marks the step behind the first so many
-abbrev pub mark_at : List (Option Break) → Trail → ℕ → Option ℕ
-mark_at places t n = mark_of t.program places (world_at t n) (slice_get t.steps n) (world_at t (n + 1))
+-- the lowest breakpoint that the step behind the first so many hits
+abbrev pub hit_at : List (Option Break) → Trail → ℕ → Option ℕ
+hit_at places t n = hit_of t.program places (world_at t n) (slice_get t.steps n) (world_at t (n + 1))
 
 abbrev pub one_back : Option ℕ → Stop → Stop
 one_back (Some n) more = record { steps = 1; cause = for.Break n }
 one_back None more = record { steps = more.steps + 1; cause = more.cause }
 
--- a run back from behind so many steps: it undoes the last marked one of them, and all behind that; or all of them
+-- a run back from behind so many steps: it undoes the last of them that hits a breakpoint, and all behind that; or all of them
 abbrev pub ran_back : List (Option Break) → Trail → ℕ → Stop
 ran_back places t zero = record { steps = 0; cause = for.Start }
-ran_back places t (suc n) = one_back (mark_at places t n) (ran_back places t n)
+ran_back places t (suc n) = one_back (hit_at places t n) (ran_back places t n)

@@ -1,5 +1,5 @@
--- The state of a run, and what is looked up in it. It has no queue and no buffer, nor a mark of what is paired: these are read off the
--- calls and the match sets. A send alone has a mark: whether it was buffered as it was issued.
+-- The state of a run, and what is looked up in it. It has no queue and no buffer, nor does a call tell its pair: these are read off the
+-- calls and the match sets. A send alone tells more: whether it was buffered as it was issued.
 use Rattle.std.specs.Prelude.{ℕ, ◌-◌, ℤ, pos, Bool, true, false, ◌&&◌, ◌||◌, not, ◌==◌, nat_lt, if◌then◌else◌, List, [], ◌∷◌, length, replicate, slice_get, Option, Some, None, option_and_then, is_some, is_none, refl}
 use Rattle.std.specs.Option.{option_map}
 use Rattle.std.specs.List.{filter, list_any, range_with_len}

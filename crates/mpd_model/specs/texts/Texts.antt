@@ -89,13 +89,13 @@ kind_text Barrier = codes "barrier"
 abbrev pub buffer_text : Mode → CallKind → List ℕ
 buffer_text mode kind = if is_limited mode && is_buffered (Some kind) then codes " buffered" else []
 
--- the call that a call was paired with, and the mark of one that is free
+-- the call that a call was paired with, and the word of one that is free
 abbrev pub partner_text : Option CallId → List ℕ
 partner_text None = []
 partner_text (Some d) = codes " with " ++ id_text d
 
-abbrev pub mark_text : Board → CallId → List ℕ
-mark_text b c = if is_free b c then codes " free" else partner_text (partner b.sets c)
+abbrev pub pairing_text : Board → CallId → List ℕ
+pairing_text b c = if is_free b c then codes " free" else partner_text (partner b.sets c)
 
 -- the value that a receive got
 abbrev pub got_text : CallKind → Option Message → List ℕ
@@ -104,7 +104,7 @@ got_text kind m = []
 
 abbrev pub call_text_of : Board → CallId → Option CallKind → List ℕ
 call_text_of b c None = []
-call_text_of b c (Some kind) = kind_text kind ++ buffer_text b.mode kind ++ mark_text b c ++ got_text kind (buffer b c)
+call_text_of b c (Some kind) = kind_text kind ++ buffer_text b.mode kind ++ pairing_text b c ++ got_text kind (buffer b c)
 
 abbrev pub call_text : Board → CallId → List ℕ
 call_text b c = call_text_of b c (kind_at b c)

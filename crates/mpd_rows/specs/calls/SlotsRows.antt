@@ -56,8 +56,8 @@ abbrev in_slots : ℕ → Program → List Step → Option World
 in_slots count s steps = fold (start s (Slots count)) steps
 
 -- which of the first calls of a rank were buffered
-abbrev marks : ℕ → List ℕ → Option World → Option (List Bool)
-marks p numbers w = option_map (λ v. map {B = Bool} (λ i. is_buffered (kind_at v.board (call_id p i))) numbers) w
+abbrev are_buffered : ℕ → List ℕ → Option World → Option (List Bool)
+are_buffered p numbers w = option_map (λ v. map {B = Bool} (λ i. is_buffered (kind_at v.board (call_id p i))) numbers) w
 
 -- how many slots of rank p are held behind each of some lists of steps
 abbrev held : ℕ → Program → ℕ → List (List Step) → List (Option ℕ)
@@ -92,9 +92,9 @@ pub row_wakes : map {B = Option Bool} (λ steps. option_map (λ w. is_enabled w 
     ≡ Some true ∷ Some false ∷ Some false ∷ []
 row_wakes = refl
 
-pub row_marks : map {B = Option (List Bool)} (λ steps. marks 0 (0 ∷ 1 ∷ 2 ∷ 3 ∷ []) (in_slots 1 to_itself steps)) (matched_first ∷ matched_late ∷ (matched_late ++ first_pair ∷ []) ∷ [])
+pub row_buffered : map {B = Option (List Bool)} (λ steps. are_buffered 0 (0 ∷ 1 ∷ 2 ∷ 3 ∷ []) (in_slots 1 to_itself steps)) (matched_first ∷ matched_late ∷ (matched_late ++ first_pair ∷ []) ∷ [])
     ≡ Some (true ∷ false ∷ true ∷ false ∷ []) ∷ Some (true ∷ false ∷ false ∷ false ∷ []) ∷ Some (true ∷ false ∷ false ∷ false ∷ []) ∷ []
-row_marks = refl
+row_buffered = refl
 
 -- none; one with the first send; still one with the receive; none with the match; one with the second send; still one behind the wait and its wake
 pub row_held_matched_first : held 1 to_itself 0
@@ -121,7 +121,7 @@ told_in mode s z = told (opening s mode) (lines_of z)
 abbrev words_matched_first : List ℕ
 words_matched_first = codes "local 0\nlocal 0\nmatch 0.0 0.1\nlocal 0\nlocal 0\nwake 0\nshow\n"
 
--- the mark stands behind the value, and stays behind the match
+-- that it is buffered stands behind the value, and stays behind the match
 pub row_told_matched_first : told_in (Slots 1) to_itself words_matched_first
     ≡ codes "ok 1\nok 2\nok 3\nok 4\nok 5\nok 6\n"
     ++ codes "depth 6 of 6\nrank 0 ended\nvars 0\nhandles 0 1 -\nout\ncall 0.0 isend to 0 tag 0 value 1 buffered with 0.1\ncall 0.1 irecv from 0 tag 0 with 0.0 value 1\n"
@@ -198,7 +198,7 @@ abbrev behind_a_synchronous_one : Program
 behind_a_synchronous_one = script 1 x_and_three (issend (part r (n 0)) (n 1) (n 0) (n 0) ∷ isend (part r (n 1)) (n 2) (n 0) (n 0) ∷ isend (part r (n 2)) (n 3) (n 0) (n 0) ∷ [])
 
 -- a synchronous send takes none, though there is one
-pub row_synchronous : marks 0 (0 ∷ 1 ∷ 2 ∷ []) (in_slots 1 behind_a_synchronous_one (Local 0 ∷ Local 0 ∷ Local 0 ∷ [])) ≡ Some (false ∷ true ∷ false ∷ [])
+pub row_synchronous : are_buffered 0 (0 ∷ 1 ∷ 2 ∷ []) (in_slots 1 behind_a_synchronous_one (Local 0 ∷ Local 0 ∷ Local 0 ∷ [])) ≡ Some (false ∷ true ∷ false ∷ [])
 row_synchronous = refl
 
 pub row_synchronous_held : held 1 behind_a_synchronous_one 0 ((Local 0 ∷ []) ∷ (Local 0 ∷ Local 0 ∷ []) ∷ (Local 0 ∷ Local 0 ∷ Local 0 ∷ []) ∷ []) ≡ Some 0 ∷ Some 1 ∷ Some 1 ∷ []
@@ -218,7 +218,7 @@ each_to_the_other = script 2 x_and_three (isend (part r (n 0)) (n 1) the_other (
 abbrev one_rank_after_the_other : List Step
 one_rank_after_the_other = Local 0 ∷ Local 0 ∷ Local 1 ∷ Local 1 ∷ []
 
-pub row_each_rank : map {B = Option (List Bool)} (λ p. marks p (0 ∷ 1 ∷ []) (in_slots 1 each_to_the_other one_rank_after_the_other)) (0 ∷ 1 ∷ []) ≡ Some (true ∷ false ∷ []) ∷ Some (true ∷ false ∷ []) ∷ []
+pub row_each_rank : map {B = Option (List Bool)} (λ p. are_buffered p (0 ∷ 1 ∷ []) (in_slots 1 each_to_the_other one_rank_after_the_other)) (0 ∷ 1 ∷ []) ≡ Some (true ∷ false ∷ []) ∷ Some (true ∷ false ∷ []) ∷ []
 row_each_rank = refl
 
 pub row_each_rank_held : held 1 each_to_the_other 0 ((Local 0 ∷ Local 0 ∷ []) ∷ one_rank_after_the_other ∷ []) ++ held 1 each_to_the_other 1 ((Local 0 ∷ Local 0 ∷ []) ∷ one_rank_after_the_other ∷ [])
@@ -251,5 +251,5 @@ abbrev requests_lost : Program
 requests_lost = script 1 x_and_three (isend (part r (n 0)) (n 1) (n 0) (n 0) ∷ isend (part r (n 0)) (n 2) (n 0) (n 0) ∷ isend (part r (n 0)) (n 3) (n 0) (n 0) ∷ [])
 
 -- nor a handle that loses its request
-pub row_lost_request : marks 0 (0 ∷ 1 ∷ 2 ∷ []) (in_slots 2 requests_lost (Local 0 ∷ Local 0 ∷ Local 0 ∷ [])) ≡ Some (true ∷ true ∷ false ∷ [])
+pub row_lost_request : are_buffered 0 (0 ∷ 1 ∷ 2 ∷ []) (in_slots 2 requests_lost (Local 0 ∷ Local 0 ∷ Local 0 ∷ [])) ≡ Some (true ∷ true ∷ false ∷ [])
 row_lost_request = refl

@@ -8,7 +8,7 @@ use Rattle.mpd_model.specs.declared.place.Place.{Place}
 use Rattle.mpd_model.specs.declared.read_fault.FaultCode.TheVariants as f
 use Rattle.mpd_model.specs.grammar.Canonical.{canonical}
 use Rattle.mpd_model.specs.grammar.Grammar.{reading, script, header, version, ranks, decls, decls_from, decl, declarator, single, array_size, body, stmts, stmt, block, if_statement, otherwise, while_statement, target, statement_place, source, status, assignment, expr, level, chain, atom, place_inside, bracket, rounds, unary}
-use Rattle.mpd_model.specs.grammar.Input.{count, spend, seek, slot_in, fresh, add, expect, after, sees, same_mark, advanced, place, spelling, token, refusal}
+use Rattle.mpd_model.specs.grammar.Input.{count, spend, seek, slot_in, fresh, add, expect, after, sees, same_symbol, advanced, place, spelling, token, refusal}
 use Rattle.mpd_model.specs.script.Program.{Program}
 use Rattle.mpd_model.specs.script.Term.{own_rank, size, cell, op1, op2}
 use Rattle.mpd_model.specs.grammar.Tokens.{tokens_after, front, sign, word, number}
@@ -26,7 +26,7 @@ good =
     ∷ (codes "issend g[1]x + 1 to rank tag 2;", issend (part g (n 1)) (op2 Add (cell x) (n 1)) own_rank (n 2)) ∷ (codes "issend g[x]1 to 0 tag 0;", issend (part g (cell x)) (n 1) (n 0) (n 0)) ∷ []
 
 pub row_good : map {B = Read} (λ r. statement_of r.0) good ≡ map {B = Read} (λ r. reads_one r.1) good
-unfolding reading script header version ranks decls decls_from decl declarator single array_size body stmts stmt block if_statement otherwise while_statement target statement_place source status assignment expr level chain atom place_inside bracket rounds unary count spend seek slot_in fresh add expect after sees same_mark advanced place spelling token refusal tokens_after front sign word number
+unfolding reading script header version ranks decls decls_from decl declarator single array_size body stmts stmt block if_statement otherwise while_statement target statement_place source status assignment expr level chain atom place_inside bracket rounds unary count spend seek slot_in fresh add expect after sees same_symbol advanced place spelling token refusal tokens_after front sign word number
 row_good = refl
 
 -- nothing stands between `barrier` and its `;`; `ssend` has no handle, `issend` has one
@@ -41,7 +41,7 @@ bad =
     ∷ (codes "issend h to 0 tag 0;", (f.Expected, 53)) ∷ (codes "issend h 1 to 0 tag 0", (f.Expected, 65)) ∷ (codes "issend h 1 to 0;", (f.Expected, 59)) ∷ []
 
 pub row_bad : map {B = Read} (λ r. statement_of r.0) bad ≡ wanted_places bad
-unfolding reading script header version ranks decls decls_from decl declarator single array_size body stmts stmt block if_statement otherwise while_statement target statement_place source status assignment expr level chain atom place_inside bracket rounds unary count spend seek slot_in fresh add expect after sees same_mark advanced place spelling token refusal tokens_after front sign word number
+unfolding reading script header version ranks decls decls_from decl declarator single array_size body stmts stmt block if_statement otherwise while_statement target statement_place source status assignment expr level chain atom place_inside bracket rounds unary count spend seek slot_in fresh add expect after sees same_symbol advanced place spelling token refusal tokens_after front sign word number
 row_bad = refl
 
 -- ---- canonical text
@@ -70,7 +70,7 @@ abbrev all_kinds : Program
 all_kinds = record { version = 1; ranks = 2; decls = declared Handle (codes "r") None ∷ []; body = first ∷ barrier ∷ third ∷ []; lines = 2 ∷ 3 ∷ 3 ∷ [] }
 
 pub row_all_kinds : reading (codes "mpd 1; ranks 2; req r;\nissend r rank to 0 tag (5);\nbarrier;ssend 1 to 0 tag 5;") ≡ Ok all_kinds
-unfolding reading script header version ranks decls decls_from decl declarator single array_size body stmts stmt block if_statement otherwise while_statement target statement_place source status assignment expr level chain atom place_inside bracket rounds unary count spend seek slot_in fresh add expect after sees same_mark advanced place spelling token refusal tokens_after front sign word number
+unfolding reading script header version ranks decls decls_from decl declarator single array_size body stmts stmt block if_statement otherwise while_statement target statement_place source status assignment expr level chain atom place_inside bracket rounds unary count spend seek slot_in fresh add expect after sees same_symbol advanced place spelling token refusal tokens_after front sign word number
 row_all_kinds = refl
 
 abbrev all_kinds_text : List ℕ
@@ -82,7 +82,7 @@ row_all_kinds_text = refl
 
 -- read again it is the same script but for its lines
 pub row_all_kinds_again : reading all_kinds_text ≡ Ok (record all_kinds { lines = 4 ∷ 5 ∷ 6 ∷ [] })
-unfolding reading script header version ranks decls decls_from decl declarator single array_size body stmts stmt block if_statement otherwise while_statement target statement_place source status assignment expr level chain atom place_inside bracket rounds unary count spend seek slot_in fresh add expect after sees same_mark advanced place spelling token refusal tokens_after front sign word number
+unfolding reading script header version ranks decls decls_from decl declarator single array_size body stmts stmt block if_statement otherwise while_statement target statement_place source status assignment expr level chain atom place_inside bracket rounds unary count spend seek slot_in fresh add expect after sees same_symbol advanced place spelling token refusal tokens_after front sign word number
 row_all_kinds_again = refl
 
 pub row_all_kinds_left : map {B = List (ℕ × Tree)} (left_at all_kinds) (0 ∷ 1 ∷ 2 ∷ 3 ∷ []) ≡ ((0, first) ∷ (1, barrier) ∷ (2, third) ∷ []) ∷ ((1, barrier) ∷ (2, third) ∷ []) ∷ ((2, third) ∷ []) ∷ [] ∷ []

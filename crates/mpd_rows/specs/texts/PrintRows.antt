@@ -9,7 +9,7 @@ use Rattle.mpd_model.specs.declared.read_fault.ReadFault.{ReadFault}
 use Rattle.mpd_model.specs.grammar.Canonical.{whole_text, tree_text, canonical}
 use Rattle.mpd_model.specs.script.Declaration.{Declared}
 use Rattle.mpd_model.specs.grammar.Grammar.{chain, bracket, place_inside, rounds, unary, atom, level, expr, target, statement_place, source, status, assignment, otherwise, if_statement, while_statement, stmt, stmts, body, block, version, ranks, array_size, single, declarator, decl, decls_from, decls, header, script, reading}
-use Rattle.mpd_model.specs.grammar.Input.{token, spelling, place, advanced, refusal, same_mark, sees, after, expect, spend, count, slot_in, seek, fresh, add}
+use Rattle.mpd_model.specs.grammar.Input.{token, spelling, place, advanced, refusal, same_symbol, sees, after, expect, spend, count, slot_in, seek, fresh, add}
 use Rattle.mpd_model.specs.script.Program.{Program}
 use Rattle.mpd_model.specs.script.Term.{Term, lit, own_rank, size, cell, element, op1, op2, Target}
 use Rattle.mpd_model.specs.grammar.Tokens.{tokens_after, front, sign, word, number}
@@ -285,7 +285,7 @@ unfolding digits
 row_all_kinds = refl
 
 pub row_read_again : reading (canonical all_kinds) ≡ Ok all_kinds
-unfolding digits chain bracket place_inside rounds unary atom level expr target statement_place source status assignment otherwise if_statement while_statement stmt stmts body block version ranks array_size single declarator decl decls_from decls header script reading token spelling place advanced refusal same_mark sees after expect spend count slot_in seek fresh add tokens_after front sign word number
+unfolding digits chain bracket place_inside rounds unary atom level expr target statement_place source status assignment otherwise if_statement while_statement stmt stmts body block version ranks array_size single declarator decl decls_from decls header script reading token spelling place advanced refusal same_symbol sees after expect spend count slot_in seek fresh add tokens_after front sign word number
 row_read_again = refl
 
 -- every operator, with parentheses of both kinds
@@ -307,7 +307,7 @@ unfolding digits
 row_operators = refl
 
 pub row_operators_again : reading (canonical operators) ≡ Ok operators
-unfolding digits chain bracket place_inside rounds unary atom level expr target statement_place source status assignment otherwise if_statement while_statement stmt stmts body block version ranks array_size single declarator decl decls_from decls header script reading token spelling place advanced refusal same_mark sees after expect spend count slot_in seek fresh add tokens_after front sign word number
+unfolding digits chain bracket place_inside rounds unary atom level expr target statement_place source status assignment otherwise if_statement while_statement stmt stmts body block version ranks array_size single declarator decl decls_from decls header script reading token spelling place advanced refusal same_symbol sees after expect spend count slot_in seek fresh add tokens_after front sign word number
 row_operators_again = refl
 
 -- what a text is printed as, once it is read
@@ -317,10 +317,10 @@ printed (Err f) = []
 
 -- leading zeros, blanks, comments, needless parentheses and an empty `else` leave no trace
 pub row_tidied : printed (reading (codes "mpd 01;ranks 016;var v;print((v))+(00);if(v){}else{}#")) ≡ codes "mpd 1;\nranks 16;\nvar v;\nprint v + 0;\nif v {\n}\n"
-unfolding digits chain bracket place_inside rounds unary atom level expr target statement_place source status assignment otherwise if_statement while_statement stmt stmts body block version ranks array_size single declarator decl decls_from decls header script reading token spelling place advanced refusal same_mark sees after expect spend count slot_in seek fresh add tokens_after front sign word number
+unfolding digits chain bracket place_inside rounds unary atom level expr target statement_place source status assignment otherwise if_statement while_statement stmt stmts body block version ranks array_size single declarator decl decls_from decls header script reading token spelling place advanced refusal same_symbol sees after expect spend count slot_in seek fresh add tokens_after front sign word number
 row_tidied = refl
 
 -- the script of one message, as it is first shown
 pub row_one_message : printed (reading (codes "mpd 1;\nranks 2;\nvar x;\nif rank == 0 { send 7 to 1 tag 0; } else { recv x from 0 tag 0; print x; }")) ≡ codes "mpd 1;\nranks 2;\nvar x;\nif rank == 0 {\n  send 7 to 1 tag 0;\n} else {\n  recv x from 0 tag 0;\n  print x;\n}\n"
-unfolding digits chain bracket place_inside rounds unary atom level expr target statement_place source status assignment otherwise if_statement while_statement stmt stmts body block version ranks array_size single declarator decl decls_from decls header script reading token spelling place advanced refusal same_mark sees after expect spend count slot_in seek fresh add tokens_after front sign word number
+unfolding digits chain bracket place_inside rounds unary atom level expr target statement_place source status assignment otherwise if_statement while_statement stmt stmts body block version ranks array_size single declarator decl decls_from decls header script reading token spelling place advanced refusal same_symbol sees after expect spend count slot_in seek fresh add tokens_after front sign word number
 row_one_message = refl

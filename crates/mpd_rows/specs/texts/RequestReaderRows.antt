@@ -13,7 +13,7 @@ use Rattle.mpd_model.specs.grammar.Canonical.{tree_text, canonical}
 use Rattle.mpd_model.specs.script.Declaration.{Declared}
 use Rattle.mpd_model.specs.grammar.Faults.{fault}
 use Rattle.mpd_model.specs.grammar.Grammar.{reading, script, header, version, ranks, decls, decls_from, decl, declarator, single, array_size, body, stmts, stmt, block, if_statement, otherwise, while_statement, target, statement_place, source, status, assignment, expr, level, chain, atom, place_inside, bracket, rounds, unary}
-use Rattle.mpd_model.specs.grammar.Input.{Outcome, start_of, count, spend, seek, slot_in, fresh, add, expect, after, sees, same_mark, advanced, place, spelling, token, refusal}
+use Rattle.mpd_model.specs.grammar.Input.{Outcome, start_of, count, spend, seek, slot_in, fresh, add, expect, after, sees, same_symbol, advanced, place, spelling, token, refusal}
 use Rattle.mpd_model.specs.script.Program.{Program}
 use Rattle.mpd_model.specs.script.Term.{Term, lit, own_rank, size, cell, element, op1, op2, Target}
 use Rattle.mpd_model.specs.grammar.Tokens.{tokens_after, front, sign, word, number}
@@ -61,7 +61,7 @@ good_declarations =
     ∷ (codes "var x[1024];req r[256];var y[0];", declared Variable (codes "x") (Some 1024) ∷ declared Handle (codes "r") (Some 256) ∷ declared Variable (codes "y") (Some 0) ∷ []) ∷ []
 
 pub row_good_declarations : map {B = Read} (λ r. reading_of r.0) good_declarations ≡ map {B = Read} (λ r. reads_as r.1) good_declarations
-unfolding reading script header version ranks decls decls_from decl declarator single array_size body stmts stmt block if_statement otherwise while_statement target statement_place source status assignment expr level chain atom place_inside bracket rounds unary count spend seek slot_in fresh add expect after sees same_mark advanced place spelling token refusal tokens_after front sign word number
+unfolding reading script header version ranks decls decls_from decl declarator single array_size body stmts stmt block if_statement otherwise while_statement target statement_place source status assignment expr level chain atom place_inside bracket rounds unary count spend seek slot_in fresh add expect after sees same_symbol advanced place spelling token refusal tokens_after front sign word number
 row_good_declarations = refl
 
 -- too many handles are told at the size, or at the name where there is none; variables are counted apart
@@ -72,7 +72,7 @@ too_many =
     ∷ (codes "req r[256];req s[0];req t;", (f.TooMany, 38)) ∷ (codes "var x[1024];req r[256];var y;", (f.TooMany, 41)) ∷ (codes "req r[256];var x[1024];req s;", (f.TooMany, 41)) ∷ (codes "req r[1024];", (f.TooMany, 20)) ∷ []
 
 pub row_too_many : map {B = Read} (λ r. reading_of r.0) too_many ≡ wanted_places too_many
-unfolding reading script header version ranks decls decls_from decl declarator single array_size body stmts stmt block if_statement otherwise while_statement target statement_place source status assignment expr level chain atom place_inside bracket rounds unary count spend seek slot_in fresh add expect after sees same_mark advanced place spelling token refusal tokens_after front sign word number
+unfolding reading script header version ranks decls decls_from decl declarator single array_size body stmts stmt block if_statement otherwise while_statement target statement_place source status assignment expr level chain atom place_inside bracket rounds unary count spend seek slot_in fresh add expect after sees same_symbol advanced place spelling token refusal tokens_after front sign word number
 row_too_many = refl
 
 -- variables and handles have one space of names; a name declared twice is told before too many handles
@@ -82,7 +82,7 @@ twice =
     ∷ (codes "req r;req r[257];", (f.Twice, 24)) ∷ (codes "req r[256];var r[1025];", (f.Twice, 29)) ∷ (codes "req r;var x;req r", (f.Twice, 30)) ∷ []
 
 pub row_twice : map {B = Read} (λ r. reading_of r.0) twice ≡ wanted_places twice
-unfolding reading script header version ranks decls decls_from decl declarator single array_size body stmts stmt block if_statement otherwise while_statement target statement_place source status assignment expr level chain atom place_inside bracket rounds unary count spend seek slot_in fresh add expect after sees same_mark advanced place spelling token refusal tokens_after front sign word number
+unfolding reading script header version ranks decls decls_from decl declarator single array_size body stmts stmt block if_statement otherwise while_statement target statement_place source status assignment expr level chain atom place_inside bracket rounds unary count spend seek slot_in fresh add expect after sees same_symbol advanced place spelling token refusal tokens_after front sign word number
 row_twice = refl
 
 abbrev bad_declarations : Places
@@ -94,7 +94,7 @@ bad_declarations =
     ∷ (codes "req r;x=1;req s;", (f.UnknownName, 20)) ∷ []
 
 pub row_bad_declarations : map {B = Read} (λ r. reading_of r.0) bad_declarations ≡ wanted_places bad_declarations
-unfolding reading script header version ranks decls decls_from decl declarator single array_size body stmts stmt block if_statement otherwise while_statement target statement_place source status assignment expr level chain atom place_inside bracket rounds unary count spend seek slot_in fresh add expect after sees same_mark advanced place spelling token refusal tokens_after front sign word number
+unfolding reading script header version ranks decls decls_from decl declarator single array_size body stmts stmt block if_statement otherwise while_statement target statement_place source status assignment expr level chain atom place_inside bracket rounds unary count spend seek slot_in fresh add expect after sees same_symbol advanced place spelling token refusal tokens_after front sign word number
 row_bad_declarations = refl
 
 -- ---- statements: each text begins at byte 44
@@ -129,7 +129,7 @@ good_statements =
     ∷ (codes "wait h;", wait (whole h)) ∷ (codes "wait g[rank];", wait (part g own_rank)) ∷ (codes "wait\tg [ 0 ] ;", wait (part g (n 0))) ∷ []
 
 pub row_good_statements : map {B = Read} (λ r. statement_of r.0) good_statements ≡ map {B = Read} (λ r. reads_one r.1) good_statements
-unfolding reading script header version ranks decls decls_from decl declarator single array_size body stmts stmt block if_statement otherwise while_statement target statement_place source status assignment expr level chain atom place_inside bracket rounds unary count spend seek slot_in fresh add expect after sees same_mark advanced place spelling token refusal tokens_after front sign word number
+unfolding reading script header version ranks decls decls_from decl declarator single array_size body stmts stmt block if_statement otherwise while_statement target statement_place source status assignment expr level chain atom place_inside bracket rounds unary count spend seek slot_in fresh add expect after sees same_symbol advanced place spelling token refusal tokens_after front sign word number
 row_good_statements = refl
 
 -- a variable where a handle is wanted, and a handle where a variable is, is a name that isn't known there
@@ -145,7 +145,7 @@ other_kinds =
     ∷ (codes "recv h from 0 tag 0;", (f.UnknownName, 49)) ∷ (codes "recv g[0] from 0 tag 0;", (f.UnknownName, 49)) ∷ []
 
 pub row_other_kinds : map {B = Read} (λ r. statement_of r.0) other_kinds ≡ wanted_places other_kinds
-unfolding reading script header version ranks decls decls_from decl declarator single array_size body stmts stmt block if_statement otherwise while_statement target statement_place source status assignment expr level chain atom place_inside bracket rounds unary count spend seek slot_in fresh add expect after sees same_mark advanced place spelling token refusal tokens_after front sign word number
+unfolding reading script header version ranks decls decls_from decl declarator single array_size body stmts stmt block if_statement otherwise while_statement target statement_place source status assignment expr level chain atom place_inside bracket rounds unary count spend seek slot_in fresh add expect after sees same_symbol advanced place spelling token refusal tokens_after front sign word number
 row_other_kinds = refl
 
 -- the token that isn't allowed
@@ -162,7 +162,7 @@ bad_statements =
     ∷ (codes "ssend h 1 to 0 tag 0;", (f.UnknownName, 50)) ∷ (codes "barrier h;", (f.Expected, 52)) ∷ (codes "waitany g to x;", (f.NotInVersion, 44)) ∷ (codes "wait h;req s;", (f.Expected, 51)) ∷ []
 
 pub row_bad_statements : map {B = Read} (λ r. statement_of r.0) bad_statements ≡ wanted_places bad_statements
-unfolding reading script header version ranks decls decls_from decl declarator single array_size body stmts stmt block if_statement otherwise while_statement target statement_place source status assignment expr level chain atom place_inside bracket rounds unary count spend seek slot_in fresh add expect after sees same_mark advanced place spelling token refusal tokens_after front sign word number
+unfolding reading script header version ranks decls decls_from decl declarator single array_size body stmts stmt block if_statement otherwise while_statement target statement_place source status assignment expr level chain atom place_inside bracket rounds unary count spend seek slot_in fresh add expect after sees same_symbol advanced place spelling token refusal tokens_after front sign word number
 row_bad_statements = refl
 
 -- the index of a handle is an expression of its own, and its bracket isn't counted
@@ -170,15 +170,15 @@ abbrev same : ℕ → ℕ → List ℕ
 same k byte = replicate k byte
 
 pub row_deep_handle : statement_of (codes "wait g[" ++ same 64 40 ++ codes "1" ++ same 64 41 ++ codes "];") ≡ reads_one (wait (part g (n 1)))
-unfolding reading script header version ranks decls decls_from decl declarator single array_size body stmts stmt block if_statement otherwise while_statement target statement_place source status assignment expr level chain atom place_inside bracket rounds unary count spend seek slot_in fresh add expect after sees same_mark advanced place spelling token refusal tokens_after front sign word number
+unfolding reading script header version ranks decls decls_from decl declarator single array_size body stmts stmt block if_statement otherwise while_statement target statement_place source status assignment expr level chain atom place_inside bracket rounds unary count spend seek slot_in fresh add expect after sees same_symbol advanced place spelling token refusal tokens_after front sign word number
 row_deep_handle = refl
 
 pub row_too_deep_handle : statement_of (codes "wait g[" ++ same 65 40 ++ codes "1") ≡ refused f.TooDeep 115
-unfolding reading script header version ranks decls decls_from decl declarator single array_size body stmts stmt block if_statement otherwise while_statement target statement_place source status assignment expr level chain atom place_inside bracket rounds unary count spend seek slot_in fresh add expect after sees same_mark advanced place spelling token refusal tokens_after front sign word number
+unfolding reading script header version ranks decls decls_from decl declarator single array_size body stmts stmt block if_statement otherwise while_statement target statement_place source status assignment expr level chain atom place_inside bracket rounds unary count spend seek slot_in fresh add expect after sees same_symbol advanced place spelling token refusal tokens_after front sign word number
 row_too_deep_handle = refl
 
 pub row_both_deep : statement_of (codes "isend g[" ++ same 64 33 ++ codes "1]" ++ same 64 33 ++ codes "1 to " ++ same 64 33 ++ codes "1 tag " ++ same 65 33 ++ codes "1;") ≡ refused f.TooDeep 321
-unfolding reading script header version ranks decls decls_from decl declarator single array_size body stmts stmt block if_statement otherwise while_statement target statement_place source status assignment expr level chain atom place_inside bracket rounds unary count spend seek slot_in fresh add expect after sees same_mark advanced place spelling token refusal tokens_after front sign word number
+unfolding reading script header version ranks decls decls_from decl declarator single array_size body stmts stmt block if_statement otherwise while_statement target statement_place source status assignment expr level chain atom place_inside bracket rounds unary count spend seek slot_in fresh add expect after sees same_symbol advanced place spelling token refusal tokens_after front sign word number
 row_both_deep = refl
 
 -- ---- whole scripts
@@ -192,7 +192,7 @@ pub row_slots : reading (codes "mpd 1;ranks 2;\nvar x;req r[2];var y;req s;\nwai
       body = wait (whole (record { declaration = 3; first = 2; cells = 1 })) ∷ wait (part (record { declaration = 1; first = 0; cells = 2 }) (n 1)) ∷ print (cell (record { declaration = 2; first = 1; cells = 1 })) ∷ [];
       lines = 3 ∷ 3 ∷ 4 ∷ [];
     })
-unfolding reading script header version ranks decls decls_from decl declarator single array_size body stmts stmt block if_statement otherwise while_statement target statement_place source status assignment expr level chain atom place_inside bracket rounds unary count spend seek slot_in fresh add expect after sees same_mark advanced place spelling token refusal tokens_after front sign word number
+unfolding reading script header version ranks decls decls_from decl declarator single array_size body stmts stmt block if_statement otherwise while_statement target statement_place source status assignment expr level chain atom place_inside bracket rounds unary count spend seek slot_in fresh add expect after sees same_symbol advanced place spelling token refusal tokens_after front sign word number
 row_slots = refl
 
 -- the script of two messages on one handle that is run elsewhere
@@ -211,7 +211,7 @@ losing = record {
 }
 
 pub row_losing : reading (codes "mpd 1; ranks 2; var x; var y; req r;\nif rank == 0 { isend r 1 to 1 tag 0; isend r 2 to 1 tag 0; wait r; } else { recv x from 0 tag 0; recv y from 0 tag 0; }") ≡ Ok losing
-unfolding reading script header version ranks decls decls_from decl declarator single array_size body stmts stmt block if_statement otherwise while_statement target statement_place source status assignment expr level chain atom place_inside bracket rounds unary count spend seek slot_in fresh add expect after sees same_mark advanced place spelling token refusal tokens_after front sign word number
+unfolding reading script header version ranks decls decls_from decl declarator single array_size body stmts stmt block if_statement otherwise while_statement target statement_place source status assignment expr level chain atom place_inside bracket rounds unary count spend seek slot_in fresh add expect after sees same_symbol advanced place spelling token refusal tokens_after front sign word number
 row_losing = refl
 
 -- ---- statement 4,097: behind so many statements, each text begins at byte 0
@@ -226,7 +226,7 @@ abbrev one_more : Places
 one_more = (codes "isend h 1 to 0 tag 0;", (f.TooMany, 0)) ∷ (codes "isend", (f.TooMany, 0)) ∷ (codes "irecv x", (f.TooMany, 0)) ∷ (codes "wait h;", (f.TooMany, 0)) ∷ (codes "wait", (f.TooMany, 0)) ∷ (codes "h = 1;", (f.UnknownName, 0)) ∷ (codes "issend h 1", (f.TooMany, 0)) ∷ (codes "req", (f.Expected, 0)) ∷ []
 
 pub row_one_more : map {B = Outcome Tree} (λ t. stmt_after 4096 t.0) one_more ≡ map {B = Outcome Tree} (λ t. refused_tree t.1.0 t.1.1) one_more
-unfolding reading script header version ranks decls decls_from decl declarator single array_size body stmts stmt block if_statement otherwise while_statement target statement_place source status assignment expr level chain atom place_inside bracket rounds unary count spend seek slot_in fresh add expect after sees same_mark advanced place spelling token refusal tokens_after front sign word number
+unfolding reading script header version ranks decls decls_from decl declarator single array_size body stmts stmt block if_statement otherwise while_statement target statement_place source status assignment expr level chain atom place_inside bracket rounds unary count spend seek slot_in fresh add expect after sees same_symbol advanced place spelling token refusal tokens_after front sign word number
 row_one_more = refl
 
 -- ---- canonical text
@@ -258,7 +258,7 @@ row_losing_text = refl
 
 -- read again it is the same script but for its lines
 pub row_losing_again : reading losing_text ≡ Ok (record losing { lines = 6 ∷ 7 ∷ 8 ∷ 9 ∷ 11 ∷ 12 ∷ [] })
-unfolding reading script header version ranks decls decls_from decl declarator single array_size body stmts stmt block if_statement otherwise while_statement target statement_place source status assignment expr level chain atom place_inside bracket rounds unary count spend seek slot_in fresh add expect after sees same_mark advanced place spelling token refusal tokens_after front sign word number
+unfolding reading script header version ranks decls decls_from decl declarator single array_size body stmts stmt block if_statement otherwise while_statement target statement_place source status assignment expr level chain atom place_inside bracket rounds unary count spend seek slot_in fresh add expect after sees same_symbol advanced place spelling token refusal tokens_after front sign word number
 row_losing_again = refl
 
 pub row_sizes_text : canonical (record losing { decls = declared Handle (codes "r") (Some 256) ∷ declared Variable (codes "x") (Some 1) ∷ declared Handle (codes "_s") (Some 0) ∷ []; body = []; lines = [] }) ≡ codes "mpd 1;\nranks 2;\nreq r[256];\nvar x[1];\nreq _s[0];\n"

@@ -11,7 +11,7 @@ use Rattle.mpd_model.specs.grammar.Canonical.{tree_text, canonical}
 use Rattle.mpd_model.specs.script.Declaration.{Declared}
 use Rattle.mpd_model.specs.grammar.Faults.{fault}
 use Rattle.mpd_model.specs.grammar.Grammar.{reading, script, header, version, ranks, decls, decls_from, decl, declarator, single, array_size, body, stmts, stmt, block, if_statement, otherwise, while_statement, target, statement_place, statement_name, source, status, assignment, expr, level, chain, atom, place_inside, bracket, rounds, unary}
-use Rattle.mpd_model.specs.grammar.Input.{Outcome, start_of, count, spend, seek, slot_in, fresh, add, expect, after, sees, same_mark, advanced, place, spelling, token, refusal}
+use Rattle.mpd_model.specs.grammar.Input.{Outcome, start_of, count, spend, seek, slot_in, fresh, add, expect, after, sees, same_symbol, advanced, place, spelling, token, refusal}
 use Rattle.mpd_model.specs.script.Program.{Program}
 use Rattle.mpd_model.specs.script.Term.{cell, op2, Target}
 use Rattle.mpd_model.specs.grammar.Tokens.{tokens_after, front, sign, word, number}
@@ -30,14 +30,14 @@ other_versions =
     ∷ (codes "mpd 1;ranks 1;waitany $", (f.NotInVersion, 14)) ∷ (codes "mpd 2;ranks 1;waitany q", (f.UnknownName, 22)) ∷ []
 
 pub row_other_versions : map {B = Read} (λ r. reading r.0) other_versions ≡ wanted_places other_versions
-unfolding reading script header version ranks decls decls_from decl declarator single array_size body stmts stmt block if_statement otherwise while_statement target statement_place statement_name source status assignment expr level chain atom place_inside bracket rounds unary count spend seek slot_in fresh add expect after sees same_mark advanced place spelling token refusal tokens_after front sign word number
+unfolding reading script header version ranks decls decls_from decl declarator single array_size body stmts stmt block if_statement otherwise while_statement target statement_place statement_name source status assignment expr level chain atom place_inside bracket rounds unary count spend seek slot_in fresh add expect after sees same_symbol advanced place spelling token refusal tokens_after front sign word number
 row_other_versions = refl
 
 abbrev of_version : ℕ → Read
 of_version v = Ok (record { version = v; ranks = 1; decls = []; body = []; lines = [] })
 
 pub row_versions : map {B = Read} reading (codes "mpd 1;ranks 1;" ∷ codes "mpd 2;ranks 1;" ∷ codes "mpd 002 ; ranks 1;" ∷ []) ≡ of_version 1 ∷ of_version 2 ∷ of_version 2 ∷ []
-unfolding reading script header version ranks decls decls_from decl declarator single array_size body stmts stmt block if_statement otherwise while_statement target statement_place statement_name source status assignment expr level chain atom place_inside bracket rounds unary count spend seek slot_in fresh add expect after sees same_mark advanced place spelling token refusal tokens_after front sign word number
+unfolding reading script header version ranks decls decls_from decl declarator single array_size body stmts stmt block if_statement otherwise while_statement target statement_place statement_name source status assignment expr level chain atom place_inside bracket rounds unary count spend seek slot_in fresh add expect after sees same_symbol advanced place spelling token refusal tokens_after front sign word number
 row_versions = refl
 
 -- ---- waitany: each statement begins at byte 53
@@ -81,7 +81,7 @@ good_statements =
     ∷ (codes "waitany h to a [ 2 ] ;", waitany h (part a (n 2))) ∷ (codes "waitany g to a[" ++ replicate 64 40 ++ codes "1" ++ replicate 64 41 ++ codes "];", waitany g (part a (n 1))) ∷ []
 
 pub row_good_statements : map {B = Read} (λ r. statement_of r.0) good_statements ≡ map {B = Read} (λ r. reads_one r.1) good_statements
-unfolding reading script header version ranks decls decls_from decl declarator single array_size body stmts stmt block if_statement otherwise while_statement target statement_place statement_name source status assignment expr level chain atom place_inside bracket rounds unary count spend seek slot_in fresh add expect after sees same_mark advanced place spelling token refusal tokens_after front sign word number
+unfolding reading script header version ranks decls decls_from decl declarator single array_size body stmts stmt block if_statement otherwise while_statement target statement_place statement_name source status assignment expr level chain atom place_inside bracket rounds unary count spend seek slot_in fresh add expect after sees same_symbol advanced place spelling token refusal tokens_after front sign word number
 row_good_statements = refl
 
 abbrev bad_statements : Places
@@ -99,11 +99,11 @@ bad_statements =
     ∷ (codes "waitany h to x$", (f.BadToken, 67)) ∷ (codes "print waitany;", (f.Expected, 59)) ∷ (codes "waitany h to x;req q;", (f.Expected, 68)) ∷ []
 
 pub row_bad_statements : map {B = Read} (λ r. statement_of r.0) bad_statements ≡ wanted_places bad_statements
-unfolding reading script header version ranks decls decls_from decl declarator single array_size body stmts stmt block if_statement otherwise while_statement target statement_place statement_name source status assignment expr level chain atom place_inside bracket rounds unary count spend seek slot_in fresh add expect after sees same_mark advanced place spelling token refusal tokens_after front sign word number
+unfolding reading script header version ranks decls decls_from decl declarator single array_size body stmts stmt block if_statement otherwise while_statement target statement_place statement_name source status assignment expr level chain atom place_inside bracket rounds unary count spend seek slot_in fresh add expect after sees same_symbol advanced place spelling token refusal tokens_after front sign word number
 row_bad_statements = refl
 
 pub row_too_deep : statement_of (codes "waitany h to a[" ++ replicate 65 40 ++ codes "1") ≡ Err (fault f.TooDeep 132)
-unfolding reading script header version ranks decls decls_from decl declarator single array_size body stmts stmt block if_statement otherwise while_statement target statement_place statement_name source status assignment expr level chain atom place_inside bracket rounds unary count spend seek slot_in fresh add expect after sees same_mark advanced place spelling token refusal tokens_after front sign word number
+unfolding reading script header version ranks decls decls_from decl declarator single array_size body stmts stmt block if_statement otherwise while_statement target statement_place statement_name source status assignment expr level chain atom place_inside bracket rounds unary count spend seek slot_in fresh add expect after sees same_symbol advanced place spelling token refusal tokens_after front sign word number
 row_too_deep = refl
 
 -- in a block, with the lines
@@ -115,7 +115,7 @@ pub row_in_a_block : reading (codes "mpd 2;\nranks 1;\nvar x;\nreq h;\nif x {\n 
       body = branch (cell x) (then_more (waitany hs (whole x)) no_more) no_more ∷ waitany hs (whole x) ∷ [];
       lines = 5 ∷ 6 ∷ 9 ∷ [];
     })
-unfolding reading script header version ranks decls decls_from decl declarator single array_size body stmts stmt block if_statement otherwise while_statement target statement_place statement_name source status assignment expr level chain atom place_inside bracket rounds unary count spend seek slot_in fresh add expect after sees same_mark advanced place spelling token refusal tokens_after front sign word number
+unfolding reading script header version ranks decls decls_from decl declarator single array_size body stmts stmt block if_statement otherwise while_statement target statement_place statement_name source status assignment expr level chain atom place_inside bracket rounds unary count spend seek slot_in fresh add expect after sees same_symbol advanced place spelling token refusal tokens_after front sign word number
 row_in_a_block = refl
 
 -- ---- the most statements: what began before counts, whatever the version
@@ -127,15 +127,15 @@ abbrev refused_as : Outcome Tree
 refused_as = Err (fault f.TooMany 0)
 
 pub row_one_too_many : map {B = Outcome Tree} (λ v. stmt_after v 4096 (codes "waitany h to x;")) (1 ∷ 2 ∷ []) ≡ refused_as ∷ refused_as ∷ []
-unfolding reading script header version ranks decls decls_from decl declarator single array_size body stmts stmt block if_statement otherwise while_statement target statement_place statement_name source status assignment expr level chain atom place_inside bracket rounds unary count spend seek slot_in fresh add expect after sees same_mark advanced place spelling token refusal tokens_after front sign word number
+unfolding reading script header version ranks decls decls_from decl declarator single array_size body stmts stmt block if_statement otherwise while_statement target statement_place statement_name source status assignment expr level chain atom place_inside bracket rounds unary count spend seek slot_in fresh add expect after sees same_symbol advanced place spelling token refusal tokens_after front sign word number
 row_one_too_many = refl
 
 pub row_last_of_version_1 : stmt_after 1 4095 (codes "waitany h to x;") ≡ Err (fault f.NotInVersion 0)
-unfolding reading script header version ranks decls decls_from decl declarator single array_size body stmts stmt block if_statement otherwise while_statement target statement_place statement_name source status assignment expr level chain atom place_inside bracket rounds unary count spend seek slot_in fresh add expect after sees same_mark advanced place spelling token refusal tokens_after front sign word number
+unfolding reading script header version ranks decls decls_from decl declarator single array_size body stmts stmt block if_statement otherwise while_statement target statement_place statement_name source status assignment expr level chain atom place_inside bracket rounds unary count spend seek slot_in fresh add expect after sees same_symbol advanced place spelling token refusal tokens_after front sign word number
 row_last_of_version_1 = refl
 
 pub row_last_of_version_2 : is_ok (stmt_after 2 4095 (codes "waitany h to x;")) ≡ true
-unfolding reading script header version ranks decls decls_from decl declarator single array_size body stmts stmt block if_statement otherwise while_statement target statement_place statement_name source status assignment expr level chain atom place_inside bracket rounds unary count spend seek slot_in fresh add expect after sees same_mark advanced place spelling token refusal tokens_after front sign word number
+unfolding reading script header version ranks decls decls_from decl declarator single array_size body stmts stmt block if_statement otherwise while_statement target statement_place statement_name source status assignment expr level chain atom place_inside bracket rounds unary count spend seek slot_in fresh add expect after sees same_symbol advanced place spelling token refusal tokens_after front sign word number
 row_last_of_version_2 = refl
 
 -- ---- the canonical text
@@ -155,10 +155,10 @@ printed (Ok p) = canonical p
 printed (Err f) = []
 
 pub row_printed : printed (reading (codes "mpd 02;ranks 01;var x;req h[2];if x{waitany h to x ;}#")) ≡ codes "mpd 2;\nranks 1;\nvar x;\nreq h[2];\nif x {\n  waitany h to x;\n}\n"
-unfolding digits reading script header version ranks decls decls_from decl declarator single array_size body stmts stmt block if_statement otherwise while_statement target statement_place statement_name source status assignment expr level chain atom place_inside bracket rounds unary count spend seek slot_in fresh add expect after sees same_mark advanced place spelling token refusal tokens_after front sign word number
+unfolding digits reading script header version ranks decls decls_from decl declarator single array_size body stmts stmt block if_statement otherwise while_statement target statement_place statement_name source status assignment expr level chain atom place_inside bracket rounds unary count spend seek slot_in fresh add expect after sees same_symbol advanced place spelling token refusal tokens_after front sign word number
 row_printed = refl
 
 -- version 1 is told where a text is in it, whatever it could be in
 pub row_printed_1 : printed (reading (codes "mpd 1;ranks 1;")) ≡ codes "mpd 1;\nranks 1;\n"
-unfolding digits reading script header version ranks decls decls_from decl declarator single array_size body stmts stmt block if_statement otherwise while_statement target statement_place statement_name source status assignment expr level chain atom place_inside bracket rounds unary count spend seek slot_in fresh add expect after sees same_mark advanced place spelling token refusal tokens_after front sign word number
+unfolding digits reading script header version ranks decls decls_from decl declarator single array_size body stmts stmt block if_statement otherwise while_statement target statement_place statement_name source status assignment expr level chain atom place_inside bracket rounds unary count spend seek slot_in fresh add expect after sees same_symbol advanced place spelling token refusal tokens_after front sign word number
 row_printed_1 = refl

@@ -18,7 +18,7 @@ use Rattle.mpd_model.specs.declared.call.Activity.TheVariants.{Running, Trapped}
 use Rattle.mpd_model.specs.script.Declaration.{Declared}
 use Rattle.mpd_model.specs.grammar.Faults.{fault}
 use Rattle.mpd_model.specs.grammar.Grammar.{reading, script, header, version, ranks, decls, decls_from, decl, declarator, single, array_size, body, stmts, stmt, block, if_statement, otherwise, while_statement, target, statement_place, source, status, assignment, expr, level, chain, atom, place_inside, bracket, rounds, unary}
-use Rattle.mpd_model.specs.grammar.Input.{Outcome, start_of, count, spend, seek, slot_in, fresh, add, expect, after, sees, same_mark, advanced, place, spelling, token, refusal}
+use Rattle.mpd_model.specs.grammar.Input.{Outcome, start_of, count, spend, seek, slot_in, fresh, add, expect, after, sees, same_symbol, advanced, place, spelling, token, refusal}
 use Rattle.mpd_model.specs.script.Program.{Program}
 use Rattle.mpd_model.specs.script.Term.{Term, lit, own_rank, size, cell, element, op1, op2, Target}
 use Rattle.mpd_model.specs.grammar.Tokens.{tokens, tokens_after, front, sign, word, number}
@@ -90,7 +90,7 @@ grouped =
     ∷ (codes "1||2||3", op2 Or (op2 Or (n 1) (n 2)) (n 3)) ∷ (codes "1&&2&&3", op2 And (op2 And (n 1) (n 2)) (n 3)) ∷ []
 
 pub row_grouped : read_terms grouped ≡ wanted_terms grouped
-unfolding reading script header version ranks decls decls_from decl declarator single array_size body stmts stmt block if_statement otherwise while_statement target statement_place source status assignment expr level chain atom place_inside bracket rounds unary count spend seek slot_in fresh add expect after sees same_mark advanced place spelling token refusal tokens_after front sign word number
+unfolding reading script header version ranks decls decls_from decl declarator single array_size body stmts stmt block if_statement otherwise while_statement target statement_place source status assignment expr level chain atom place_inside bracket rounds unary count spend seek slot_in fresh add expect after sees same_symbol advanced place spelling token refusal tokens_after front sign word number
 row_grouped = refl
 
 -- all levels at once, from the loosest and from the tightest
@@ -100,7 +100,7 @@ levels =
     ∷ (codes "!6*5-4>3&&2||1", op2 Or (op2 And (op2 Greater (op2 Subtract (op2 Multiply (op1 Not (n 6)) (n 5)) (n 4)) (n 3)) (n 2)) (n 1)) ∷ []
 
 pub row_levels : read_terms levels ≡ wanted_terms levels
-unfolding reading script header version ranks decls decls_from decl declarator single array_size body stmts stmt block if_statement otherwise while_statement target statement_place source status assignment expr level chain atom place_inside bracket rounds unary count spend seek slot_in fresh add expect after sees same_mark advanced place spelling token refusal tokens_after front sign word number
+unfolding reading script header version ranks decls decls_from decl declarator single array_size body stmts stmt block if_statement otherwise while_statement target statement_place source status assignment expr level chain atom place_inside bracket rounds unary count spend seek slot_in fresh add expect after sees same_symbol advanced place spelling token refusal tokens_after front sign word number
 row_levels = refl
 
 -- round brackets leave nothing in the tree but the grouping
@@ -112,7 +112,7 @@ bracketed =
     ∷ (codes "-(1+2)", minus (op2 Add (n 1) (n 2))) ∷ (codes "!(1&&0)", op1 Not (op2 And (n 1) (n 0))) ∷ []
 
 pub row_bracketed : read_terms bracketed ≡ wanted_terms bracketed
-unfolding reading script header version ranks decls decls_from decl declarator single array_size body stmts stmt block if_statement otherwise while_statement target statement_place source status assignment expr level chain atom place_inside bracket rounds unary count spend seek slot_in fresh add expect after sees same_mark advanced place spelling token refusal tokens_after front sign word number
+unfolding reading script header version ranks decls decls_from decl declarator single array_size body stmts stmt block if_statement otherwise while_statement target statement_place source status assignment expr level chain atom place_inside bracket rounds unary count spend seek slot_in fresh add expect after sees same_symbol advanced place spelling token refusal tokens_after front sign word number
 row_bracketed = refl
 
 -- ---- operators before an operand bind tightest
@@ -127,7 +127,7 @@ signs =
     ∷ (codes "!rank", op1 Not own_rank) ∷ (codes "-size", minus size) ∷ []
 
 pub row_signs : read_terms signs ≡ wanted_terms signs
-unfolding reading script header version ranks decls decls_from decl declarator single array_size body stmts stmt block if_statement otherwise while_statement target statement_place source status assignment expr level chain atom place_inside bracket rounds unary count spend seek slot_in fresh add expect after sees same_mark advanced place spelling token refusal tokens_after front sign word number
+unfolding reading script header version ranks decls decls_from decl declarator single array_size body stmts stmt block if_statement otherwise while_statement target statement_place source status assignment expr level chain atom place_inside bracket rounds unary count spend seek slot_in fresh add expect after sees same_symbol advanced place spelling token refusal tokens_after front sign word number
 row_signs = refl
 
 -- each comparison, and signs that stand side by side
@@ -139,7 +139,7 @@ comparisons =
     ∷ (codes "1\n<=#<\n2", op2 AtMost (n 1) (n 2)) ∷ []
 
 pub row_comparisons : read_terms comparisons ≡ wanted_terms comparisons
-unfolding reading script header version ranks decls decls_from decl declarator single array_size body stmts stmt block if_statement otherwise while_statement target statement_place source status assignment expr level chain atom place_inside bracket rounds unary count spend seek slot_in fresh add expect after sees same_mark advanced place spelling token refusal tokens_after front sign word number
+unfolding reading script header version ranks decls decls_from decl declarator single array_size body stmts stmt block if_statement otherwise while_statement target statement_place source status assignment expr level chain atom place_inside bracket rounds unary count spend seek slot_in fresh add expect after sees same_symbol advanced place spelling token refusal tokens_after front sign word number
 row_comparisons = refl
 
 -- ---- places
@@ -152,7 +152,7 @@ places =
     ∷ (codes "x*a[0]/x", op2 Divide (op2 Multiply (cell x) (element a (n 0))) (cell x)) ∷ []
 
 pub row_places : read_terms places ≡ wanted_terms places
-unfolding reading script header version ranks decls decls_from decl declarator single array_size body stmts stmt block if_statement otherwise while_statement target statement_place source status assignment expr level chain atom place_inside bracket rounds unary count spend seek slot_in fresh add expect after sees same_mark advanced place spelling token refusal tokens_after front sign word number
+unfolding reading script header version ranks decls decls_from decl declarator single array_size body stmts stmt block if_statement otherwise while_statement target statement_place source status assignment expr level chain atom place_inside bracket rounds unary count spend seek slot_in fresh add expect after sees same_symbol advanced place spelling token refusal tokens_after front sign word number
 row_places = refl
 
 -- ---- what is refused in an expression: the fault, and how far behind byte 35
@@ -174,7 +174,7 @@ chained =
     ∷ (codes "1! =2", (f.Expected, 1)) ∷ (codes "1!==2", (f.Expected, 3)) ∷ (codes "1<>2", (f.Expected, 2)) ∷ (codes "1=>2", (f.Expected, 1)) ∷ []
 
 pub row_chained : read_faults chained ≡ wanted_faults chained
-unfolding reading script header version ranks decls decls_from decl declarator single array_size body stmts stmt block if_statement otherwise while_statement target statement_place source status assignment expr level chain atom place_inside bracket rounds unary count spend seek slot_in fresh add expect after sees same_mark advanced place spelling token refusal tokens_after front sign word number
+unfolding reading script header version ranks decls decls_from decl declarator single array_size body stmts stmt block if_statement otherwise while_statement target statement_place source status assignment expr level chain atom place_inside bracket rounds unary count spend seek slot_in fresh add expect after sees same_symbol advanced place spelling token refusal tokens_after front sign word number
 row_chained = refl
 
 -- what is missing, and what stands too much; `+` is no sign
@@ -185,7 +185,7 @@ misplaced =
     ∷ (codes "()", (f.Expected, 1)) ∷ (codes "(1", (f.Expected, 2)) ∷ (codes "1)", (f.Expected, 1)) ∷ (codes "(1]", (f.Expected, 2)) ∷ (codes "[0]", (f.Expected, 0)) ∷ (codes "1+while", (f.Expected, 2)) ∷ []
 
 pub row_misplaced : read_faults misplaced ≡ wanted_faults misplaced
-unfolding reading script header version ranks decls decls_from decl declarator single array_size body stmts stmt block if_statement otherwise while_statement target statement_place source status assignment expr level chain atom place_inside bracket rounds unary count spend seek slot_in fresh add expect after sees same_mark advanced place spelling token refusal tokens_after front sign word number
+unfolding reading script header version ranks decls decls_from decl declarator single array_size body stmts stmt block if_statement otherwise while_statement target statement_place source status assignment expr level chain atom place_inside bracket rounds unary count spend seek slot_in fresh add expect after sees same_symbol advanced place spelling token refusal tokens_after front sign word number
 row_misplaced = refl
 
 -- what is no token is 3, whatever is allowed there
@@ -196,7 +196,7 @@ no_tokens =
     ∷ (codes "a[0$", (f.BadToken, 3)) ∷ (codes "a[9223372036854775808]", (f.BadToken, 2)) ∷ (codes "1^2", (f.BadToken, 1)) ∷ []
 
 pub row_no_tokens : read_faults no_tokens ≡ wanted_faults no_tokens
-unfolding reading script header version ranks decls decls_from decl declarator single array_size body stmts stmt block if_statement otherwise while_statement target statement_place source status assignment expr level chain atom place_inside bracket rounds unary count spend seek slot_in fresh add expect after sees same_mark advanced place spelling token refusal tokens_after front sign word number
+unfolding reading script header version ranks decls decls_from decl declarator single array_size body stmts stmt block if_statement otherwise while_statement target statement_place source status assignment expr level chain atom place_inside bracket rounds unary count spend seek slot_in fresh add expect after sees same_symbol advanced place spelling token refusal tokens_after front sign word number
 row_no_tokens = refl
 
 -- a name with a size has an index behind it, and one without has none
@@ -208,7 +208,7 @@ indexed =
     ∷ (codes "x+y", (f.UnknownName, 2)) ∷ (codes "-y", (f.UnknownName, 1)) ∷ (codes "1||y", (f.UnknownName, 3)) ∷ (codes "a1", (f.UnknownName, 0)) ∷ []
 
 pub row_indexed : read_faults indexed ≡ wanted_faults indexed
-unfolding reading script header version ranks decls decls_from decl declarator single array_size body stmts stmt block if_statement otherwise while_statement target statement_place source status assignment expr level chain atom place_inside bracket rounds unary count spend seek slot_in fresh add expect after sees same_mark advanced place spelling token refusal tokens_after front sign word number
+unfolding reading script header version ranks decls decls_from decl declarator single array_size body stmts stmt block if_statement otherwise while_statement target statement_place source status assignment expr level chain atom place_inside bracket rounds unary count spend seek slot_in fresh add expect after sees same_symbol advanced place spelling token refusal tokens_after front sign word number
 row_indexed = refl
 
 -- the end of the text is a token at its length
@@ -220,7 +220,7 @@ abbrev after_decls : List ℕ → Read
 after_decls text = reading (codes "mpd 1;ranks 1;var x;var a[3];" ++ text)
 
 pub row_ends : map {B = Read} (λ r. after_decls r.0) ends ≡ map {B = Read} (λ r. refused f.Expected r.1) ends
-unfolding reading script header version ranks decls decls_from decl declarator single array_size body stmts stmt block if_statement otherwise while_statement target statement_place source status assignment expr level chain atom place_inside bracket rounds unary count spend seek slot_in fresh add expect after sees same_mark advanced place spelling token refusal tokens_after front sign word number
+unfolding reading script header version ranks decls decls_from decl declarator single array_size body stmts stmt block if_statement otherwise while_statement target statement_place source status assignment expr level chain atom place_inside bracket rounds unary count spend seek slot_in fresh add expect after sees same_symbol advanced place spelling token refusal tokens_after front sign word number
 row_ends = refl
 
 -- ---- 64 operators and brackets in one expression
@@ -248,7 +248,7 @@ full =
     ∷ (codes "(1)" ++ same 31 (codes "+(1)") ++ codes "+1", with_ones Add 32 (n 1)) ∷ (codes "1<1" ++ same 63 (codes "+1"), op2 Less (n 1) (with_ones Add 63 (n 1))) ∷ []
 
 pub row_full : read_terms full ≡ wanted_terms full
-unfolding reading script header version ranks decls decls_from decl declarator single array_size body stmts stmt block if_statement otherwise while_statement target statement_place source status assignment expr level chain atom place_inside bracket rounds unary count spend seek slot_in fresh add expect after sees same_mark advanced place spelling token refusal tokens_after front sign word number
+unfolding reading script header version ranks decls decls_from decl declarator single array_size body stmts stmt block if_statement otherwise while_statement target statement_place source status assignment expr level chain atom place_inside bracket rounds unary count spend seek slot_in fresh add expect after sees same_symbol advanced place spelling token refusal tokens_after front sign word number
 row_full = refl
 
 -- the 65th is too deep, whichever it is; what closes counts nothing and gives nothing back
@@ -261,7 +261,7 @@ too_deep =
     ∷ (same 64 (codes "(") ++ codes "a[0]", (f.TooDeep, 65)) ∷ (same 64 (codes "(") ++ codes "-1", (f.TooDeep, 64)) ∷ (same 64 (codes "(") ++ codes "!1", (f.TooDeep, 64)) ∷ (same 64 (codes "(") ++ codes "1+1", (f.TooDeep, 65)) ∷ []
 
 pub row_too_deep : read_faults too_deep ≡ wanted_faults too_deep
-unfolding reading script header version ranks decls decls_from decl declarator single array_size body stmts stmt block if_statement otherwise while_statement target statement_place source status assignment expr level chain atom place_inside bracket rounds unary count spend seek slot_in fresh add expect after sees same_mark advanced place spelling token refusal tokens_after front sign word number
+unfolding reading script header version ranks decls decls_from decl declarator single array_size body stmts stmt block if_statement otherwise while_statement target statement_place source status assignment expr level chain atom place_inside bracket rounds unary count spend seek slot_in fresh add expect after sees same_symbol advanced place spelling token refusal tokens_after front sign word number
 row_too_deep = refl
 
 -- where all are taken, what is no token, what isn't allowed and what isn't declared are faults as elsewhere
@@ -273,7 +273,7 @@ not_too_deep =
     ∷ (codes "1" ++ same 64 (codes "+1") ++ codes "[0]", (f.Expected, 129)) ∷ []
 
 pub row_not_too_deep : read_faults not_too_deep ≡ wanted_faults not_too_deep
-unfolding reading script header version ranks decls decls_from decl declarator single array_size body stmts stmt block if_statement otherwise while_statement target statement_place source status assignment expr level chain atom place_inside bracket rounds unary count spend seek slot_in fresh add expect after sees same_mark advanced place spelling token refusal tokens_after front sign word number
+unfolding reading script header version ranks decls decls_from decl declarator single array_size body stmts stmt block if_statement otherwise while_statement target statement_place source status assignment expr level chain atom place_inside bracket rounds unary count spend seek slot_in fresh add expect after sees same_symbol advanced place spelling token refusal tokens_after front sign word number
 row_not_too_deep = refl
 
 -- ---- statements, behind the same declarations: each text begins at byte 29
@@ -303,7 +303,7 @@ statements =
     ∷ (codes "send a[0] to (rank+1)%size tag 7;", (send (element a (n 0)) (op2 Remainder (op2 Add own_rank (n 1)) size) (n 7) ∷ [], 1)) ∷ []
 
 pub row_statements : read_bodies statements ≡ wanted_bodies statements
-unfolding reading script header version ranks decls decls_from decl declarator single array_size body stmts stmt block if_statement otherwise while_statement target statement_place source status assignment expr level chain atom place_inside bracket rounds unary count spend seek slot_in fresh add expect after sees same_mark advanced place spelling token refusal tokens_after front sign word number
+unfolding reading script header version ranks decls decls_from decl declarator single array_size body stmts stmt block if_statement otherwise while_statement target statement_place source status assignment expr level chain atom place_inside bracket rounds unary count spend seek slot_in fresh add expect after sees same_symbol advanced place spelling token refusal tokens_after front sign word number
 row_statements = refl
 
 -- the index of a place outside expressions is an expression of its own, and its bracket counts nothing
@@ -315,7 +315,7 @@ own_indexes =
     ∷ (codes "while " ++ same 64 (codes "!") ++ codes "x{assert " ++ same 64 (codes "!") ++ codes "x;}", (repeat (signed_by Not 64 (cell x)) (then_more (check (signed_by Not 64 (cell x))) no_more) ∷ [], 2)) ∷ []
 
 pub row_own_indexes : read_bodies own_indexes ≡ wanted_bodies own_indexes
-unfolding reading script header version ranks decls decls_from decl declarator single array_size body stmts stmt block if_statement otherwise while_statement target statement_place source status assignment expr level chain atom place_inside bracket rounds unary count spend seek slot_in fresh add expect after sees same_mark advanced place spelling token refusal tokens_after front sign word number
+unfolding reading script header version ranks decls decls_from decl declarator single array_size body stmts stmt block if_statement otherwise while_statement target statement_place source status assignment expr level chain atom place_inside bracket rounds unary count spend seek slot_in fresh add expect after sees same_symbol advanced place spelling token refusal tokens_after front sign word number
 row_own_indexes = refl
 
 abbrev Places : Type 0
@@ -333,7 +333,7 @@ index_too_deep =
     ∷ (codes "recv a[" ++ same 65 (codes "-"), (f.TooDeep, 100)) ∷ (codes "while " ++ same 65 (codes "("), (f.TooDeep, 99)) ∷ (codes "assert " ++ same 65 (codes "("), (f.TooDeep, 100)) ∷ (codes "x=" ++ same 65 (codes "!"), (f.TooDeep, 95)) ∷ []
 
 pub row_index_too_deep : read_places index_too_deep ≡ wanted_places index_too_deep
-unfolding reading script header version ranks decls decls_from decl declarator single array_size body stmts stmt block if_statement otherwise while_statement target statement_place source status assignment expr level chain atom place_inside bracket rounds unary count spend seek slot_in fresh add expect after sees same_mark advanced place spelling token refusal tokens_after front sign word number
+unfolding reading script header version ranks decls decls_from decl declarator single array_size body stmts stmt block if_statement otherwise while_statement target statement_place source status assignment expr level chain atom place_inside bracket rounds unary count spend seek slot_in fresh add expect after sees same_symbol advanced place spelling token refusal tokens_after front sign word number
 row_index_too_deep = refl
 
 abbrev bad_assignments : Places
@@ -345,7 +345,7 @@ bad_assignments =
     ∷ (codes "=1;", (f.Expected, 29)) ∷ (codes "1=1;", (f.Expected, 29)) ∷ (codes "rank=1;", (f.Expected, 29)) ∷ (codes "(x)=1;", (f.Expected, 29)) ∷ (codes "-x;", (f.Expected, 29)) ∷ (codes "!x;", (f.Expected, 29)) ∷ (codes "[0]=1;", (f.Expected, 29)) ∷ (codes "tag=1;", (f.Expected, 29)) ∷ []
 
 pub row_bad_assignments : read_places bad_assignments ≡ wanted_places bad_assignments
-unfolding reading script header version ranks decls decls_from decl declarator single array_size body stmts stmt block if_statement otherwise while_statement target statement_place source status assignment expr level chain atom place_inside bracket rounds unary count spend seek slot_in fresh add expect after sees same_mark advanced place spelling token refusal tokens_after front sign word number
+unfolding reading script header version ranks decls decls_from decl declarator single array_size body stmts stmt block if_statement otherwise while_statement target statement_place source status assignment expr level chain atom place_inside bracket rounds unary count spend seek slot_in fresh add expect after sees same_symbol advanced place spelling token refusal tokens_after front sign word number
 row_bad_assignments = refl
 
 abbrev bad_statements : Places
@@ -358,7 +358,7 @@ bad_statements =
     ∷ (codes "x=1;req h[2];", (f.Expected, 33)) ∷ (codes "barrier x;", (f.Expected, 37)) ∷ []
 
 pub row_bad_statements : read_places bad_statements ≡ wanted_places bad_statements
-unfolding reading script header version ranks decls decls_from decl declarator single array_size body stmts stmt block if_statement otherwise while_statement target statement_place source status assignment expr level chain atom place_inside bracket rounds unary count spend seek slot_in fresh add expect after sees same_mark advanced place spelling token refusal tokens_after front sign word number
+unfolding reading script header version ranks decls decls_from decl declarator single array_size body stmts stmt block if_statement otherwise while_statement target statement_place source status assignment expr level chain atom place_inside bracket rounds unary count spend seek slot_in fresh add expect after sees same_symbol advanced place spelling token refusal tokens_after front sign word number
 row_bad_statements = refl
 
 -- ---- open blocks
@@ -378,16 +378,16 @@ ifs zero = []
 ifs (suc k) = branch (n 1) (block_of (ifs k)) no_more ∷ []
 
 pub row_64_whiles : reading_of (same 64 (codes "while 1 {") ++ same 64 (codes "}")) ≡ plain [] (whiles 64 []) 64
-unfolding reading script header version ranks decls decls_from decl declarator single array_size body stmts stmt block if_statement otherwise while_statement target statement_place source status assignment expr level chain atom place_inside bracket rounds unary count spend seek slot_in fresh add expect after sees same_mark advanced place spelling token refusal tokens_after front sign word number
+unfolding reading script header version ranks decls decls_from decl declarator single array_size body stmts stmt block if_statement otherwise while_statement target statement_place source status assignment expr level chain atom place_inside bracket rounds unary count spend seek slot_in fresh add expect after sees same_symbol advanced place spelling token refusal tokens_after front sign word number
 row_64_whiles = refl
 
 pub row_64_mixed : reading_of (same 32 (codes "while 1 {") ++ same 32 (codes "if 1 {") ++ same 64 (codes "}")) ≡ plain [] (whiles 32 (ifs 32)) 64
-unfolding reading script header version ranks decls decls_from decl declarator single array_size body stmts stmt block if_statement otherwise while_statement target statement_place source status assignment expr level chain atom place_inside bracket rounds unary count spend seek slot_in fresh add expect after sees same_mark advanced place spelling token refusal tokens_after front sign word number
+unfolding reading script header version ranks decls decls_from decl declarator single array_size body stmts stmt block if_statement otherwise while_statement target statement_place source status assignment expr level chain atom place_inside bracket rounds unary count spend seek slot_in fresh add expect after sees same_symbol advanced place spelling token refusal tokens_after front sign word number
 row_64_mixed = refl
 
 -- a block that is closed is open no more
 pub row_64_again : reading_of (same 64 (codes "while 1 {") ++ codes "}while 1 {}" ++ same 63 (codes "}")) ≡ plain [] (whiles 63 (repeat (n 1) no_more ∷ repeat (n 1) no_more ∷ [])) 65
-unfolding reading script header version ranks decls decls_from decl declarator single array_size body stmts stmt block if_statement otherwise while_statement target statement_place source status assignment expr level chain atom place_inside bracket rounds unary count spend seek slot_in fresh add expect after sees same_mark advanced place spelling token refusal tokens_after front sign word number
+unfolding reading script header version ranks decls decls_from decl declarator single array_size body stmts stmt block if_statement otherwise while_statement target statement_place source status assignment expr level chain atom place_inside bracket rounds unary count spend seek slot_in fresh add expect after sees same_symbol advanced place spelling token refusal tokens_after front sign word number
 row_64_again = refl
 
 abbrev deep_blocks : Places
@@ -396,7 +396,7 @@ deep_blocks =
     ∷ (same 64 (codes "while 1 {") ++ codes "while 1 ;", (f.Expected, 598)) ∷ (same 64 (codes "while 1 {") ++ codes "while 1 $", (f.BadToken, 598)) ∷ []
 
 pub row_deep_blocks : map {B = Read} (λ r. reading_of r.0) deep_blocks ≡ wanted_places deep_blocks
-unfolding reading script header version ranks decls decls_from decl declarator single array_size body stmts stmt block if_statement otherwise while_statement target statement_place source status assignment expr level chain atom place_inside bracket rounds unary count spend seek slot_in fresh add expect after sees same_mark advanced place spelling token refusal tokens_after front sign word number
+unfolding reading script header version ranks decls decls_from decl declarator single array_size body stmts stmt block if_statement otherwise while_statement target statement_place source status assignment expr level chain atom place_inside bracket rounds unary count spend seek slot_in fresh add expect after sees same_symbol advanced place spelling token refusal tokens_after front sign word number
 row_deep_blocks = refl
 
 -- ---- declarations: each text begins at byte 14
@@ -409,7 +409,7 @@ arrays =
     ∷ (codes "var a[0];var b[1024];var c[0];", declared (codes "a") (Some 0) ∷ declared (codes "b") (Some 1024) ∷ declared (codes "c") (Some 0) ∷ []) ∷ []
 
 pub row_arrays : map {B = Read} (λ r. reading_of r.0) arrays ≡ map {B = Read} (λ r. plain r.1 [] 0) arrays
-unfolding reading script header version ranks decls decls_from decl declarator single array_size body stmts stmt block if_statement otherwise while_statement target statement_place source status assignment expr level chain atom place_inside bracket rounds unary count spend seek slot_in fresh add expect after sees same_mark advanced place spelling token refusal tokens_after front sign word number
+unfolding reading script header version ranks decls decls_from decl declarator single array_size body stmts stmt block if_statement otherwise while_statement target statement_place source status assignment expr level chain atom place_inside bracket rounds unary count spend seek slot_in fresh add expect after sees same_symbol advanced place spelling token refusal tokens_after front sign word number
 row_arrays = refl
 
 -- cells are numbered over all declarations, in their order
@@ -417,7 +417,7 @@ pub row_cells : reading_of (codes "var a[3];var b;var c[0];var d;print d;b=c[0];
     ≡ plain (declared (codes "a") (Some 3) ∷ declared (codes "b") None ∷ declared (codes "c") (Some 0) ∷ declared (codes "d") None ∷ [])
     (print (cell (record { declaration = 3; first = 4; cells = 1 })) ∷ assign (whole (record { declaration = 1; first = 3; cells = 1 })) (element (record { declaration = 2; first = 4; cells = 0 }) (n 0))
     ∷ assign (part (record { declaration = 0; first = 0; cells = 3 }) (n 2)) (cell (record { declaration = 1; first = 3; cells = 1 })) ∷ []) 3
-unfolding reading script header version ranks decls decls_from decl declarator single array_size body stmts stmt block if_statement otherwise while_statement target statement_place source status assignment expr level chain atom place_inside bracket rounds unary count spend seek slot_in fresh add expect after sees same_mark advanced place spelling token refusal tokens_after front sign word number
+unfolding reading script header version ranks decls decls_from decl declarator single array_size body stmts stmt block if_statement otherwise while_statement target statement_place source status assignment expr level chain atom place_inside bracket rounds unary count spend seek slot_in fresh add expect after sees same_symbol advanced place spelling token refusal tokens_after front sign word number
 row_cells = refl
 
 -- too many cells, at the size or at the name that has none, whatever follows; and names that were declared before
@@ -428,7 +428,7 @@ many_cells =
     ∷ (codes "var a[3];var a;", (f.Twice, 27)) ∷ (codes "var a;var a[2000];", (f.Twice, 24)) ∷ (codes "var a[1024];var a[1];", (f.Twice, 30)) ∷ (codes "var a[1024];var a", (f.Twice, 30)) ∷ []
 
 pub row_many_cells : map {B = Read} (λ r. reading_of r.0) many_cells ≡ wanted_places many_cells
-unfolding reading script header version ranks decls decls_from decl declarator single array_size body stmts stmt block if_statement otherwise while_statement target statement_place source status assignment expr level chain atom place_inside bracket rounds unary count spend seek slot_in fresh add expect after sees same_mark advanced place spelling token refusal tokens_after front sign word number
+unfolding reading script header version ranks decls decls_from decl declarator single array_size body stmts stmt block if_statement otherwise while_statement target statement_place source status assignment expr level chain atom place_inside bracket rounds unary count spend seek slot_in fresh add expect after sees same_symbol advanced place spelling token refusal tokens_after front sign word number
 row_many_cells = refl
 
 abbrev bad_declarations : Places
@@ -440,7 +440,7 @@ bad_declarations =
     ∷ (codes "print 1;req h;", (f.Expected, 22)) ∷ (codes "var a[1];{req h[1];", (f.Expected, 23)) ∷ []
 
 pub row_bad_declarations : map {B = Read} (λ r. reading_of r.0) bad_declarations ≡ wanted_places bad_declarations
-unfolding reading script header version ranks decls decls_from decl declarator single array_size body stmts stmt block if_statement otherwise while_statement target statement_place source status assignment expr level chain atom place_inside bracket rounds unary count spend seek slot_in fresh add expect after sees same_mark advanced place spelling token refusal tokens_after front sign word number
+unfolding reading script header version ranks decls decls_from decl declarator single array_size body stmts stmt block if_statement otherwise while_statement target statement_place source status assignment expr level chain atom place_inside bracket rounds unary count spend seek slot_in fresh add expect after sees same_symbol advanced place spelling token refusal tokens_after front sign word number
 row_bad_declarations = refl
 
 -- ---- statement 4,097: behind so many statements, each text begins at byte 0
@@ -458,7 +458,7 @@ one_more =
     ∷ (codes "y=1;", (f.UnknownName, 0)) ∷ (codes "y", (f.UnknownName, 0)) ∷ (codes ";", (f.Expected, 0)) ∷ (codes "=1;", (f.Expected, 0)) ∷ (codes "ssend 1 to 0 tag 0;", (f.TooMany, 0)) ∷ (codes "barrier;", (f.TooMany, 0)) ∷ (codes "barrier", (f.TooMany, 0)) ∷ (codes "else", (f.Expected, 0)) ∷ (codes "rank", (f.Expected, 0)) ∷ (codes "&", (f.BadToken, 0)) ∷ []
 
 pub row_one_more : map {B = Outcome Tree} (λ r. stmt_after 4096 r.0) one_more ≡ map {B = Outcome Tree} (λ r. refused_tree r.1.0 r.1.1) one_more
-unfolding reading script header version ranks decls decls_from decl declarator single array_size body stmts stmt block if_statement otherwise while_statement target statement_place source status assignment expr level chain atom place_inside bracket rounds unary count spend seek slot_in fresh add expect after sees same_mark advanced place spelling token refusal tokens_after front sign word number
+unfolding reading script header version ranks decls decls_from decl declarator single array_size body stmts stmt block if_statement otherwise while_statement target statement_place source status assignment expr level chain atom place_inside bracket rounds unary count spend seek slot_in fresh add expect after sees same_symbol advanced place spelling token refusal tokens_after front sign word number
 row_one_more = refl
 
 -- the last statement may be begun, but none inside it
@@ -468,7 +468,7 @@ last_one =
     ∷ (codes "while y {x=1;}", (f.UnknownName, 6)) ∷ (codes "x=y;", (f.UnknownName, 2)) ∷ []
 
 pub row_last_one : map {B = Outcome Tree} (λ r. stmt_after 4095 r.0) last_one ≡ map {B = Outcome Tree} (λ r. refused_tree r.1.0 r.1.1) last_one
-unfolding reading script header version ranks decls decls_from decl declarator single array_size body stmts stmt block if_statement otherwise while_statement target statement_place source status assignment expr level chain atom place_inside bracket rounds unary count spend seek slot_in fresh add expect after sees same_mark advanced place spelling token refusal tokens_after front sign word number
+unfolding reading script header version ranks decls decls_from decl declarator single array_size body stmts stmt block if_statement otherwise while_statement target statement_place source status assignment expr level chain atom place_inside bracket rounds unary count spend seek slot_in fresh add expect after sees same_symbol advanced place spelling token refusal tokens_after front sign word number
 row_last_one = refl
 
 -- statements are counted one after the other: of these the first is the last that may be begun
@@ -477,11 +477,11 @@ body_after k text = body (block 64) false (record (start_of text) { decls = decl
 
 pub row_4097 : map {B = Outcome (List Tree)} (body_after 4095) (codes "x=1;x=1;" ∷ codes "assert 1;;" ∷ codes "while 0 {}x=1;" ∷ codes "if 1 {} x=1;" ∷ codes "x=1;$" ∷ codes "x=1;}" ∷ codes "x=1;y=1;" ∷ [])
     ≡ Err (fault f.TooMany 4) ∷ Err (fault f.Expected 9) ∷ Err (fault f.TooMany 10) ∷ Err (fault f.TooMany 8) ∷ Err (fault f.BadToken 4) ∷ Err (fault f.Expected 4) ∷ Err (fault f.UnknownName 4) ∷ []
-unfolding reading script header version ranks decls decls_from decl declarator single array_size body stmts stmt block if_statement otherwise while_statement target statement_place source status assignment expr level chain atom place_inside bracket rounds unary count spend seek slot_in fresh add expect after sees same_mark advanced place spelling token refusal tokens_after front sign word number
+unfolding reading script header version ranks decls decls_from decl declarator single array_size body stmts stmt block if_statement otherwise while_statement target statement_place source status assignment expr level chain atom place_inside bracket rounds unary count spend seek slot_in fresh add expect after sees same_symbol advanced place spelling token refusal tokens_after front sign word number
 row_4097 = refl
 
 pub row_4096 : body_after 4095 (codes "x=1;") ≡ Ok (assign (whole x) (n 1) ∷ [], record { tokens = []; end = 4; version = 1; decls = declared (codes "x") None ∷ []; lines = replicate 4096 1; budget = 64 })
-unfolding reading script header version ranks decls decls_from decl declarator single array_size body stmts stmt block if_statement otherwise while_statement target statement_place source status assignment expr level chain atom place_inside bracket rounds unary count spend seek slot_in fresh add expect after sees same_mark advanced place spelling token refusal tokens_after front sign word number
+unfolding reading script header version ranks decls decls_from decl declarator single array_size body stmts stmt block if_statement otherwise while_statement target statement_place source status assignment expr level chain atom place_inside bracket rounds unary count spend seek slot_in fresh add expect after sees same_symbol advanced place spelling token refusal tokens_after front sign word number
 row_4096 = refl
 
 -- ---- lines: a statement's is that of its first token, in text order
@@ -496,18 +496,18 @@ pub row_lines : reading (codes "mpd 1;\nranks 1;\nvar x;var a[3];\nwhile x<3 {\n
           (then_more (assign (whole x) (op2 Add (cell x) (n 1))) no_more))) ∷ print (cell x) ∷ [];
       lines = 4 ∷ 5 ∷ 7 ∷ 8 ∷ 10 ∷ 10 ∷ 11 ∷ 14 ∷ 16 ∷ [];
     })
-unfolding reading script header version ranks decls decls_from decl declarator single array_size body stmts stmt block if_statement otherwise while_statement target statement_place source status assignment expr level chain atom place_inside bracket rounds unary count spend seek slot_in fresh add expect after sees same_mark advanced place spelling token refusal tokens_after front sign word number
+unfolding reading script header version ranks decls decls_from decl declarator single array_size body stmts stmt block if_statement otherwise while_statement target statement_place source status assignment expr level chain atom place_inside bracket rounds unary count spend seek slot_in fresh add expect after sees same_symbol advanced place spelling token refusal tokens_after front sign word number
 row_lines = refl
 
 -- three scripts that are run elsewhere
 pub row_counting : reading (codes "mpd 1; ranks 1; var i;\nwhile i < 2 { i = i + 1; }")
     ≡ Ok (record { version = 1; ranks = 1; decls = declared (codes "i") None ∷ []; body = repeat (op2 Less (cell x) (n 2)) (then_more (assign (whole x) (op2 Add (cell x) (n 1))) no_more) ∷ []; lines = 2 ∷ 2 ∷ [] })
-unfolding reading script header version ranks decls decls_from decl declarator single array_size body stmts stmt block if_statement otherwise while_statement target statement_place source status assignment expr level chain atom place_inside bracket rounds unary count spend seek slot_in fresh add expect after sees same_mark advanced place spelling token refusal tokens_after front sign word number
+unfolding reading script header version ranks decls decls_from decl declarator single array_size body stmts stmt block if_statement otherwise while_statement target statement_place source status assignment expr level chain atom place_inside bracket rounds unary count spend seek slot_in fresh add expect after sees same_symbol advanced place spelling token refusal tokens_after front sign word number
 row_counting = refl
 
 pub row_overflowing : reading (codes "mpd 1; ranks 1; var x;\nx = 9223372036854775807;\nx = x + 1;")
     ≡ Ok (record { version = 1; ranks = 1; decls = declared (codes "x") None ∷ []; body = assign (whole x) (n 9223372036854775807) ∷ assign (whole x) (op2 Add (cell x) (n 1)) ∷ []; lines = 2 ∷ 3 ∷ [] })
-unfolding reading script header version ranks decls decls_from decl declarator single array_size body stmts stmt block if_statement otherwise while_statement target statement_place source status assignment expr level chain atom place_inside bracket rounds unary count spend seek slot_in fresh add expect after sees same_mark advanced place spelling token refusal tokens_after front sign word number
+unfolding reading script header version ranks decls decls_from decl declarator single array_size body stmts stmt block if_statement otherwise while_statement target statement_place source status assignment expr level chain atom place_inside bracket rounds unary count spend seek slot_in fresh add expect after sees same_symbol advanced place spelling token refusal tokens_after front sign word number
 row_overflowing = refl
 
 pub row_two_ranks : reading (codes "mpd 1;\nranks 2;\nvar x;\nif rank == 0 {\n  send 7 to 1 tag 0;\n} else {\n  recv x from 0 tag 0;\n  print x;\n}\n")
@@ -518,7 +518,7 @@ pub row_two_ranks : reading (codes "mpd 1;\nranks 2;\nvar x;\nif rank == 0 {\n  
       body = branch (op2 Equal own_rank (n 0)) (then_more (send (n 7) (n 1) (n 0)) no_more) (then_more (recv (whole x) (n 0) (n 0)) (then_more (print (cell x)) no_more)) ∷ [];
       lines = 4 ∷ 5 ∷ 7 ∷ 8 ∷ [];
     })
-unfolding reading script header version ranks decls decls_from decl declarator single array_size body stmts stmt block if_statement otherwise while_statement target statement_place source status assignment expr level chain atom place_inside bracket rounds unary count spend seek slot_in fresh add expect after sees same_mark advanced place spelling token refusal tokens_after front sign word number
+unfolding reading script header version ranks decls decls_from decl declarator single array_size body stmts stmt block if_statement otherwise while_statement target statement_place source status assignment expr level chain atom place_inside bracket rounds unary count spend seek slot_in fresh add expect after sees same_symbol advanced place spelling token refusal tokens_after front sign word number
 row_two_ranks = refl
 
 -- ---- what is counted: brackets that open and operators, open blocks, statements
@@ -565,5 +565,5 @@ printed =
     ∷ (codes "a[3] + 1 / 0", traps BadIndex) ∷ (codes "1 / 0 + a[3]", traps ZeroDivisor) ∷ (codes "x && a[3]", gives (pos 0)) ∷ []
 
 pub row_printed : map {B = Option (List ℤ × Activity)} (λ r. ran (printing_of r.0)) printed ≡ map {B = Option (List ℤ × Activity)} (λ r. r.1) printed
-unfolding reading script header version ranks decls decls_from decl declarator single array_size body stmts stmt block if_statement otherwise while_statement target statement_place source status assignment expr level chain atom place_inside bracket rounds unary count spend seek slot_in fresh add expect after sees same_mark advanced place spelling token refusal tokens_after front sign word number
+unfolding reading script header version ranks decls decls_from decl declarator single array_size body stmts stmt block if_statement otherwise while_statement target statement_place source status assignment expr level chain atom place_inside bracket rounds unary count spend seek slot_in fresh add expect after sees same_symbol advanced place spelling token refusal tokens_after front sign word number
 row_printed = refl

@@ -8,7 +8,7 @@ use Rattle.mpd_model.specs.declared.place.Place.{Place}
 use Rattle.mpd_model.specs.declared.read_fault.FaultCode.TheVariants as f
 use Rattle.mpd_model.specs.grammar.Canonical.{canonical}
 use Rattle.mpd_model.specs.grammar.Grammar.{reading, script, header, version, ranks, decls, decls_from, decl, declarator, single, array_size, body, stmts, stmt, block, if_statement, otherwise, while_statement, target, statement_place, source, status, assignment, expr, level, chain, atom, place_inside, bracket, rounds, unary}
-use Rattle.mpd_model.specs.grammar.Input.{count, spend, seek, slot_in, fresh, add, expect, after, sees, same_mark, advanced, place, spelling, token, refusal}
+use Rattle.mpd_model.specs.grammar.Input.{count, spend, seek, slot_in, fresh, add, expect, after, sees, same_symbol, advanced, place, spelling, token, refusal}
 use Rattle.mpd_model.specs.script.Program.{Program}
 use Rattle.mpd_model.specs.script.Term.{own_rank, size, cell, op1, op2}
 use Rattle.mpd_model.specs.grammar.Tokens.{tokens_after, front, sign, word, number}
@@ -28,7 +28,7 @@ good =
     ∷ (codes "irecv g[1]a[x]from size-1 tag any status x a[2];", irecv_any (part g (n 1)) (part a (cell x)) (Some (op2 Subtract size (n 1))) None (Some (whole x, part a (n 2)))) ∷ []
 
 pub row_good : map {B = Read} (λ r. statement_of r.0) good ≡ map {B = Read} (λ r. reads_one r.1) good
-unfolding reading script header version ranks decls decls_from decl declarator single array_size body stmts stmt block if_statement otherwise while_statement target statement_place source status assignment expr level chain atom place_inside bracket rounds unary count spend seek slot_in fresh add expect after sees same_mark advanced place spelling token refusal tokens_after front sign word number
+unfolding reading script header version ranks decls decls_from decl declarator single array_size body stmts stmt block if_statement otherwise while_statement target statement_place source status assignment expr level chain atom place_inside bracket rounds unary count spend seek slot_in fresh add expect after sees same_symbol advanced place spelling token refusal tokens_after front sign word number
 row_good = refl
 
 -- `any` stands alone for a source or a tag, and nowhere else; a status has two variables, and comes last
@@ -46,7 +46,7 @@ bad =
     ∷ (codes "x = any;", (f.Expected, 48)) ∷ (codes "any = 1;", (f.Expected, 44)) ∷ (codes "status = 1;", (f.Expected, 44)) ∷ []
 
 pub row_bad : map {B = Read} (λ r. statement_of r.0) bad ≡ wanted_places bad
-unfolding reading script header version ranks decls decls_from decl declarator single array_size body stmts stmt block if_statement otherwise while_statement target statement_place source status assignment expr level chain atom place_inside bracket rounds unary count spend seek slot_in fresh add expect after sees same_mark advanced place spelling token refusal tokens_after front sign word number
+unfolding reading script header version ranks decls decls_from decl declarator single array_size body stmts stmt block if_statement otherwise while_statement target statement_place source status assignment expr level chain atom place_inside bracket rounds unary count spend seek slot_in fresh add expect after sees same_symbol advanced place spelling token refusal tokens_after front sign word number
 row_bad = refl
 
 -- ---- canonical text
@@ -77,7 +77,7 @@ abbrev wild : Program
 wild = record { version = 1; ranks = 4; decls = declared Variable (codes "x") None ∷ declared Variable (codes "y") None ∷ []; body = first ∷ second ∷ []; lines = 2 ∷ 2 ∷ [] }
 
 pub row_wild : reading (codes "mpd 1; ranks 4; var x; var y;\nrecv x from any tag(3);recv y from rank tag any status x y;") ≡ Ok wild
-unfolding reading script header version ranks decls decls_from decl declarator single array_size body stmts stmt block if_statement otherwise while_statement target statement_place source status assignment expr level chain atom place_inside bracket rounds unary count spend seek slot_in fresh add expect after sees same_mark advanced place spelling token refusal tokens_after front sign word number
+unfolding reading script header version ranks decls decls_from decl declarator single array_size body stmts stmt block if_statement otherwise while_statement target statement_place source status assignment expr level chain atom place_inside bracket rounds unary count spend seek slot_in fresh add expect after sees same_symbol advanced place spelling token refusal tokens_after front sign word number
 row_wild = refl
 
 abbrev wild_text : List ℕ
@@ -89,7 +89,7 @@ row_wild_text = refl
 
 -- read again it is the same script but for its lines
 pub row_wild_again : reading wild_text ≡ Ok (record wild { lines = 5 ∷ 6 ∷ [] })
-unfolding reading script header version ranks decls decls_from decl declarator single array_size body stmts stmt block if_statement otherwise while_statement target statement_place source status assignment expr level chain atom place_inside bracket rounds unary count spend seek slot_in fresh add expect after sees same_mark advanced place spelling token refusal tokens_after front sign word number
+unfolding reading script header version ranks decls decls_from decl declarator single array_size body stmts stmt block if_statement otherwise while_statement target statement_place source status assignment expr level chain atom place_inside bracket rounds unary count spend seek slot_in fresh add expect after sees same_symbol advanced place spelling token refusal tokens_after front sign word number
 row_wild_again = refl
 
 pub row_wild_left : map {B = List (ℕ × Tree)} (left_at wild) (0 ∷ 1 ∷ 2 ∷ []) ≡ ((0, first) ∷ (1, second) ∷ []) ∷ ((1, second) ∷ []) ∷ [] ∷ []

@@ -20,7 +20,7 @@ use Rattle.mpd_model.specs.script.Program.{Program}
 use Rattle.mpd_model.specs.steps.World.{call_id}
 use Rattle.mpd_model.specs.steps.Next.{next}
 use Rattle.mpd_model.specs.runs.Decisions.{decision}
-use Rattle.mpd_model.specs.runs.Breakpoints.{marked, no_breaks, lowest_free}
+use Rattle.mpd_model.specs.runs.Breakpoints.{is_hit, no_breaks, lowest_free}
 use Rattle.mpd_model.specs.runs.Running.{Ran, ran, ran_back}
 use Rattle.mpd_model.specs.runs.Trail.{Trail}
 use Rattle.mpd_rows.specs.worlds.Statements.{print, send, assign, barrier, recv_any, irecv, irecv_any, wait}
@@ -93,10 +93,10 @@ pub row_meeting : map {B = Option Decision} (decided_behind meeting)
 unfolding decision
 row_meeting = refl
 
--- ---- what is marked
+-- ---- what is is_hit
 
-abbrev marks : Program → Break → List Step → Step → Option Bool
-marks s b steps a = option_and_then (λ w. option_map (marked s b w a) (next w a)) (after s steps)
+abbrev hits : Program → Break → List Step → Step → Option Bool
+hits s b steps a = option_and_then (λ w. option_map (is_hit s b w a) (next w a)) (after s steps)
 
 -- x = 9; if rank == 0 { send 7 to 1 tag 3; } else { recv x from any tag any status x x; }
 abbrev telling : Program
@@ -112,21 +112,21 @@ abbrev paired : Step
 paired = Match (call_id 0 0) (call_id 1 0)
 
 -- a rank that comes to a line, also where it was there before; one that blocks comes to none; no match comes to a line
-pub row_lines : map {B = Option Bool} (λ (r : Break × List Step × Step). marks telling r.0 r.1 r.2)
+pub row_lines : map {B = Option Bool} (λ (r : Break × List Step × Step). hits telling r.0 r.1 r.2)
     ((on.Line 3, [], Local 0) ∷ (on.Line 2, [], Local 0) ∷ (on.Line 3, Local 0 ∷ [], Local 0) ∷ (on.Line 3, Local 0 ∷ Local 0 ∷ [], Local 0) ∷ (on.Line 4, Local 1 ∷ [], Local 1) ∷ (on.Line 3, both_there, paired) ∷ [])
     ≡ Some true ∷ Some false ∷ Some true ∷ Some false ∷ Some true ∷ Some false ∷ []
 row_lines = refl
 
 -- a release comes to the line of any rank, a wake to that of its rank
-pub row_released : map {B = Option Bool} (λ b. marks meeting b (Local 0 ∷ Local 1 ∷ []) Release) (on.Line 3 ∷ on.Line 2 ∷ on.Match 2 ∷ on.Change 0 0 ∷ []) ≡ Some true ∷ Some false ∷ Some false ∷ Some false ∷ []
+pub row_released : map {B = Option Bool} (λ b. hits meeting b (Local 0 ∷ Local 1 ∷ []) Release) (on.Line 3 ∷ on.Line 2 ∷ on.Match 2 ∷ on.Change 0 0 ∷ []) ≡ Some true ∷ Some false ∷ Some false ∷ Some false ∷ []
 row_released = refl
 
 -- a match of a call that was issued on a line: of its send, or of its receive
-pub row_matches : map {B = Option Bool} (λ b. marks telling b both_there paired) (on.Match 3 ∷ on.Match 4 ∷ on.Match 2 ∷ on.Change 1 0 ∷ []) ≡ Some true ∷ Some true ∷ Some false ∷ Some false ∷ []
+pub row_matches : map {B = Option Bool} (λ b. hits telling b both_there paired) (on.Match 3 ∷ on.Match 4 ∷ on.Match 2 ∷ on.Change 1 0 ∷ []) ≡ Some true ∷ Some true ∷ Some false ∷ Some false ∷ []
 row_matches = refl
 
 -- a cell that holds another value than before: 0 and then 9, and 9 and then the tag, 3
-pub row_changes : map {B = Option Bool} (λ (r : Break × List Step × Step). marks telling r.0 r.1 r.2)
+pub row_changes : map {B = Option Bool} (λ (r : Break × List Step × Step). hits telling r.0 r.1 r.2)
     ((on.Change 1 0, [], Local 1) ∷ (on.Change 1 0, [], Local 0) ∷ (on.Change 0 0, [], Local 1) ∷ (on.Change 1 0, both_there ++ paired ∷ [], Wake 1) ∷ (on.Change 1 0, both_there ++ paired ∷ [], Wake 0) ∷ (on.Change 1 1, [], Local 1) ∷ (on.Change 2 0, [], Local 1) ∷ [])
     ≡ Some true ∷ Some false ∷ Some false ∷ Some true ∷ Some false ∷ Some false ∷ Some false ∷ []
 row_changes = refl
@@ -145,7 +145,7 @@ abbrev taken_second : Step
 taken_second = Match (call_id 1 0) (call_id 0 1)
 
 -- a handle that holds a call where it held none, or another, or none any more; no match changes one, and one that isn't there holds none
-pub row_handles : map {B = Option Bool} (λ (r : Break × List Step × Step). marks holding r.0 r.1 r.2)
+pub row_handles : map {B = Option Bool} (λ (r : Break × List Step × Step). hits holding r.0 r.1 r.2)
     ((on.Handle 0 0, [], Local 0) ∷ (on.Handle 0 0, Local 0 ∷ [], Local 0) ∷ (on.Handle 0 0, Local 0 ∷ Local 0 ∷ [], Local 0) ∷ (on.Handle 0 0, Local 0 ∷ Local 0 ∷ Local 0 ∷ [], Local 0)
     ∷ (on.Handle 0 0, waited, taken_second) ∷ (on.Handle 0 0, waited ++ taken_second ∷ [], Wake 0) ∷ (on.Handle 1 0, Local 0 ∷ [], Local 0) ∷ (on.Handle 0 1, Local 0 ∷ [], Local 0)
     ∷ (on.Handle 2 0, Local 0 ∷ [], Local 0) ∷ (on.Change 0 0, Local 0 ∷ [], Local 0) ∷ [])
@@ -183,7 +183,7 @@ pub row_full : map {B = Option Ran} (λ steps. option_map (ran telling no_breaks
 unfolding decision
 row_full = refl
 
--- back: the marked step is undone, too
+-- back: the is_hit step is undone, too
 abbrev whole_trail : Trail
 whole_trail = record { program = telling; mode = Rendezvous; steps = both_there ++ paired ∷ Wake 0 ∷ Wake 1 ∷ []; depth = 9 }
 

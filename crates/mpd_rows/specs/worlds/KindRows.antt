@@ -20,7 +20,7 @@ use Rattle.mpd_model.specs.steps.World.{Board, RankWorld, World, call_id, is_mes
 use Rattle.mpd_model.specs.steps.Next.{HasReceiver, blocks, buffered_by, writes_of, cleared_by, own_writes, requests_of, request_handle, index_writes}
 use Rattle.mpd_model.specs.steps.Order.{same_envelope_as, is_covered_by, matches_first, waits_for}
 use Rattle.mpd_model.specs.steps.Why.{why_by}
-use Rattle.mpd_model.specs.runs.Breakpoints.{line_marks, match_marks}
+use Rattle.mpd_model.specs.runs.Breakpoints.{line_hits, match_hits}
 use Rattle.mpd_model.specs.runs.Decisions.{is_local, is_release, is_wake, any_rank, is_of, names_source, takes_any, is_named_match, is_open_match}
 use Rattle.mpd_model.specs.texts.Texts.{got_text}
 use Rattle.mpd_model.specs.runs.Trail.{step_eq}
@@ -81,7 +81,7 @@ row_message = refl
 pub row_is_buffered : tests is_buffered ≡ true ∷ false ∷ false ∷ false ∷ false ∷ false ∷ false ∷ false ∷ []
 row_is_buffered = refl
 
--- of what joins a board, standard sends alone are marked
+-- of what joins a board, standard sends alone are buffered
 pub row_buffer : map {B = CallKind} (buffered_by true) (kinds false) ≡ kinds true
 row_buffer = refl
 
@@ -215,7 +215,7 @@ pub row_other_step : map {B = Bool} (λ (s : Step × Step). step_eq s.0 s.1)
     ≡ false ∷ false ∷ false ∷ false ∷ false ∷ false ∷ []
 row_other_step = refl
 
--- ---- what marks a step: statement 0 stands on line 4, statement 1 on line 9
+-- ---- what a step hits: statement 0 stands on line 4, statement 1 on line 9
 
 abbrev two_lines : Program
 two_lines = record { version = 1; ranks = 2; decls = []; body = barrier ∷ barrier ∷ []; lines = 4 ∷ 9 ∷ [] }
@@ -227,23 +227,23 @@ before_it number tree activity = record { rest = (number, tree) ∷ []; vars = [
 abbrev behind_them : World
 behind_them = record { ranks = before_it 1 barrier Running ∷ before_it 0 barrier Blocked ∷ []; board = meeting wild }
 
-abbrev marked_by_line : ℕ → List Step → List Bool
-marked_by_line line all = map {B = Bool} (λ a. line_marks two_lines line a behind_them) all
+abbrev hit_by_line : ℕ → List Step → List Bool
+hit_by_line line all = map {B = Bool} (λ a. line_hits two_lines line a behind_them) all
 
-pub row_line : marked_by_line 9 steps ≡ true ∷ false ∷ true ∷ true ∷ true ∷ []
+pub row_line : hit_by_line 9 steps ≡ true ∷ false ∷ true ∷ true ∷ true ∷ []
 row_line = refl
 
-pub row_line_of_a_blocked_rank : marked_by_line 4 steps ≡ false ∷ false ∷ false ∷ false ∷ false ∷ []
+pub row_line_of_a_blocked_rank : hit_by_line 4 steps ≡ false ∷ false ∷ false ∷ false ∷ false ∷ []
 row_line_of_a_blocked_rank = refl
 
--- a step of rank 1 is marked by no line of rank 0, but a release is
-pub row_line_of_another_rank : marked_by_line 9 (Local 1 ∷ Wake 1 ∷ WakeAny 1 0 ∷ Release ∷ []) ≡ false ∷ false ∷ false ∷ true ∷ []
+-- a step of rank 1 hits no line of rank 0, but a release does
+pub row_line_of_another_rank : hit_by_line 9 (Local 1 ∷ Wake 1 ∷ WakeAny 1 0 ∷ Release ∷ []) ≡ false ∷ false ∷ false ∷ true ∷ []
 row_line_of_another_rank = refl
 
 -- the send was issued by statement 0, the receive by statement 1
-abbrev marked_by_match : ℕ → List Bool
-marked_by_match line = of_steps (λ a. match_marks two_lines line a behind_them)
+abbrev hit_by_match : ℕ → List Bool
+hit_by_match line = of_steps (λ a. match_hits two_lines line a behind_them)
 
-pub row_match : map {B = List Bool} marked_by_match (4 ∷ 9 ∷ 5 ∷ [])
+pub row_match : map {B = List Bool} hit_by_match (4 ∷ 9 ∷ 5 ∷ [])
     ≡ (false ∷ true ∷ false ∷ false ∷ false ∷ []) ∷ (false ∷ true ∷ false ∷ false ∷ false ∷ []) ∷ (false ∷ false ∷ false ∷ false ∷ false ∷ []) ∷ []
 row_match = refl

@@ -1,7 +1,7 @@
 use Rattle.std.proofs.Common.{rules}
 use Rattle.mpd_trail.specs.Views.{standing_of}
 use Rattle.mpd_policy.specs.Ahead.{Broken}
-use Rattle.mpd_policy.proofs.RunLemmas.{going_halted, going_marked, going_broken, going_refused}
+use Rattle.mpd_policy.proofs.RunLemmas.{going_halted, going_hit, going_broken, going_refused}
 use Rattle.mpd_policy.proofs.runs.go.Goals as goal
 
 pub returns-in-Halt-clause-went : goal.returns-in-Halt-clause-went
@@ -10,14 +10,14 @@ returns-in-Halt-clause-went c =
 
 pub returns-in-Some-clause-went : goal.returns-in-Some-clause-went
 returns-in-Some-clause-went c =
-    going_marked c.args.taking c.args.breaks.now c.args.max (standing_of c.args.debugger.now) (standing_of c.loop-made.debugger) (standing_of c.take.new.debugger) c.loop-made.made c.in-Some.number c.in-Take.step c.in_ok-ahead.ahead c.in_ok-mark.mark
-    c.loop-made.invariant.0 c.loop-made-test.true c.in_ok-ahead.ensures.ahead c.in-Take.is c.in_ok-mark.ensures.ok c.in_ok-mark.ensures.world c.in_ok-mark.ensures.mark c.in-Some.is
+    going_hit c.args.taking c.args.breaks.now c.args.max (standing_of c.args.debugger.now) (standing_of c.loop-made.debugger) (standing_of c.take.new.debugger) c.loop-made.made c.in-Some.number c.in-Take.step c.in_ok-ahead.ahead c.in_ok-hit.hit
+    c.loop-made.invariant.0 c.loop-made-test.true c.in_ok-ahead.ensures.ahead c.in-Take.is c.in_ok-hit.ensures.ok c.in_ok-hit.ensures.world c.in_ok-hit.ensures.hit c.in-Some.is
 
-pub returns-in_err-mark-clause-went : goal.returns-in_err-mark-clause-went
-returns-in_err-mark-clause-went c =
+pub returns-in_err-hit-clause-went : goal.returns-in_err-hit-clause-went
+returns-in_err-hit-clause-went c =
     let broken : Broken c.args.taking c.args.breaks.now c.args.max (standing_of c.args.debugger.now) (standing_of c.take.new.debugger) =
     going_broken c.args.taking c.args.breaks.now c.args.max (standing_of c.args.debugger.now) (standing_of c.loop-made.debugger) (standing_of c.take.new.debugger) c.loop-made.made c.in-Take.step c.in_ok-ahead.ahead
-    c.loop-made.invariant.0 c.loop-made-test.true c.in_ok-ahead.ensures.ahead c.in-Take.is c.in_err-mark.ensures.err in
+    c.loop-made.invariant.0 c.loop-made-test.true c.in_ok-ahead.ensures.ahead c.in-Take.is c.in_err-hit.ensures.err in
     search (rules, broken)
 
 pub returns-in_err-ahead-clause-went : goal.returns-in_err-ahead-clause-went

@@ -1,7 +1,7 @@
 use Rattle.std.proofs.Common.{ap, sym, ◌∙◌, arith, get_or}
 use Rattle.mpd_model.specs.declared.limits.TheConstants.{BREAKS_MAX}
 use Rattle.mpd_model.specs.runs.Breakpoints.{break_at}
-use Rattle.mpd_policy.specs.declared.marks.Watched.TheVariants.{Nothing}
+use Rattle.mpd_policy.specs.declared.hits.Watched.TheVariants.{Nothing}
 use Rattle.mpd_policy.specs.Places.{changed_by}
 use Rattle.mpd_policy.proofs.NumberLemmas.{number_begins, number_now, number_end}
 use Rattle.mpd_policy.proofs.breaks.Breaks.lowest_changed.Goals as goal

@@ -7,12 +7,12 @@ use Rattle.mpd_model.specs.declared.call.Mode.{Mode}
 use Rattle.mpd_model.specs.script.Program.{Program}
 use Rattle.mpd_model.specs.steps.World.{World, Board, call_id, calls_of, last_call, rank_numbers, start}
 use Rattle.mpd_model.specs.steps.Next.{next}
-use Rattle.mpd_picture.specs.declared.mark.Mark.{Mark}
-use Rattle.mpd_picture.specs.declared.mark.Event.{Event}
-use Rattle.mpd_picture.specs.declared.mark.Event.TheVariants.{Issued, Paired, WentOn, Released}
+use Rattle.mpd_picture.specs.declared.glyph.Glyph.{Glyph}
+use Rattle.mpd_picture.specs.declared.glyph.Event.{Event}
+use Rattle.mpd_picture.specs.declared.glyph.Event.TheVariants.{Issued, Paired, WentOn, Released}
 
-abbrev pub mark : ℕ → Event → Mark
-mark row e = record { row = row; event = e }
+abbrev pub glyph : ℕ → Event → Glyph
+glyph row e = record { row = row; event = e }
 
 -- how many calls a rank that runs had issued before its step
 abbrev pub calls_before : World → Step → ℕ
@@ -35,26 +35,26 @@ abbrev pub row_behind : ℕ → Board → ℕ → Step → ℕ
 row_behind before b row a = if takes_row before b a then row + 1 else row
 
 -- A rank goes on behind its last call.
-abbrev pub went_on : Board → ℕ → ℕ → List Mark
-went_on b row p = mark row (WentOn (last_call b p)) ∷ []
+abbrev pub went_on : Board → ℕ → ℕ → List Glyph
+went_on b row p = glyph row (WentOn (last_call b p)) ∷ []
 
 -- What a step shows, on the board behind it, where the next row is this one. A rank that goes on is shown at the row before.
-abbrev pub step_marks : ℕ → Board → ℕ → Step → List Mark
-step_marks before b row (Local p) = if issues before b p then mark row (Issued (call_id p before)) ∷ [] else []
-step_marks before b row (Match s r) = mark row (Paired s r) ∷ []
-step_marks before b row (Wake p) = went_on b (row - 1) p
-step_marks before b row (WakeAny p i) = went_on b (row - 1) p
-step_marks before b row Release = mark row Released ∷ flat_map (went_on b row) (rank_numbers b)
+abbrev pub step_glyphs : ℕ → Board → ℕ → Step → List Glyph
+step_glyphs before b row (Local p) = if issues before b p then glyph row (Issued (call_id p before)) ∷ [] else []
+step_glyphs before b row (Match s r) = glyph row (Paired s r) ∷ []
+step_glyphs before b row (Wake p) = went_on b (row - 1) p
+step_glyphs before b row (WakeAny p i) = went_on b (row - 1) p
+step_glyphs before b row Release = glyph row Released ∷ flat_map (went_on b row) (rank_numbers b)
 
-abbrev pub led : (World → List Mark) → Option World → List Mark
+abbrev pub led : (World → List Glyph) → Option World → List Glyph
 led behind None = []
 led behind (Some w) = behind w
 
 -- what steps show from a world on, and the next row
-abbrev pub marks_behind : World → ℕ → List Step → List Mark
-marks_behind w row [] = []
-marks_behind w row (a ∷ steps) = led (λ v. step_marks (calls_before w a) v.board row a ++ marks_behind v (row_behind (calls_before w a) v.board row a) steps) (next w a)
+abbrev pub glyphs_behind : World → ℕ → List Step → List Glyph
+glyphs_behind w row [] = []
+glyphs_behind w row (a ∷ steps) = led (λ v. step_glyphs (calls_before w a) v.board row a ++ glyphs_behind v (row_behind (calls_before w a) v.board row a) steps) (next w a)
 
 -- what the steps of a run show
-abbrev pub marks_of : Program → Mode → List Step → List Mark
-marks_of s mode steps = marks_behind (start s mode) 0 steps
+abbrev pub glyphs_of : Program → Mode → List Step → List Glyph
+glyphs_of s mode steps = glyphs_behind (start s mode) 0 steps

@@ -1,7 +1,7 @@
 use Rattle.std.proofs.Common.{◌+◌, ◌<◌, length, ap, ◌∙◌, arith}
 use Rattle.mpd_model.specs.runs.Trail.{Trail}
-use Rattle.mpd_picture.proofs.MarkLemmas.{marks_more}
-use Rattle.mpd_picture.proofs.marks.take_all.Goals as goal
+use Rattle.mpd_picture.proofs.GlyphLemmas.{glyphs_more}
+use Rattle.mpd_picture.proofs.glyphs.take_all.Goals as goal
 
 pub loop-place-preserved : goal.loop-place-preserved
 loop-place-preserved c =
@@ -14,5 +14,5 @@ loop-place-preserved c =
       steps = ap (λ (u : Trail). u.steps) told.trail ∙ kept.steps;
       depth = ap (λ (u : Trail). u.depth) told.trail ∙ ap (λ k. k + 1) kept.depth;
       few = omega (arith, told.few, kept.few);
-      marks = marks_more t.steps place c.loop-place.row _ c.loop-place.debugger.trail c.loop-place.debugger.world c.take_next.new.debugger.world c.loop-place.marks.items c.take_next.new.marks.items _ within kept.steps kept.depth kept.marks told.marks told.row told.leads;
+      glyphs = glyphs_more t.steps place c.loop-place.row _ c.loop-place.debugger.trail c.loop-place.debugger.world c.take_next.new.debugger.world c.loop-place.glyphs.items c.take_next.new.glyphs.items _ within kept.steps kept.depth kept.glyphs told.glyphs told.row told.leads;
     }

@@ -17,7 +17,7 @@ pub(crate) enum Event {
 
 /// What a step shows, and at which row, from 0.
 #[derive(Clone, Copy)]
-pub(crate) struct Mark {
+pub(crate) struct Glyph {
     pub(crate) row: usize,
     pub(crate) event: Event,
 }

@@ -5,19 +5,19 @@ ghost use Rattle.std.specs.List.{flat_map};
 ghost use Rattle.mpd_model.specs.steps.Next.{next};
 ghost use Rattle.mpd_model.specs.steps.World.{rank_numbers, start};
 ghost use Rattle.mpd_model.specs.runs.Trail.{done_steps, redone};
-ghost use Rattle.mpd_picture.specs.Marks as spec;
+ghost use Rattle.mpd_picture.specs.Glyphs as spec;
 
-use crate::mark::{Event, Mark};
+use crate::glyph::{Event, Glyph};
 use mpd_core::Core;
 use mpd_model::{CallId, Step};
 use mpd_trail::Debugger;
 use std::alloc::{AllocError, Global};
 
 /// Adds what is shown.
-fn add(marks: &mut Vec<Mark>, mark: Mark) -> Result<(), AllocError>
-    ensures { OnOk result (marks.new.items ≡ marks.old.items ++ mark ∷ []) }
+fn add(glyphs: &mut Vec<Glyph>, glyph: Glyph) -> Result<(), AllocError>
+    ensures { OnOk result (glyphs.new.items ≡ glyphs.old.items ++ glyph ∷ []) }
 {
-    marks.push(mark)?;
+    glyphs.push(glyph)?;
     Ok(())
 }
 
@@ -52,23 +52,23 @@ fn takes_row(core: &Core<'_>, before: usize, step: Step) -> bool
 /// Adds that a rank went on behind its last call.
 fn push_went_on(
     core: &Core<'_>,
-    marks: &mut Vec<Mark>,
+    glyphs: &mut Vec<Glyph>,
     row: usize,
     rank: usize,
 ) -> Result<(), AllocError>
-    ensures { OnOk result (marks.new.items ≡ marks.old.items ++ spec.went_on core.now.world.board row rank) }
+    ensures { OnOk result (glyphs.new.items ≡ glyphs.old.items ++ spec.went_on core.now.world.board row rank) }
 {
     let event = Event::WentOn(core.board().last_call(rank));
-    add(marks, Mark { row, event })
+    add(glyphs, Glyph { row, event })
 }
 
 /// Adds that all ranks went on behind their last calls.
-fn push_all_went_on(core: &Core<'_>, marks: &mut Vec<Mark>, row: usize) -> Result<(), AllocError>
-    ensures { OnOk result (marks.new.items ≡ marks.old.items ++ flat_map (spec.went_on core.now.world.board row) (rank_numbers core.now.world.board)) }
+fn push_all_went_on(core: &Core<'_>, glyphs: &mut Vec<Glyph>, row: usize) -> Result<(), AllocError>
+    ensures { OnOk result (glyphs.new.items ≡ glyphs.old.items ++ flat_map (spec.went_on core.now.world.board row) (rank_numbers core.now.world.board)) }
 {
     let count = core.rank_count();
     for rank in 0..count {
-        push_went_on(core, marks, row, rank)?;
+        push_went_on(core, glyphs, row, rank)?;
     }
     Ok(())
 }
@@ -76,12 +76,12 @@ fn push_all_went_on(core: &Core<'_>, marks: &mut Vec<Mark>, row: usize) -> Resul
 /// Adds the call that a local step has issued, where it has.
 fn push_issued(
     core: &Core<'_>,
-    marks: &mut Vec<Mark>,
+    glyphs: &mut Vec<Glyph>,
     before: usize,
     row: usize,
     rank: usize,
 ) -> Result<(), AllocError>
-    ensures { OnOk result (marks.new.items ≡ marks.old.items ++ spec.step_marks before core.now.world.board row (Step.Local rank)) }
+    ensures { OnOk result (glyphs.new.items ≡ glyphs.old.items ++ spec.step_glyphs before core.now.world.board row (Step.Local rank)) }
 {
     if !issues(core, before, rank) {
         return Ok(());
@@ -90,40 +90,40 @@ fn push_issued(
         rank,
         index: before,
     });
-    add(marks, Mark { row, event })
+    add(glyphs, Glyph { row, event })
 }
 
 /// Adds what a step shows, on the state behind it.
-fn push_step_marks(
+fn push_step_glyphs(
     core: &Core<'_>,
-    marks: &mut Vec<Mark>,
+    glyphs: &mut Vec<Glyph>,
     before: usize,
     row: usize,
     step: Step,
 ) -> Result<(), AllocError>
-    ensures { OnOk result (marks.new.items ≡ marks.old.items ++ spec.step_marks before core.now.world.board row step) }
+    ensures { OnOk result (glyphs.new.items ≡ glyphs.old.items ++ spec.step_glyphs before core.now.world.board row step) }
 {
     match step {
-        Step::Local(rank) => push_issued(core, marks, before, row, rank),
+        Step::Local(rank) => push_issued(core, glyphs, before, row, rank),
         Step::Match(send, receive) => add(
-            marks,
-            Mark {
+            glyphs,
+            Glyph {
                 row,
                 event: Event::Paired(send, receive),
             },
         ),
         Step::Wake(rank) | Step::WakeAny { rank, index: _ } => {
-            push_went_on(core, marks, row.saturating_sub(1), rank)
+            push_went_on(core, glyphs, row.saturating_sub(1), rank)
         }
         Step::Release => {
             add(
-                marks,
-                Mark {
+                glyphs,
+                Glyph {
                     row,
                     event: Event::Released,
                 },
             )?;
-            push_all_went_on(core, marks, row)
+            push_all_went_on(core, glyphs, row)
         }
     }
 }
@@ -131,12 +131,12 @@ fn push_step_marks(
 /// Takes the first step that is undone, adds what it shows, and answers the next row.
 fn take_next(
     debugger: &mut Debugger<'_>,
-    marks: &mut Vec<Mark>,
+    glyphs: &mut Vec<Glyph>,
     row: usize,
 ) -> Result<usize, AllocError>
     requires ahead { debugger.old.trail.depth < length debugger.old.trail.steps }
     requires few { row < 9223372036854775808 }
-    ensures marks { OnOk result ((step : Step) → slice_get debugger.old.trail.steps debugger.old.trail.depth ≡ Some step → marks.new.items ≡ marks.old.items ++ spec.step_marks (spec.calls_before debugger.old.world step) debugger.new.world.board row step) }
+    ensures glyphs { OnOk result ((step : Step) → slice_get debugger.old.trail.steps debugger.old.trail.depth ≡ Some step → glyphs.new.items ≡ glyphs.old.items ++ spec.step_glyphs (spec.calls_before debugger.old.world step) debugger.new.world.board row step) }
     ensures row { IfOk result (λ behind. (step : Step) → slice_get debugger.old.trail.steps debugger.old.trail.depth ≡ Some step → behind ≡ spec.row_behind (spec.calls_before debugger.old.world step) debugger.new.world.board row step) }
     ensures few { IfOk result (λ behind. behind ≤ row + 1) }
     ensures leads { OnOk result ((step : Step) → slice_get debugger.old.trail.steps debugger.old.trail.depth ≡ Some step → next debugger.old.world step ≡ Some debugger.new.world) }
@@ -149,7 +149,7 @@ fn take_next(
     if debugger.redo().is_err() {
         return Err(AllocError);
     }
-    push_step_marks(debugger.core(), marks, before, row, step)?;
+    push_step_glyphs(debugger.core(), glyphs, before, row, step)?;
     if takes_row(debugger.core(), before, step) {
         Ok(row + 1)
     } else {
@@ -158,42 +158,42 @@ fn take_next(
 }
 
 /// Takes all steps that are undone, and adds what they show.
-fn take_all(debugger: &mut Debugger<'_>, marks: &mut Vec<Mark>) -> Result<(), AllocError>
+fn take_all(debugger: &mut Debugger<'_>, glyphs: &mut Vec<Glyph>) -> Result<(), AllocError>
     requires { debugger.old.trail.depth ≡ 0 }
-    ensures { OnOk result (marks.new.items ≡ marks.old.items ++ spec.marks_behind debugger.old.world 0 debugger.old.trail.steps) }
+    ensures { OnOk result (glyphs.new.items ≡ glyphs.old.items ++ spec.glyphs_behind debugger.old.world 0 debugger.old.trail.steps) }
 {
     debugger.state_is_reached();
     let mut row = 0;
     let count = debugger.steps().len();
     for place in 0..count {
-        row = take_next(debugger, marks, row)?;
+        row = take_next(debugger, glyphs, row)?;
     }
     Ok(())
 }
 
 /// What the steps show of a debugger that keeps no undone step; it goes back, and takes them again.
-#[tactic(auto, using(crate::proofs::MarkLemmas::going_back))]
-fn marks_again(alloc: Global, debugger: &mut Debugger<'_>) -> Result<Vec<Mark>, AllocError>
+#[tactic(auto, using(crate::proofs::GlyphLemmas::going_back))]
+fn glyphs_again(alloc: Global, debugger: &mut Debugger<'_>) -> Result<Vec<Glyph>, AllocError>
     requires { length debugger.old.trail.steps ≡ debugger.old.trail.depth }
-    ensures { IfOk result (λ marks. marks.items ≡ spec.marks_of debugger.old.trail.program debugger.old.trail.mode (done_steps debugger.old.trail)) }
+    ensures { IfOk result (λ glyphs. glyphs.items ≡ spec.glyphs_of debugger.old.trail.program debugger.old.trail.mode (done_steps debugger.old.trail)) }
 {
-    let mut marks = Vec::new(alloc);
+    let mut glyphs = Vec::new(alloc);
     let _ = debugger.undo_to(0);
-    take_all(debugger, &mut marks)?;
-    Ok(marks)
+    take_all(debugger, &mut glyphs)?;
+    Ok(glyphs)
 }
 
 /// What the steps show that are not undone. An `Err` is want of memory.
-#[tactic(auto, using(crate::proofs::MarkLemmas::going_back))]
-pub(crate) fn marks_of(alloc: Global, debugger: &Debugger<'_>) -> Result<Vec<Mark>, AllocError>
-    ensures { IfOk result (λ marks. marks.items ≡ spec.marks_of debugger.now.trail.program debugger.now.trail.mode (done_steps debugger.now.trail)) }
+#[tactic(auto, using(crate::proofs::GlyphLemmas::going_back))]
+pub(crate) fn glyphs_of(alloc: Global, debugger: &Debugger<'_>) -> Result<Vec<Glyph>, AllocError>
+    ensures { IfOk result (λ glyphs. glyphs.items ≡ spec.glyphs_of debugger.now.trail.program debugger.now.trail.mode (done_steps debugger.now.trail)) }
 {
     match debugger.copy() {
         Err(_) => Err(AllocError),
         Ok(mut copy) => {
-            let marks = marks_again(alloc, &mut copy);
+            let glyphs = glyphs_again(alloc, &mut copy);
             drop(copy);
-            marks
+            glyphs
         }
     }
 }

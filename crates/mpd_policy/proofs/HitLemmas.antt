@@ -1,4 +1,4 @@
--- What breakpoints mark, told apart.
+-- What hits breakpoints, told apart.
 use Rattle.std.proofs.Common.{◌≡◌, ℕ, ℤ, ◌+◌, ◌-◌, ◌<◌, ◌≤◌, Bool, true, false, ◌||◌, ◌&&◌, ◌==◌, not, Option, Some, None, IfSome, List, length, get_or, slice_get, slice_index_or, inl, inr, refl, sym, ap, ◌∙◌, arith}
 use Rattle.std.proofs.lemmas.Option.{slice_get_past}
 use Rattle.std.proofs.lemmas.Bool.Decides.{eqb_tells}
@@ -14,11 +14,11 @@ use Rattle.mpd_model.specs.declared.call.Call.{Call}
 use Rattle.mpd_model.specs.script.Program.{Program}
 use Rattle.mpd_model.specs.steps.World.{World, RankWorld, Board, call_at}
 use Rattle.mpd_model.specs.steps.Outcomes.{first_number}
-use Rattle.mpd_model.specs.runs.Breakpoints.{is_number, on_line, is_running, comes_at, held_at, cell_at, same_value, call_held, handle_at, same_number, issued_on, line_marks, match_marks, marked_by, break_at, lowest_mark}
+use Rattle.mpd_model.specs.runs.Breakpoints.{is_number, on_line, is_running, comes_at, held_at, cell_at, same_value, call_held, handle_at, same_number, issued_on, line_hits, match_hits, hit_by, break_at, lowest_hit}
 use Rattle.mpd_match.proofs.Matches.{any_from, any_on, any_now}
 use Rattle.mpd_rank.specs.Views.{RankView, rank_of}
-use Rattle.mpd_policy.specs.declared.marks.Watched.{Watched}
-use Rattle.mpd_policy.specs.declared.marks.Watched.TheVariants as seen
+use Rattle.mpd_policy.specs.declared.hits.Watched.{Watched}
+use Rattle.mpd_policy.specs.declared.hits.Watched.TheVariants as seen
 use Rattle.mpd_policy.specs.Places.{of_value, of_call, told_by, watched_by, watched_at, same_watched, changed_by, lowest_told, lowest_changed, lower}
 use Rattle.mpd_policy.proofs.NumberLemmas.{both_lowest}
 
@@ -122,7 +122,7 @@ caller s v ranks p h o at is = is ∙ sym (ap (λ (o : Option RankWorld). call_h
 
 pub ruleset calling = (no_caller, caller)
 
--- ---- a mark is told by the state behind the step, or by a cell or a handle that changed
+-- ---- a hit is told by the state behind the step, or by a cell or a handle that changed
 
 or_no : (b : Bool) → b ≡ (b || false)
 or_no true = refl
@@ -140,12 +140,12 @@ call_same None (Some n) = refl
 call_same (Some m) None = refl
 call_same (Some m) (Some n) = refl
 
-mark_split : (s : Program) (place : Option Break) (old : World) (a : Step) (new : World) → marked_by s place old a new ≡ (told_by s place a new || changed_by (watched_at old place) place new)
-mark_split s (Some (Line line)) old a new = or_no (line_marks s line a new)
-mark_split s (Some (Change p c)) old a new = ap not (value_same (cell_at old p c) (cell_at new p c))
-mark_split s (Some (Handle p h)) old a new = ap not (call_same (handle_at old p h) (handle_at new p h))
-mark_split s (Some (Match line)) old a new = or_no (match_marks s line a new)
-mark_split s None old a new = refl
+hit_split : (s : Program) (place : Option Break) (old : World) (a : Step) (new : World) → hit_by s place old a new ≡ (told_by s place a new || changed_by (watched_at old place) place new)
+hit_split s (Some (Line line)) old a new = or_no (line_hits s line a new)
+hit_split s (Some (Change p c)) old a new = ap not (value_same (cell_at old p c) (cell_at new p c))
+hit_split s (Some (Handle p h)) old a new = ap not (call_same (handle_at old p h) (handle_at new p h))
+hit_split s (Some (Match line)) old a new = or_no (match_hits s line a new)
+hit_split s None old a new = refl
 
 number_turned : (m n : ℕ) → (m == n) ≡ (n == m)
 number_turned m n =
@@ -166,21 +166,21 @@ same_turned (seen.Call m) (seen.Value y) = refl
 same_turned (seen.Call m) (seen.Call n) = number_turned m n
 
 -- what was watched before a step
-pub mark_forward : (s : Program) (places : List (Option Break)) (values : List Watched) (old : World) (a : Step) (new : World) → ((n : ℕ) → get_or values n seen.Nothing ≡ watched_at old (break_at places n))
-    → lowest_mark s places old a new ≡ lower (lowest_told s places a new) (lowest_changed places values new)
-mark_forward s places values old a new held =
-    both_lowest (λ n. told_by s (break_at places n) a new) (λ n. changed_by (get_or values n seen.Nothing) (break_at places n) new) (λ n. marked_by s (break_at places n) old a new)
-    (λ n. mark_split s (break_at places n) old a new ∙ ap (λ (v : Watched). told_by s (break_at places n) a new || changed_by v (break_at places n) new) (sym (held n))) 0 (length places)
+pub hit_forward : (s : Program) (places : List (Option Break)) (values : List Watched) (old : World) (a : Step) (new : World) → ((n : ℕ) → get_or values n seen.Nothing ≡ watched_at old (break_at places n))
+    → lowest_hit s places old a new ≡ lower (lowest_told s places a new) (lowest_changed places values new)
+hit_forward s places values old a new held =
+    both_lowest (λ n. told_by s (break_at places n) a new) (λ n. changed_by (get_or values n seen.Nothing) (break_at places n) new) (λ n. hit_by s (break_at places n) old a new)
+    (λ n. hit_split s (break_at places n) old a new ∙ ap (λ (v : Watched). told_by s (break_at places n) a new || changed_by v (break_at places n) new) (sym (held n))) 0 (length places)
 
 changed_turned : (place : Option Break) (old new : World) → changed_by (watched_at old place) place new ≡ changed_by (watched_at new place) place old
 changed_turned None old new = refl
 changed_turned (Some b) old new = ap not (same_turned (watched_by old b) (watched_by new b))
 
 -- what was watched behind it
-pub mark_backward : (s : Program) (places : List (Option Break)) (values : List Watched) (old : World) (a : Step) (new : World) → ((n : ℕ) → get_or values n seen.Nothing ≡ watched_at new (break_at places n))
-    → lowest_mark s places old a new ≡ lower (lowest_told s places a new) (lowest_changed places values old)
-mark_backward s places values old a new held =
-    both_lowest (λ n. told_by s (break_at places n) a new) (λ n. changed_by (get_or values n seen.Nothing) (break_at places n) old) (λ n. marked_by s (break_at places n) old a new)
-    (λ n. mark_split s (break_at places n) old a new
+pub hit_backward : (s : Program) (places : List (Option Break)) (values : List Watched) (old : World) (a : Step) (new : World) → ((n : ℕ) → get_or values n seen.Nothing ≡ watched_at new (break_at places n))
+    → lowest_hit s places old a new ≡ lower (lowest_told s places a new) (lowest_changed places values old)
+hit_backward s places values old a new held =
+    both_lowest (λ n. told_by s (break_at places n) a new) (λ n. changed_by (get_or values n seen.Nothing) (break_at places n) old) (λ n. hit_by s (break_at places n) old a new)
+    (λ n. hit_split s (break_at places n) old a new
     ∙ ap (λ (b : Bool). told_by s (break_at places n) a new || b) (changed_turned (break_at places n) old new)
     ∙ ap (λ (v : Watched). told_by s (break_at places n) a new || changed_by v (break_at places n) old) (sym (held n))) 0 (length places)

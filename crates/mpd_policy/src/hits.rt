@@ -1,10 +1,10 @@
-//! Which breakpoint marks a step.
+//! Which breakpoint a step hits.
 
 ghost use Rattle.std.specs.Prelude.{◌≡◌, ℕ, slice_get, slice_index_or, not};
 ghost use Rattle.mpd_model.specs.runs.Breakpoints as points;
-ghost use Rattle.mpd_model.specs.runs.Breakpoints.{break_at, comes_at, cell_at, handle_at, line_marks, match_marks};
+ghost use Rattle.mpd_model.specs.runs.Breakpoints.{break_at, comes_at, cell_at, handle_at, line_hits, match_hits};
 ghost use Rattle.mpd_policy.specs.Places.{of_value, of_call, watched_by, watched_at, same_watched, told_by, changed_by, lowest_told, lowest_changed, lower};
-ghost use Rattle.mpd_policy.specs.declared.marks.Watched.TheVariants.{Nothing};
+ghost use Rattle.mpd_policy.specs.declared.hits.Watched.TheVariants.{Nothing};
 
 use crate::breaks::Breaks;
 use mpd_code::Code;
@@ -37,7 +37,7 @@ fn value_at(values: &[i64], cell: usize) -> Option<i64>
 }
 
 /// Whether a statement is there, and stands on a line.
-#[tactic(auto, using(crate::proofs::MarkLemmas::on_lines))]
+#[tactic(auto, using(crate::proofs::HitLemmas::on_lines))]
 fn on_line(code: &Code, line: usize, statement: Option<usize>) -> bool
     ensures { result ≡ points.on_line code.now.program line statement }
 {
@@ -52,7 +52,7 @@ fn on_line(code: &Code, line: usize, statement: Option<usize>) -> bool
 }
 
 /// Whether a rank runs, with its next statement on a line.
-#[tactic(auto, using(crate::proofs::MarkLemmas::coming))]
+#[tactic(auto, using(crate::proofs::HitLemmas::coming))]
 fn comes_to(core: &Core<'_>, line: usize, rank: usize) -> bool
     ensures { result ≡ comes_at core.now.program line (slice_get core.now.world.ranks rank) }
 {
@@ -66,7 +66,7 @@ fn comes_to(core: &Core<'_>, line: usize, rank: usize) -> bool
 }
 
 /// Whether some rank runs, with its next statement on a line.
-#[tactic(auto, using(crate::proofs::MarkLemmas::some_rank))]
+#[tactic(auto, using(crate::proofs::HitLemmas::some_rank))]
 fn some_comes_to(core: &Core<'_>, line: usize) -> bool
     ensures { result ≡ points.some_comes core.now.program line core.now.world }
 {
@@ -79,9 +79,9 @@ fn some_comes_to(core: &Core<'_>, line: usize) -> bool
     false
 }
 
-/// Whether a line marks a step, told by the state behind it.
-fn line_marks_step(core: &Core<'_>, line: usize, step: Step) -> bool
-    ensures { result ≡ line_marks core.now.program line step core.now.world }
+/// Whether a step hits the breakpoint of a line, told by the state behind it.
+fn line_hits_step(core: &Core<'_>, line: usize, step: Step) -> bool
+    ensures { result ≡ line_hits core.now.program line step core.now.world }
 {
     match step {
         Step::Local(rank) | Step::Wake(rank) | Step::WakeAny { rank, .. } => {
@@ -93,7 +93,7 @@ fn line_marks_step(core: &Core<'_>, line: usize, step: Step) -> bool
 }
 
 /// Whether a statement of a line has issued a call.
-#[tactic(auto, using(crate::proofs::MarkLemmas::issuing))]
+#[tactic(auto, using(crate::proofs::HitLemmas::issuing))]
 fn is_issued_on(core: &Core<'_>, line: usize, id: CallId) -> bool
     ensures { result ≡ points.issued_on core.now.program line core.now.world.board id }
 {
@@ -104,8 +104,8 @@ fn is_issued_on(core: &Core<'_>, line: usize, id: CallId) -> bool
 }
 
 /// Whether a step is a match of a call that a statement of a line has issued, told by the state behind it.
-fn match_marks_step(core: &Core<'_>, line: usize, step: Step) -> bool
-    ensures { result ≡ match_marks core.now.program line step core.now.world }
+fn match_hits_step(core: &Core<'_>, line: usize, step: Step) -> bool
+    ensures { result ≡ match_hits core.now.program line step core.now.world }
 {
     match step {
         Step::Match(send, recv) => {
@@ -116,7 +116,7 @@ fn match_marks_step(core: &Core<'_>, line: usize, step: Step) -> bool
 }
 
 /// What a cell of a rank holds, where there is one.
-#[tactic(auto, using(crate::proofs::MarkLemmas::holding))]
+#[tactic(auto, using(crate::proofs::HitLemmas::holding))]
 fn cell(core: &Core<'_>, rank: usize, cell: usize) -> Option<i64>
     ensures { result ≡ cell_at core.now.world rank cell }
 {
@@ -128,7 +128,7 @@ fn cell(core: &Core<'_>, rank: usize, cell: usize) -> Option<i64>
 }
 
 /// The call that a handle of a rank holds, if any.
-#[tactic(auto, using(crate::proofs::MarkLemmas::calling))]
+#[tactic(auto, using(crate::proofs::HitLemmas::calling))]
 fn held_call(core: &Core<'_>, rank: usize, handle: usize) -> Option<usize>
     ensures { result ≡ handle_at core.now.world rank handle }
 {
@@ -138,13 +138,13 @@ fn held_call(core: &Core<'_>, rank: usize, handle: usize) -> Option<usize>
     core.rank(rank).held_call(handle)
 }
 
-/// Whether a breakpoint of a line or of a match marks a step, told by the state behind it.
+/// Whether a step hits a breakpoint of a line or of a match, told by the state behind it.
 fn is_told(core: &Core<'_>, place: Option<Break>, step: Step) -> bool
     ensures { result ≡ told_by core.now.program place step core.now.world }
 {
     match place {
-        Some(Break::Line(line)) => line_marks_step(core, line, step),
-        Some(Break::Match(line)) => match_marks_step(core, line, step),
+        Some(Break::Line(line)) => line_hits_step(core, line, step),
+        Some(Break::Match(line)) => match_hits_step(core, line, step),
         Some(Break::Change { .. }) | Some(Break::Handle { .. }) | None => false,
     }
 }
@@ -226,7 +226,7 @@ impl Breaks {
         values
     }
 
-    /// The lowest number of a breakpoint of a line or of a match that marks a step, told by the state behind it.
+    /// The lowest number of a breakpoint of a line or of a match that a step hits, told by the state behind it.
     #[tactic(auto, using(crate::proofs::NumberLemmas::numbering))]
     pub(crate) fn lowest_told(&self, core: &Core<'_>, step: Step) -> Option<usize>
         ensures { result ≡ lowest_told core.now.program self.now step core.now.world }
