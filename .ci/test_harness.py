@@ -23,7 +23,7 @@ import record
 import rounds
 import told
 # (their tests are run with those of this file)
-from test_record import AsTheyEnd, Landing, Remembered
+from test_record import AsTheyEnd, Landing, Noticed, Remembered
 from with_folder import WithFolder
 
 SOURCE = """//! A module.

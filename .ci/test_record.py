@@ -8,10 +8,44 @@ import unittest
 
 import edits
 import landing
+import noticed
 import record
 import rounds
 import told
 from with_folder import WithFolder
+
+
+class Noticed(WithFolder):
+    """Whether runs of broken models are due."""
+
+    def setUp(self):
+        super().setUp()
+        for file in ('.ci/run', 'compare/model/world.py', 'compare/runs/run.py', 'examples/race.mpd', 'docs/CONSOLE.md', 'docs/FORMATS.md',
+                     'docs/TOUR.md', 'crates/low/src/lib.rt'):
+            self.write(file, file)
+
+    def test_a_first_time(self):
+        self.assertFalse(noticed.is_remembered(self.folder))
+        noticed.record(self.folder)
+        self.assertTrue(noticed.is_remembered(self.folder))
+
+    def test_what_they_depend_on(self):
+        noticed.record(self.folder)
+        for file, depends in (('crates/low/src/lib.rt', False), ('docs/TOUR.md', False), ('docs/CONSOLE.md', True), ('compare/model/world.py', True),
+                              ('compare/rows/new.py', True), ('examples/race.mpd', True)):
+            noticed.record(self.folder)
+            self.write(file, 'another')
+            self.assertEqual(noticed.is_remembered(self.folder), not depends, file)
+
+    def test_a_file_that_is_gone(self):
+        noticed.record(self.folder)
+        os.remove(f'{self.folder}/compare/runs/run.py')
+        self.assertFalse(noticed.is_remembered(self.folder))
+
+    def test_what_python_keeps(self):
+        noticed.record(self.folder)
+        self.write('compare/model/__pycache__/world.pyc', 'kept')
+        self.assertTrue(noticed.is_remembered(self.folder))
 
 
 class Remembered(WithFolder):

@@ -27,7 +27,7 @@ DIRECT = f'{TOP}/compare/probe/direct'
 USED = ('atomic_blocks', 'crossbeam_deque', 'mpd_device', 'mpd_model', 'mpd_queue', 'mpd_match', 'mpd_script', 'mpd_c', 'mpd_code', 'mpd_rank', 'mpd_core',
         'mpd_trail', 'mpd_policy', 'mpd_explore', 'mpd_pieces', 'mpd_pool', 'mpd_lines', 'mpd_wire', 'mpd_session', 'mpd_shared', 'mpd_witness', 'mpd_check',
         'mpd_trace', 'mpd_options', 'mpd_laws', 'mpd_meaning', 'mpd_complete', 'mpd_sample', 'mpd_explain', 'mpd_words', 'mpd_search', 'mpd_view', 'mpd_names',
-        'mpd_vocabulary', 'mpd_picture', 'mpd_route', 'mpd_console', 'itoa', 'thiserror', 'rand', 'rand_core', 'rand_pcg')
+        'mpd_vocabulary', 'mpd_picture', 'mpd_route', 'mpd_moves', 'mpd_console', 'itoa', 'thiserror', 'rand', 'rand_core', 'rand_pcg')
 
 
 class Body(Edit):

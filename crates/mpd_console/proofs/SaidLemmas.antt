@@ -14,22 +14,23 @@ use Rattle.mpd_wire.specs.declared.reply.Reply.{Reply}
 use Rattle.mpd_view.specs.Standing.{standing_text}
 use Rattle.mpd_session.specs.Held.{Held}
 use Rattle.mpd_session.specs.Respond.{respond, laid}
-use Rattle.mpd_console.specs.declared.moves.Doing.{Doing}
-use Rattle.mpd_console.specs.declared.moves.Doing.TheVariants.{Asks, Undoes, Seeks, Follows, Looks}
+use Rattle.mpd_moves.specs.declared.moves.Doing.{Doing}
+use Rattle.mpd_moves.specs.declared.moves.Doing.TheVariants.{Asks, Undoes, Seeks, Follows, Looks}
 use Rattle.mpd_vocabulary.specs.declared.word.Word.{Word}
 use Rattle.mpd_vocabulary.specs.declared.word.WordFault.{WordFault}
 use Rattle.mpd_vocabulary.specs.declared.read.Line.{Line}
 use Rattle.mpd_vocabulary.specs.declared.read.Line.TheVariants.{Blank, Comment, Says, Wrong}
 use Rattle.mpd_fold.specs.Folding.{folded}
-use Rattle.mpd_console.specs.Moves.{doing_of, lead_text, reply_text}
+use Rattle.mpd_moves.specs.News.{Known, known_of}
+use Rattle.mpd_moves.specs.Moves.{doing_of, lead_text, reply_text}
 use Rattle.mpd_console.specs.Looks.{look_text}
 use Rattle.mpd_vocabulary.specs.Reading.{line_of}
 use Rattle.mpd_search.specs.declared.search.WholeRun.{WholeRun}
 use Rattle.mpd_search.specs.declared.way.Way.{Way}
 use Rattle.mpd_search.specs.Runs.{none_line}
-use Rattle.mpd_search.specs.Seek.{found_run, numbered_run, nothing_line, LiesAhead, ahead_line, not_followed_line}
+use Rattle.mpd_search.specs.Seek.{found_run, numbered_run, nothing_line, LiesAhead, ahead_line, no_run_line}
 use Rattle.mpd_search.specs.Choices.{last_choice, no_choice_line}
-use Rattle.mpd_console.specs.Says.{memory_line, unprinted_line, too_long_line, at_world, prompt, said, lead_said, reply_said, laid_out, look_said, laid_said, not_found_said, none_said, prompts_behind, fault_said, Told, Looked, asking, Carried, UndoneBy, LaidBy, found_from, numbered_from, SoughtBy, FollowedBy, doing_at, doing_in, AnsweredBy, Answered, Console, WordSays, RepeatSays, LineSays, SaysBy, ConsoleSays, Adds, OrElse}
+use Rattle.mpd_console.specs.Says.{memory_line, unprinted_line, too_long_line, at_world, prompt, said, lead_said, known_at, known_in, reply_said, laid_out, look_said, laid_said, not_found_said, none_said, prompts_behind, fault_said, Told, Looked, asking, Carried, UndoneBy, LaidBy, found_from, numbered_from, SoughtBy, FollowedBy, doing_at, doing_in, AnsweredBy, Answered, Console, WordSays, RepeatSays, LineSays, SaysBy, ConsoleSays, Adds, OrElse}
 
 -- ---- texts on the world of a trail
 
@@ -40,14 +41,17 @@ world_at s d r e = ap world_of (sym e) ∙ r.world
 told_at : (tell : Trail → World → List ℕ) (s : Held) (d : DebuggerView) → IsReached (standing_of d) → d.trail ≡ s.trail → tell d.trail d.world ≡ at_world (tell s.trail) (world_of s.trail)
 told_at tell s d r e = ap (λ t. tell t d.world) e ∙ sym (ap (at_world (tell s.trail)) (world_at s d r e))
 
-pub replied : (p : Bool) (script : List ℕ) (s : Held) (d : DebuggerView) (places : List (Option Break)) (x : Word) (lead begun one lent text : List ℕ) (r : Reply) → IsReached (standing_of d) → d.trail ≡ s.trail → places ≡ s.breaks
-    → begun ≡ [] → one ≡ begun ++ reply_text script d.trail d.world places x lead r → lent ≡ one → text ≡ said p s lent → text ≡ reply_said p script s x lead r
-replied p script s d places x lead begun one lent text r reached e pl b h l k =
-    let u : one ≡ reply_text script d.trail d.world s.breaks x lead r = h ∙ ap (λ z. z ++ reply_text script d.trail d.world places x lead r) b ∙ ap (λ z. reply_text script d.trail d.world z x lead r) pl in
-    k ∙ ap (said p s) (l ∙ u ∙ told_at (λ t w. reply_text script t w s.breaks x lead r) s d reached e)
+pub replied : (p : Bool) (script : List ℕ) (s : Held) (d : DebuggerView) (places : List (Option Break)) (x : Word) (lead begun one lent text : List ℕ) (k : Known) (r : Reply) → IsReached (standing_of d) → d.trail ≡ s.trail → places ≡ s.breaks
+    → begun ≡ [] → one ≡ begun ++ reply_text script d.trail d.world places x lead k r → lent ≡ one → text ≡ said p s lent → text ≡ reply_said p script s x lead k r
+replied p script s d places x lead begun one lent text k r reached e pl b h l m =
+    let u : one ≡ reply_text script d.trail d.world s.breaks x lead k r = h ∙ ap (λ z. z ++ reply_text script d.trail d.world places x lead k r) b ∙ ap (λ z. reply_text script d.trail d.world z x lead k r) pl in
+    m ∙ ap (said p s) (l ∙ u ∙ told_at (λ t w. reply_text script t w s.breaks x lead k r) s d reached e)
 
 pub led : (s : Held) (d : DebuggerView) (x : Word) (text : List ℕ) → IsReached (standing_of d) → d.trail ≡ s.trail → text ≡ lead_text d.trail d.world x → text ≡ lead_said s x
 led s d x text reached e h = h ∙ told_at (λ t w. lead_text t w x) s d reached e
+
+pub known : (s : Held) (d : DebuggerView) (k : Known) → IsReached (standing_of d) → d.trail ≡ s.trail → k ≡ known_of d.trail d.world → k ≡ known_in s
+known s d k reached e h = h ∙ ap (λ t. known_of t d.world) e ∙ sym (ap (known_at s.trail) (world_at s d reached e))
 
 pub looked : (p q : Bool) (script : List ℕ) (s : Held) (d : DebuggerView) (places : List (Option Break)) (x : Word) (begun one lent none two text : List ℕ) → IsReached (standing_of d) → d.trail ≡ s.trail → places ≡ s.breaks
     → q ≡ prompts_behind p x → begun ≡ [] → one ≡ begun ++ look_text d.trail d.world places script x → lent ≡ one → none ≡ [] → two ≡ none ++ laid_out x lent → text ≡ two ++ prompt q s → text ≡ look_said p script s x
@@ -83,7 +87,7 @@ done_at s d x z r e h = h ∙ ap (λ t. doing_of t d.world x) e ∙ sym (ap (doi
 
 pub ruleset doing = (done_at, led)
 
-pub ruleset leading = (led, done_at)
+pub ruleset leading = (led, known)
 
 pub ruleset looking = (looked, led)
 
@@ -117,10 +121,17 @@ pub ruleset telling = (told_whole, told_not, looked_whole, looked_not)
 
 -- ---- what a word does
 
-pub carried : (p : Bool) (script : List ℕ) (s t : Held) (x : Word) (c : Command) (lead before after : List ℕ) (r : Reply) → lead ≡ lead_said s x → r ≡ (respond s (asking c)).0 → t ≡ (respond s (asking c)).1
-    → Adds (Told (reply_said p script t x lead r)) before after → Adds (Carried p script s x c t) before after
-carried p script s t x c lead before after r is e k (z, h, told) =
-    (z, h, inl (k, subst (λ y. Told (reply_said p script t x y (respond s (asking c)).0) z) is (subst (λ y. Told (reply_said p script t x lead y) z) e told)))
+pub carried : (p : Bool) (script : List ℕ) (s t : Held) (x : Word) (c : Command) (lead before after : List ℕ) (k : Known) (r : Reply) → lead ≡ lead_said s x → k ≡ known_in s → r ≡ (respond s (asking c)).0 → t ≡ (respond s (asking c)).1
+    → Adds (Told (reply_said p script t x lead k r)) before after → Adds (Carried p script s x c t) before after
+carried p script s t x c lead before after k r is knows e held (z, h, told) = (
+  z,
+  h,
+  inl (
+    held,
+    subst (λ y. Told (reply_said p script t x y (known_in s) (respond s (asking c)).0) z) is
+        (subst (λ y. Told (reply_said p script t x lead y (respond s (asking c)).0) z) knows (subst (λ y. Told (reply_said p script t x lead k y) z) e told)),
+  ),
+)
 
 pub not_carried : (p : Bool) (script : List ℕ) (s t : Held) (x : Word) (c : Command) (before after : List ℕ) → t ≡ s → after ≡ before ++ memory_line → Adds (Carried p script s x c t) before after
 not_carried p script s t x c before after e h = (memory_line, h, inr (e, refl))
@@ -172,7 +183,7 @@ pub followed_told : (p : Bool) (script : List ℕ) (s t : Held) (n : ℕ) (r : W
     → Adds (Told (laid_said p script t (Some n) r.ending (length r.steps - s.trail.depth))) before after → Adds (FollowedBy p script s n (numbered_from s n) t) before after
 followed_told p script s t n r before after is lies e (z, h, told) = (z, h, subst (λ o. FollowedBy p script s n o t z) is (laid_by p script s t (Some n) r z lies e told))
 
-pub no_run_told : (p : Bool) (script : List ℕ) (s t : Held) (n : ℕ) (before after : List ℕ) → None ≡ numbered_from s n → t ≡ s → Adds (Told (said p s (not_followed_line n))) before after → Adds (FollowedBy p script s n (numbered_from s n) t) before after
+pub no_run_told : (p : Bool) (script : List ℕ) (s t : Held) (n : ℕ) (before after : List ℕ) → None ≡ numbered_from s n → t ≡ s → Adds (Told (said p s no_run_line)) before after → Adds (FollowedBy p script s n (numbered_from s n) t) before after
 no_run_told p script s t n before after is e (z, h, told) = (z, h, subst (λ o. FollowedBy p script s n o t z) is (e, inl told))
 
 not_numbered : (p : Bool) (script : List ℕ) (s t : Held) (n : ℕ) (o : Option WholeRun) → t ≡ s → FollowedBy p script s n o t memory_line

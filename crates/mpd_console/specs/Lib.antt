@@ -1,4 +1,3 @@
-pub mod Moves
 pub mod Looks
 pub mod Says
 pub mod Quitting

@@ -20,12 +20,15 @@ use Rattle.mpd_view.specs.Lost.{lost_text}
 use Rattle.mpd_picture.specs.Pictures.{picture_text}
 use Rattle.mpd_vocabulary.specs.declared.word.Word.{Word}
 use Rattle.mpd_vocabulary.specs.declared.word.Word.TheVariants as word
-use Rattle.mpd_console.specs.Moves.{break_line_of}
+use Rattle.mpd_moves.specs.Moves.{break_line_of}
 use Rattle.mpd_search.specs.Runs.{check_text}
 use Rattle.mpd_vocabulary.specs.Faults.{help_text}
 
-abbrev pub no_such_number : List ℕ
-no_such_number = line (codes "refused: no such number")
+abbrev pub no_such_rank : List ℕ
+no_such_rank = line (codes "refused: there is no such rank")
+
+abbrev pub no_such_call : List ℕ
+no_such_call = line (codes "refused: there is no such call")
 
 -- ---- breakpoints
 
@@ -43,7 +46,7 @@ breaks_text ds places = or_none (flat_map (break_line_at ds places) (range_with_
 
 -- the text of a rank, where there is such a rank
 abbrev pub of_rank : World → ℕ → List ℕ → List ℕ
-of_rank w p text = if nat_lt p (length w.ranks) then text else no_such_number
+of_rank w p text = if nat_lt p (length w.ranks) then text else no_such_rank
 
 abbrev pub of_ranks : World → Option ℕ → (ℕ → List ℕ) → List ℕ → List ℕ
 of_ranks w None one all = all
@@ -68,7 +71,7 @@ calls_text s w rank = of_ranks w rank (λ p. shown.calls_text s w.board (Some p)
 -- ---- why
 
 abbrev pub why_call_text : Program → World → CallId → List ℕ
-why_call_text s w c = if is_some (call_at w.board c) then why_text s w c else no_such_number
+why_call_text s w c = if is_some (call_at w.board c) then why_text s w c else no_such_call
 
 abbrev pub why_of_text : Program → World → Option ℕ → List ℕ
 why_of_text s w rank = of_ranks w rank (why_rank_text s w) (why_ranks_text s w)

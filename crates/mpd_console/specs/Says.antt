@@ -22,14 +22,15 @@ use Rattle.mpd_vocabulary.specs.declared.word.WordFault.{WordFault}
 use Rattle.mpd_vocabulary.specs.declared.read.Line.{Line}
 use Rattle.mpd_vocabulary.specs.declared.read.Line.TheVariants.{Blank, Comment, Says, Wrong}
 use Rattle.mpd_vocabulary.specs.Reading.{line_of}
-use Rattle.mpd_console.specs.declared.moves.Doing.{Doing}
-use Rattle.mpd_console.specs.declared.moves.Doing.TheVariants.{Asks, Undoes, Seeks, Follows, Looks}
-use Rattle.mpd_console.specs.Moves.{doing_of, lead_text, reply_text}
+use Rattle.mpd_moves.specs.declared.moves.Doing.{Doing}
+use Rattle.mpd_moves.specs.declared.moves.Doing.TheVariants.{Asks, Undoes, Seeks, Follows, Looks}
+use Rattle.mpd_moves.specs.News.{Known, told, known_of}
+use Rattle.mpd_moves.specs.Moves.{doing_of, lead_text, reply_text}
 use Rattle.mpd_console.specs.Looks.{look_text}
 use Rattle.mpd_search.specs.declared.search.WholeRun.{WholeRun}
 use Rattle.mpd_search.specs.declared.way.Way.{Way}
 use Rattle.mpd_search.specs.Runs.{none_line}
-use Rattle.mpd_search.specs.Seek.{found_run, numbered_run, nothing_line, LiesAhead, ahead_line, not_followed_line}
+use Rattle.mpd_search.specs.Seek.{found_run, numbered_run, nothing_line, LiesAhead, ahead_line, no_run_line}
 use Rattle.mpd_search.specs.Choices.{last_choice, no_choice_line}
 use Rattle.mpd_vocabulary.specs.Faults.{fault_text}
 use Rattle.mpd_fold.specs.Folding.{folded}
@@ -62,8 +63,16 @@ said p s told = folded told ++ prompt p s
 abbrev pub lead_said : Held → Word → List ℕ
 lead_said s x = at_world (λ w. lead_text s.trail w x) (world_of s.trail)
 
-abbrev pub reply_said : Bool → List ℕ → Held → Word → List ℕ → Reply → List ℕ
-reply_said p script s x lead r = said p s (at_world (λ w. reply_text script s.trail w s.breaks x lead r) (world_of s.trail))
+-- what is known of a session before a word
+abbrev pub known_at : Trail → Option World → Known
+known_at t None = told t.depth [] []
+known_at t (Some w) = known_of t w
+
+abbrev pub known_in : Held → Known
+known_in s = known_at s.trail (world_of s.trail)
+
+abbrev pub reply_said : Bool → List ℕ → Held → Word → List ℕ → Known → Reply → List ℕ
+reply_said p script s x lead k r = said p s (at_world (λ w. reply_text script s.trail w s.breaks x lead k r) (world_of s.trail))
 
 -- behind `quit` no prompt stands
 abbrev pub prompts_behind : Bool → Word → Bool
@@ -111,7 +120,7 @@ asking c = record { command = c; at = None }
 -- the session is as before.
 abbrev pub Carried : Bool → List ℕ → Held → Word → Command → Held → List ℕ → Type 0
 Carried p script s x c t text =
-    ((t ≡ (respond s (asking c)).1) × Told (reply_said p script t x (lead_said s x) (respond s (asking c)).0) text) ⊎ ((t ≡ s) × (text ≡ memory_line))
+    ((t ≡ (respond s (asking c)).1) × Told (reply_said p script t x (lead_said s x) (known_in s) (respond s (asking c)).0) text) ⊎ ((t ≡ s) × (text ≡ memory_line))
 
 -- A word that is refused by its own: the session is as before.
 abbrev pub Refused : Bool → Held → List ℕ → Held → List ℕ → Type 0
@@ -140,7 +149,7 @@ SoughtBy p script s x None t text = (t ≡ s) × Looked (none_said p s x) text
 SoughtBy p script s x (Some r) t text = LaidBy p script s None r t text
 
 abbrev pub FollowedBy : Bool → List ℕ → Held → ℕ → Option WholeRun → Held → List ℕ → Type 0
-FollowedBy p script s n None t text = Refused p s (not_followed_line n) t text
+FollowedBy p script s n None t text = Refused p s no_run_line t text
 FollowedBy p script s n (Some r) t text = LaidBy p script s (Some n) r t text
 
 abbrev pub AnsweredBy : Bool → List ℕ → Held → Word → Doing → Held → List ℕ → Type 0

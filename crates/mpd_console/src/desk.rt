@@ -2,22 +2,23 @@
 
 ghost use Rattle.std.specs.Prelude.{◌≡◌, ◌+◌, ◌-◌, ◌≤◌, ◌++◌, ℕ, Bool, List, None, IfOk, IfSome, OnOk, length, string_bytes, vec_len, vec_capacity};
 ghost use Rattle.mpd_session.specs.Respond.{laid};
-ghost use Rattle.mpd_search.specs.Seek.{LiesAhead, not_followed_line};
+ghost use Rattle.mpd_search.specs.Seek.{LiesAhead, no_run_line};
 ghost use Rattle.mpd_search.specs.Choices.{last_choice as last_choice_of, no_choice_line};
 ghost use Rattle.mpd_vocabulary.specs.Reading.{line_of};
+ghost use Rattle.mpd_moves.specs.News.{told};
 ghost use Rattle.mpd_console.specs.Says as spec;
 ghost use Rattle.mpd_console.specs.Says.{Adds, OrElse, Told, Carried, UndoneBy, SoughtBy, FollowedBy, Answered, Looked, RepeatSays};
 
 use crate::looks::push_look;
-use crate::moves::{Doing, doing_of, lead, push_reply};
 use itoa::Buffer;
 use mpd_explore::{Ending, Report};
 use mpd_fold::push_folded;
 use mpd_lines::{LineDesk, ROOM, push_all};
 use mpd_model::LINE_MAX;
+use mpd_moves::{Doing, Known, doing_of, known_of, lead, push_reply};
 use mpd_search::{
-    Search, Way, WholeRun, last_choice, numbered_run, push_ahead, push_no_choice, push_none,
-    push_not_followed, seek as seek_run,
+    Search, Way, WholeRun, last_choice, numbered_run, push_ahead, push_no_choice, push_no_run,
+    push_none, seek as seek_run,
 };
 use mpd_session::Session;
 use mpd_view::push_standing;
@@ -130,9 +131,10 @@ fn reply_text(
     script: &[u8],
     word: Word,
     lead: &str,
+    known: &Known,
     reply: &Reply,
 ) -> Result<Vec<u8>, AllocError>
-    ensures { IfOk result (λ t. t.items ≡ spec.reply_said is_prompting script.now session.now word lead.now reply.now) }
+    ensures { IfOk result (λ t. t.items ≡ spec.reply_said is_prompting script.now session.now word lead.now (told known.now.depth known.now.printed.items known.now.lost.items) reply.now) }
 {
     let mut told = String::new(alloc);
     let debugger = session.debugger();
@@ -145,6 +147,7 @@ fn reply_text(
         &mut told,
         word,
         lead,
+        known,
         reply,
     )?;
     said(alloc, session, is_prompting, &told)
@@ -158,28 +161,50 @@ fn tell_reply(
     is_prompting: bool,
     script: &[u8],
     word: Word,
-    lead: &str,
+    lead: &Lead,
     reply: &Reply,
     out: &mut Vec<u8>,
 )
     requires room { vec_len out.old + ROOM ≤ vec_capacity out.old }
-    ensures told { Adds (Told (spec.reply_said is_prompting script.now session.now word lead.now reply.now)) out.old.items out.new.items }
+    ensures told { Adds (Told (spec.reply_said is_prompting script.now session.now word (string_bytes lead.now.text) (told lead.now.known.depth lead.now.known.printed.items lead.now.known.lost.items) reply.now)) out.old.items out.new.items }
     ensures capacity { vec_capacity out.old ≤ vec_capacity out.new }
 {
-    let Ok(text) = reply_text(alloc, session, is_prompting, script, word, lead, reply) else {
+    let Ok(text) = reply_text(
+        alloc,
+        session,
+        is_prompting,
+        script,
+        word,
+        &lead.text,
+        &lead.known,
+        reply,
+    ) else {
         return push_all(out, UNPRINTED);
     };
     add(&text, UNPRINTED, out)
 }
 
-/// The step that a word takes, in words, before it is taken.
+/// What is told and known before a word is done.
+#[derive(Drop)]
+struct Lead {
+    /// The step that it takes, in words.
+    text: String,
+    /// What behind it tells what its steps did.
+    known: Known,
+}
+
+/// What is told and known before a word is done.
 #[tactic(auto, using(crate::proofs::SaidLemmas::leading))]
-fn lead_text(alloc: Global, session: &Session<'_>, word: Word) -> Result<String, AllocError>
-    ensures { IfOk result (λ t. string_bytes t ≡ spec.lead_said session.now word) }
+fn lead_of(alloc: Global, session: &Session<'_>, word: Word) -> Result<Lead, AllocError>
+    ensures text { IfOk result (λ l. string_bytes l.text ≡ spec.lead_said session.now word) }
+    ensures known { IfOk result (λ l. told l.known.depth l.known.printed.items l.known.lost.items ≡ spec.known_in session.now) }
 {
     let debugger = session.debugger();
     debugger.state_is_reached();
-    lead(alloc, debugger, word)
+    Ok(Lead {
+        text: lead(alloc, debugger, word)?,
+        known: known_of(alloc, debugger)?,
+    })
 }
 
 /// Asks the session, and adds what is told of its reply.
@@ -197,7 +222,7 @@ fn carry_out(
     ensures carried { Adds (Carried is_prompting script.now session.old word command session.new) out.old.items out.new.items }
     ensures capacity { vec_capacity out.old ≤ vec_capacity out.new }
 {
-    let Ok(lead) = lead_text(alloc, session, word) else {
+    let Ok(lead) = lead_of(alloc, session, word) else {
         return push_all(out, MEMORY);
     };
     let request = Request { command, at: None };
@@ -424,33 +449,26 @@ fn numbered_from(
 
 /// What is told of a number that no run has.
 #[tactic(auto, using(crate::proofs::SaidLemmas::saying))]
-fn not_followed_text(
+fn no_run_text(
     alloc: Global,
     session: &Session<'_>,
     is_prompting: bool,
-    number: usize,
 ) -> Result<Vec<u8>, AllocError>
-    ensures { IfOk result (λ t. t.items ≡ spec.said is_prompting session.now (not_followed_line number)) }
+    ensures { IfOk result (λ t. t.items ≡ spec.said is_prompting session.now no_run_line) }
 {
     let mut told = String::new(alloc);
-    push_not_followed(&mut told, number)?;
+    push_no_run(&mut told)?;
     said(alloc, session, is_prompting, &told)
 }
 
 /// Tells of a number that no run has.
 #[tactic(auto, using(crate::proofs::SaidLemmas::telling))]
-fn tell_not_followed(
-    alloc: Global,
-    session: &Session<'_>,
-    is_prompting: bool,
-    number: usize,
-    out: &mut Vec<u8>,
-)
+fn tell_no_run(alloc: Global, session: &Session<'_>, is_prompting: bool, out: &mut Vec<u8>)
     requires room { vec_len out.old + ROOM ≤ vec_capacity out.old }
-    ensures told { Adds (Told (spec.said is_prompting session.now (not_followed_line number))) out.old.items out.new.items }
+    ensures told { Adds (Told (spec.said is_prompting session.now no_run_line)) out.old.items out.new.items }
     ensures capacity { vec_capacity out.old ≤ vec_capacity out.new }
 {
-    let Ok(text) = not_followed_text(alloc, session, is_prompting, number) else {
+    let Ok(text) = no_run_text(alloc, session, is_prompting) else {
         return push_all(out, UNPRINTED);
     };
     add(&text, UNPRINTED, out)
@@ -475,7 +493,7 @@ fn follow(
     };
     match found {
         Some(run) => lay(alloc, session, is_prompting, script, Some(number), run, out),
-        None => tell_not_followed(alloc, session, is_prompting, number, out),
+        None => tell_no_run(alloc, session, is_prompting, out),
     }
 }
 

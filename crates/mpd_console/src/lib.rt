@@ -3,7 +3,6 @@
 
 pub mod desk;
 mod looks;
-mod moves;
 pub mod opening;
 pub mod quit;
 pub mod run;

@@ -6,9 +6,9 @@ ghost use Rattle.mpd_model.specs.steps.World.{rank_numbers};
 ghost use Rattle.mpd_names.specs.Held.{named_line};
 ghost use Rattle.mpd_console.specs.Looks as spec;
 
-use crate::moves::push_break_line;
 use mpd_core::Core;
 use mpd_model::{BREAKS_MAX, CallId, Decl};
+use mpd_moves::push_break_line;
 use mpd_names::{Named, push_list, push_list_about, push_named, push_variables};
 use mpd_picture::push_picture;
 use mpd_policy::Breaks;
@@ -22,8 +22,11 @@ use mpd_view::{
 use mpd_vocabulary::{Word, push_help};
 use std::alloc::{AllocError, Global};
 
-/// What is answered to a number of something that isn't there.
-const NO_SUCH_NUMBER: &str = "refused: no such number\n";
+/// What is answered to a rank that isn't there.
+const NO_SUCH_RANK: &str = "refused: there is no such rank\n";
+
+/// What is answered to a call that isn't there.
+const NO_SUCH_CALL: &str = "refused: there is no such call\n";
 
 /// Adds the line of the breakpoint of a number, where there is one.
 fn push_break_at(
@@ -80,7 +83,7 @@ fn push_script(
 {
     match rank {
         None => push_list(core, out, text),
-        Some(rank) if rank >= core.rank_count() => out.push_str(NO_SUCH_NUMBER),
+        Some(rank) if rank >= core.rank_count() => out.push_str(NO_SUCH_RANK),
         Some(rank) => push_list_about(core, out, text, rank),
     }
 }
@@ -107,7 +110,7 @@ fn push_print(
 {
     match rank {
         None => push_named_of_all(core, out, named),
-        Some(rank) if rank >= core.rank_count() => out.push_str(NO_SUCH_NUMBER),
+        Some(rank) if rank >= core.rank_count() => out.push_str(NO_SUCH_RANK),
         Some(rank) => push_named(core, out, rank, named),
     }
 }
@@ -137,7 +140,7 @@ fn push_vars(core: &Core<'_>, out: &mut String, rank: Option<usize>) -> Result<(
 {
     match rank {
         None => push_all_variables(core, out),
-        Some(rank) if rank >= core.rank_count() => out.push_str(NO_SUCH_NUMBER),
+        Some(rank) if rank >= core.rank_count() => out.push_str(NO_SUCH_RANK),
         Some(rank) => push_vars_of(core, out, rank),
     }
 }
@@ -147,7 +150,7 @@ fn push_some_calls(core: &Core<'_>, out: &mut String, rank: Option<usize>) -> Re
     ensures { OnOk result (string_bytes out.new ≡ string_bytes out.old ++ spec.calls_text core.now.program core.now.world rank) }
 {
     match rank {
-        Some(rank) if rank >= core.rank_count() => out.push_str(NO_SUCH_NUMBER),
+        Some(rank) if rank >= core.rank_count() => out.push_str(NO_SUCH_RANK),
         _ => push_calls(core, out, rank),
     }
 }
@@ -162,7 +165,7 @@ fn push_why_call(
     ensures { OnOk result (string_bytes out.new ≡ string_bytes out.old ++ spec.why_call_text core.now.program core.now.world call) }
 {
     if core.board().call(call).is_none() {
-        return out.push_str(NO_SUCH_NUMBER);
+        return out.push_str(NO_SUCH_CALL);
     }
     push_why(alloc, core, out, call)
 }
@@ -178,7 +181,7 @@ fn push_why_of(
 {
     match rank {
         None => push_why_ranks(alloc, core, out),
-        Some(rank) if rank >= core.rank_count() => out.push_str(NO_SUCH_NUMBER),
+        Some(rank) if rank >= core.rank_count() => out.push_str(NO_SUCH_RANK),
         Some(rank) => push_why_rank(alloc, core, out, rank),
     }
 }

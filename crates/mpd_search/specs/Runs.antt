@@ -84,7 +84,7 @@ abbrev pub report_text : List Leaf → Bool → List ℕ
 report_text leaves more = leaf_lines 0 leaves ++ total_line leaves more
 
 abbrev pub no_number_line : List ℕ
-no_number_line = line (codes "refused: no such number")
+no_number_line = line (codes "refused: 1 to 65536 runs can be asked for")
 
 -- the first so many runs from where a trail stands that leads to a world
 abbrev pub check_text : Trail → World → ℕ → List ℕ

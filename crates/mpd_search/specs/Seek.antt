@@ -19,7 +19,7 @@ use Rattle.mpd_search.specs.declared.runs.TheConstants.{RUNS_MAX}
 use Rattle.mpd_search.specs.declared.search.WholeRun.{WholeRun}
 use Rattle.mpd_search.specs.declared.way.Way.{Way}
 use Rattle.mpd_search.specs.Ways.{first_in}
-use Rattle.mpd_search.specs.Runs.{fuel_at, all_runs, first_runs, are_more, is_number, no_number_line, none_line}
+use Rattle.mpd_search.specs.Runs.{fuel_at, all_runs, first_runs, are_more, is_number, none_line}
 
 -- ---- the first run that ends so
 
@@ -98,7 +98,3 @@ ahead_line (Some n) e ahead = line (codes "run " ++ decimal n ++ codes ", " ++ e
 
 abbrev pub no_run_line : List ℕ
 no_run_line = line (codes "refused: there is no such run")
-
--- why the run of a number doesn't lie ahead
-abbrev pub not_followed_line : ℕ → List ℕ
-not_followed_line n = if is_number n then no_run_line else no_number_line

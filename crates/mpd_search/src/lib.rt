@@ -9,5 +9,5 @@ pub mod way;
 
 pub use choice::{last_choice, push_no_choice};
 pub use runs::{FUEL, RUNS_MAX, push_none, push_runs};
-pub use search::{Search, WholeRun, numbered_run, push_ahead, push_count, push_not_followed, seek};
+pub use search::{Search, WholeRun, numbered_run, push_ahead, push_count, push_no_run, seek};
 pub use way::{WAYS, Way};

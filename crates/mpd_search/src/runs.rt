@@ -213,7 +213,7 @@ fn push_total(out: &mut String, leaves: &[Leaf], more: bool) -> Result<(), Alloc
     out.push_str(")\n")
 }
 
-/// Adds the first runs from where a debugger stands, so many at most, or that this is no such number. An `Err` is want of memory.
+/// Adds the first runs from where a debugger stands, so many at most, or which numbers there are. An `Err` is want of memory.
 pub fn push_runs(
     alloc: Global,
     debugger: &Debugger<'_>,
@@ -223,7 +223,7 @@ pub fn push_runs(
     ensures { OnOk result (string_bytes out.new ≡ string_bytes out.old ++ spec.check_text debugger.now.trail debugger.now.world runs) }
 {
     if !is_number(runs) {
-        return out.push_str("refused: no such number\n");
+        return out.push_str("refused: 1 to 65536 runs can be asked for\n");
     }
     let report = runs_from(alloc, debugger, runs)?;
     push_leaves(alloc, out, &report.leaves)?;

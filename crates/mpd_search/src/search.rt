@@ -312,13 +312,9 @@ pub fn push_ahead(
     out.push_str(" ahead\n")
 }
 
-/// Adds why the run of a number doesn't lie ahead. An `Err` is want of memory.
-pub fn push_not_followed(out: &mut String, number: usize) -> Result<(), AllocError>
-    ensures { OnOk result (string_bytes out.new ≡ string_bytes out.old ++ spec.not_followed_line number) }
+/// Adds that there is no run of a number. An `Err` is want of memory.
+pub fn push_no_run(out: &mut String) -> Result<(), AllocError>
+    ensures { OnOk result (string_bytes out.new ≡ string_bytes out.old ++ spec.no_run_line) }
 {
-    if is_number(number) {
-        out.push_str("refused: there is no such run\n")
-    } else {
-        out.push_str("refused: no such number\n")
-    }
+    out.push_str("refused: there is no such run\n")
 }

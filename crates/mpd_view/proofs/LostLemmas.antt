@@ -6,10 +6,10 @@ use Rattle.std.proofs.lemmas.List.{get_or-set_same, get_or-set_other}
 use Rattle.std.proofs.lemmas.Option.{slice_get_past}
 use Rattle.std.specs.List.{filter, flat_map, list_any, range_with_len}
 use Rattle.mpd_model.specs.declared.call.Call.{Call}
-use Rattle.mpd_model.specs.script.Program.{Program}
+use Rattle.mpd_model.specs.declared.step.CallId.{CallId}
 use Rattle.mpd_model.specs.steps.World.{World, call_id, listed_calls, kind_of, calls_of, call_numbers, complete}
 use Rattle.mpd_model.specs.runs.Breakpoints.{is_number}
-use Rattle.mpd_view.specs.Lost.{is_request, is_kept, has_waitany, is_lost, lost_line, lost_text}
+use Rattle.mpd_view.specs.Lost.{is_request, is_kept, has_waitany, is_lost, lost_calls_of}
 
 -- ---- kept
 
@@ -60,19 +60,22 @@ request_at [] i e = refl
 request_at (c ∷ calls) zero e = first_fails (is_issued c) (list_any is_issued calls) e
 request_at (c ∷ calls) (suc i) e = request_at calls i (others_fail (is_issued c) (list_any is_issued calls) e)
 
+abbrev one_call : ℕ → ℕ → List CallId
+one_call p i = call_id p i ∷ []
+
 none_pass : (t : ℕ → Bool) (xs : List ℕ) → ((i : ℕ) → t i ≡ false) → filter t xs ≡ []
 none_pass t [] h = refl
 none_pass t (x ∷ xs) h = ap (λ b. cond b (x ∷ filter t xs) (filter t xs)) (h x) ∙ none_pass t xs h
 
-pub none_lost : (s : Program) (w : World) (p : ℕ) (old : List ℕ) → list_any is_issued (calls_of w.board p) ≡ false → old ≡ old ++ lost_text s w p
-none_lost s w p old e =
+pub none_lost : (w : World) (p : ℕ) (old : List CallId) → list_any is_issued (calls_of w.board p) ≡ false → old ≡ old ++ lost_calls_of w p
+none_lost w p old e =
     let each : (i : ℕ) → is_lost w (call_id p i) ≡ false = λ i. ap (λ b. b && (not (is_kept w (call_id p i)) && not (has_waitany (calls_of w.board p) && complete w.board (call_id p i)))) (request_at (calls_of w.board p) i e) in
-    sym (ap (λ xs. old ++ flat_map (lost_line s w.board p) xs) (none_pass (λ i. is_lost w (call_id p i)) (call_numbers w.board p) each) ∙ append-nil old)
+    sym (ap (λ xs. old ++ flat_map (one_call p) xs) (none_pass (λ i. is_lost w (call_id p i)) (call_numbers w.board p) each) ∙ append-nil old)
 
 -- a rank that isn't there
-pub nobody_lost : (s : Program) (w : World) (p n : ℕ) (old : List ℕ) → n ≡ length w.board.calls → n ≤ p → old ≡ old ++ lost_text s w p
-nobody_lost s w p n old e past =
+pub nobody_lost : (w : World) (p n : ℕ) (old : List CallId) → n ≡ length w.board.calls → n ≤ p → old ≡ old ++ lost_calls_of w p
+nobody_lost w p n old e past =
     let none : slice_get w.board.calls p ≡ None = slice_get_past w.board.calls p (omega (arith, e, past)) in
-    sym (ap (λ o. old ++ flat_map (lost_line s w.board p) (filter (λ i. is_lost w (call_id p i)) (range_with_len 0 (length (listed_calls o))))) none ∙ append-nil old)
+    sym (ap (λ o. old ++ flat_map (one_call p) (filter (λ i. is_lost w (call_id p i)) (range_with_len 0 (length (listed_calls o))))) none ∙ append-nil old)
 
 pub ruleset losing = (none_lost, nobody_lost)

@@ -1,5 +1,5 @@
 -- Requests that are lost: nobody can wait for them any more (docs/CONSOLE.md, "Answers").
-use Rattle.std.specs.Prelude.{ℕ, Bool, true, false, ◌&&◌, ◌||◌, not, List, ◌++◌, slice_get, Option, Some, None, codes}
+use Rattle.std.specs.Prelude.{ℕ, Bool, true, false, ◌&&◌, ◌||◌, not, List, [], ◌∷◌, ◌++◌, slice_get, Option, Some, None, codes}
 use Rattle.std.specs.Fmt.{decimal}
 use Rattle.std.specs.List.{filter, flat_map, list_any}
 use Rattle.mpd_model.specs.declared.step.CallId.{CallId}
@@ -49,13 +49,19 @@ abbrev pub is_lost : World → CallId → Bool
 is_lost w c = is_request (kind_at w.board c) && (not (is_kept w c) && not (has_waitany (calls_of w.board c.rank) && complete w.board c))
 
 -- `rank 0 has lost a request: line 4, 0.0 isend to 1 tag 7 value 5`
-abbrev pub lost_line : Program → Board → ℕ → ℕ → List ℕ
-lost_line s b p i = line (codes "rank " ++ decimal p ++ codes " has lost a request: " ++ placed s b (call_id p i))
+abbrev pub lost_line : Program → Board → CallId → List ℕ
+lost_line s b c = line (codes "rank " ++ decimal c.rank ++ codes " has lost a request: " ++ placed s b c)
 
 -- those of a rank, in the order of issue
+abbrev pub lost_calls_of : World → ℕ → List CallId
+lost_calls_of w p = flat_map (λ i. call_id p i ∷ []) (filter (λ i. is_lost w (call_id p i)) (call_numbers w.board p))
+
 abbrev pub lost_text : Program → World → ℕ → List ℕ
-lost_text s w p = flat_map (lost_line s w.board p) (filter (λ i. is_lost w (call_id p i)) (call_numbers w.board p))
+lost_text s w p = flat_map (lost_line s w.board) (lost_calls_of w p)
 
 -- and those of all ranks
+abbrev pub lost_calls : World → List CallId
+lost_calls w = flat_map (lost_calls_of w) (rank_numbers w.board)
+
 abbrev pub lost_lines : Program → World → List ℕ
-lost_lines s w = flat_map (lost_text s w) (rank_numbers w.board)
+lost_lines s w = flat_map (lost_line s w.board) (lost_calls w)

@@ -1,7 +1,7 @@
 //! Requests that are lost: nobody can wait for them any more (docs/CONSOLE.md, "Answers").
 
-ghost use Rattle.std.specs.Prelude.{◌≡◌, ◌<◌, ◌++◌, ◌||◌, ℕ, false, if◌then◌else◌, [], IfOk, OnOk, get_or, length, slice_get, string_bytes};
-ghost use Rattle.std.specs.List.{list_any};
+ghost use Rattle.std.specs.Prelude.{◌≡◌, ◌<◌, ◌++◌, ◌||◌, ◌∷◌, ℕ, false, if◌then◌else◌, [], IfOk, OnOk, get_or, length, slice_get, string_bytes};
+ghost use Rattle.std.specs.List.{flat_map, list_any};
 ghost use Rattle.mpd_model.specs.steps.World.{call_id, calls_of};
 ghost use Rattle.mpd_model.specs.runs.Breakpoints.{is_number};
 ghost use Rattle.mpd_view.specs.Lost as lost;
@@ -124,39 +124,28 @@ fn is_lost(core: &Core<'_>, call: CallId, is_kept: bool, has_waitany: bool) -> b
         && !(has_waitany && core.board().is_complete(call))
 }
 
-/// Adds the line of a request that is lost.
-fn push_lost_line(core: &Core<'_>, out: &mut String, call: CallId) -> Result<(), AllocError>
-    ensures { OnOk result (string_bytes out.new ≡ string_bytes out.old ++ lost.lost_line core.now.program core.now.world.board call.rank call.index) }
-{
-    let rank = call.rank;
-    write!(out, "rank {rank} has lost a request: ")?;
-    push_placed(core, out, call)?;
-    out.push('\n')
-}
-
-/// Adds that line for a call that is lost.
-fn push_if_lost(
+/// Lists a call where it is lost.
+fn list_if_lost(
     core: &Core<'_>,
-    out: &mut String,
+    calls: &mut Vec<CallId>,
     call: CallId,
     is_kept: bool,
     has_waitany: bool,
 ) -> Result<(), AllocError>
     requires kept { is_kept ≡ lost.is_kept core.now.world call }
     requires waitany { has_waitany ≡ lost.has_waitany (calls_of core.now.world.board call.rank) }
-    ensures { OnOk result (string_bytes out.new ≡ string_bytes out.old ++ (if lost.is_lost core.now.world call then lost.lost_line core.now.program core.now.world.board call.rank call.index else [])) }
+    ensures { OnOk result (calls.new.items ≡ calls.old.items ++ (if lost.is_lost core.now.world call then call ∷ [] else [])) }
 {
     if is_lost(core, call, is_kept, has_waitany) {
-        push_lost_line(core, out, call)
-    } else {
-        Ok(())
+        calls.push(call)?;
     }
+    Ok(())
 }
 
-/// Adds the lines of the calls of a rank that are lost.
-fn push_lost_of(
+/// Lists the calls of a rank that are lost, where it is known of each whether it is kept.
+fn list_lost_of(
     core: &Core<'_>,
-    out: &mut String,
+    calls: &mut Vec<CallId>,
     rank: usize,
     kept: &[bool],
     has_waitany: bool,
@@ -164,38 +153,82 @@ fn push_lost_of(
     requires count { length kept.now ≡ length (calls_of core.now.world.board rank) }
     requires kept { (i : ℕ) → i < length (calls_of core.now.world.board rank) → get_or kept.now i false ≡ lost.is_kept core.now.world (call_id rank i) }
     requires waitany { has_waitany ≡ lost.has_waitany (calls_of core.now.world.board rank) }
-    ensures { OnOk result (string_bytes out.new ≡ string_bytes out.old ++ lost.lost_text core.now.program core.now.world rank) }
+    ensures { OnOk result (calls.new.items ≡ calls.old.items ++ lost.lost_calls_of core.now.world rank) }
 {
     let count = kept.len();
     for index in 0..count {
-        push_if_lost(core, out, CallId { rank, index }, kept[index], has_waitany)?;
+        list_if_lost(
+            core,
+            calls,
+            CallId { rank, index },
+            kept[index],
+            has_waitany,
+        )?;
+    }
+    Ok(())
+}
+
+/// Lists the requests of a rank that are lost; of a rank that isn't there none.
+#[tactic(auto, using(crate::proofs::LostLemmas::losing))]
+fn list_lost(core: &Core<'_>, calls: &mut Vec<CallId>, rank: usize) -> Result<(), AllocError>
+    ensures { OnOk result (calls.new.items ≡ calls.old.items ++ lost.lost_calls_of core.now.world rank) }
+{
+    if rank >= core.rank_count() {
+        return Ok(());
+    }
+    let issued = core.board().calls(rank);
+    if !has_request(issued) {
+        return Ok(());
+    }
+    let kept = kept_calls(*calls.allocator(), core, rank)?;
+    list_lost_of(core, calls, rank, &kept, has_waitany(issued))
+}
+
+/// The requests that are lost, by rank and call. An `Err` is want of memory.
+pub fn lost_calls(alloc: Global, core: &Core<'_>) -> Result<Vec<CallId>, AllocError>
+    ensures { IfOk result (λ calls. calls.items ≡ lost.lost_calls core.now.world) }
+{
+    let mut calls = Vec::new(alloc);
+    let count = core.rank_count();
+    for rank in 0..count {
+        list_lost(core, &mut calls, rank)?;
+    }
+    Ok(calls)
+}
+
+/// Adds the line of a request that is lost. An `Err` is want of memory.
+pub fn push_lost_line(core: &Core<'_>, out: &mut String, call: CallId) -> Result<(), AllocError>
+    ensures { OnOk result (string_bytes out.new ≡ string_bytes out.old ++ lost.lost_line core.now.program core.now.world.board call) }
+{
+    let rank = call.rank;
+    write!(out, "rank {rank} has lost a request: ")?;
+    push_placed(core, out, call)?;
+    out.push('\n')
+}
+
+/// Adds these lines.
+fn push_lost_lines(core: &Core<'_>, out: &mut String, calls: &[CallId]) -> Result<(), AllocError>
+    ensures { OnOk result (string_bytes out.new ≡ string_bytes out.old ++ flat_map (lost.lost_line core.now.program core.now.world.board) calls.now) }
+{
+    for call in calls {
+        push_lost_line(core, out, *call)?;
     }
     Ok(())
 }
 
 /// Adds the requests of a rank that are lost. Of a rank that isn't there it adds nothing. An `Err` is want of memory.
-#[tactic(auto, using(crate::proofs::LostLemmas::losing))]
 pub fn push_lost(core: &Core<'_>, out: &mut String, rank: usize) -> Result<(), AllocError>
     ensures { OnOk result (string_bytes out.new ≡ string_bytes out.old ++ lost.lost_text core.now.program core.now.world rank) }
 {
-    if rank >= core.rank_count() {
-        return Ok(());
-    }
-    let calls = core.board().calls(rank);
-    if !has_request(calls) {
-        return Ok(());
-    }
-    let kept = kept_calls(*out.allocator(), core, rank)?;
-    push_lost_of(core, out, rank, &kept, has_waitany(calls))
+    let mut calls = Vec::new(*out.allocator());
+    list_lost(core, &mut calls, rank)?;
+    push_lost_lines(core, out, &calls)
 }
 
 /// Adds those of all ranks. An `Err` is want of memory.
 pub fn push_all_lost(core: &Core<'_>, out: &mut String) -> Result<(), AllocError>
     ensures { OnOk result (string_bytes out.new ≡ string_bytes out.old ++ lost.lost_lines core.now.program core.now.world) }
 {
-    let count = core.rank_count();
-    for rank in 0..count {
-        push_lost(core, out, rank)?;
-    }
-    Ok(())
+    let calls = lost_calls(*out.allocator(), core)?;
+    push_lost_lines(core, out, &calls)
 }

@@ -5,7 +5,7 @@ use Rattle.mpd_model.specs.texts.Words.{words}
 use Rattle.mpd_model.specs.texts.Texts.{line}
 use Rattle.mpd_vocabulary.specs.declared.topic.Topic.{Topic}
 use Rattle.mpd_vocabulary.specs.declared.word.WordFault.{WordFault}
-use Rattle.mpd_vocabulary.specs.declared.word.WordFault.TheVariants.{Unknown, Usage, NoName, NoSuchNumber}
+use Rattle.mpd_vocabulary.specs.declared.word.WordFault.TheVariants.{Unknown, Usage, NoName, NoSuchIndex, NoIndex}
 use Rattle.mpd_vocabulary.specs.Topics.{topics, nearest, usage_of, forms_of, purpose_of, details_of}
 
 abbrev pub word_at : List (List ℕ) → ℕ → List ℕ
@@ -30,8 +30,11 @@ missing_line begun name = begun ++ map shown_byte name ++ line (codes "'")
 unfoldable pub no_name_line : List ℕ → List ℕ
 no_name_line name = missing_line (codes "no variable or request is called '") name
 
-unfoldable pub no_number_line : List ℕ
-no_number_line = line (codes "refused: no such number")
+unfoldable pub no_such_index_line : List ℕ
+no_such_index_line = line (codes "refused: there is no such index")
+
+unfoldable pub no_index_line : List ℕ
+no_index_line = line (codes "refused: an array needs an index here")
 
 abbrev pub usage_line : Topic → List ℕ
 usage_line t = line (codes "usage: " ++ usage_of t)
@@ -41,7 +44,8 @@ abbrev pub fault_text : List ℕ → WordFault → List ℕ
 fault_text z (Unknown n) = unknown_line (word_at (words z) n)
 fault_text z (Usage t) = usage_line t
 fault_text z (NoName n) = no_name_line (word_at (words z) n)
-fault_text z NoSuchNumber = no_number_line
+fault_text z NoSuchIndex = no_such_index_line
+fault_text z NoIndex = no_index_line
 
 -- ---- help
 

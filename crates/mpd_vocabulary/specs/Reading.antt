@@ -19,7 +19,7 @@ use Rattle.mpd_vocabulary.specs.declared.topic.Topic.TheVariants as topic
 use Rattle.mpd_vocabulary.specs.declared.word.Word.{Word}
 use Rattle.mpd_vocabulary.specs.declared.word.Word.TheVariants as word
 use Rattle.mpd_vocabulary.specs.declared.word.WordFault.{WordFault}
-use Rattle.mpd_vocabulary.specs.declared.word.WordFault.TheVariants.{Unknown, Usage, NoName, NoSuchNumber}
+use Rattle.mpd_vocabulary.specs.declared.word.WordFault.TheVariants.{Unknown, Usage, NoName, NoSuchIndex, NoIndex}
 use Rattle.mpd_vocabulary.specs.declared.read.Line.{Line}
 use Rattle.mpd_vocabulary.specs.declared.read.Line.TheVariants.{Blank, Comment, Says, Wrong}
 use Rattle.mpd_vocabulary.specs.Topics.{topic_of}
@@ -50,6 +50,14 @@ or_usual usual (Some n) = n
 abbrev pub number_or : ℕ → List (List ℕ) → Option ℕ
 number_or usual rest = option_map (or_usual usual) (optional_number rest)
 
+abbrev pub is_all : Option (List ℕ) → Bool
+is_all None = false
+is_all (Some a) = bytes_eq a (codes "all")
+
+-- a number, or one; or `all`, which is as many as there can be
+abbrev pub redo_in : List (List ℕ) → Option ℕ
+redo_in rest = if is_all (only_word rest) then Some STEPS_MAX else number_or 1 rest
+
 abbrev pub alone : Word → List (List ℕ) → Option Word
 alone w [] = Some w
 alone w (a ∷ more) = None
@@ -75,9 +83,9 @@ break_on p Variable c = on.Change p c
 break_on p Handle h = on.Handle p h
 
 abbrev pub change_of : ℕ → Result Named NameFault → Result Word WordFault
-change_of p (Ok n) = if n.cells == 1 then Ok (word.Break (break_on p n.kind n.first)) else Err NoSuchNumber
+change_of p (Ok n) = if n.cells == 1 then Ok (word.Break (break_on p n.kind n.first)) else Err NoIndex
 change_of p (Err name.Unknown) = Err (NoName 3)
-change_of p (Err name.NoSuchCell) = Err NoSuchNumber
+change_of p (Err name.NoSuchCell) = Err NoSuchIndex
 
 abbrev pub change_at : Option ℕ → Result Named NameFault → Result Word WordFault
 change_at None n = Err (Usage topic.Break)
@@ -102,7 +110,7 @@ break_in ds (kind ∷ rest) =
 abbrev pub print_of : Result Named NameFault → Option ℕ → Result Word WordFault
 print_of (Ok n) rank = Ok (word.Print n rank)
 print_of (Err name.Unknown) rank = Err (NoName 1)
-print_of (Err name.NoSuchCell) rank = Err NoSuchNumber
+print_of (Err name.NoSuchCell) rank = Err NoSuchIndex
 
 abbrev pub print_at : Result Named NameFault → Option (Option ℕ) → Result Word WordFault
 print_at n None = Err (Usage topic.Print)
@@ -149,7 +157,7 @@ word_with ds topic.Back z rest = fitting topic.Back (option_map word.Back (numbe
 word_with ds topic.RunBack z rest = fitting topic.RunBack (alone word.RunBack rest)
 word_with ds topic.UndoChoice z rest = fitting topic.UndoChoice (alone word.UndoChoice rest)
 word_with ds topic.Goto z rest = fitting topic.Goto (option_map word.Goto (only_number rest))
-word_with ds topic.Redo z rest = fitting topic.Redo (option_map word.Redo (number_or 1 rest))
+word_with ds topic.Redo z rest = fitting topic.Redo (option_map word.Redo (redo_in rest))
 word_with ds topic.Local z rest = fitting topic.Local (step_in z)
 word_with ds topic.Match z rest = fitting topic.Match (step_in z)
 word_with ds topic.Wake z rest = fitting topic.Wake (step_in z)

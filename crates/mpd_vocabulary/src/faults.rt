@@ -102,12 +102,20 @@ fn push_no_name(out: &mut String, name: &[u8]) -> Result<(), AllocError>
     push_missing(out, "no variable or request is called '", name)
 }
 
-/// Adds that there is no such number.
-#[tactic(auto, unfolding(crate::specs::Faults::no_number_line))]
-fn push_no_number(out: &mut String) -> Result<(), AllocError>
-    ensures { OnOk result (string_bytes out.new ≡ string_bytes out.old ++ spec.no_number_line) }
+/// Adds that there is no such index.
+#[tactic(auto, unfolding(crate::specs::Faults::no_such_index_line))]
+fn push_no_such_index(out: &mut String) -> Result<(), AllocError>
+    ensures { OnOk result (string_bytes out.new ≡ string_bytes out.old ++ spec.no_such_index_line) }
 {
-    out.push_str("refused: no such number\n")
+    out.push_str("refused: there is no such index\n")
+}
+
+/// Adds that an index is missing.
+#[tactic(auto, unfolding(crate::specs::Faults::no_index_line))]
+fn push_no_index(out: &mut String) -> Result<(), AllocError>
+    ensures { OnOk result (string_bytes out.new ≡ string_bytes out.old ++ spec.no_index_line) }
+{
+    out.push_str("refused: an array needs an index here\n")
 }
 
 /// Adds the forms of a word.
@@ -125,7 +133,8 @@ pub fn push_fault(out: &mut String, line: &[u8], fault: WordFault) -> Result<(),
         WordFault::Unknown(number) => push_unknown(out, word_at(line, number)),
         WordFault::Usage(topic) => push_usage(out, topic),
         WordFault::NoName(number) => push_no_name(out, word_at(line, number)),
-        WordFault::NoSuchNumber => push_no_number(out),
+        WordFault::NoSuchIndex => push_no_such_index(out),
+        WordFault::NoIndex => push_no_index(out),
     }
 }
 

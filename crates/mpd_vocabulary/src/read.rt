@@ -136,6 +136,26 @@ fn number_or(usual: usize, rest: &[u8]) -> Option<usize>
     }
 }
 
+/// Whether `all` is the only word left.
+fn is_all(rest: &[u8]) -> bool
+    ensures { result ≡ spec.is_all (spec.only_word (words rest.now)) }
+{
+    match only_word(rest) {
+        None => false,
+        Some(word) => word == b"all".as_slice(),
+    }
+}
+
+/// The number that is the only word left, or one where no word is; or of `all` as many as there can be.
+fn redo_in(rest: &[u8]) -> Option<usize>
+    ensures { result ≡ spec.redo_in (words rest.now) }
+{
+    if is_all(rest) {
+        return Some(STEPS_MAX);
+    }
+    number_or(1, rest)
+}
+
 /// The word, where no other is left.
 fn alone(word: Word, rest: &[u8]) -> Option<Word>
     ensures { result ≡ spec.alone word (words rest.now) }
@@ -188,10 +208,10 @@ fn change_of(rank: usize, cell: Result<Named, NameFault>) -> Result<Word, WordFa
             if named.cells == 1 {
                 return Ok(Word::Break(break_on(rank, named.kind, named.first)));
             }
-            Err(WordFault::NoSuchNumber)
+            Err(WordFault::NoIndex)
         }
         Err(NameFault::Unknown) => Err(WordFault::NoName(3)),
-        Err(NameFault::NoSuchCell) => Err(WordFault::NoSuchNumber),
+        Err(NameFault::NoSuchCell) => Err(WordFault::NoSuchIndex),
     }
 }
 
@@ -246,7 +266,7 @@ fn print_of(cells: Result<Named, NameFault>, rank: Option<usize>) -> Result<Word
     match cells {
         Ok(named) => Ok(Word::Print(named, rank)),
         Err(NameFault::Unknown) => Err(WordFault::NoName(1)),
-        Err(NameFault::NoSuchCell) => Err(WordFault::NoSuchNumber),
+        Err(NameFault::NoSuchCell) => Err(WordFault::NoSuchIndex),
     }
 }
 
@@ -317,7 +337,7 @@ fn word_with(code: &Code, topic: Topic, line: &[u8], rest: &[u8]) -> Result<Word
         Topic::RunBack => fitting(topic, alone(Word::RunBack, rest)),
         Topic::UndoChoice => fitting(topic, alone(Word::UndoChoice, rest)),
         Topic::Goto => fitting(topic, only_number(rest).map(Word::Goto)),
-        Topic::Redo => fitting(topic, number_or(1, rest).map(Word::Redo)),
+        Topic::Redo => fitting(topic, redo_in(rest).map(Word::Redo)),
         Topic::Local | Topic::Match | Topic::Wake | Topic::WakeAny | Topic::Release => {
             fitting(topic, step_in(line))
         }

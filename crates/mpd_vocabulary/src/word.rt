@@ -80,5 +80,7 @@ pub enum WordFault {
     /// This word of the line is no name of a variable or a request.
     NoName(usize),
     /// An index is none of its array.
-    NoSuchNumber,
+    NoSuchIndex,
+    /// An array has no index where one cell is meant.
+    NoIndex,
 }

@@ -1,13 +1,17 @@
 //! Words that ask the session for something that changes it: what they ask, and what is told of the reply (docs/CONSOLE.md, "Answers").
 
-ghost use Rattle.std.specs.Prelude.{◌≡◌, ◌++◌, IfOk, OnOk, None, Some, slice_get, string_bytes};
+ghost use Rattle.std.specs.Prelude.{◌≡◌, ◌==◌, ◌++◌, IfOk, OnOk, None, Some, slice_get, string_bytes};
+ghost use Rattle.std.specs.List.{list_any};
 ghost use Rattle.mpd_model.specs.runs.Decisions.{decision};
 ghost use Rattle.mpd_policy.specs.Single.{single};
 ghost use Rattle.mpd_names.specs.Called.{break_text};
 ghost use Rattle.mpd_view.specs.Steps.{step_words};
 ghost use Rattle.mpd_view.specs.Standing.{standing_text};
-ghost use Rattle.mpd_console.specs.Moves as spec;
+ghost use Rattle.mpd_moves.specs.News.{told};
+ghost use Rattle.mpd_moves.specs.Moves as spec;
 
+use crate::news::{Known, push_news};
+use mpd_code::Code;
 use mpd_core::Core;
 use mpd_model::{Break, Cause, Decision, Decl, Step, Stop};
 use mpd_names::push_break;
@@ -74,7 +78,7 @@ fn single(decision: &Decision) -> Option<Step>
 }
 
 /// Whether a run would stop here at a choice though the step that is taken there lies ahead.
-#[tactic(auto, using(crate::proofs::MoveLemmas::going))]
+#[tactic(auto, using(crate::proofs::MoveLemmas::along_is))]
 fn goes_along(alloc: Global, debugger: &Debugger<'_>) -> Result<bool, AllocError>
     ensures { IfOk result (λ b. b ≡ spec.goes_along debugger.now.trail debugger.now.world) }
 {
@@ -82,18 +86,30 @@ fn goes_along(alloc: Global, debugger: &Debugger<'_>) -> Result<bool, AllocError
     Ok(is_alone(debugger.next_undone(), only))
 }
 
-/// What `next` asks for: the step that comes next, or with a number so many; at a choice a candidate.
+/// What `next` asks for alone, where it is known whether a step comes next, and whether one lies ahead.
+fn next_alone(comes: bool, lies_ahead: bool) -> Command
+    ensures { result ≡ spec.next_alone comes lies_ahead }
+{
+    if comes {
+        return Command::Next(Some(0));
+    }
+    if lies_ahead {
+        return Command::Redo(1);
+    }
+    Command::Next(None)
+}
+
+/// What `next` asks for: the step that comes next, or with a number so many; at a choice a candidate, or the step that lies ahead.
 fn next_command(
     alloc: Global,
-    core: &Core<'_>,
+    debugger: &Debugger<'_>,
     number: Option<usize>,
 ) -> Result<Command, AllocError>
-    ensures { IfOk result (λ c. c ≡ spec.next_command core.now.world number) }
+    ensures { IfOk result (λ c. c ≡ spec.next_command debugger.now.trail debugger.now.world number) }
 {
-    let comes = only_step(alloc, core)?.is_some();
+    let comes = only_step(alloc, debugger.core())?.is_some();
     match number {
-        None if comes => Ok(Command::Next(Some(0))),
-        None => Ok(Command::Next(None)),
+        None => Ok(next_alone(comes, debugger.next_undone().is_some())),
         Some(number) if comes => Ok(Command::RunOn(number)),
         Some(number) => Ok(Command::Next(Some(from_one(number)))),
     }
@@ -135,15 +151,11 @@ fn goto_command(debugger: &Debugger<'_>, depth: usize) -> Command
 }
 
 /// What a word does with the session of a debugger. An `Err` is want of memory.
-pub(crate) fn doing_of(
-    alloc: Global,
-    debugger: &Debugger<'_>,
-    word: Word,
-) -> Result<Doing, AllocError>
+pub fn doing_of(alloc: Global, debugger: &Debugger<'_>, word: Word) -> Result<Doing, AllocError>
     ensures { IfOk result (λ doing. doing ≡ spec.doing_of debugger.now.trail debugger.now.world word) }
 {
     match word {
-        Word::Next(number) => Ok(Doing::Asks(next_command(alloc, debugger.core(), number)?)),
+        Word::Next(number) => Ok(Doing::Asks(next_command(alloc, debugger, number)?)),
         Word::Run(max) => Ok(Doing::Asks(run_command(alloc, debugger, max)?)),
         Word::Back(count) => Ok(Doing::Asks(Command::Back(count))),
         Word::RunBack => Ok(Doing::Asks(Command::RunBack)),
@@ -196,26 +208,26 @@ fn picked_at(decision: &Decision, number: usize, only: Option<Step>) -> Option<S
     }
 }
 
-/// The step that is taken next, by the candidate of this number, from 1, at a choice.
-fn picked(decision: &Decision, number: Option<usize>) -> Option<Step>
-    ensures { result ≡ spec.picked number decision.now }
+/// The step that is taken next, by the candidate of this number, from 1, at a choice, or the one that lies ahead.
+fn picked(decision: &Decision, number: Option<usize>, ahead: Option<Step>) -> Option<Step>
+    ensures { result ≡ spec.picked ahead number decision.now }
 {
     match number {
-        None => single(decision),
+        None => single(decision).or(ahead),
         Some(number) => picked_at(decision, number, single(decision)),
     }
 }
 
-/// The step that comes next, where there is one.
+/// The step that `next` takes, where it takes one.
 fn next_step(
     alloc: Global,
-    core: &Core<'_>,
+    debugger: &Debugger<'_>,
     number: Option<usize>,
 ) -> Result<Option<Step>, AllocError>
-    ensures { IfOk result (λ step. step ≡ spec.picked number (decision core.now.world)) }
+    ensures { IfOk result (λ step. step ≡ spec.picked (slice_get debugger.now.trail.steps debugger.now.trail.depth) number (decision debugger.now.world)) }
 {
-    let decision = decide(alloc, core)?;
-    Ok(picked(&decision, number))
+    let decision = decide(alloc, debugger.core())?;
+    Ok(picked(&decision, number, debugger.next_undone()))
 }
 
 /// The step that is taken again by a request for one.
@@ -233,7 +245,7 @@ fn step_of(alloc: Global, debugger: &Debugger<'_>, word: Word) -> Result<Option<
     ensures { IfOk result (λ step. step ≡ spec.step_for debugger.now.trail debugger.now.world word) }
 {
     match word {
-        Word::Next(number) => next_step(alloc, debugger.core(), number),
+        Word::Next(number) => next_step(alloc, debugger, number),
         Word::Run(max) => Ok(redone_step(debugger, run_command(alloc, debugger, max)?)),
         Word::Redo(count) => Ok(redone_step(debugger, redo_command(debugger, count))),
         Word::Step(step) => Ok(Some(step)),
@@ -242,7 +254,7 @@ fn step_of(alloc: Global, debugger: &Debugger<'_>, word: Word) -> Result<Option<
 }
 
 /// The step that a word takes, in words, before it is taken; empty where it takes none, or several. An `Err` is want of memory.
-pub(crate) fn lead(alloc: Global, debugger: &Debugger<'_>, word: Word) -> Result<String, AllocError>
+pub fn lead(alloc: Global, debugger: &Debugger<'_>, word: Word) -> Result<String, AllocError>
     ensures { IfOk result (λ t. string_bytes t ≡ spec.lead_text debugger.now.trail debugger.now.world word) }
 {
     let mut out = String::new(alloc);
@@ -281,7 +293,7 @@ fn push_break_parts(
 }
 
 /// Adds the line of a breakpoint.
-pub(crate) fn push_break_line(
+pub fn push_break_line(
     out: &mut String,
     decls: &[Decl],
     number: usize,
@@ -349,14 +361,47 @@ fn push_ran(out: &mut String, word: Word, depth: usize, count: usize) -> Result<
     write!(out, ", depth {depth}\n")
 }
 
-/// Adds what is told of a breakpoint that was set.
-fn push_added(out: &mut String, decls: &[Decl], word: Word, number: usize) -> Result<(), AllocError>
-    ensures { OnOk result (string_bytes out.new ≡ string_bytes out.old ++ spec.added_line decls.now word number) }
+/// Whether a line is among some.
+fn is_among(lines: &[usize], line: usize) -> bool
+    ensures { result ≡ list_any (λ l. l == line) lines.now }
 {
-    match word {
-        Word::Break(stop) => push_break_line(out, decls, number, stop),
-        _ => Ok(()),
+    for other in lines {
+        if *other == line {
+            return true;
+        }
     }
+    false
+}
+
+/// Adds that no statement begins at a line, where that is so.
+fn push_statement(out: &mut String, lines: &[usize], line: usize) -> Result<(), AllocError>
+    ensures { OnOk result (string_bytes out.new ≡ string_bytes out.old ++ spec.statement_line lines.now line) }
+{
+    if is_among(lines, line) {
+        return Ok(());
+    }
+    write!(out, "no statement begins at line {line}\n")
+}
+
+/// Adds that to a breakpoint of a line or of a match.
+fn push_note(out: &mut String, lines: &[usize], stop: Break) -> Result<(), AllocError>
+    ensures { OnOk result (string_bytes out.new ≡ string_bytes out.old ++ spec.break_note lines.now stop) }
+{
+    match stop {
+        Break::Line(line) | Break::Match(line) => push_statement(out, lines, line),
+        Break::Change { .. } | Break::Handle { .. } => Ok(()),
+    }
+}
+
+/// Adds what is told of a breakpoint that was set.
+fn push_added(out: &mut String, code: &Code, word: Word, number: usize) -> Result<(), AllocError>
+    ensures { OnOk result (string_bytes out.new ≡ string_bytes out.old ++ spec.added_line code.now.program word number) }
+{
+    let Word::Break(stop) = word else {
+        return Ok(());
+    };
+    push_break_line(out, code.decls(), number, stop)?;
+    push_note(out, code.lines(), stop)
 }
 
 /// Adds what is told of a breakpoint that was removed.
@@ -390,9 +435,20 @@ fn stands_behind(is_next: bool, refusal: Refusal) -> bool
     }
 }
 
+/// Which numbers a word may have.
+fn range_line(word: Word) -> &'static str
+    ensures { result.now ≡ spec.range_line word }
+{
+    match word {
+        Word::Break(Break::Line(_) | Break::Match(_)) => "refused: lines are 1 to 65537\n",
+        Word::Break(_) => "refused: there is no such rank\n",
+        _ => "refused: 1 to 1000000 steps can be asked for\n",
+    }
+}
+
 /// The line of a refusal.
-fn refusal_line(is_next: bool, refusal: Refusal) -> &'static str
-    ensures { result.now ≡ spec.refusal_line is_next refusal }
+fn refusal_line(is_next: bool, word: Word, refusal: Refusal) -> &'static str
+    ensures { result.now ≡ spec.refusal_line is_next word refusal }
 {
     match refusal {
         Refusal::NotEnabled if is_next => "",
@@ -403,7 +459,7 @@ fn refusal_line(is_next: bool, refusal: Refusal) -> &'static str
         Refusal::NoSuchBreak => "refused: no breakpoint has this number\n",
         Refusal::BreaksFull => "refused: 64 breakpoints are set\n",
         Refusal::BadNumber if is_next => "refused: there is no such candidate\n",
-        Refusal::BadNumber => "refused: no such number\n",
+        Refusal::BadNumber => range_line(word),
         Refusal::NeedsChoice { .. }
         | Refusal::LineTooLong
         | Refusal::NotJson
@@ -426,7 +482,7 @@ fn push_refused(
     ensures { OnOk result (string_bytes out.new ≡ string_bytes out.old ++ spec.refused_text text.now debugger.now.trail debugger.now.world word refusal) }
 {
     let is_next = asks_next(alloc, debugger.core(), word)?;
-    out.push_str(refusal_line(is_next, refusal))?;
+    out.push_str(refusal_line(is_next, word, refusal))?;
     if stands_behind(is_next, refusal) {
         push_standing(alloc, debugger, text, out)?;
     }
@@ -443,10 +499,12 @@ fn push_run(
     word: Word,
     depth: usize,
     stop: Stop,
+    known: &Known,
 ) -> Result<(), AllocError>
-    ensures { OnOk result (string_bytes out.new ≡ string_bytes out.old ++ spec.run_text text.now debugger.now.trail debugger.now.world breaks.now word depth stop) }
+    ensures { OnOk result (string_bytes out.new ≡ string_bytes out.old ++ spec.run_text text.now debugger.now.trail debugger.now.world breaks.now word depth stop (told known.now.depth known.now.printed.items known.now.lost.items)) }
 {
     push_ran(out, word, depth, stop.steps)?;
+    push_news(alloc, debugger, out, known)?;
     push_cause(
         out,
         debugger.core().code().decls(),
@@ -457,23 +515,38 @@ fn push_run(
     push_standing(alloc, debugger, text, out)
 }
 
+/// What is told behind a step that `run` takes at a choice.
+fn along_line(word: Word) -> &'static str
+    ensures { result.now ≡ spec.along_line word }
+{
+    match word {
+        Word::Run(_) => "stopped: behind the choice\n",
+        _ => "",
+    }
+}
+
 /// Adds what is told of a move.
 fn push_move(
     alloc: Global,
     debugger: &Debugger<'_>,
     text: &[u8],
     out: &mut String,
+    word: Word,
     depth: usize,
     lead: &str,
+    known: &Known,
 ) -> Result<(), AllocError>
-    ensures { OnOk result (string_bytes out.new ≡ string_bytes out.old ++ spec.move_text text.now debugger.now.trail debugger.now.world depth lead.now) }
+    ensures { OnOk result (string_bytes out.new ≡ string_bytes out.old ++ spec.move_text text.now debugger.now.trail debugger.now.world word depth lead.now (told known.now.depth known.now.printed.items known.now.lost.items)) }
 {
     push_moved(out, depth, lead)?;
+    push_news(alloc, debugger, out, known)?;
+    out.push_str(along_line(word))?;
     push_standing(alloc, debugger, text, out)
 }
 
-/// Adds what is told of a reply to a word, behind it. `lead` is what was told of its step before. An `Err` is want of memory.
-pub(crate) fn push_reply(
+/// Adds what is told of a reply to a word, behind it. `lead` is what was told of its step before, and `known` what was known then. An
+/// `Err` is want of memory.
+pub fn push_reply(
     alloc: Global,
     debugger: &Debugger<'_>,
     text: &[u8],
@@ -481,19 +554,23 @@ pub(crate) fn push_reply(
     out: &mut String,
     word: Word,
     lead: &str,
+    known: &Known,
     reply: &Reply,
 ) -> Result<(), AllocError>
-    ensures { OnOk result (string_bytes out.new ≡ string_bytes out.old ++ spec.reply_text text.now debugger.now.trail debugger.now.world breaks.now word lead.now reply.now) }
+    ensures { OnOk result (string_bytes out.new ≡ string_bytes out.old ++ spec.reply_text text.now debugger.now.trail debugger.now.world breaks.now word lead.now (told known.now.depth known.now.printed.items known.now.lost.items) reply.now) }
 {
     match reply {
         Reply::Refused(refusal) => push_refused(alloc, debugger, text, out, word, *refusal),
         Reply::Done { answer, .. } => match answer {
-            Answer::Depth(depth) => push_move(alloc, debugger, text, out, *depth, lead),
-            Answer::Stepped { depth, .. } => push_move(alloc, debugger, text, out, *depth, lead),
-            Answer::Ran { depth, stop } => {
-                push_run(alloc, debugger, text, breaks, out, word, *depth, *stop)
+            Answer::Depth(depth) | Answer::Stepped { depth, .. } => {
+                push_move(alloc, debugger, text, out, word, *depth, lead, known)
             }
-            Answer::Added(number) => push_added(out, debugger.core().code().decls(), word, *number),
+            Answer::Ran { depth, stop } => {
+                push_run(
+                    alloc, debugger, text, breaks, out, word, *depth, *stop, known,
+                )
+            }
+            Answer::Added(number) => push_added(out, debugger.core().code(), word, *number),
             Answer::Removed => push_removed(out, word),
             Answer::Enabled(_)
             | Answer::State { .. }

@@ -1,10 +1,12 @@
 -- Words that ask the session for something that changes it: what they ask, and what is told of the reply.
 use Rattle.std.specs.Prelude.{ℕ, ◌-◌, ◌==◌, Bool, true, false, ◌&&◌, nat_lt, nat_le, is_some, is_none, if◌then◌else◌, List, [], ◌∷◌, ◌++◌, length, slice_get, Option, Some, None, codes}
 use Rattle.std.specs.Fmt.{decimal}
+use Rattle.std.specs.List.{list_any}
 use Rattle.mpd_model.specs.declared.step.Step.{Step}
 use Rattle.mpd_model.specs.declared.decision.Decision.{Decision}
 use Rattle.mpd_model.specs.declared.decision.Decision.TheVariants.{Forced, Choice, Leaf}
 use Rattle.mpd_model.specs.declared.breakpoint.Break.{Break}
+use Rattle.mpd_model.specs.declared.breakpoint.Break.TheVariants as on
 use Rattle.mpd_model.specs.declared.breakpoint.Cause.{Cause}
 use Rattle.mpd_model.specs.declared.breakpoint.Cause.TheVariants as for
 use Rattle.mpd_model.specs.declared.breakpoint.Stop.{Stop}
@@ -27,11 +29,12 @@ use Rattle.mpd_policy.specs.Single.{single, only_step}
 use Rattle.mpd_names.specs.Called.{break_text}
 use Rattle.mpd_view.specs.Steps.{step_words}
 use Rattle.mpd_view.specs.Standing.{standing_text}
-use Rattle.mpd_console.specs.declared.moves.TheConstants.{NO_CANDIDATE}
-use Rattle.mpd_console.specs.declared.moves.Doing.{Doing}
-use Rattle.mpd_console.specs.declared.moves.Doing.TheVariants.{Asks, Undoes, Seeks, Follows, Looks}
+use Rattle.mpd_moves.specs.declared.moves.TheConstants.{NO_CANDIDATE}
+use Rattle.mpd_moves.specs.declared.moves.Doing.{Doing}
+use Rattle.mpd_moves.specs.declared.moves.Doing.TheVariants.{Asks, Undoes, Seeks, Follows, Looks}
 use Rattle.mpd_search.specs.declared.way.Way.TheVariants as way
 use Rattle.mpd_search.specs.Seek.{count_words}
+use Rattle.mpd_moves.specs.News.{Known, news_text}
 use Rattle.mpd_vocabulary.specs.declared.word.Word.{Word}
 use Rattle.mpd_vocabulary.specs.declared.word.Word.TheVariants as word
 
@@ -47,11 +50,6 @@ asks_next w (word.Next None) = true
 asks_next w (word.Next (Some n)) = is_none (only_step w)
 asks_next w other = false
 
--- a step that comes next is taken as the first candidate is, which is looked at where it is a candidate alone
-abbrev pub next_command : World → Option ℕ → Command
-next_command w None = if is_some (only_step w) then command.Next (Some 0) else command.Next None
-next_command w (Some n) = if is_some (only_step w) then command.RunOn n else command.Next (Some (from_one n))
-
 -- how many steps are undone
 abbrev pub ahead_of : Trail → ℕ
 ahead_of t = length t.steps - t.depth
@@ -63,6 +61,14 @@ is_alone one other = is_some one && is_none other
 
 abbrev pub goes_along : Trail → World → Bool
 goes_along t w = is_alone (slice_get t.steps t.depth) (only_step w)
+
+-- a step that comes next is taken as the first candidate is, which is looked at where it is a candidate alone; `next` goes along, too
+abbrev pub next_alone : Bool → Bool → Command
+next_alone comes along = if comes then command.Next (Some 0) else (if along then command.Redo 1 else command.Next None)
+
+abbrev pub next_command : Trail → World → Option ℕ → Command
+next_command t w None = next_alone (is_some (only_step w)) (is_some (slice_get t.steps t.depth))
+next_command t w (Some n) = if is_some (only_step w) then command.RunOn n else command.Next (Some (from_one n))
 
 -- `run` goes along: at a choice it takes the step that lies ahead
 abbrev pub run_command : Trail → World → ℕ → Command
@@ -79,7 +85,7 @@ goto_command t n = if nat_lt t.depth n && nat_le (n - t.depth) (ahead_of t) then
 -- what a word does with a session: it asks for something that changes it, goes back to the last choice, lays a run ahead, the first that
 -- ends so or that of a number, or changes nothing
 abbrev pub doing_of : Trail → World → Word → Doing
-doing_of t w (word.Next n) = Asks (next_command w n)
+doing_of t w (word.Next n) = Asks (next_command t w n)
 doing_of t w (word.Run n) = Asks (run_command t w n)
 doing_of t w (word.Back n) = Asks (command.Back n)
 doing_of t w word.RunBack = Asks command.RunBack
@@ -106,10 +112,16 @@ abbrev pub picked_at : ℕ → Decision → Option Step → Option Step
 picked_at n d None = candidate n d
 picked_at n d (Some a) = None
 
--- the step that `next` takes, by the candidate of this number at a choice; where a step comes next, a number is one of steps
-abbrev pub picked : Option ℕ → Decision → Option Step
-picked None d = single d
-picked (Some n) d = picked_at n d (single d)
+-- the one step, or where there is none the other
+abbrev pub or_else : Option Step → Option Step → Option Step
+or_else None other = other
+or_else (Some a) other = Some a
+
+-- the step that `next` takes, by the candidate of this number at a choice, or the one that lies ahead; where a step comes next, a number is
+-- one of steps
+abbrev pub picked : Option Step → Option ℕ → Decision → Option Step
+picked ahead None d = or_else (single d) ahead
+picked ahead (Some n) d = picked_at n d (single d)
 
 -- the step that is taken again by a request for one
 abbrev pub redone_step : Trail → Command → Option Step
@@ -118,7 +130,7 @@ redone_step t other = None
 
 -- of a step by hand, `next`, and where one step is taken again by `redo` or `run`
 abbrev pub step_for : Trail → World → Word → Option Step
-step_for t w (word.Next n) = picked n (decision w)
+step_for t w (word.Next n) = picked (slice_get t.steps t.depth) n (decision w)
 step_for t w (word.Run n) = redone_step t (run_command t w n)
 step_for t w (word.Redo n) = redone_step t (redo_command t n)
 step_for t w (word.Step a) = Some a
@@ -138,8 +150,13 @@ abbrev pub moved_line : ℕ → List ℕ → List ℕ
 moved_line depth [] = line (codes "depth " ++ decimal depth)
 moved_line depth (b ∷ lead) = line (decimal depth ++ 32 ∷ b ∷ lead)
 
-abbrev pub move_text : List ℕ → Trail → World → ℕ → List ℕ → List ℕ
-move_text text t w depth lead = moved_line depth lead ++ standing_text text t w
+-- `run` takes a single step only at a choice
+abbrev pub along_line : Word → List ℕ
+along_line (word.Run n) = line (codes "stopped: behind the choice")
+along_line other = []
+
+abbrev pub move_text : List ℕ → Trail → World → Word → ℕ → List ℕ → Known → List ℕ
+move_text text t w x depth lead k = moved_line depth lead ++ news_text k t w ++ along_line x ++ standing_text text t w
 
 -- ---- what is told of a run
 
@@ -178,14 +195,23 @@ cause_line ds places x (for.Break n) = break_cause ds x n (break_at places n)
 abbrev pub ran_line : Word → ℕ → ℕ → List ℕ
 ran_line x depth count = line (count_words count ++ back_words x ++ codes ", depth " ++ decimal depth)
 
-abbrev pub run_text : List ℕ → Trail → World → List (Option Break) → Word → ℕ → Stop → List ℕ
-run_text text t w places x depth stop = ran_line x depth stop.steps ++ cause_line t.program.decls places x stop.cause ++ standing_text text t w
+abbrev pub run_text : List ℕ → Trail → World → List (Option Break) → Word → ℕ → Stop → Known → List ℕ
+run_text text t w places x depth stop k = ran_line x depth stop.steps ++ news_text k t w ++ cause_line t.program.decls places x stop.cause ++ standing_text text t w
 
 -- ---- breakpoints
 
-abbrev pub added_line : List Declared → Word → ℕ → List ℕ
-added_line ds (word.Break b) n = break_line ds n b
-added_line ds other n = []
+-- `no statement begins at line 7`, where that is so
+abbrev pub statement_line : List ℕ → ℕ → List ℕ
+statement_line lines n = if list_any (λ l. l == n) lines then [] else line (codes "no statement begins at line " ++ decimal n)
+
+abbrev pub break_note : List ℕ → Break → List ℕ
+break_note lines (on.Line n) = statement_line lines n
+break_note lines (on.Match n) = statement_line lines n
+break_note lines other = []
+
+abbrev pub added_line : Program → Word → ℕ → List ℕ
+added_line s (word.Break b) n = break_line s.decls n b ++ break_note s.lines b
+added_line s other n = []
 
 abbrev pub removed_line : Word → List ℕ
 removed_line (word.Delete n) = line (codes "deleted " ++ decimal n)
@@ -193,17 +219,27 @@ removed_line other = []
 
 -- ---- refusals
 
+-- which numbers there are, of a line or of a rank
+abbrev pub break_range : Break → List ℕ
+break_range (on.Line n) = line (codes "refused: lines are 1 to 65537")
+break_range (on.Match n) = line (codes "refused: lines are 1 to 65537")
+break_range other = line (codes "refused: there is no such rank")
+
+abbrev pub range_line : Word → List ℕ
+range_line (word.Break b) = break_range b
+range_line other = line (codes "refused: 1 to 1000000 steps can be asked for")
+
 -- `next` is answered with where it stands, and says why only where that doesn't tell
-abbrev pub refusal_line : Bool → Refusal → List ℕ
-refusal_line next refusal.NotEnabled = if next then [] else line (codes "refused: this step is not enabled")
-refusal_line next refusal.Full = line (codes "refused: no more than 1000000 steps are kept")
-refusal_line next refusal.AtStart = line (codes "refused: fewer steps are taken")
-refusal_line next refusal.NotBefore = line (codes "refused: fewer steps are taken")
-refusal_line next refusal.NoRedo = line (codes "refused: fewer steps are ahead")
-refusal_line next refusal.NoSuchBreak = line (codes "refused: no breakpoint has this number")
-refusal_line next refusal.BreaksFull = line (codes "refused: 64 breakpoints are set")
-refusal_line next refusal.BadNumber = if next then line (codes "refused: there is no such candidate") else line (codes "refused: no such number")
-refusal_line next other = []
+abbrev pub refusal_line : Bool → Word → Refusal → List ℕ
+refusal_line next x refusal.NotEnabled = if next then [] else line (codes "refused: this step is not enabled")
+refusal_line next x refusal.Full = line (codes "refused: no more than 1000000 steps are kept")
+refusal_line next x refusal.AtStart = line (codes "refused: fewer steps are taken")
+refusal_line next x refusal.NotBefore = line (codes "refused: fewer steps are taken")
+refusal_line next x refusal.NoRedo = line (codes "refused: fewer steps are ahead")
+refusal_line next x refusal.NoSuchBreak = line (codes "refused: no breakpoint has this number")
+refusal_line next x refusal.BreaksFull = line (codes "refused: 64 breakpoints are set")
+refusal_line next x refusal.BadNumber = if next then line (codes "refused: there is no such candidate") else range_line x
+refusal_line next x other = []
 
 -- where it stands follows, but where no more steps are kept
 abbrev pub stands_behind : Bool → Refusal → Bool
@@ -211,18 +247,18 @@ stands_behind next refusal.Full = false
 stands_behind next other = next
 
 abbrev pub refused_text : List ℕ → Trail → World → Word → Refusal → List ℕ
-refused_text text t w x r = refusal_line (asks_next w x) r ++ (if stands_behind (asks_next w x) r then standing_text text t w else [])
+refused_text text t w x r = refusal_line (asks_next w x) x r ++ (if stands_behind (asks_next w x) r then standing_text text t w else [])
 
 -- ---- what is told of a reply, behind the request, given the text of the script
 
-abbrev pub answer_text : List ℕ → Trail → World → List (Option Break) → Word → List ℕ → Answer → List ℕ
-answer_text text t w places x lead (answer.Depth depth) = move_text text t w depth lead
-answer_text text t w places x lead (answer.Stepped depth a) = move_text text t w depth lead
-answer_text text t w places x lead (answer.Ran depth stop) = run_text text t w places x depth stop
-answer_text text t w places x lead (answer.Added n) = added_line t.program.decls x n
-answer_text text t w places x lead answer.Removed = removed_line x
-answer_text text t w places x lead other = []
+abbrev pub answer_text : List ℕ → Trail → World → List (Option Break) → Word → List ℕ → Known → Answer → List ℕ
+answer_text text t w places x lead k (answer.Depth depth) = move_text text t w x depth lead k
+answer_text text t w places x lead k (answer.Stepped depth a) = move_text text t w x depth lead k
+answer_text text t w places x lead k (answer.Ran depth stop) = run_text text t w places x depth stop k
+answer_text text t w places x lead k (answer.Added n) = added_line t.program x n
+answer_text text t w places x lead k answer.Removed = removed_line x
+answer_text text t w places x lead k other = []
 
-abbrev pub reply_text : List ℕ → Trail → World → List (Option Break) → Word → List ℕ → Reply → List ℕ
-reply_text text t w places x lead (reply.Refused r) = refused_text text t w x r
-reply_text text t w places x lead (reply.Done v a) = answer_text text t w places x lead a
+abbrev pub reply_text : List ℕ → Trail → World → List (Option Break) → Word → List ℕ → Known → Reply → List ℕ
+reply_text text t w places x lead k (reply.Refused r) = refused_text text t w x r
+reply_text text t w places x lead k (reply.Done v a) = answer_text text t w places x lead k a

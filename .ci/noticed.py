@@ -1,0 +1,48 @@
+#!/usr/bin/env python3
+"""Says whether runs of broken models are due: a run that breaks the model on purpose, which must be noticed, shows that the run can fail.
+
+    .ci/noticed.py             at the top of the repository: prints `--broken` where these runs are due, and nothing where they are remembered
+    .ci/noticed.py --record    writes that all faults were noticed, of these files
+
+The program takes no part in them, so what they show depends on the files of `compare/`, of the examples and of two pages that rows read: a
+digest of those stands in `.ci/noticed.txt`. A whole gate that passes writes it, and an ordinary one makes these runs where it is another.
+"""
+import os
+import sys
+
+from record import bytes_of, digest_of, files_below
+
+FILE = '.ci/noticed.txt'
+FOLDERS = ('compare', 'examples')
+PAGES = ('docs/CONSOLE.md', 'docs/FORMATS.md')
+HEAD = '# Written by .ci/noticed.py --record behind a whole gate that passed, and never by hand.\n'
+
+
+def digest(root):
+    """A digest of all that the runs of broken models depend on."""
+    found = [it for folder in FOLDERS for it in files_below(f'{root}/{folder}') if '__pycache__' not in it]
+    return digest_of((os.path.relpath(it, root), bytes_of(it)) for it in [*found, *(f'{root}/{page}' for page in PAGES)])
+
+
+def is_remembered(root):
+    """Whether all faults were noticed of these files."""
+    try:
+        with open(f'{root}/{FILE}', encoding='utf-8') as it:
+            return it.read() == f'{HEAD}{digest(root)}\n'
+    except FileNotFoundError:
+        return False
+
+
+def record(root):
+    """Writes that all faults were noticed."""
+    with open(f'{root}/{FILE}', 'w', encoding='utf-8') as it:
+        it.write(f'{HEAD}{digest(root)}\n')
+
+
+if __name__ == '__main__':
+    if sys.argv[1:] == ['--record']:
+        record(os.getcwd())
+    elif sys.argv[1:]:
+        sys.exit(__doc__)
+    elif not is_remembered(os.getcwd()):
+        print('--broken')

@@ -1,0 +1,9 @@
+//! Words of the console that ask the session for something that changes it: what they ask, and what is told of the reply
+//! (docs/CONSOLE.md, "Words that move").
+#![tactic(auto)]
+
+pub mod moves;
+pub mod news;
+
+pub use moves::{Doing, doing_of, lead, push_break_line, push_reply};
+pub use news::{Known, known_of};

@@ -1,0 +1,205 @@
+//! What the steps of a word did: what ranks print by them, and the requests that are lost by them (docs/CONSOLE.md, "Answers").
+
+ghost use Rattle.std.specs.Prelude.{◌≡◌, ◌++◌, IfOk, OnOk, drop, get_or, slice_get, string_bytes};
+ghost use Rattle.std.specs.Fmt.{signed_decimal};
+ghost use Rattle.mpd_model.specs.runs.Decisions.{decision};
+ghost use Rattle.mpd_model.specs.texts.Texts.{spaced};
+ghost use Rattle.mpd_moves.specs.News as spec;
+
+use mpd_core::Core;
+use mpd_model::{CallId, Decision};
+use mpd_policy::decide;
+use mpd_trail::Debugger;
+use mpd_view::{lost_calls, push_lost_line};
+use std::alloc::{AllocError, Global};
+
+/// What is known of a session before a word, so that it can be told behind the word what its steps did.
+#[derive(Drop)]
+pub struct Known {
+    /// How many steps are not undone.
+    depth: usize,
+    /// How many values each rank has printed.
+    printed: Vec<usize>,
+    /// The requests that are lost.
+    lost: Vec<CallId>,
+}
+
+/// How many values a rank has printed; of a rank that isn't there none.
+#[tactic(auto, using(crate::proofs::NewsLemmas::absent))]
+fn printed_count(core: &Core<'_>, rank: usize) -> usize
+    ensures { result ≡ spec.printed_count (slice_get core.now.world.ranks rank) }
+{
+    if rank >= core.rank_count() {
+        return 0;
+    }
+    core.rank(rank).output().len()
+}
+
+/// How many values each rank has printed.
+fn printed_counts(alloc: Global, core: &Core<'_>) -> Result<Vec<usize>, AllocError>
+    ensures { IfOk result (λ v. v.items ≡ spec.printed_counts core.now.world) }
+{
+    let mut counts = Vec::new(alloc);
+    let ranks = core.rank_count();
+    for rank in 0..ranks {
+        counts.push(printed_count(core, rank))?;
+    }
+    Ok(counts)
+}
+
+/// What is known before a word is done. An `Err` is want of memory.
+pub fn known_of(alloc: Global, debugger: &Debugger<'_>) -> Result<Known, AllocError>
+    ensures { IfOk result (λ k. spec.told k.depth k.printed.items k.lost.items ≡ spec.known_of debugger.now.trail debugger.now.world) }
+{
+    let core = debugger.core();
+    Ok(Known {
+        depth: debugger.depth(),
+        printed: printed_counts(alloc, core)?,
+        lost: lost_calls(alloc, core)?,
+    })
+}
+
+/// Adds values, each with a space before it.
+fn push_spaced(out: &mut String, values: &[i64]) -> Result<(), AllocError>
+    ensures { OnOk result (string_bytes out.new ≡ string_bytes out.old ++ spaced signed_decimal values.now) }
+{
+    for value in values {
+        write!(out, " {value}")?;
+    }
+    Ok(())
+}
+
+/// Adds the line of values that a rank prints.
+fn push_prints_line(out: &mut String, rank: usize, values: &[i64]) -> Result<(), AllocError>
+    ensures { OnOk result (string_bytes out.new ≡ string_bytes out.old ++ spec.prints_line rank values.now) }
+{
+    write!(out, "rank {rank} prints")?;
+    push_spaced(out, values)?;
+    out.push('\n')
+}
+
+/// Adds that line, of the values behind the first so many, where there are more.
+fn push_prints_behind(
+    out: &mut String,
+    rank: usize,
+    count: usize,
+    values: &[i64],
+) -> Result<(), AllocError>
+    ensures { OnOk result (string_bytes out.new ≡ string_bytes out.old ++ spec.prints_behind rank count values.now) }
+{
+    if count < values.len() {
+        let (_, behind) = values.split_at(count);
+        push_prints_line(out, rank, behind)?;
+    }
+    Ok(())
+}
+
+/// Adds what a rank prints behind so many values; of a rank that isn't there nothing.
+#[tactic(auto, using(crate::proofs::NewsLemmas::silent))]
+fn push_prints_of(
+    core: &Core<'_>,
+    out: &mut String,
+    rank: usize,
+    count: usize,
+) -> Result<(), AllocError>
+    ensures { OnOk result (string_bytes out.new ≡ string_bytes out.old ++ spec.prints_of rank count (slice_get core.now.world.ranks rank)) }
+{
+    if rank >= core.rank_count() {
+        return Ok(());
+    }
+    push_prints_behind(out, rank, count, core.rank(rank).output())
+}
+
+/// The number at a place, or 0 where there is none.
+fn count_at(counts: &[usize], rank: usize) -> usize
+    ensures { result ≡ get_or counts.now rank 0 }
+{
+    counts.get(rank).copied().unwrap_or(0)
+}
+
+/// Adds what all ranks print.
+fn push_prints(core: &Core<'_>, out: &mut String, counts: &[usize]) -> Result<(), AllocError>
+    ensures { OnOk result (string_bytes out.new ≡ string_bytes out.old ++ spec.prints_text counts.now core.now.world) }
+{
+    let ranks = core.rank_count();
+    for rank in 0..ranks {
+        push_prints_of(core, out, rank, count_at(counts, rank))?;
+    }
+    Ok(())
+}
+
+/// Whether a call is among some.
+fn is_among(calls: &[CallId], call: CallId) -> bool
+    ensures { result ≡ spec.is_among calls.now call }
+{
+    for other in calls {
+        if call.rank == other.rank && call.index == other.index {
+            return true;
+        }
+    }
+    false
+}
+
+/// Adds the line of a request that is lost, where it wasn't before.
+fn push_new_line(
+    core: &Core<'_>,
+    out: &mut String,
+    before: &[CallId],
+    call: CallId,
+) -> Result<(), AllocError>
+    ensures { OnOk result (string_bytes out.new ≡ string_bytes out.old ++ spec.new_line core.now.program core.now.world before.now call) }
+{
+    if is_among(before, call) {
+        return Ok(());
+    }
+    push_lost_line(core, out, call)
+}
+
+/// Adds these lines.
+fn push_new_lines(
+    core: &Core<'_>,
+    out: &mut String,
+    before: &[CallId],
+    calls: &[CallId],
+) -> Result<(), AllocError>
+    ensures { OnOk result (string_bytes out.new ≡ string_bytes out.old ++ spec.new_lines core.now.program core.now.world before.now calls.now) }
+{
+    for call in calls {
+        push_new_line(core, out, before, *call)?;
+    }
+    Ok(())
+}
+
+/// Adds the requests that are lost, and weren't before, where the run isn't at an end.
+fn push_losses(
+    alloc: Global,
+    core: &Core<'_>,
+    out: &mut String,
+    before: &[CallId],
+) -> Result<(), AllocError>
+    ensures { OnOk result (string_bytes out.new ≡ string_bytes out.old ++ spec.losses_by (decision core.now.world) core.now.program core.now.world before.now) }
+{
+    match decide(alloc, core)? {
+        Decision::Leaf(_) => Ok(()),
+        Decision::Forced(_) | Decision::Choice(_) => {
+            push_new_lines(core, out, before, &lost_calls(alloc, core)?)
+        }
+    }
+}
+
+/// Adds what the steps of a word did, where more are taken than before it. An `Err` is want of memory.
+pub(crate) fn push_news(
+    alloc: Global,
+    debugger: &Debugger<'_>,
+    out: &mut String,
+    known: &Known,
+) -> Result<(), AllocError>
+    ensures { OnOk result (string_bytes out.new ≡ string_bytes out.old ++ spec.news_text (spec.told known.now.depth known.now.printed.items known.now.lost.items) debugger.now.trail debugger.now.world) }
+{
+    if known.depth >= debugger.depth() {
+        return Ok(());
+    }
+    let core = debugger.core();
+    push_prints(core, out, &known.printed)?;
+    push_losses(alloc, core, out, &known.lost)
+}
