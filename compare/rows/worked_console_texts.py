@@ -261,6 +261,8 @@ usage: goto N
 usage: redo [N], redo all
 > redo All
 usage: redo [N], redo all
+> redo a
+usage: redo [N], redo all
 > redo all 1
 usage: redo [N], redo all
 > redo 1 all

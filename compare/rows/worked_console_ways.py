@@ -530,6 +530,15 @@ stopped: behind the choice
 4 steps, depth 11
 rank 0 prints 1
 {HANG_END}
+> goto 0
+depth 0
+11 ahead: local 0: line 2
+    2  if rank == 0 {{
+> goto 9
+depth 9
+rank 0 prints 1
+2 ahead: local 0: line 5
+    5    recv x from 2 tag 0;
 '''))
 
 
