@@ -82,7 +82,8 @@ FOLLOWING = {
     'break': ((NUMBER,), (literal('line'), NUMBER), (literal('match'), NUMBER), (literal('change'), NUMBER, NAME)), 'delete': ((NUMBER,),),
     'breaks': ((),), 'list': MAYBE_NUMBER, 'print': ((NAME,), (NAME, NUMBER)), 'vars': MAYBE_NUMBER, 'ranks': ((),), 'calls': MAYBE_NUMBER,
     'queues': ((),), 'why': ((), (NUMBER,), (CALL,)), 'history': MAYBE_NUMBER, 'picture': ((),), 'check': MAYBE_NUMBER,
-    'follow': ((NUMBER,),), 'deadlock': ((),), 'trap': ((),), 'words': ((),), 'enabled': ((),), 'show': ((),), 'help': ((), (any_word,)), 'quit': ((),)}
+    'follow': ((NUMBER,),), 'deadlock': ((),), 'trap': ((),), 'words': ((),), 'enabled': ((),), 'show': ((),),
+    'help': ((), (any_word,)), 'quit': ((),)}
 
 
 class Asked(NamedTuple):
