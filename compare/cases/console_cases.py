@@ -4,6 +4,7 @@ Most lines fit the script where the console stands then: its ranks, names, lines
 them, are no word, don't fit it, have numbers that are out of range, are comments, empty, too long, or have bytes that are no text.
 """
 
+import re
 from collections import Counter
 from itertools import islice
 from random import Random
@@ -15,7 +16,7 @@ from cases.session_cases import is_short
 from cases.walks import random_step, respaced, step_line
 from model import debugger, explorer, policy
 from model.console import NO_FILE, Console, debug, is_blank, way
-from model.console_words import TABLE, Asked, NotAsked, full_name, names_of
+from model.console_words import ALL, TABLE, Asked, NotAsked, full_name, names_of
 from model.debugger import RENDEZVOUS, Debugger, enabled_steps, lines_of, step_text
 from model.explorer import CUT, leaf_lines, walk
 from model.files import held
@@ -37,6 +38,8 @@ NO_WORDS = ('zap', 'step', 'finish', 'quitt', 'un do', 'undo', 'undo-', 'undo_ch
             'nex\xb2')
 BEHIND = ('', '', ' 0', ' 1', ' x', ' 0 0', ' 1.0', ' # why', ' 0.0 1.0', ' \xff')
 COMMENTS = ('#', '# so', '#next', '  # next', '\t#', '# \xff', '## run')
+# A name for requests, with its size or without, which isn't 0.
+REQUEST = re.compile(rb'req (\w+)(\[[1-9]\d*\])?;')
 STEPS_AND_QUIT = 'quit', 'q', 'release', 'wake', 'wakeany', 'local'
 LAST_LINES = b'next\r', b'#', b'\r', b'x' * 4097, b'show' + b' ' * 4093, b'show' + b' ' * 4092
 ENDS = session_cases.ENDS
@@ -57,11 +60,11 @@ def shares(usual=2, **named):
     return {word: named.get(word.replace('-', '_'), usual) for word in words}
 
 
-MOVING = Habits(shares(1, next=16, run=12, back=5, run_back=4, undo_choice=6, goto=6, redo=8, local=10, deadlock=3, trap=3, follow=4, history=2),
+MOVING = Habits(shares(1, next=20, run=12, back=5, run_back=4, undo_choice=6, goto=7, redo=9, local=10, deadlock=3, trap=3, follow=4, history=2),
                 (25, 40, 60))
 STOPPING = Habits(shares(1, next=8, run=16, back=4, run_back=12, redo=5, goto=2, **{'break': 12}, delete=4, breaks=4), (30, 50))
 LOOKING = Habits(shares(3, next=12, run=12, why=16, print=16, vars=6, list=4, calls=4, queues=4, ranks=4, enabled=4, check=6), (30, 45))
-ENDING = Habits(shares(1, next=10, run=22, back=3, undo_choice=8, redo=10, deadlock=8, trap=6, follow=8, check=8, why=6, history=3, goto=4), (25, 40))
+ENDING = Habits(shares(1, next=14, run=22, back=4, undo_choice=9, redo=10, deadlock=8, trap=6, follow=8, check=8, why=6, history=3, goto=4), (25, 40))
 FILLING = Habits(shares(0, **{'break': 60}, delete=3, breaks=1, run=2, run_back=2), (90, 110), spoiled=0.01)
 SPOILED = Habits(shares(3, next=8, run=4), (40, 60), spoiled=0.6, empty=0.15)
 ALL_HABITS = (MOVING, MOVING, MOVING, STOPPING, STOPPING, LOOKING, LOOKING, LOOKING, ENDING, ENDING, ENDING, SPOILED, SPOILED, FILLING)
@@ -121,7 +124,7 @@ class Talk:
         if not names or self.chance(0.08):
             return self.random.choice(OTHER_NAMES) + self.random.choice(['', '', '[0]'])
         name, declared = self.random.choice(list(names.items()))
-        is_indexed = self.chance(0.6 if declared.size is not None else 0.04)
+        is_indexed = self.chance(0.6 if declared.size else 0.04 if declared.size is None else 0.3)
         return f'{name}[{self.edge(0, declared.size or 0, self.random.randint(0, declared.size or 1))}]' if is_indexed else name
 
     def call(self):
@@ -138,9 +141,15 @@ class Talk:
 
     def next(self):
         decided = self.console.decided
+        if self.console.can_choose_again and self.chance(0.5):
+            return ['next']
+        if self.is_at_single() and self.chance(0.4):
+            return ['next', self.edge(0, 1, 2, 3)]
         if isinstance(decided, Choice):
             count = len(decided.steps)
-            return ['next', *([str(self.random.randint(1, count))] if self.chance(0.7) else self.maybe(lambda: self.edge(0, count, count + 1), 0.5))]
+            if self.chance(0.15):
+                return ['next', self.random.choice(['0', str(count + 1), *EDGES])]
+            return ['next', *self.maybe(lambda: str(self.random.randint(1, count)), 0.8)]
         return ['next', *self.maybe(lambda: self.edge(0, 1, 2, 3, 5, 10, 30), 0.2)]
 
     def run(self):
@@ -159,6 +168,8 @@ class Talk:
 
     def redo(self):
         undone = self.console.session.undone()
+        if self.chance(0.3):
+            return ['redo', ALL]
         return ['redo', *self.maybe(lambda: self.edge(1, 2, undone, undone, undone + 2, self.random.randint(0, undone)), 0.5)]
 
     def local(self):
@@ -258,8 +269,9 @@ class Talk:
 
     def line(self):
         """The next line, without its end."""
-        is_along = self.console.last is not None and self.console.last.word == 'run' and bool(self.console.ahead)
-        if self.chance(0.3 if is_along else self.habits.empty):
+        is_along = self.console.last is not None and self.console.last.word in ('run', 'next') and bool(self.console.ahead)
+        is_next_again = self.console.last == Asked('next') and self.console.can_choose_again
+        if self.chance(0.7 if is_next_again else 0.35 if is_along else self.habits.empty):
             return self.random.choice([b'', b'', b' ', b'\t', b' \t '])
         words = self.habits.words
         parts = self.parts(self.random.choices(list(words), list(words.values()))[0])
@@ -326,10 +338,23 @@ class Talk:
         number, depth, undone = asked.given[0] if asked.given else 1, self.walked.depth, self.console.session.undone()
         self.met['a run that chooses again'] += asked.word == 'run' and self.console.can_choose_again and number != 0
         self.met['a run that chooses again by an empty line'] += asked.word == 'run' and is_blank(line) and self.console.can_choose_again
+        self.note_next(line, asked)
+        if asked == Asked('redo', (ALL,)):
+            self.met['all that are ahead'] += undone > 1
+            self.met['all that are ahead, which is one'] += undone == 1
+            return
         self.met['all that are ahead, and more were asked for'] += asked.word == 'redo' and 0 < undone < number
         self.met['a depth that is ahead'] += asked.word == 'goto' and depth < number <= depth + undone
         self.met['a breakpoint of the word line'] += asked.word == 'break' and number == 'line'
         self.note_choices(asked)
+
+    def note_next(self, line, asked):
+        """Counts where `next` takes the step ahead at a choice."""
+        is_again = asked == Asked('next') and self.console.can_choose_again
+        self.met['a step ahead at a choice, by next'] += is_again
+        self.met['a step ahead at a choice, by next and an empty line'] += is_again and is_blank(line)
+        self.met['a step ahead that is no candidate, by next'] += is_again and self.console.ahead[0] not in self.console.decided.steps
+        self.met['a candidate, and steps ahead'] += asked.word == 'next' and asked.given > (0,) and self.console.can_choose_again
 
     def note_choices(self, asked):
         """Counts where a choice is undone, and what goes so many steps or tells of all that wait."""
@@ -349,9 +374,13 @@ class Talk:
         return [depth for depth, world in enumerate(self.walked.worlds)
                 if isinstance(policy.decision(world), Choice) and isinstance(policy.settled(policy.decision(world)), Forced)]
 
+    def is_at_single(self):
+        """Whether a single candidate comes next."""
+        return isinstance(policy.decision(self.world), Choice) and isinstance(self.console.decided, Forced)
+
     def note_single(self, asked):
         """Counts what is done where a single candidate comes next, and breakpoints of requests."""
-        is_single = isinstance(policy.decision(self.world), Choice) and isinstance(self.console.decided, Forced)
+        is_single = self.is_at_single()
         self.met['a single candidate by next'] += is_single and asked == Asked('next')
         self.met['a single candidate by next and a number'] += is_single and asked.word == 'next' and asked.given > (0,)
         self.met['a single candidate by run'] += is_single and asked.word == 'run' and asked.given != (0,)
@@ -369,6 +398,15 @@ def with_carriage_returns(random, script):
     if draw < 0.08:
         return script.replace(b'\n', b'\r\n')
     return script.rstrip(b'\n') if draw < 0.16 else script
+
+
+def with_news(random, script):
+    """The script, whose ranks now and then print more at their ends, and lose a request there, where they have a name for one."""
+    draw, found = random.random(), REQUEST.search(script)
+    if draw < 0.2 and found:
+        name = found[1] if found[2] is None else found[1] + b'[0]'
+        return script + b'print rank;\nisend %b 1 to rank tag 0;\nprint -2;\nissend %b 2 to rank tag 1;\nprint 3;\n' % (name, name)
+    return script + b'print rank;\nprint -2;\n' if draw < 0.35 else script
 
 
 def script_for(seed, random, number, mode):
@@ -438,7 +476,8 @@ def random_case(seed, number):
     """One dialogue, the same each time."""
     random = Random(f'consoles/{seed}/{number}')
     mode = by_turns(random.choice(MODES_DRAWN), number)
-    script, habits = with_carriage_returns(random, script_for(seed, random, number, mode)), random.choice(ALL_HABITS)
+    script = with_news(random, script_for(seed, random, number, mode))
+    script, habits = with_carriage_returns(random, script), random.choice(ALL_HABITS)
     found = None
     try:
         found = witness_for(random, script, mode) if random.random() < 0.25 else None

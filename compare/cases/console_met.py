@@ -17,6 +17,8 @@ TOLD_BY = {
     'a run': r'\d+ steps, depth \d+', 'a run of one step': r'1 step, depth \d+', 'a run back': r'\d+ steps back, depth \d+',
     'a run back of one step': r'1 step back, depth \d+', 'at the start': r'at the start',
     'before a breakpoint': r'before breakpoint \d+: .*', 'stopped by a number': r'stopped: as many steps .*',
+    'stopped behind a choice': r'stopped: behind the choice', 'printed on the way': r'rank \d+ prints -?\d+',
+    'several values on the way': r'rank \d+ prints -?\d+( -?\d+)+', 'no statement at a line': r'no statement begins at line \d+',
     'a depth': r'depth \d+', 'a deadlock ahead': r'deadlock .* is \d+ steps? ahead', 'no deadlock': r'no deadlock: .*',
     'a trap ahead': r'trap .* is \d+ steps? ahead', 'no trap': r'no trap: .*',
     **{f'a run that is {way} ahead': rf'run \d+, {way}.*, is \d+ steps? ahead' for way in ('done', 'leftovers', 'deadlock', 'trap')},
@@ -50,7 +52,8 @@ TOLD_BY = {
     'a name that is none': r"no variable or request is called '.*[^\w'].*'",
     **{f'refused: {why}': f'refused: {why}' for why in (
         'this step is not enabled', 'there is no such candidate', 'there is no such run', 'no choice was made before',
-        'fewer steps are taken', 'fewer steps are ahead', 'no such number',
+        'fewer steps are taken', 'fewer steps are ahead', '1 to 1000000 steps can be asked for', '1 to 65536 runs can be asked for',
+        'lines are 1 to 65537', 'there is no such rank', 'there is no such call', 'there is no such index', 'an array needs an index here',
         'no breakpoint has this number', '64 breakpoints are set', 'this line is too long')},
     **{f'usage of {word}': rf'usage: .*\b{word}\b.*' for row in TABLE for word in row.words}}
 TOLD_BY = {name: re.compile(form) for name, form in TOLD_BY.items()}
@@ -63,7 +66,9 @@ OF_ERRORS = {'a witness that is refused': rb'mpdbg: witness refused .*', 'a witn
 OF_DIALOGUES = ('slots', 'buffered', 'rendezvous', 'no mode', 'version 2', 'a witness', 'a last line without an end', 'words behind the end',
                 'a script with carriage returns', 'a script whose last line does not end', 'an empty line that does the last word again',
                 'a short name', 'a run that chooses again', 'a run that chooses again by an empty line',
-                'all that are ahead, and more were asked for', 'a depth that is ahead', 'a breakpoint of the word line',
+                'all that are ahead, and more were asked for', 'all that are ahead', 'all that are ahead, which is one',
+                'a step ahead at a choice, by next', 'a candidate, and steps ahead',
+                'a depth that is ahead', 'a breakpoint of the word line',
                 'a choice undone, and forced steps', 'a choice undone, and steps that were undone', 'so many steps by next', 'why of several ranks',
                 'a run laid ahead in the place of others', 'a single candidate by next', 'a single candidate by next and a number',
                 'a single candidate by run', 'a single candidate, and steps ahead', 'a single candidate that undo-choice goes past',
@@ -73,7 +78,16 @@ OF_LINES = {'a line that goes on': r'\n {8}\S', 'a line that goes on twice': r'\
             'a line of the script': r'\nnext: .*\n +\d+  ',
             'two lines of the script': r'\nnext: match.*\n +\d+  .*\n +\d+  ',
             'lines of the script below what is ahead': r'\n\d+ ahead: match.*\n +\d+  .*\n', 'a line of the script at a choice': r'\nstopped at .*line \d+:\n +\d+  ',
-            'lost at an end': r'\nended: .*\n(  .*\n)*rank \d+ has lost'}
+            'lost at an end': r'\nended: .*\n(  .*\n)*rank \d+ has lost',
+            'printed in a step': r'\n\d+ local \d+: .*\nrank \d+ prints ', 'printed in a run': r'\n\d+ steps?, depth \d+\nrank \d+ prints ',
+            'printed in steps that are taken again': r'\ndepth \d+\nrank \d+ prints ',
+            'printed by several ranks': r'\nrank \d+ prints .*\nrank \d+ prints ',
+            'lost in a step': r'\n\d+ local \d+: .*\nrank \d+ has lost',
+            'lost in a run': r'\n\d+ steps?, depth \d+\n(rank \d+ prints .*\n)*rank \d+ has lost',
+            'lost in steps that are taken again': r'\ndepth \d+\n(rank \d+ prints .*\n)*rank \d+ has lost',
+            'printed and lost on the way': r'\nrank \d+ prints .*\nrank \d+ has lost',
+            'no statement of a line': r'\nbreakpoint \d+: line \d+\nno statement begins',
+            'no statement of a match': r'\nbreakpoint \d+: match \d+\nno statement begins'}
 MUST_MEET = (*TOLD_BY, *OF_EXPLANATIONS, *OF_ERRORS, *OF_DIALOGUES, *OF_LINES)
 
 

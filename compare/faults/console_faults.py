@@ -8,23 +8,19 @@ from inspect import isfunction
 
 from faults.console_faults_of_lines import line_faults
 from faults.console_faults_of_runs import run_faults
+from faults.console_faults_of_ways import way_faults
 from faults.console_faults_of_words import word_faults
 from faults.policy_faults import Breakage
 from model import console, console_lines, debugger, policy, session
 from model.console import Console
-from model.console_words import NotAsked
+from model.console_words import ALL, NotAsked
 from model.debugger import Result
 from model.policy import Forced
 from model.session import must_be
 from model.worlds import CallId
 
 SOUND = {name: value for name, value in vars(Console).items() if isfunction(value)}
-SOUND_NONE_CALLED, SOUND_REFUSED_WITNESS, NO_SUCH_NUMBER = console.none_called, console.refused_witness, console.REFUSALS[session.BAD_NUMBER]
-# Refusals that are told as others.
-REFUSED_OTHERWISE = (
-    ('goto', session.NOT_BEFORE, session.NO_REDO), ('redo', session.NO_REDO, session.AT_START), ('back', session.AT_START, session.BAD_NUMBER),
-    ('delete', session.NO_SUCH_BREAK, session.BAD_NUMBER), ('full', session.FULL, session.NOT_ENABLED),
-    ('breaks', session.BREAKS_FULL, session.BAD_NUMBER))
+SOUND_NONE_CALLED, SOUND_REFUSED_WITNESS = console.none_called, console.refused_witness
 
 
 def named(name, faults, owner=Console):
@@ -317,6 +313,12 @@ def choosing_again(change):
     return run
 
 
+def again(self, count=1):
+    """What is told of a run that takes steps ahead at a choice."""
+    lines = self.redo(count)
+    return [lines[0], console.BEHIND_CHOICE, *lines[1:]]
+
+
 def stays(self, *_):
     """What stays at the choice."""
     return self.stopped(policy.run_on(self.debugger, self.session.breaks, 1), '')
@@ -324,26 +326,32 @@ def stays(self, *_):
 
 def drops(self, *_):
     """What drops the other steps that are ahead."""
-    told = self.redo()
+    told = again(self)
     del self.debugger.steps[self.debugger.depth:]
-    return [told[0], *self.where()]
+    return [*told[:2], *self.where()]
 
 
 def runs_on(self, *_):
     """What runs on behind the choice."""
-    told = self.redo()
-    return [told[0], *self.stopped(policy.run_on(self.debugger, self.session.breaks, 100), '')[1:]]
+    told = again(self)
+    return [*told[:2], *self.stopped(policy.run_on(self.debugger, self.session.breaks, 100), '')[1:]]
+
+
+def first_candidate(self, *_):
+    """What takes the first candidate, and not the step ahead."""
+    lines = self.take(self.decided.steps[0])
+    return [lines[0], console.BEHIND_CHOICE, *lines[1:]]
 
 
 def refused_at_choice(self, *given):
     """What looks at the number there, too."""
-    must_be(given == () or given[0] <= session.MOST_COUNT, session.BAD_NUMBER)
-    return self.redo()
+    must_be(given == () or given[0] <= session.MOST_COUNT, console.BAD_STEPS)
+    return again(self)
 
 
 def always_ahead(self, *given):
     """What takes the step ahead wherever one is, and not at choices alone."""
-    return self.redo() if self.ahead and given != (0,) else SOUND['run'](self, *given)
+    return again(self) if self.ahead and given != (0,) else SOUND['run'](self, *given)
 
 
 def forward(change):
@@ -368,7 +376,7 @@ def forward_as_redo(self, depth):
 def too_many(change):
     """What answers otherwise where more steps are to be taken again than are ahead, and some are; by the console and the number."""
     def redo(self, count=1):
-        return change(self, count) if 0 < len(self.ahead) < count else SOUND['redo'](self, count)
+        return change(self, count) if count != ALL and 0 < len(self.ahead) < count else SOUND['redo'](self, count)
     return redo
 
 
@@ -378,13 +386,13 @@ def refused_where_too_many(self, *_):
 
 def highest_looked_at(self, count=1):
     """What refuses numbers above 1,000,000 where steps are ahead, too."""
-    must_be(count <= session.MOST_COUNT, session.BAD_NUMBER)
+    must_be(count == ALL or count <= session.MOST_COUNT, console.BAD_STEPS)
     return SOUND['redo'](self, count)
 
 
 def number_not_looked_at(self, count=1):
     """What refuses any number but 0 where no step is ahead as it refuses 1."""
-    return SOUND['redo'](self, count if self.ahead else min(count, 1))
+    return SOUND['redo'](self, count if self.ahead or count == ALL else min(count, 1))
 
 
 def all_as_several(self, count=1):
@@ -439,15 +447,17 @@ def move_faults():
             'through choices that are ahead': through_choices,
             'it stays at a choice': choosing_again(stays),
             'what is ahead is dropped at a choice': choosing_again(drops),
-            'a choice told as a run': choosing_again(lambda self, *_: [f'1 step, depth {self.debugger.depth + 1}', *self.redo()[1:]]),
+            'a choice told as a run': choosing_again(lambda self, *_: [f'1 step, depth {self.debugger.depth + 1}', *again(self)[1:]]),
             'on behind a choice': choosing_again(runs_on),
-            'the first candidate': choosing_again(lambda self, *_: self.take(self.decided.steps[0])),
+            'the first candidate': choosing_again(first_candidate),
             'the step ahead where it is a candidate': choosing_again(
-                lambda self, *_: self.redo() if self.ahead[0] in self.decided.steps else stays(self)),
-            'at a choice without a number alone': choosing_again(lambda self, *given: stays(self) if given else self.redo()),
-            'so many steps behind a choice': choosing_again(lambda self, most=1: self.redo(most)),
+                lambda self, *_: again(self) if self.ahead[0] in self.decided.steps else stays(self)),
+            'at a choice without a number alone': choosing_again(lambda self, *given: stays(self) if given else again(self)),
+            'so many steps behind a choice': choosing_again(lambda self, most=1: again(self, most)),
+            'no reason behind a choice': choosing_again(lambda self, *_: self.redo()),
+            'another reason behind a choice': choosing_again(lambda self, *_: [again(self)[0], console.STOPS[policy.MAX], *self.where()]),
             'a number of steps at a choice that is looked at': choosing_again(refused_at_choice),
-            '0 at a choice, too': lambda self, *given: self.redo() if self.can_choose_again else SOUND['run'](self, *given),
+            '0 at a choice, too': lambda self, *given: again(self) if self.can_choose_again else SOUND['run'](self, *given),
             'the step ahead everywhere': always_ahead,
             'ten steps': usual('run', 10),
             'one step': usual('run', 1)}),
@@ -505,7 +515,7 @@ def rank_first(self, asked):
     """What looks at the rank before the name."""
     ranks = asked.given[1:2] if asked.word == 'print' or asked.word == 'break' and asked.given[0] == 'change' else ()
     if ranks and ranks[0] >= len(self.world.ranks):
-        raise NotAsked(NO_SUCH_NUMBER)
+        raise NotAsked(console.REFUSALS[console.NO_RANK])
     return SOUND['understood'](self, asked)
 
 
@@ -525,7 +535,7 @@ def array_of_none(self, word):
     """What takes no array without an index, one of one place neither."""
     declared = self.script.names.get(word.decode('latin-1'))
     if declared is not None and declared.size is not None:
-        raise NotAsked(NO_SUCH_NUMBER)
+        raise NotAsked(console.NEEDS_INDEX)
     return SOUND['one'](self, word)
 
 
@@ -690,7 +700,7 @@ def look_faults():
     return [
         *named('why', {
             'the last call of a rank that waits for none': last_call_of,
-            'no call is no such number': no_call,
+            'no call is told for no such call': no_call,
             'all ranks, those too that wait for none': why_of(lambda world: range(len(world.ranks))),
             'the first rank that waits alone': why_of(lambda world: blocked(world)[:1]),
             'the last rank that waits first': why_of(lambda world: blocked(world)[::-1]),
@@ -727,12 +737,6 @@ def look_faults():
             'no output': changed('variables', lambda lines, self: [line for line in lines if 'has printed' not in line])}),
         *named('list', {
             'no rank is refused': whole_where_no_rank})]
-
-
-def refusal_faults():
-    """Refusals that are told as others."""
-    return [Breakage(f'a refusal told as another: {name}', console, 'REFUSALS', {**console.REFUSALS, number: console.REFUSALS[other]})
-            for name, number, other in REFUSED_OTHERWISE]
 
 
 # ---- a witness
@@ -780,5 +784,5 @@ def witness_faults():
 
 def breakages():
     """All faults."""
-    return [*line_of_words_faults(), *where_faults(), *move_faults(), *break_faults(), *look_faults(), *refusal_faults(), *run_faults(),
+    return [*line_of_words_faults(), *where_faults(), *move_faults(), *break_faults(), *look_faults(), *run_faults(), *way_faults(),
             *witness_faults(), *line_faults(), *word_faults()]

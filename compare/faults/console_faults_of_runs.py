@@ -12,7 +12,7 @@ from model.policy import Choice
 from model.session import must_be
 
 SOUND = {name: value for name, value in vars(Console).items() if isfunction(value)}
-SOUND_COUNTED, SOUND_RUN_LINE, NO_SUCH_NUMBER = console.counted, console.run_line, console.REFUSALS[session.BAD_NUMBER]
+SOUND_COUNTED, SOUND_RUN_LINE, BAD_RUNS = console.counted, console.run_line, console.REFUSALS[console.BAD_RUNS]
 # How many runs a fault looks at.
 SOME = 200
 
@@ -32,7 +32,7 @@ def cleared(self, told):
 
 def by_ends(self, runs=console.TRIED):
     """What tries of runs that differ only in the order of choices one."""
-    must_be(1 <= runs <= explorer.MOST_RUNS, session.BAD_NUMBER)
+    must_be(1 <= runs <= explorer.MOST_RUNS, console.BAD_RUNS)
     found = explorer.ends_part(explorer.Run(self.world, self.fuel()), runs)
     return [*(console.run_line(number, leaf) for number, leaf in enumerate(found.leaves, 1)), console.counted(found.leaves, found.more)]
 
@@ -78,19 +78,26 @@ def run_by_ends(self, number):
 
 def last_where_none(self, number):
     """What follows the last run where there are fewer."""
-    must_be(1 <= number <= explorer.MOST_RUNS, session.BAD_NUMBER)
+    if not 1 <= number <= explorer.MOST_RUNS:
+        return [console.NO_RUN]
     found = list(islice(explorer.walk(self.world, self.fuel()), min(number, SOME)))
     return self.laid_ahead(f'run {number}, {found[-1].outcome},', found[-1])
 
 
-def no_such_run(self, number):
-    """What says of 0 that there is no such run."""
-    return [console.NO_RUN] if number == 0 else SOUND['follow'](self, number)
+def none_asked_for(self, number):
+    """What says of 0 how many runs can be asked for."""
+    return [BAD_RUNS] if number == 0 else SOUND['follow'](self, number)
+
+
+def too_many_asked_for(self, number):
+    """What says of too great a number how many runs can be asked for."""
+    return [BAD_RUNS] if number > explorer.MOST_RUNS else SOUND['follow'](self, number)
 
 
 def no_bound(self, number):
-    """What doesn't know how many runs can be asked for."""
-    return [console.NO_RUN] if number > explorer.MOST_RUNS else SOUND['follow'](self, number)
+    """What follows any run that there is."""
+    leaf = leaf_by(explorer.walk(self.world, self.fuel()), number - 1) if explorer.MOST_RUNS < number <= SOME else None
+    return SOUND['follow'](self, number) if leaf is None else self.laid_ahead(f'run {number}, {leaf.outcome},', leaf)
 
 
 def dropped_where_no_run(self, number):
@@ -131,11 +138,12 @@ def number_faults():
             'from 0': lambda self, number: SOUND['follow'](self, number + 1),
             'by ends': run_by_ends,
             'the last one where there is none': last_where_none,
-            'no such run for 0': no_such_run,
-            'no such run for more than 65,536': no_bound,
+            'how many runs can be asked for, of 0': none_asked_for,
+            'how many runs can be asked for, of more': too_many_asked_for,
+            'more than are looked at': no_bound,
             'what is ahead is dropped where there is none': dropped_where_no_run,
             'told as what was sought': as_sought}),
-        Breakage('follow: no such number for no such run', console, 'NO_RUN', NO_SUCH_NUMBER)]
+        Breakage('follow: how many runs can be asked for, of no such run', console, 'NO_RUN', BAD_RUNS)]
 
 
 # ---- deadlocks and traps that are sought
@@ -340,7 +348,7 @@ def stops_at_single(self, most=session.MOST_COUNT):
     """What runs up to a single candidate."""
     if self.can_choose_again:
         return SOUND['run'](self, most)
-    must_be(1 <= most <= session.MOST_COUNT, session.BAD_NUMBER)
+    must_be(1 <= most <= session.MOST_COUNT, console.BAD_STEPS)
     return self.stopped(policy.run(self.debugger, self.session.breaks, most), '')
 
 

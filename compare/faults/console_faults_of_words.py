@@ -87,11 +87,13 @@ def help_of_form(word=None):
     return SOUND['help_of'](word) if found is None else [f'{SOUND["usage"](found).removeprefix("usage: ")}: {row_of(found).what}']
 
 
-NUMBER, CALL = console_words.NUMBER, console_words.CALL
+NUMBER, CALL, EVERY = console_words.NUMBER, console_words.CALL, (console_words.literal(console_words.ALL),)
 FOLLOWING_OTHERWISE = {
-    'a sign before a number': {'next': ((), (signed,)), 'redo': ((), (signed,))},
+    'a sign before a number': {'next': ((), (signed,)), 'redo': ((), (signed,), EVERY)},
     'ten digits': {'back': ((), (ten_digits,)), 'goto': ((ten_digits,),)},
-    'redo with a number alone': {'redo': ((NUMBER,),)},
+    'redo with a number or all alone': {'redo': ((NUMBER,), EVERY)},
+    'redo without all': {'redo': ((), (NUMBER,))},
+    'redo of the letter a': {'redo': (*FOLLOWING['redo'], (lambda word: console_words.ALL if word == b'a' else None,))},
     'proper names alone': {'print': ((proper_name,), (proper_name, NUMBER))},
     'indexes of nine digits': {'print': ((short_index,), (short_index, NUMBER))},
     'no rank behind a name': {'print': ((console_words.NAME,),)}, 'calls by their ranks': {'match': ((call_or_number, call_or_number),)},

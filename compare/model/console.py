@@ -27,14 +27,22 @@ TOO_LONG = 'refused: this line is too long'
 NO_CANDIDATE = 'refused: there is no such candidate'
 NO_RUN = 'refused: there is no such run'
 NO_CHOICE = 'refused: no choice was made before'
+NO_INDEX = 'refused: there is no such index'
+NEEDS_INDEX = 'refused: an array needs an index here'
 NO_WAIT = 'no rank waits for a call'
+# What is wrong with a number, where a session says no more than that it is none: of steps, of runs, of a line, of a rank, and of a call.
+BAD_STEPS, BAD_RUNS, BAD_LINE, NO_RANK, NO_CALL = 'steps', 'runs', 'line', 'rank', 'call'
 REFUSALS = {
     session.NOT_ENABLED: 'refused: this step is not enabled', session.FULL: 'refused: no more than 1000000 steps are kept',
     session.AT_START: 'refused: fewer steps are taken', session.NOT_BEFORE: 'refused: fewer steps are taken',
-    session.NO_REDO: 'refused: fewer steps are ahead', session.BAD_NUMBER: 'refused: no such number',
+    session.NO_REDO: 'refused: fewer steps are ahead', BAD_STEPS: 'refused: 1 to 1000000 steps can be asked for',
+    BAD_RUNS: 'refused: 1 to 65536 runs can be asked for', BAD_LINE: 'refused: lines are 1 to 65537',
+    NO_RANK: 'refused: there is no such rank', NO_CALL: 'refused: there is no such call',
     session.NO_SUCH_BREAK: 'refused: no breakpoint has this number', session.BREAKS_FULL: 'refused: 64 breakpoints are set'}
 # Why a run stopped, where it isn't told by where it stands.
 STOPS = {MAX: 'stopped: as many steps as were asked for', FULL: 'stopped: no more than 1000000 steps are kept', START: 'at the start'}
+# The same of a run from a choice where steps are undone.
+BEHIND_CHOICE = 'stopped: behind the choice'
 LISTED, TRIED, MOST_FUEL = 10, 1000, 100000
 # How a run ends, by the first word of its outcome, in the order in which the last line of `check` has them.
 WAYS = 'done', 'leftovers', 'deadlock', 'trap', explorer.CUT
@@ -172,11 +180,13 @@ class Console:
         return asked
 
     def told(self, asked):
-        """The answer to what is asked; a refusal changes nothing."""
+        """The answer to what is asked, with what happened on the way; a refusal changes nothing."""
+        depth, before = self.debugger.depth, self.world
         try:
-            return self.done(asked)
+            lines = self.done(asked)
         except Refused as refused:
             return [REFUSALS[refused.number]]
+        return [*lines[:1], *self.on_the_way(before), *lines[1:]] if self.debugger.depth > depth else lines
 
     def done(self, asked):
         """Does what is asked; the lines of the answer."""
@@ -195,6 +205,11 @@ class Console:
         if isinstance(decided, Forced):
             return lines or self.with_source(at, 'next', decided.step)
         return lines + [f'ended: {decided.outcome}', *self.explanation(decided.outcome), *self.lost(at)]
+
+    def on_the_way(self, before):
+        """What the steps did that were taken since a world that was before; requests that are lost are told at an end anyway."""
+        told = console_lines.print_lines(before, self.world)
+        return told if isinstance(self.decided, policy.Leaf) else told + console_lines.newly_lost_lines(before, self.at)
 
     def with_source(self, at, head, step):
         """A step behind what it is, and the lines of the script that it is about."""
@@ -218,7 +233,10 @@ class Console:
         return [f'{self.debugger.depth} {told}', *self.where()]
 
     def next(self, number=None):
+        """Takes what comes next; at a choice a candidate by its number, or without one the step ahead, where one is."""
         decided = self.decided
+        if number is None and self.can_choose_again:
+            return self.redo()
         if isinstance(decided, Forced):
             return self.take(decided.step) if number is None else self.run(number)
         if isinstance(decided, policy.Leaf) or number is None:
@@ -230,8 +248,9 @@ class Console:
     def run(self, most=session.MOST_COUNT):
         """Runs on past choices of a single candidate; at one that was made before, and undone, it is made again, whatever the number is but 0."""
         if most and self.can_choose_again:
-            return self.redo()
-        must_be(1 <= most <= session.MOST_COUNT, session.BAD_NUMBER)
+            step, *others = self.redo()
+            return [step, BEHIND_CHOICE, *others]
+        must_be(1 <= most <= session.MOST_COUNT, BAD_STEPS)
         return self.stopped(policy.run_on(self.debugger, self.session.breaks, most), '')
 
     def stopped(self, stop, back):
@@ -249,6 +268,7 @@ class Console:
         return [f'depth {self.debugger.depth}', *self.where()]
 
     def back(self, count=1):
+        must_be(1 <= count <= session.MOST_COUNT, BAD_STEPS)
         self.session.back(count)
         return self.depth_lines()
 
@@ -273,10 +293,12 @@ class Console:
         return self.depth_lines()
 
     def redo(self, count=1):
-        """Takes so many steps again, or all that are ahead where these are fewer; where none is, the number is looked at."""
+        """Takes so many steps again, or all that are ahead where these are fewer, or asked for; where none is, the number is looked at."""
         ahead = self.ahead
         told = step_words(self.at, ahead[0]) if ahead else None
+        count = session.MOST_COUNT if count == console_words.ALL else count
         count = min(count, len(ahead)) if ahead else count
+        must_be(1 <= count <= session.MOST_COUNT, BAD_STEPS)
         self.session.redo(count)
         return [f'{self.debugger.depth} {told}', *self.where()] if count == 1 else self.depth_lines()
 
@@ -304,10 +326,17 @@ class Console:
         if given[0] == 'change':
             _, rank, (_, declared, (place,)) = given
             kind, where = ('change', 'cell') if declared.kind == 'var' else ('handle', 'handle')
+            self.rank(rank)
             there = self.session.set_break(kind, rank=rank, **{where: declared.first + place})
-        else:
-            there = self.session.set_break('match' if given[0] == 'match' else 'line', line=given[-1])
-        return [self.break_line(there['break'])]
+            return [self.break_line(there['break'])]
+        kind, line = 'match' if given[0] == 'match' else 'line', given[-1]
+        must_be(1 <= line <= session.HIGHEST_LINE, BAD_LINE)
+        there = self.session.set_break(kind, line=line)
+        return [self.break_line(there['break']), *self.no_statement(line)]
+
+    def no_statement(self, line):
+        """What is told of the line of a breakpoint at which no statement begins."""
+        return [] if line in console_lines.statement_lines(self.script.body) else [f'no statement begins at line {line}']
 
     def delete(self, number):
         self.session.unset_break(number)
@@ -332,29 +361,34 @@ class Console:
         """The place of an index; what has no size has none."""
         index = number_of(digits)
         if declared.size is None or index is None or index >= declared.size:
-            raise NotAsked(REFUSALS[session.BAD_NUMBER])
+            raise NotAsked(NO_INDEX)
         return [index]
 
     def one(self, word):
         """What a word means that is one variable or request; an array of several, or of none, isn't one without an index."""
         meant = self.meant(word)
         if len(meant.places) != 1:
-            raise NotAsked(REFUSALS[session.BAD_NUMBER])
+            raise NotAsked(NEEDS_INDEX)
         return meant
 
     def ranks_of(self, number=None):
         """All ranks, or the one of a number."""
         if number is None:
             return range(len(self.world.ranks))
-        self.session.rank(number)
+        self.rank(number)
         return [number]
+
+    def rank(self, number):
+        """The rank of a number."""
+        must_be(number < len(self.world.ranks), NO_RANK)
+        return self.world.ranks[number]
 
     # ---- looks
 
     def list(self, number=None):
         if number is None:
             return console_lines.whole_list(self.at, self.text)
-        self.session.rank(number)
+        self.rank(number)
         return console_lines.list_about(self.at, self.text, number)
 
     def print(self, meant, number=None):
@@ -384,10 +418,10 @@ class Console:
             at = self.at
             return [line for call_id in console_lines.waiting(self.world) for line in console_lines.why_lines(at, call_id)] or [NO_WAIT]
         if isinstance(asked, int):
-            if self.session.rank(asked).mode != 'blocked':
+            if self.rank(asked).mode != 'blocked':
                 return [f'rank {asked} waits for no call']
             asked = debugger.last_call(self.world, asked)
-        must_be(find_call(self.world, asked) is not None, session.BAD_NUMBER)
+        must_be(find_call(self.world, asked) is not None, NO_CALL)
         return console_lines.why_lines(self.at, asked)
 
     def history(self, count=LISTED):
@@ -413,15 +447,15 @@ class Console:
         return min(MOST_FUEL, debugger.MOST_STEPS - self.debugger.depth)
 
     def check(self, runs=TRIED):
-        must_be(1 <= runs <= explorer.MOST_RUNS, session.BAD_NUMBER)
+        must_be(1 <= runs <= explorer.MOST_RUNS, BAD_RUNS)
         found = explorer.explored(self.debugger, runs, self.fuel())
         lines = [run_line(number, leaf) for number, leaf in enumerate(found.leaves, 1)]
         return [*lines, counted(found.leaves, found.more)]
 
     def follow(self, number):
         """Lays the steps of the run of a number ahead."""
-        must_be(1 <= number <= explorer.MOST_RUNS, session.BAD_NUMBER)
-        leaf = next(islice(explorer.walk(self.world, self.fuel()), number - 1, None), None)
+        is_within = 1 <= number <= explorer.MOST_RUNS
+        leaf = next(islice(explorer.walk(self.world, self.fuel()), number - 1, None), None) if is_within else None
         return [NO_RUN] if leaf is None else self.laid_ahead(f'run {number}, {leaf.outcome},', leaf)
 
     def deadlock(self):

@@ -1,5 +1,5 @@
 """The lines of the console, in the model: how long ones are cut, steps in words, calls, lists of the script, variables, requests that are lost,
-and why a call isn't matched.
+what happens on the way, and why a call isn't matched.
 
 What they are told of is `at`: a world, and the line of each call that was issued up to it (explaining.py).
 """
@@ -7,6 +7,7 @@ What they are told of is `at`: a world, and the line of each call that was issue
 from model import explaining, order
 from model.debugger import call_line, find_call, is_done, last_call, partner, pending, posted, step_text
 from model.explaining import Reached, call_text, next_line, wish
+from model.language import Branch, While
 from model.worlds import CallId
 
 ABOUT = 4
@@ -125,6 +126,16 @@ def source(text, numbers):
     return [numbered(number, lines[number - 1]) for number in numbers if 0 < number <= len(lines)]
 
 
+def statement_lines(body):
+    """The lines at which the statements of a block begin, those of the blocks in it too."""
+    for statement in body:
+        yield statement.line
+        if isinstance(statement, Branch):
+            yield from statement_lines([*statement.then, *statement.otherwise])
+        elif isinstance(statement, While):
+            yield from statement_lines(statement.body)
+
+
 def has_ended(rank):
     return rank.mode == 'running' and rank.rest is None
 
@@ -235,10 +246,33 @@ def is_told_lost(world, call_id):
     return not (is_done(world, call_id) and any(other.kind == 'waitany' for other in rank.calls))
 
 
-def lost_lines(at, number):
+def lost_calls(world, number):
     """The requests of a rank that are lost."""
-    calls = [CallId(number, place) for place in range(len(at.world.ranks[number].calls))]
-    return [f'rank {number} has lost a request: {call_text(at, call_id)}' for call_id in calls if is_told_lost(at.world, call_id)]
+    calls = [CallId(number, place) for place in range(len(world.ranks[number].calls))]
+    return [call_id for call_id in calls if is_told_lost(world, call_id)]
+
+
+def lost_line(at, call_id):
+    return f'rank {call_id.rank} has lost a request: {call_text(at, call_id)}'
+
+
+def lost_lines(at, number):
+    """The requests of a rank that are lost, each in a line."""
+    return [lost_line(at, call_id) for call_id in lost_calls(at.world, number)]
+
+
+# ---- what happens on the way
+
+def print_lines(before, world):
+    """What each rank has printed since a world that was before."""
+    printed = [rank.printed[len(old.printed):] for old, rank in zip(before.ranks, world.ranks)]
+    return [f'rank {number} prints {" ".join(map(str, values))}' for number, values in enumerate(printed) if values]
+
+
+def newly_lost_lines(before, at):
+    """The requests that are lost, and weren't in a world that was before."""
+    found = [call_id for number in range(len(before.ranks)) for call_id in lost_calls(at.world, number) if call_id not in lost_calls(before, number)]
+    return [lost_line(at, call_id) for call_id in found]
 
 
 # ---- ranks and calls

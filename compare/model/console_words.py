@@ -25,35 +25,36 @@ class Row(NamedTuple):
 
 TABLE = (
     Row(('next [N]',), ('n',),
-        'takes the step that comes next; at a choice it lists the candidates, and next N takes one, from 1; elsewhere next N is run N'),
-    Row(('run [N]',), ('r', 'continue', 'c'), 'goes on to the next breakpoint, choice or end, or so many steps at most'),
+        'takes the step that comes next; at a choice the one that lies ahead, or it lists the candidates, of which next N takes one, from 1; '
+        'elsewhere next N is run N'),
+    Row(('run [N]',), ('r', 'continue', 'c'), 'goes on to a breakpoint, a choice or an end; or so many steps at most'),
     Row(('back [N]',), ('b', 'reverse-next'), 'takes a step back, or so many'),
     Row(('run-back',), ('rc', 'reverse-continue'), 'goes back to a breakpoint, or to the start'),
-    Row(('undo-choice',), ('u',), 'goes back to the last choice, so that another candidate can be taken'),
-    Row(('goto N',), ('g',), 'goes back, or along the steps ahead, until so many steps are taken'),
-    Row(('redo [N]',), (), 'takes the step again that was undone last, or so many, as far as there are'),
+    Row(('undo-choice',), ('u',), 'goes back to the last choice; another candidate can be taken there'),
+    Row(('goto N',), ('g',), 'goes to where so many steps are taken; back, or along the steps ahead'),
+    Row(('redo [N]', 'redo all'), (), 'takes the first step ahead, or so many; as far as there are, or all'),
     Row(('local P', 'match S R', 'wake P', 'wakeany P I', 'release'), (), 'takes this step'),
     Row(('break LINE', 'break match LINE', 'break change P NAME'), (),
-        'sets a breakpoint: behind a step by which a rank comes to that line, behind a match of a call of that line, behind a change of that '
-        'variable or request of rank P'),
+        'sets a breakpoint (b is back); behind a step by which a rank comes to that line, behind a match of a call of that line, behind a change '
+        'of that variable or request of rank P'),
     Row(('delete N',), ('d',), 'removes a breakpoint'),
     Row(('breaks',), (), 'lists the breakpoints'),
-    Row(('list [P]',), ('l',), 'shows the script, and at each line which ranks stand there; or the lines about rank P'),
-    Row(('print NAME [P]',), ('p',), 'shows a variable or a request of all ranks, or of rank P'),
-    Row(('vars [P]',), (), 'shows all variables and requests in short, and what was printed'),
+    Row(('list [P]',), ('l',), 'shows the script, and where ranks stand; or the lines about rank P'),
+    Row(('print NAME [P]',), ('p',), 'shows a variable or a request; of all ranks, or of rank P'),
+    Row(('vars [P]',), (), 'shows all variables in short; requests, and what was printed, too'),
     Row(('ranks',), (), 'shows what each rank is doing'),
     Row(('calls [P]',), (), 'lists the calls of all ranks, or of rank P'),
-    Row(('queues',), (), 'lists the sends and the receives that are free'),
-    Row(('why [P]', 'why CALL'), ('w',), "says why the calls that ranks wait for aren't matched; or that of rank P, or a call"),
+    Row(('queues',), (), 'lists the sends and receives that are free'),
+    Row(('why [P]', 'why CALL'), ('w',), "says why ranks wait; of all, of rank P, or of a call why it isn't matched"),
     Row(('history [N]',), ('h',), 'lists the last 10 steps, or the last N'),
     Row(('picture',), (), 'draws the run so far'),
-    Row(('check [N]',), (), 'tries the choices from here, and lists how the runs end, 1,000 or N of them at most'),
+    Row(('check [N]',), (), 'tries the choices, and lists how runs end; from here, 1,000 or N of them at most'),
     Row(('follow N',), ('f',), 'lays the steps of a run ahead; N is its number in check'),
-    Row(('deadlock',), (), 'looks for the first deadlock from here, and lays its steps ahead, so that redo and run go there'),
-    Row(('trap',), (), 'looks for the first trap from here, and lays its steps ahead'),
-    Row(('words',), (), 'lists the steps taken as trace words, to be kept in a file'),
+    Row(('deadlock',), (), "lays the first deadlock's steps ahead; the first from here, so that run and redo go there"),
+    Row(('trap',), (), "lays the first trap's steps ahead; the first from here"),
+    Row(('words',), (), 'lists the steps taken as trace words; to be kept in a file'),
     Row(('enabled',), (), 'lists the steps that are enabled'),
-    Row(('show',), (), 'shows the whole state, as a trace does (docs/FORMATS.md, "Text of show")'),
+    Row(('show',), (), 'shows the whole state, as a trace does; docs/FORMATS.md, "Text of show"'),
     Row(('help [WORD]',), ('?',), 'lists the words, or tells of one'),
     Row(('quit',), ('q',), 'ends'))
 
@@ -71,15 +72,18 @@ def any_word(word):
 NAME = any_word
 NUMBER, CALL, STEPS = number_of, call_id_of, ('local', 'match', 'wake', 'wakeany', 'release')
 MAYBE_NUMBER = (), (NUMBER,)
+# All steps that are ahead.
+ALL = 'all'
 # What may follow each word: lists of what reads the words behind it, one of which must fit.
 FOLLOWING = {
     'next': MAYBE_NUMBER, 'run': MAYBE_NUMBER, 'back': MAYBE_NUMBER, 'run-back': ((),), 'undo-choice': ((),), 'goto': ((NUMBER,),),
-    'redo': MAYBE_NUMBER,
+    'redo': (*MAYBE_NUMBER, (literal(ALL),)),
     'local': ((NUMBER,),), 'match': ((CALL, CALL),), 'wake': ((NUMBER,),), 'wakeany': ((NUMBER, NUMBER),), 'release': ((),),
     'break': ((NUMBER,), (literal('line'), NUMBER), (literal('match'), NUMBER), (literal('change'), NUMBER, NAME)), 'delete': ((NUMBER,),),
     'breaks': ((),), 'list': MAYBE_NUMBER, 'print': ((NAME,), (NAME, NUMBER)), 'vars': MAYBE_NUMBER, 'ranks': ((),), 'calls': MAYBE_NUMBER,
-    'queues': ((),), 'why': ((), (NUMBER,), (CALL,)), 'history': MAYBE_NUMBER, 'picture': ((),), 'check': MAYBE_NUMBER, 'follow': ((NUMBER,),), 'deadlock': ((),),
-    'trap': ((),), 'words': ((),), 'enabled': ((),), 'show': ((),), 'help': ((), (any_word,)), 'quit': ((),)}
+    'queues': ((),), 'why': ((), (NUMBER,), (CALL,)), 'history': MAYBE_NUMBER, 'picture': ((),), 'check': MAYBE_NUMBER,
+    'follow': ((NUMBER,),), 'deadlock': ((),), 'trap': ((),), 'words': ((),), 'enabled': ((),), 'show': ((),),
+    'help': ((), (any_word,)), 'quit': ((),)}
 
 
 class Asked(NamedTuple):

@@ -79,10 +79,12 @@ why
 enabled
 check
 check 1
+next
+next 9
 follow 1
 follow 9
 next
-next 9
+back
 next 1
 run 2
 run
@@ -102,6 +104,11 @@ delete 1
 run
 goto 0
 redo 100
+goto 3
+redo all
+redo all
+break 1
+break match 65537
 '''
 LINES = '''
 # nothing
@@ -146,6 +153,7 @@ history
 next 2
 run 1
 goto 6
+next
 redo 9
 '''
 # One message is taken by a receive of any source, and the other one by nobody.

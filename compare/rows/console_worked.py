@@ -21,9 +21,10 @@ from rows.worked_console_moves import FIRST_RUNS, MOVES
 from rows.worked_console_scripts import LOOP, Dialogue
 from rows.worked_console_texts import TEXTS
 from rows.worked_console_told import TOLD
+from rows.worked_console_ways import WAYS
 
 PAGE = os.path.join(os.path.dirname(EXAMPLES), 'docs', 'CONSOLE.md')
-DIALOGUES = MOVES + ALONG + LOOKS + TOLD + TEXTS + CHOICES
+DIALOGUES = MOVES + ALONG + LOOKS + TOLD + TEXTS + CHOICES + WAYS
 SLOW = ALL_RUNS + FIRST_RUNS
 # What takes the model long: runs of 100,000 steps, and of one more.
 CUT = (
@@ -54,6 +55,7 @@ run 1, cut, is 100000 steps ahead
     2  while x < 49999 { x = x + 1; }
 > goto 100000
 depth 100000
+rank 0 prints 1
 next: local 0: line 4
     4  print 2;
 > undo-choice

@@ -54,7 +54,7 @@ ended: rank 1, rank 2, rank 3
 > list 3
 rank 3 has ended
 > list 4
-refused: no such number
+refused: there is no such rank
 '''),
     Dialogue('along the steps ahead, from choice to choice', TWO_RACES, f'''
 > run
@@ -78,7 +78,7 @@ depth 0
     3    recv x from any tag 0;
 {BOTH_RACES}
 > run 0
-refused: no such number
+refused: 1 to 1000000 steps can be asked for
 > break match 3
 breakpoint 0: match 3
 > break line 3
@@ -87,6 +87,7 @@ breakpoint 1: line 3
 deleted 1
 > run
 9 match 3.0 1.0: rank 3, line 5, to rank 1, line 3
+stopped: behind the choice
 5 ahead: wake 1: line 3
     3    recv x from any tag 0;
 >
@@ -108,6 +109,7 @@ depth 8
 {BOTH_RACES}
 > c 1000001
 9 match 3.0 1.0: rank 3, line 5, to rank 1, line 3
+stopped: behind the choice
 5 ahead: wake 1: line 3
     3    recv x from any tag 0;
 > goto 14
@@ -121,6 +123,7 @@ depth 8
 {BOTH_RACES}
 > run 7
 9 match 3.0 1.0: rank 3, line 5, to rank 1, line 3
+stopped: behind the choice
 5 ahead: wake 1: line 3
     3    recv x from any tag 0;
 > goto 10
@@ -166,6 +169,7 @@ depth 11
 {ANY_CHOICE}
 > run
 12 match 1.1 0.2: rank 1, line 10, to rank 0, line 6
+stopped: behind the choice
 {ANY_CHOICE}
 > run
 0 steps, depth 12
@@ -181,11 +185,13 @@ depth 11
 {ANY_CHOICE}
 > run
 12 match 1.1 0.2: rank 1, line 10, to rank 0, line 6
+stopped: behind the choice
 1 ahead: wakeany 0 1: line 7, by line 5, 0.1 irecv from 1 tag 3
     7    waitany r to i;
 {ANY_CHOICE}
 >
 13 wakeany 0 1: line 7, by line 5, 0.1 irecv from 1 tag 3
+stopped: behind the choice
 ended: done
 > goto 12
 depth 12
@@ -277,6 +283,7 @@ depth 9
 refused: no choice was made before
 > run
 10 match 2.0 0.0: rank 2, line 4, to rank 0, line 3
+stopped: behind the choice
 16 ahead: wake 0: line 3
 {TAKES_THREE}
 >
@@ -287,6 +294,7 @@ refused: no choice was made before
 {OF_TWO}
 >
 16 match 1.0 0.1: rank 1, line 4, to rank 0, line 3
+stopped: behind the choice
 10 ahead: wake 0: line 3
 {TAKES_THREE}
 >
@@ -330,7 +338,7 @@ depth 21
     4  }} else {{ send 1 to 0 tag 0; }}
 {TAKES_THREE}
 > next 0
-refused: no such number
+refused: 1 to 1000000 steps can be asked for
 > next 2
 2 steps, depth 23
 stopped: as many steps as were asked for

@@ -60,6 +60,7 @@ local 2
 local 2
 > run
 7 match 1.0 0.0: rank 1, line 6, to rank 0, line 3
+stopped: behind the choice
 3 ahead: wake 0: line 3
     3    recv x from any tag 0;
 >
@@ -90,9 +91,10 @@ run 2, deadlock 0.1 1.0, is 5 steps ahead
 > follow 3
 refused: there is no such run
 > follow 0
-refused: no such number
+refused: there is no such run
 > redo 5
 depth 11
+rank 0 prints 1
 {HANG_END}
 > why
 line 5, 0.1 recv from 2 tag 0 free
@@ -203,6 +205,7 @@ run 1, cut, is 10 steps ahead
     2  while x < 4 { x = x + 1; }
 > redo 10
 depth 10
+rank 0 prints 1
 next: local 0: line 4
     4  print 2;
 > follow 2
@@ -291,6 +294,7 @@ depth 8
 {BOTH_RACES}
 > run
 9 match 3.0 1.0: rank 3, line 5, to rank 1, line 3
+stopped: behind the choice
 5 ahead: wake 3: line 5
     5    send 7 to rank - 2 tag 0;
 > u
@@ -448,6 +452,7 @@ trap 1 zero-divisor is 9 steps ahead
 no deadlock: 1 run, and no more (1 trap)
 > redo 9
 depth 9
+rank 0 prints 5
 ended: trap 1 zero-divisor
   rank 1, line 10: trap zero-divisor
 > why
@@ -467,9 +472,9 @@ stopped: as many steps as were asked for
 next: wake 1: line 8
     8    recv x from 0 tag 0;
 > next 0
-refused: no such number
+refused: 1 to 1000000 steps can be asked for
 > next 1000001
-refused: no such number
+refused: 1 to 1000000 steps can be asked for
 > back 3
 depth 3
 3 ahead: local 1: line 8
@@ -489,6 +494,7 @@ breakpoint 0: match 8
     6    send 7 to 1 tag 0;
 > n 1000000
 3 steps, depth 8
+rank 1 prints 7
 ended: done
 > next 0
 ended: done
@@ -555,9 +561,9 @@ deadlock 0.1 1.0 is 65 steps ahead
 > trap
 no trap: 2 runs, and no more (1 done, 1 deadlock)
 > follow 7
-refused: no such number
+refused: there is no such run
 > check 7
-refused: no such number
+refused: 1 to 65536 runs can be asked for
 > follow 6
 run 6, done, is 68 steps ahead
 68 ahead: local 0: line 2
@@ -617,7 +623,7 @@ run 65536, done, is 146 steps ahead
 146 ahead: local 0: line 2
     2  if rank < 3 {
 > follow 65537
-refused: no such number
+refused: there is no such run
 '''),
     Dialogue('more than 65,536 ends', MANY_ENDS, '''
 > deadlock

@@ -39,11 +39,11 @@ rank 1 waits at line 8, 1.1 wait 0
 line 7, 1.0 isend to 0 tag 4 value 7 free
 line 8, 1.1 wait 0
 > why 2
-refused: no such number
+refused: there is no such rank
 > why 0.2
-refused: no such number
+refused: there is no such call
 > why 2.0
-refused: no such number
+refused: there is no such call
 '''),
     Dialogue('a near miss and what was taken, one below the other', NEARLY, '''
 > run
@@ -142,6 +142,7 @@ line 12, 0.2 waitany 0 2
 refused: this step is not enabled
 > run 5
 5 steps, depth 18
+rank 0 prints 10
 stopped: as many steps as were asked for
 next: wakeany 0 1: line 12, by line 10, 0.1 irecv from 2 tag 0
    12      waitany r to which;
@@ -153,6 +154,7 @@ next: local 0: line 13
    13      print answers[which];
 > run
 3 steps, depth 22
+rank 0 prints 20
 ended: done
 > vars 0
 rank 0: answers = [10, 20], which = 1, taken = 2, r = [-, -]
@@ -189,6 +191,7 @@ pending 1 to 2: line 4, 1.0 ssend to 2 tag 0 value 1
     Dialogue('a trap, and where ranks stand', 'trap.mpd', '''
 > run
 9 steps, depth 9
+rank 0 prints 5
 ended: trap 1 zero-divisor
   rank 1, line 10: trap zero-divisor
 > ranks
@@ -245,6 +248,7 @@ no deadlock: 1 run, and no more (1 trap)
 rank 0: a = [0, 0, 0], none = [], h = -, b = 0, g = [-, -], empty = []
 > run 3
 3 steps, depth 3
+rank 0 prints 0
 stopped: as many steps as were asked for
 next: local 0: line 6
     6  barrier;
@@ -268,21 +272,21 @@ rank 0: a = [0, -5, 0], none = [], h = -, b = 0, g = [-, 0.0], empty = []
 rank 0 has printed 0
 rank 1: a = [0, 0, 0], none = [], h = -, b = 0, g = [-, -], empty = []
 > print a[3]
-refused: no such number
+refused: there is no such index
 > print a[0000000001] 0
-refused: no such number
+refused: there is no such index
 > print a[3000000000]
-refused: no such number
+refused: there is no such index
 > print none[0]
-refused: no such number
+refused: there is no such index
 > print b[0]
-refused: no such number
+refused: there is no such index
 > print a 2
-refused: no such number
+refused: there is no such rank
 > vars 2
-refused: no such number
+refused: there is no such rank
 > calls 2
-refused: no such number
+refused: there is no such rank
 > print c
 no variable or request is called 'c'
 > print c[7] 9
@@ -290,7 +294,7 @@ no variable or request is called 'c[7]'
 > print a[1 0
 no variable or request is called 'a[1'
 > print g[2] 9
-refused: no such number
+refused: there is no such index
 > print rank
 no variable or request is called 'rank'
 > break change 0 a[1]
@@ -298,49 +302,51 @@ breakpoint 0: change 0 a[1]
 > break change 1 b
 breakpoint 1: change 1 b
 > break change 0 a
-refused: no such number
+refused: an array needs an index here
 > break change 0 a[3]
-refused: no such number
+refused: there is no such index
 > break change 0 b[0]
-refused: no such number
+refused: there is no such index
 > break change 2 b
-refused: no such number
+refused: there is no such rank
 > break change 0 h
 breakpoint 2: change 0 h
 > break change 0 h[0]
-refused: no such number
+refused: there is no such index
 > break change 0 g
-refused: no such number
+refused: an array needs an index here
 > break change 0 g[1]
 breakpoint 3: change 0 g[1]
 > break change 0 g[9]
-refused: no such number
+refused: there is no such index
 > break change 2 g[1]
-refused: no such number
+refused: there is no such rank
 > break change 0 empty
-refused: no such number
+refused: an array needs an index here
 > break change 0 empty[0]
-refused: no such number
+refused: there is no such index
 > break change 0 none
-refused: no such number
+refused: an array needs an index here
 > break change 0 none[0]
-refused: no such number
+refused: there is no such index
 > break change 0 c
 no variable or request is called 'c'
 > break change 2 c
 no variable or request is called 'c'
 > break change 2 a
-refused: no such number
+refused: an array needs an index here
 > break 0
-refused: no such number
+refused: lines are 1 to 65537
 > break match 0
-refused: no such number
+refused: lines are 1 to 65537
 > break 65538
-refused: no such number
+refused: lines are 1 to 65537
 > break 65537
 breakpoint 4: line 65537
+no statement begins at line 65537
 > break match 65537
 breakpoint 5: match 65537
+no statement begins at line 65537
 > break 3
 breakpoint 6: line 3
 > breaks
@@ -390,9 +396,9 @@ breakpoint 0: change 0 one[0]
 > break change 0 one[0]
 breakpoint 1: change 0 one[0]
 > break change 0 one[1]
-refused: no such number
+refused: there is no such index
 > break change 1 one
-refused: no such number
+refused: there is no such rank
 > run
 1 step, depth 1
 breakpoint 0: change 0 one[0]
@@ -421,6 +427,8 @@ rank 0 waits at line 5, 0.0 send to 1 tag 5 value 10
 rank 1 waits at line 5, 1.0 send to 0 tag 5 value 11
 > run
 10 steps, depth 12
+rank 0 prints 11
+rank 1 prints 10
 ended: done
 > history 2
 11 wake 1: line 6

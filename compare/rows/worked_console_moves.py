@@ -49,6 +49,7 @@ next: local 1: line 9
 rank 1: x = 7
 > run
 1 step, depth 8
+rank 1 prints 7
 ended: done
 > next
 ended: done
@@ -69,6 +70,7 @@ depth 7
     9    print x;
 > redo
 8 local 1: line 9
+rank 1 prints 7
 ended: done
 > b 3
 depth 5
@@ -80,6 +82,7 @@ depth 7
     9    print x;
 > redo 1
 8 local 1: line 9
+rank 1 prints 7
 ended: done
 > goto 0
 depth 0
@@ -119,6 +122,7 @@ next: local 1: line 8
     8    recv x from 0 tag 0;
 > c
 5 steps, depth 8
+rank 1 prints 7
 ended: done
 > reverse-next
 depth 7
@@ -254,6 +258,7 @@ line 9, 0.1 recv from 1 tag 7 free
   can be matched with line 13, 1.0 send to 0 tag 7 value 42
 > run
 7 steps, depth 17
+rank 0 prints 42
 ended: done
 > history 3
 15 wake 0: line 10
@@ -333,6 +338,7 @@ depth 0
 {STOLEN_CHOICE}
 >
 10 match 1.0 0.0: rank 1, line 13, to rank 0, line 8
+stopped: behind the choice
 1 ahead: wake 1: line 13
    13    if rank == 1 {{ send 42 to 0 tag 7; }} else {{ send 5 to 0 tag 1; }}
 >
@@ -430,6 +436,7 @@ line 6, 1.0 barrier
 breakpoint 0: line 9
 > run
 2 steps, depth 9
+rank 0 prints 2
 breakpoint 0: line 9
 next: local 0: line 9
     9    barrier;
@@ -440,6 +447,7 @@ before breakpoint 0: line 9
     8    print work;
 > run
 1 step, depth 9
+rank 0 prints 2
 breakpoint 0: line 9
 next: local 0: line 9
     9    barrier;
@@ -460,6 +468,8 @@ before breakpoint 0: line 7
 deleted 0
 > run
 8 steps, depth 14
+rank 0 prints 2
+rank 1 prints 1
 ended: deadlock 0.1 1.1
   rank 0 waits at line 9, 0.1 barrier: for all ranks at a barrier
     rank 2 is not there: it has ended

@@ -2,39 +2,49 @@
 
 from rows.worked_console_scripts import PRINTS, Dialogue
 
+# Where statements begin in examples/loop.mpd.
+STATEMENTS = 6, 7, 8, 10
+
+
+def set_at(line):
+    """A breakpoint of a line of that, and what it is told: as many are set before it as lines stand above."""
+    told = '' if line in STATEMENTS else f'no statement begins at line {line}\n'
+    return f'> break {line}\nbreakpoint {line - 1}: line {line}\n{told}'
+
+
 TEXTS = (
     Dialogue('numbers, in range and out of it', 'loop.mpd', '''
 > breaks
 no breakpoint
 > run 0
-refused: no such number
+refused: 1 to 1000000 steps can be asked for
 > run 1000001
-refused: no such number
+refused: 1 to 1000000 steps can be asked for
 > back 0
-refused: no such number
+refused: 1 to 1000000 steps can be asked for
 > back 1000001
-refused: no such number
+refused: 1 to 1000000 steps can be asked for
 > back 1000000
 refused: fewer steps are taken
 > redo 0
-refused: no such number
+refused: 1 to 1000000 steps can be asked for
 > redo 1000001
-refused: no such number
+refused: 1 to 1000000 steps can be asked for
 > redo 1000000
 refused: fewer steps are ahead
 > redo
 refused: fewer steps are ahead
 > check 0
-refused: no such number
+refused: 1 to 65536 runs can be asked for
 > check 65537
-refused: no such number
+refused: 1 to 65536 runs can be asked for
 > check 65536
 1 no choice: done
 1 run, and no more (1 done)
 > follow 0
-refused: no such number
+refused: there is no such run
 > follow 65537
-refused: no such number
+refused: there is no such run
 > follow 65536
 refused: there is no such run
 > deadlock
@@ -44,9 +54,9 @@ no trap: 1 run, and no more (1 done)
 > undo-choice
 refused: no choice was made before
 > next 0
-refused: no such number
+refused: 1 to 1000000 steps can be asked for
 > next 1000001
-refused: no such number
+refused: 1 to 1000000 steps can be asked for
 > goto 1
 refused: fewer steps are taken
 > goto 0
@@ -55,6 +65,7 @@ next: local 0: line 6
     6  while i < 3 {
 > run 1000000
 11 steps, depth 11
+rank 0 prints 6
 ended: done
 > history 999999999
 1 local 0: line 6
@@ -94,9 +105,10 @@ refused: fewer steps are taken
 > back 5
 refused: fewer steps are taken
 > redo 0
-refused: no such number
+refused: 1 to 1000000 steps can be asked for
 > redo 8
 depth 11
+rank 0 prints 6
 ended: done
 > goto 11
 depth 11
@@ -107,6 +119,7 @@ depth 9
     6  while i < 3 {
 > redo 3
 depth 11
+rank 0 prints 6
 ended: done
 > back
 depth 10
@@ -114,6 +127,7 @@ depth 10
    10  print sum;
 > redo 2
 11 local 0: line 10
+rank 0 prints 6
 ended: done
 > redo 2
 refused: fewer steps are ahead
@@ -123,6 +137,7 @@ depth 10
    10  print sum;
 > redo 999999999
 11 local 0: line 10
+rank 0 prints 6
 ended: done
 > goto 10
 depth 10
@@ -130,6 +145,7 @@ depth 10
    10  print sum;
 > goto 11
 depth 11
+rank 0 prints 6
 ended: done
 > goto 0
 depth 0
@@ -137,15 +153,17 @@ depth 0
     6  while i < 3 {
 > redo 1000001
 depth 11
+rank 0 prints 6
 ended: done
 > goto 0
 depth 0
 11 ahead: local 0: line 6
     6  while i < 3 {
 > run 1000001
-refused: no such number
+refused: 1 to 1000000 steps can be asked for
 > run
 11 steps, depth 11
+rank 0 prints 6
 ended: done
 '''),
     Dialogue('words that are none, and the nearest', 'loop.mpd', '''
@@ -240,7 +258,19 @@ usage: goto N
 > goto 0000000000
 usage: goto N
 > redo +1
-usage: redo [N]
+usage: redo [N], redo all
+> redo All
+usage: redo [N], redo all
+> redo a
+usage: redo [N], redo all
+> redo all 1
+usage: redo [N], redo all
+> redo 1 all
+usage: redo [N], redo all
+> run all
+usage: run [N]
+> back all
+usage: back [N]
 > local
 usage: local P
 > match 0.0
@@ -360,15 +390,15 @@ no variable or request is called 'su??'
 > print nope x
 usage: print NAME [P]
 > print sum 99
-refused: no such number
+refused: there is no such rank
 > print sum[0] 0
-refused: no such number
+refused: there is no such index
 > break change 9 nope
 no variable or request is called 'nope'
 > break change 9 sum[1
 no variable or request is called 'sum[1'
 > break change 9 i
-refused: no such number
+refused: there is no such rank
 > break change x nope
 usage: break LINE, break match LINE, break change P NAME
 > print i
@@ -428,7 +458,7 @@ refused: fewer steps are taken
 > help zap
 unknown word 'zap': help lists all
 > print sum[0]
-refused: no such number
+refused: there is no such index
 >
 3 local 0: line 8
 1 ahead: local 0: line 6
@@ -440,17 +470,17 @@ no variable or request is called 'nope'
 next: local 0: line 7
     7    i = i + 1;
 > print sum 7
-refused: no such number
+refused: there is no such rank
 >
-refused: no such number
+refused: there is no such rank
 > break change 7 sum
-refused: no such number
+refused: there is no such rank
 > delete 0
 refused: no breakpoint has this number
 > break 0
-refused: no such number
+refused: lines are 1 to 65537
 >
-refused: no such number
+refused: lines are 1 to 65537
 > breaks
 no breakpoint
 > goto 2
@@ -474,81 +504,77 @@ rank 0: sum = 0
     Dialogue('help, of all words and of some', PRINTS, '''
 > help
 next [N]                            takes the step that comes next
-run [N]                             goes on to the next breakpoint, choice or
-        end, or so many steps at most
+run [N]                             goes on to a breakpoint, a choice or an end
 back [N]                            takes a step back, or so many
 run-back                            goes back to a breakpoint, or to the start
-undo-choice                         goes back to the last choice, so that
-        another candidate can be taken
-goto N                              goes back, or along the steps ahead, until
-        so many steps are taken
-redo [N]                            takes the step again that was undone last,
-        or so many, as far as there are
+undo-choice                         goes back to the last choice
+goto N                              goes to where so many steps are taken
+redo [N], redo all                  takes the first step ahead, or so many
 local P, match S R, wake P, wakeany P I, release takes this step
-break LINE, break match LINE, break change P NAME sets a breakpoint: behind a
-        step by which a rank comes to that line, behind a match of a call of
-        that line, behind a change of that variable or request of rank P
+break LINE, break match LINE, break change P NAME sets a breakpoint (b is back)
 delete N                            removes a breakpoint
 breaks                              lists the breakpoints
-list [P]                            shows the script, and at each line which
-        ranks stand there
-print NAME [P]                      shows a variable or a request of all ranks,
-        or of rank P
-vars [P]                            shows all variables and requests in short,
-        and what was printed
+list [P]                            shows the script, and where ranks stand
+print NAME [P]                      shows a variable or a request
+vars [P]                            shows all variables in short
 ranks                               shows what each rank is doing
 calls [P]                           lists the calls of all ranks, or of rank P
-queues                              lists the sends and the receives that are
-        free
-why [P], why CALL                   says why the calls that ranks wait for
-        aren't matched
+queues                              lists the sends and receives that are free
+why [P], why CALL                   says why ranks wait
 history [N]                         lists the last 10 steps, or the last N
 picture                             draws the run so far
-check [N]                           tries the choices from here, and lists how
-        the runs end, 1,000 or N of them at most
+check [N]                           tries the choices, and lists how runs end
 follow N                            lays the steps of a run ahead
-deadlock                            looks for the first deadlock from here, and
-        lays its steps ahead, so that redo and run go there
-trap                                looks for the first trap from here, and lays
-        its steps ahead
-words                               lists the steps taken as trace words, to be
-        kept in a file
+deadlock                            lays the first deadlock's steps ahead
+trap                                lays the first trap's steps ahead
+words                               lists the steps taken as trace words
 enabled                             lists the steps that are enabled
 show                                shows the whole state, as a trace does
-        (docs/FORMATS.md, "Text of show")
 help [WORD]                         lists the words, or tells of one
 quit                                ends
 > help next
-next [N]: takes the step that comes next; at a choice it lists the candidates,
-        and next N takes one, from 1; elsewhere next N is run N
+next [N]: takes the step that comes next; at a choice the one that lies ahead,
+        or it lists the candidates, of which next N takes one, from 1; elsewhere
+        next N is run N
 > help w
-why [P], why CALL: says why the calls that ranks wait for aren't matched; or
-        that of rank P, or a call
+why [P], why CALL: says why ranks wait; of all, of rank P, or of a call why it
+        isn't matched
 > help u
-undo-choice: goes back to the last choice, so that another candidate can be
-        taken
+undo-choice: goes back to the last choice; another candidate can be taken there
 > help f
 follow N: lays the steps of a run ahead; N is its number in check
+> help deadlock
+deadlock: lays the first deadlock's steps ahead; the first from here, so that
+        run and redo go there
 > help trap
-trap: looks for the first trap from here, and lays its steps ahead
+trap: lays the first trap's steps ahead; the first from here
 > help b
 back [N]: takes a step back, or so many
 > ? wakeany
 local P, match S R, wake P, wakeany P I, release: takes this step
 > help g
-goto N: goes back, or along the steps ahead, until so many steps are taken
+goto N: goes to where so many steps are taken; back, or along the steps ahead
 > help redo
-redo [N]: takes the step again that was undone last, or so many, as far as there
-        are
+redo [N], redo all: takes the first step ahead, or so many; as far as there are,
+        or all
 > help break
-break LINE, break match LINE, break change P NAME: sets a breakpoint: behind a
-        step by which a rank comes to that line, behind a match of a call of
-        that line, behind a change of that variable or request of rank P
+break LINE, break match LINE, break change P NAME: sets a breakpoint (b is
+        back); behind a step by which a rank comes to that line, behind a match
+        of a call of that line, behind a change of that variable or request of
+        rank P
 > help line
 unknown word 'line': perhaps list
+> help all
+unknown word 'all': help lists all
 > help l
-list [P]: shows the script, and at each line which ranks stand there; or the
-        lines about rank P
+list [P]: shows the script, and where ranks stand; or the lines about rank P
+> help c
+run [N]: goes on to a breakpoint, a choice or an end; or so many steps at most
+> help check
+check [N]: tries the choices, and lists how runs end; from here, 1,000 or N of
+        them at most
+> help show
+show: shows the whole state, as a trace does; docs/FORMATS.md, "Text of show"
 > help ?
 help [WORD]: lists the words, or tells of one
 > vars
@@ -556,6 +582,7 @@ rank 0 has no variable
 > words
 > next
 1 local 0: line 1
+rank 0 prints -7
 next: local 0: line 3
     3  print 2;\t# 2
 > list
@@ -566,6 +593,7 @@ next: local 0: line 3
     5   
 > next
 2 local 0: line 3
+rank 0 prints 2
 ended: done
 > vars
 rank 0 has no variable
@@ -594,18 +622,18 @@ next: local 0: line 8
 unknown word 'zap': help lists all
 > q
 '''),
-    Dialogue('64 breakpoints', 'loop.mpd', ''.join(f'> break {line}\nbreakpoint {line - 1}: line {line}\n' for line in range(1, 65)) + '''> break 1
+    Dialogue('64 breakpoints', 'loop.mpd', ''.join(map(set_at, range(1, 65))) + '''> break 1
 refused: 64 breakpoints are set
 > break line 1
 refused: 64 breakpoints are set
 > break line 65538
-refused: no such number
+refused: lines are 1 to 65537
 > break match 1
 refused: 64 breakpoints are set
 > break change 0 i
 refused: 64 breakpoints are set
 > break 0
-refused: no such number
+refused: lines are 1 to 65537
 > break change 0 y
 no variable or request is called 'y'
 > delete 63

@@ -70,26 +70,31 @@ next: local 0: line 2
     2  print 1; # {'a' * 62}
 > next
 1 local 0: line 2
+rank 0 prints 1
 next: local 0: line 3
     3  print 2; #
         {'b' * 63}
 >
 2 local 0: line 3
+rank 0 prints 2
 next: local 0: line 4
     4  print 3; # {'c' * 62}
         d
 >
 3 local 0: line 4
+rank 0 prints 3
 next: local 0: line 5
     5  print 4; # {'e' * 61}
         ff
 >
 4 local 0: line 5
+rank 0 prints 4
 next: local 0: line 6
     6  print 5; #
         {'g' * 63} h
 >
 5 local 0: line 6
+rank 0 prints 5
 next: local 0: line 7
     7{' '}
         x={'+'.join('1' * 40)};
@@ -100,6 +105,7 @@ next: local 0: line 8
 {' ' * 8}
 >
 7 local 0: line 8
+rank 0 prints 6
 next: local 0: line 9
     9  print 7; # {'j' * 61}
         k {'l' * 70}
@@ -107,6 +113,7 @@ next: local 0: line 9
         n
 >
 8 local 0: line 9
+rank 0 prints 7
 next: local 0: line 10
    10  print 8; # {'o' * 62}
          {'p' * 73}
@@ -133,9 +140,10 @@ unknown word
         '{'z' * 100}':
         help lists all
 > run 0
-refused: no such number
+refused: 1 to 1000000 steps can be asked for
 > run
 1 step, depth 9
+rank 0 prints 8
 ended: done
 > vars
 rank 0: x = 40, a = [0, 0, 0, 0, 0, 0, 0, 0, 0, 0, 0, 0, 0, 0, 0, 0, ..]
@@ -165,6 +173,7 @@ next: local 0: line 1
     1  mpd 1; ranks 1; print -7;
 > next
 1 local 0: line 1
+rank 0 prints -7
 next: local 0: line 3
     3  print 2;\t# 2
 > back
@@ -221,6 +230,7 @@ next: local 0: line 9
 rank 0: a = 0, b = 0, r = 0.0
 > run
 1 step, depth 3
+{LOST_RECEIVE}
 breakpoint 0: change 0 r
 next: local 0: line 10
    10    wait r;
@@ -249,7 +259,7 @@ before breakpoint 0: change 0 r
 > break change 1 r
 breakpoint 1: change 1 r
 > break change 2 r
-refused: no such number
+refused: there is no such rank
 > breaks
 breakpoint 0: change 0 r
 breakpoint 1: change 1 r
@@ -257,6 +267,7 @@ breakpoint 1: change 1 r
 deleted 0
 > run
 11 steps, depth 13
+rank 0 prints 12
 ended: done
 {LOST_RECEIVE}
 > vars 0
@@ -270,6 +281,8 @@ ended: done
     Dialogue('sends and receives of two ranks that are lost, behind a deadlock', LOST_SENDS, '''
 > run 4
 4 steps, depth 4
+rank 0 has lost a request: line 3, 0.0 isend to 1 tag 0 value 1
+rank 0 has lost a request: line 4, 0.1 issend to 1 tag 0 value 2
 stopped: as many steps as were asked for
 next: local 0: line 6
     6    wait r;
@@ -303,7 +316,7 @@ next: local 1: line 3
 rank 0: x = 0, h = 0.0, r = [-, -]
 rank 1: x = 0, h = -, r = [-, -]
 > break change 1 r
-refused: no such number
+refused: an array needs an index here
 > break change 1 r[0]
 breakpoint 0: change 1 r[0]
 > break change 1 r[1]
@@ -319,6 +332,7 @@ rank 1: x = 0, h = -, r = [-, 1.0]
     Dialogue('a request that nobody waits for any more, complete and free, beside a wait for any', LOST_BESIDE_ANY, f'''
 > run 5
 5 steps, depth 5
+{LOST_THREE}
 stopped: as many steps as were asked for
 next: local 0: line 7
     7  waitany r to i;
@@ -357,6 +371,7 @@ rank 0: x = 0, i = 0, r = [0.4], h = 0.2
     Dialogue('the same where sends are buffered', LOST_BESIDE_ANY, f'''
 > run 5
 5 steps, depth 5
+{LOST_THREE}
 stopped: as many steps as were asked for
 next: local 0: line 7
     7  waitany r to i;
@@ -386,11 +401,14 @@ rank 0 has lost a request: line 2, 0.0 irecv from 0 tag 3
 breakpoint 0: change 0 r[0]
 > run
 4 steps, depth 4
+rank 0 has lost a request: line 2, 0.0 isend to 0 tag 0 value 5
+rank 0 has lost a request: line 3, 0.1 irecv from 0 tag 0
 breakpoint 0: change 0 r[0]
 next: local 0: line 6
     6  irecv r[0] x from 0 tag 0;
 >
 1 step, depth 5
+rank 0 has lost a request: line 5, 0.3 isend to 0 tag 0 value 6
 breakpoint 0: change 0 r[0]
 next: local 0: line 7
     7  waitany r to i;
@@ -401,7 +419,7 @@ ended: leftovers 0.2
 > break change 0 r[0]
 breakpoint 1: change 0 r[0]
 > break change 0 r[1]
-refused: no such number
+refused: there is no such index
 > break change 0 x
 breakpoint 2: change 0 x
 > run-back
@@ -437,13 +455,14 @@ rank 2 has no variable
 > vars 1
 rank 1 has no variable
 > vars 3
-refused: no such number
+refused: there is no such rank
 '''),
     Dialogue('where a request alone is, and where no cell is', 'mpd 1; ranks 1; req r; var none[0];\nisend r 1 to 0 tag 0;\nprint -1;', '''
 > vars
 rank 0: r = -, none = []
 > run
 2 steps, depth 2
+rank 0 prints -1
 ended: leftovers 0.0
 > vars
 rank 0: r = 0.0, none = []

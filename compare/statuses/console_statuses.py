@@ -41,7 +41,7 @@ TURNS = (
     ('run 3', f'3 steps, depth 4\nstopped: as many steps as were asked for\nnext: {MATCHED}\n{SOURCE}'),
     ('ranks', 'rank 0 waits at line 4, 0.0 send to 1 tag 0 value 7\nrank 1 waits at line 4, 1.0 recv from 0 tag 0\n'),
     ('goto 9', 'refused: fewer steps are taken\n'),
-    ('run', '4 steps, depth 8\nended: done\n'),
+    ('run', '4 steps, depth 8\nrank 1 prints 7\nended: done\n'),
     ('print x', 'rank 0: x = 0\nrank 1: x = 7\n'),
     ('brake', "unknown word 'brake': perhaps break\n"))
 LINES, ANSWERS = ([f'{typed}\n'.encode() for typed, _ in TURNS], [answer.encode() for _, answer in TURNS])
