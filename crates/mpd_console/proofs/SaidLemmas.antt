@@ -30,7 +30,7 @@ use Rattle.mpd_search.specs.declared.way.Way.{Way}
 use Rattle.mpd_search.specs.Runs.{none_line}
 use Rattle.mpd_search.specs.Seek.{found_run, numbered_run, nothing_line, LiesAhead, ahead_line, no_run_line}
 use Rattle.mpd_search.specs.Choices.{last_choice, no_choice_line}
-use Rattle.mpd_console.specs.Says.{memory_line, unprinted_line, too_long_line, at_world, prompt, said, lead_said, known_at, known_in, reply_said, laid_out, look_said, laid_said, not_found_said, none_said, prompts_behind, fault_said, Told, Looked, asking, Carried, UndoneBy, LaidBy, found_from, numbered_from, SoughtBy, FollowedBy, doing_at, doing_in, AnsweredBy, Answered, Console, WordSays, RepeatSays, LineSays, SaysBy, ConsoleSays, Adds, OrElse}
+use Rattle.mpd_console.specs.Says.{memory_line, unprinted_line, too_long_line, at_world, prompt, said, lead_said, known_at, known_in, reply_said, laid_out, look_said, laid_said, not_found_said, none_said, prompts_behind, fault_said, Told, Looked, asking, Carried, UndoneBy, LaidBy, found_from, numbered_from, SoughtBy, FollowedBy, doing_at, doing_in, AnsweredBy, Answered, Console, again, WordSays, RepeatSays, LineSays, SaysBy, ConsoleSays, Adds, OrElse}
 
 -- ---- texts on the world of a trail
 
@@ -268,7 +268,7 @@ line_comment d e l line before after is same (z, h, told) = (z, h, subst (λ k. 
 pub line_wrong : (d e : Console) (l : Line) (f : WordFault) (line before after : List ℕ) → l ≡ Wrong f → e ≡ d → Adds (Looked (fault_said d.prompts d.session line f)) before after → Adds (λ text. LineSays d l line text e) before after
 line_wrong d e l f line before after is same (z, h, told) = (z, h, subst (λ k. LineSays d k line z e) (sym is) (same, told))
 
-pub line_says : (d c e : Console) (l : Line) (x : Word) (line before after : List ℕ) → l ≡ Says x → c ≡ record d { last = Some x } → Adds (λ text. WordSays c x text e) before after → Adds (λ text. LineSays d l line text e) before after
+pub line_says : (d c e : Console) (l : Line) (x : Word) (line before after : List ℕ) → l ≡ Says x → c ≡ record d { last = Some (again x) } → Adds (λ text. WordSays c x text e) before after → Adds (λ text. LineSays d l line text e) before after
 line_says d c e l x line before after is same (z, h, told) = (z, h, subst (λ k. LineSays d k line z e) (sym is) (subst (λ k. WordSays k x z e) same told))
 
 short : (n : ℕ) → n ≤ 4096 → nat_lt 4096 n ≡ false

@@ -192,10 +192,15 @@ abbrev pub RepeatSays : Console → Option Word → List ℕ → Console → Typ
 RepeatSays d None text e = (e ≡ d) × Looked (prompt d.prompts d.session) text
 RepeatSays d (Some x) text e = WordSays d x text e
 
+-- what an empty line does behind a word: `next` lists the candidates of the next choice, and doesn't take one of the same number
+abbrev pub again : Word → Word
+again (word.Next n) = word.Next None
+again other = other
+
 abbrev pub LineSays : Console → Line → List ℕ → List ℕ → Console → Type 0
 LineSays d Blank z text e = RepeatSays d d.last text e
 LineSays d Comment z text e = (e ≡ d) × Looked (prompt d.prompts d.session) text
-LineSays d (Says x) z text e = WordSays (record d { last = Some x }) x text e
+LineSays d (Says x) z text e = WordSays (record d { last = Some (again x) }) x text e
 LineSays d (Wrong f) z text e = (e ≡ d) × Looked (fault_said d.prompts d.session z f) text
 
 abbrev pub SaysBy : Bool → Console → List ℕ → List ℕ → Console → Type 0

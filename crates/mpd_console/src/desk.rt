@@ -664,6 +664,16 @@ fn refuse_long(session: &Session<'_>, is_prompting: bool, out: &mut Vec<u8>)
     push_short_prompt(session, is_prompting, out)
 }
 
+/// What an empty line does behind a word.
+fn again(word: Word) -> Word
+    ensures { result ≡ spec.again word }
+{
+    match word {
+        Word::Next(_) => Word::Next(None),
+        _ => word,
+    }
+}
+
 /// A console at the start of a script (docs/CONSOLE.md): a session, the text of its script, the word that an empty line repeats, and
 /// whether prompts are wanted.
 #[derive(Drop)]
@@ -765,7 +775,7 @@ impl<'c, 't> ConsoleDesk<'c, 't> {
             Line::Comment => self.say_nothing(alloc, out),
             Line::Wrong(fault) => self.refuse(alloc, line, fault, out),
             Line::Says(word) => {
-                self.last = Some(word);
+                self.last = Some(again(word));
                 self.say(alloc, word, out)
             }
         }

@@ -1,5 +1,5 @@
 -- Ranks that aren't there print nothing.
-use Rattle.std.proofs.Common.{◌≡◌, ℕ, ◌≤◌, List, [], ◌++◌, length, slice_get, sym, ap, ◌∙◌, append-nil}
+use Rattle.std.proofs.Common.{◌≡◌, ℕ, ◌≤◌, List, ◌++◌, length, slice_get, sym, ap, ◌∙◌, append-nil}
 use Rattle.std.proofs.lemmas.Option.{slice_get_past}
 use Rattle.mpd_model.specs.steps.World.{World}
 use Rattle.mpd_moves.specs.News.{printed_count, prints_of}

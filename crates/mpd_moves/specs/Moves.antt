@@ -234,8 +234,8 @@ abbrev pub refusal_line : Bool → Word → Refusal → List ℕ
 refusal_line next x refusal.NotEnabled = if next then [] else line (codes "refused: this step is not enabled")
 refusal_line next x refusal.Full = line (codes "refused: no more than 1000000 steps are kept")
 refusal_line next x refusal.AtStart = line (codes "refused: fewer steps are taken")
-refusal_line next x refusal.NotBefore = line (codes "refused: fewer steps are taken")
-refusal_line next x refusal.NoRedo = line (codes "refused: fewer steps are ahead")
+refusal_line next x refusal.NotBefore = line (codes "refused: so many steps are neither taken nor ahead")
+refusal_line next x refusal.NoRedo = line (codes "refused: no step is ahead")
 refusal_line next x refusal.NoSuchBreak = line (codes "refused: no breakpoint has this number")
 refusal_line next x refusal.BreaksFull = line (codes "refused: 64 breakpoints are set")
 refusal_line next x refusal.BadNumber = if next then line (codes "refused: there is no such candidate") else range_line x

@@ -1,5 +1,5 @@
 -- What the steps of a word did: what ranks print by them, and the requests that are lost by them (docs/CONSOLE.md, "Answers").
-use Rattle.std.specs.Prelude.{ℕ, ℤ, Bool, true, false, nat_lt, if◌then◌else◌, List, [], ◌∷◌, ◌++◌, length, drop, get_or, slice_get, Option, Some, None, codes}
+use Rattle.std.specs.Prelude.{ℕ, ℤ, Bool, nat_lt, if◌then◌else◌, List, [], ◌∷◌, ◌++◌, length, drop, get_or, slice_get, Option, Some, None, codes}
 use Rattle.std.specs.Fmt.{decimal, signed_decimal}
 use Rattle.std.specs.List.{flat_map, list_any}
 use Rattle.mpd_model.specs.declared.decision.Decision.{Decision}

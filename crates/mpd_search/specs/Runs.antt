@@ -90,6 +90,11 @@ no_number_line = line (codes "refused: 1 to 65536 runs can be asked for")
 abbrev pub check_text : Trail → World → ℕ → List ℕ
 check_text t w n = if is_number n then report_text (first_runs n false (fuel_at t.depth) w) (are_more n false (fuel_at t.depth) w) else no_number_line
 
+-- where there are more runs, only none was found
+abbrev pub found_words : Bool → List ℕ
+found_words true = codes " found: "
+found_words false = codes ": "
+
 -- `no deadlock: 2 runs, and no more (1 done, 1 trap)`
 abbrev pub none_line : Way → List Leaf → Bool → List ℕ
-none_line x leaves more = codes "no " ++ way_name x ++ codes ": " ++ total_line leaves more
+none_line x leaves more = codes "no " ++ way_name x ++ found_words more ++ total_line leaves more

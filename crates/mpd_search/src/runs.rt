@@ -230,12 +230,19 @@ pub fn push_runs(
     push_total(out, &report.leaves, report.more)
 }
 
+/// What is told between a way and the runs that were looked at, by whether there are more.
+fn found_words(more: bool) -> &'static str
+    ensures { result.now ≡ spec.found_words more }
+{
+    if more { " found: " } else { ": " }
+}
+
 /// Adds that no run ends in a way, and what was looked at. An `Err` is want of memory.
 pub fn push_none(out: &mut String, way: Way, report: &Report) -> Result<(), AllocError>
     ensures { OnOk result (string_bytes out.new ≡ string_bytes out.old ++ spec.none_line way report.now.leaves.items report.now.more) }
 {
     out.push_str("no ")?;
     out.push_str(way.name())?;
-    out.push_str(": ")?;
+    out.push_str(found_words(report.more))?;
     push_total(out, &report.leaves, report.more)
 }

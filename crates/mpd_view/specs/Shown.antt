@@ -1,5 +1,5 @@
 -- Looks at a state: ranks, calls, free calls, and the steps that are enabled (docs/CONSOLE.md, "Looks").
-use Rattle.std.specs.Prelude.{ℕ, if◌then◌else◌, List, [], ◌∷◌, ◌++◌, slice_get, Option, Some, None, codes}
+use Rattle.std.specs.Prelude.{ℕ, Bool, true, false, if◌then◌else◌, List, [], ◌∷◌, ◌++◌, slice_get, Option, Some, None, codes}
 use Rattle.std.specs.Option.{option_map}
 use Rattle.std.specs.Fmt.{decimal}
 use Rattle.std.specs.List.{flat_map}
@@ -9,7 +9,7 @@ use Rattle.mpd_model.specs.declared.call.Activity.{Activity}
 use Rattle.mpd_model.specs.declared.call.Activity.TheVariants.{Running, Blocked, Trapped}
 use Rattle.mpd_model.specs.script.Program.{Program}
 use Rattle.mpd_model.specs.steps.World.{RankWorld, World, Board, call_id, rank_numbers, call_numbers, last_call, pending, posted}
-use Rattle.mpd_model.specs.steps.Next.{enabled}
+use Rattle.mpd_model.specs.steps.Next.{enabled, can_wake}
 use Rattle.mpd_model.specs.steps.Outcomes.{has_ended}
 use Rattle.mpd_model.specs.texts.Texts.{line, id_text, call_text, trap_name}
 use Rattle.mpd_explain.specs.Explained.{placed}
@@ -31,10 +31,15 @@ running_words number (Some r) = if has_ended r then codes " has ended" else code
 abbrev pub trapped_words : ℕ → Trap → List ℕ
 trapped_words number t = codes " is trapped at line " ++ decimal number ++ codes ": " ++ trap_name t
 
+-- a rank that is blocked, where its call is complete or not
+abbrev pub blocked_words : Bool → List ℕ
+blocked_words true = codes " can go on from "
+blocked_words false = codes " waits at "
+
 abbrev pub doing_by : Program → World → ℕ → Option Activity → List ℕ
 doing_by s w p None = []
 doing_by s w p (Some Running) = running_words (line_of s w p) (slice_get w.ranks p)
-doing_by s w p (Some Blocked) = codes " waits at " ++ placed s w.board (last_call w.board p)
+doing_by s w p (Some Blocked) = blocked_words (can_wake w p) ++ placed s w.board (last_call w.board p)
 doing_by s w p (Some (Trapped t)) = trapped_words (line_of s w p) t
 
 -- ` waits at line 9, 0.1 recv from 1 tag 7`

@@ -65,13 +65,13 @@ abbrev pub one_chooser : Board → List Step → Option CallId
 one_chooser b [] = None
 one_chooser b (a ∷ steps) = chooses_all b steps (chooser b a)
 
--- `stopped at a choice of rank 1, line 7:`
+-- `stopped at a choice of rank 1, line 7; next N takes one:`
 abbrev pub chooser_line : Program → Board → CallId → List ℕ
-chooser_line s b c = line (codes "stopped at a choice" ++ issued s b c ++ codes ":")
+chooser_line s b c = line (codes "stopped at a choice" ++ issued s b c ++ codes "; next N takes one:")
 
 -- that, and that line of the script
 abbrev pub choice_head : List ℕ → Program → Board → Option CallId → List ℕ
-choice_head text s b None = line (codes "stopped at a choice:")
+choice_head text s b None = line (codes "stopped at a choice; next N takes one:")
 choice_head text s b (Some c) = chooser_line s b c ++ source text (call_line_of s b c)
 
 -- `  1 match 0.0 1.0: ..`, where so many candidates stand before it

@@ -7,7 +7,7 @@ use Rattle.mpd_model.specs.declared.call.CallKind.{CallKind}
 use Rattle.mpd_model.specs.declared.call.CallKind.TheVariants.{Wait, Waitany, Barrier}
 use Rattle.mpd_model.specs.script.Program.{Program}
 use Rattle.mpd_model.specs.steps.World.{World, Board, kind_at, rank_numbers, is_free, last_call, id_eq}
-use Rattle.mpd_model.specs.steps.Next.{waits}
+use Rattle.mpd_model.specs.steps.Next.{waits, can_wake}
 use Rattle.mpd_model.specs.texts.Texts.{line}
 use Rattle.mpd_model.specs.steps.Why.{why}
 use Rattle.mpd_explain.specs.Explained.{placed, wish, helps, absent_line}
@@ -82,15 +82,22 @@ why_text s w c = why_by s w c (kind_at w.board c)
 abbrev pub no_call_line : ℕ → List ℕ
 no_call_line p = line (codes "rank " ++ decimal p ++ codes " waits for no call")
 
--- of the call that a rank waits for
+-- where the call that a rank waits for is complete
+abbrev pub woken_line : World → ℕ → List ℕ
+woken_line w p = if can_wake w p then line (codes "  the call is complete: rank " ++ decimal p ++ codes " can go on") else []
+
+-- of the call that a rank waits for, whether or not it is complete
+abbrev pub waited_by : Program → World → ℕ → List ℕ
+waited_by s w p = why_text s w (last_call w.board p) ++ woken_line w p
+
 abbrev pub why_rank_text : Program → World → ℕ → List ℕ
-why_rank_text s w p = if waits (slice_get w.ranks p) then why_text s w (last_call w.board p) else no_call_line p
+why_rank_text s w p = if waits (slice_get w.ranks p) then waited_by s w p else no_call_line p
 
 -- ---- of all ranks
 
 -- that of the call that a rank waits for, where it waits for one
 abbrev pub waiting_text : Program → World → ℕ → List ℕ
-waiting_text s w p = if waits (slice_get w.ranks p) then why_text s w (last_call w.board p) else []
+waiting_text s w p = if waits (slice_get w.ranks p) then waited_by s w p else []
 
 abbrev pub waiting_lines : Program → World → List ℕ
 waiting_lines s w = flat_map (waiting_text s w) (rank_numbers w.board)

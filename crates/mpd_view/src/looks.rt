@@ -7,6 +7,7 @@ ghost use Rattle.mpd_view.specs.Steps.{line_of, step_line};
 ghost use Rattle.mpd_view.specs.Shown as shown;
 
 use crate::steps::push_step_line;
+use crate::why::can_wake;
 use mpd_core::Core;
 use mpd_explain::{issue_line, push_placed, rank_line};
 use mpd_model::{Activity, CallId, CallKind, Step, Trap};
@@ -57,6 +58,17 @@ fn push_trapped(
     Ok(())
 }
 
+/// What is told of a rank that is blocked, where its call is complete or not.
+fn blocked_words(can_wake: bool) -> &'static str
+    ensures { result.now ≡ shown.blocked_words can_wake }
+{
+    if can_wake {
+        " can go on from "
+    } else {
+        " waits at "
+    }
+}
+
 /// Adds what a rank is doing.
 fn push_doing(core: &Core<'_>, out: &mut String, rank: usize) -> Result<(), AllocError>
     ensures { OnOk result (string_bytes out.new ≡ string_bytes out.old ++ shown.doing core.now.program core.now.world rank) }
@@ -65,7 +77,7 @@ fn push_doing(core: &Core<'_>, out: &mut String, rank: usize) -> Result<(), Allo
         None => Ok(()),
         Some(Activity::Running) => push_running(core, out, rank),
         Some(Activity::Blocked) => {
-            out.push_str(" waits at ")?;
+            out.push_str(blocked_words(can_wake(core, rank)))?;
             push_placed(core, out, core.board().last_call(rank))
         }
         Some(Activity::Trapped(trap)) => push_trapped(core, out, rank, trap),

@@ -135,8 +135,7 @@ fn push_chooser(core: &Core<'_>, out: &mut String, call: CallId) -> Result<(), A
 {
     out.push_str("stopped at a choice")?;
     push_issued(core, out, call)?;
-    out.push_str(":")?;
-    out.push('\n')
+    out.push_str("; next N takes one:\n")
 }
 
 /// Adds for which call it is chosen, and its line of the script, where it is one.
@@ -149,7 +148,7 @@ fn push_choice_head(
     ensures { OnOk result (string_bytes out.new ≡ string_bytes out.old ++ standing.choice_head text.now core.now.program core.now.world.board call) }
 {
     let Some(call) = call else {
-        return out.push_str("stopped at a choice:\n");
+        return out.push_str("stopped at a choice; next N takes one:\n");
     };
     push_chooser(core, out, call)?;
     push_source(out, text, issue_line(core, call))

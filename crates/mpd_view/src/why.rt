@@ -2,7 +2,7 @@
 
 ghost use Rattle.std.specs.Prelude.{◌≡◌, ◌++◌, OnOk, slice_get, string_bytes};
 ghost use Rattle.std.specs.List.{flat_map};
-ghost use Rattle.mpd_model.specs.steps.Next.{waits};
+ghost use Rattle.mpd_model.specs.steps.Next.{waits, can_wake};
 ghost use Rattle.mpd_view.specs.Whys as whys;
 
 use crate::looks::{push_call, push_or_none};
@@ -167,6 +167,13 @@ fn is_blocked(core: &Core<'_>, rank: usize) -> bool
     }
 }
 
+/// Whether a rank waits for a call that is complete.
+pub(crate) fn can_wake(core: &Core<'_>, rank: usize) -> bool
+    ensures { result ≡ can_wake core.now.world rank }
+{
+    is_blocked(core, rank) && core.board().is_complete(core.board().last_call(rank))
+}
+
 /// Whether a rank waits in this call.
 fn waits_in(core: &Core<'_>, call: CallId) -> bool
     ensures { result ≡ whys.waits_in core.now.world call }
@@ -244,6 +251,29 @@ fn push_no_call(out: &mut String, rank: usize) -> Result<(), AllocError>
     write!(out, "rank {rank} waits for no call\n")
 }
 
+/// Adds that a rank can go on, where its call is complete.
+fn push_woken(core: &Core<'_>, out: &mut String, rank: usize) -> Result<(), AllocError>
+    ensures { OnOk result (string_bytes out.new ≡ string_bytes out.old ++ whys.woken_line core.now.world rank) }
+{
+    if !can_wake(core, rank) {
+        return Ok(());
+    }
+    write!(out, "  the call is complete: rank {rank} can go on\n")
+}
+
+/// Adds why the last call of a rank isn't matched, and that the rank can go on, where it can.
+fn push_waited_by(
+    alloc: Global,
+    core: &Core<'_>,
+    out: &mut String,
+    rank: usize,
+) -> Result<(), AllocError>
+    ensures { OnOk result (string_bytes out.new ≡ string_bytes out.old ++ whys.waited_by core.now.program core.now.world rank) }
+{
+    push_why(alloc, core, out, core.board().last_call(rank))?;
+    push_woken(core, out, rank)
+}
+
 /// Adds why the call that a rank waits for isn't matched, or that it waits for none. An `Err` is want of memory.
 pub fn push_why_rank(
     alloc: Global,
@@ -254,7 +284,7 @@ pub fn push_why_rank(
     ensures { OnOk result (string_bytes out.new ≡ string_bytes out.old ++ whys.why_rank_text core.now.program core.now.world rank) }
 {
     if is_blocked(core, rank) {
-        push_why(alloc, core, out, core.board().last_call(rank))
+        push_waited_by(alloc, core, out, rank)
     } else {
         push_no_call(out, rank)
     }
@@ -272,7 +302,7 @@ fn push_waiting(
     if !is_blocked(core, rank) {
         return Ok(());
     }
-    push_why(alloc, core, out, core.board().last_call(rank))
+    push_waited_by(alloc, core, out, rank)
 }
 
 /// Adds that of all ranks.

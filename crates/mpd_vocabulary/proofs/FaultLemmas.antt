@@ -1,9 +1,9 @@
 -- Words of a line, one after another.
-use Rattle.std.proofs.Common.{◌≡◌, ℕ, suc, ◌+◌, ◌-◌, ◌<◌, true, false, ◌==◌, List, [], ◌∷◌, ◌++◌, length, codes, refl, ap, sym, ◌∙◌, arith, append_assoc}
+use Rattle.std.proofs.Common.{◌≡◌, ℕ, suc, ◌+◌, ◌-◌, ◌<◌, true, false, ◌==◌, List, [], ◌∷◌, ◌++◌, length, codes, refl, ap, sym, ◌∙◌, arith, append_assoc, append-nil}
 use Rattle.std.proofs.lemmas.Bool.Decides.{nat_tests}
 use Rattle.mpd_model.specs.texts.Texts.{line}
 use Rattle.mpd_vocabulary.specs.Topics.{shared}
-use Rattle.mpd_vocabulary.specs.Faults.{word_at, hint}
+use Rattle.mpd_vocabulary.specs.Faults.{word_at, hint, shorts_line}
 
 skip_to : (a : List ℕ) (more : List (List ℕ)) (n k : ℕ) → n ≡ suc k → word_at (a ∷ more) n ≡ word_at more k
 skip_to a more n k e = ap (word_at (a ∷ more)) e
@@ -48,6 +48,18 @@ hint_some [] h = cc
 hint_some (b ∷ name) h = refl
 
 pub ruleset hinting = (hint_none, hint_some)
+
+-- ---- short forms
+
+pub no_shorts : (forms old : List ℕ) → (length forms == 0) ≡ true → old ≡ old ++ shorts_line forms
+no_shorts [] old h = sym (append-nil old)
+no_shorts (b ∷ forms) old h = grind (arith, nat_tests)
+
+pub some_shorts : (forms : List ℕ) → (length forms == 0) ≡ false → line (codes "  short: " ++ forms) ≡ shorts_line forms
+some_shorts [] h = cc
+some_shorts (b ∷ forms) h = refl
+
+pub ruleset shortening = (no_shorts, some_shorts)
 
 -- ---- texts that grow by parts
 

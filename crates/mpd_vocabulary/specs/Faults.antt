@@ -6,7 +6,7 @@ use Rattle.mpd_model.specs.texts.Texts.{line}
 use Rattle.mpd_vocabulary.specs.declared.topic.Topic.{Topic}
 use Rattle.mpd_vocabulary.specs.declared.word.WordFault.{WordFault}
 use Rattle.mpd_vocabulary.specs.declared.word.WordFault.TheVariants.{Unknown, Usage, NoName, NoSuchIndex, NoIndex}
-use Rattle.mpd_vocabulary.specs.Topics.{topics, nearest, usage_of, forms_of, purpose_of, details_of}
+use Rattle.mpd_vocabulary.specs.Topics.{topics, nearest, usage_of, forms_of, purpose_of, details_of, shorts_of}
 
 abbrev pub word_at : List (List ℕ) → ℕ → List ℕ
 word_at [] n = []
@@ -59,13 +59,22 @@ columns forms purpose = forms ++ spaces (35 - length forms) ++ line (codes " " +
 abbrev pub whole : List ℕ → List ℕ → List ℕ → List ℕ
 whole forms purpose details = forms ++ codes ": " ++ purpose ++ line details
 
+-- `  short: n, step, s`, where there are any
+abbrev pub shorts_line : List ℕ → List ℕ
+shorts_line [] = []
+shorts_line (b ∷ forms) = line (codes "  short: " ++ b ∷ forms)
+
 -- `next [N]                            takes the step that comes next`
 abbrev pub help_line : Topic → List ℕ
 help_line t = columns (forms_of t) (purpose_of t)
 
 abbrev pub help_of : Topic → List ℕ
-help_of t = whole (forms_of t) (purpose_of t) (details_of t)
+help_of t = whole (forms_of t) (purpose_of t) (details_of t) ++ shorts_line (shorts_of t)
+
+-- what is said behind the lines of all words
+abbrev pub help_end : List ℕ
+help_end = line (codes "help WORD tells more of a word, and its short forms") ++ line (codes "an empty line does the last word once more")
 
 abbrev pub help_text : Option Topic → List ℕ
-help_text None = flat_map help_line topics
+help_text None = flat_map help_line topics ++ help_end
 help_text (Some t) = help_of t

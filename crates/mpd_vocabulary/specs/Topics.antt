@@ -21,13 +21,13 @@ shared [] w = 0
 shared (a ∷ z) [] = 0
 shared (a ∷ z) (b ∷ w) = if a == b then suc (shared z w) else 0
 
--- the first name that begins most like a word, where it has more in common with it than the best so far
+-- the first name that begins most like a word, where it has more bytes in common with it than the best so far
 abbrev pub nearer : List ℕ → List (List ℕ × Topic) → ℕ → List ℕ → List ℕ
 nearer w [] most best = best
 nearer w (k ∷ ks) most best = if nat_lt most (shared k.0 w) then nearer w ks (shared k.0 w) k.0 else nearer w ks most best
 
 unfoldable pub nearest : List ℕ → List ℕ
-nearest w = nearer w names 0 []
+nearest w = nearer w names 1 []
 
 -- a word of each line of help, in the order of the table
 abbrev pub topics : List Topic
@@ -118,21 +118,48 @@ purpose_of topic.Help = codes "lists the words, or tells of one"
 purpose_of topic.Quit = codes "ends"
 
 -- what more is to be said of it, behind that
+abbrev pub step_details : List ℕ
+step_details = codes "; P is a rank, S and R are a send and a receive as 1.0, and I is the number of a request of a waitany, from 0"
+
 abbrev pub details_of : Topic → List ℕ
 details_of topic.Next = codes "; at a choice the one that lies ahead, or it lists the candidates, of which next N takes one, from 1; elsewhere next N is run N"
 details_of topic.Run = codes "; or so many steps at most"
 details_of topic.UndoChoice = codes "; another candidate can be taken there"
 details_of topic.Goto = codes "; back, or along the steps ahead"
 details_of topic.Redo = codes "; as far as there are, or all"
+details_of topic.Local = step_details
+details_of topic.Match = step_details
+details_of topic.Wake = step_details
+details_of topic.WakeAny = step_details
+details_of topic.Release = step_details
 details_of topic.Break = codes "; behind a step by which a rank comes to that line, behind a match of a call of that line, behind a change of that variable or request of rank P"
 details_of topic.List = codes "; or the lines about rank P"
 details_of topic.Print = codes "; of all ranks, or of rank P"
 details_of topic.Vars = codes "; requests, and what was printed, too"
-details_of topic.Why = codes "; of all, of rank P, or of a call why it isn't matched"
+details_of topic.Why = codes "; all of them, or rank P; or why a call isn't matched, CALL as 0.1"
 details_of topic.Check = codes "; from here, 1,000 or N of them at most"
-details_of topic.Follow = codes "; N is its number in check"
+details_of topic.Follow = codes "; N is its number in a check from here"
 details_of topic.Deadlock = codes "; the first from here, so that run and redo go there"
-details_of topic.Trap = codes "; the first from here"
+details_of topic.Trap = codes "; a trap ends a rank at an error, as a failed assert or a division by 0"
 details_of topic.Words = codes "; to be kept in a file"
 details_of topic.Show = codes "; docs/FORMATS.md, \"Text of show\""
 details_of other = []
+
+-- its short forms
+abbrev pub shorts_of : Topic → List ℕ
+shorts_of topic.Next = codes "n, step, s"
+shorts_of topic.Run = codes "r, continue, c"
+shorts_of topic.Back = codes "b, reverse-next"
+shorts_of topic.RunBack = codes "rc, reverse-continue"
+shorts_of topic.UndoChoice = codes "u"
+shorts_of topic.Goto = codes "g"
+shorts_of topic.Delete = codes "d"
+shorts_of topic.List = codes "l"
+shorts_of topic.Print = codes "p"
+shorts_of topic.Ranks = codes "bt, where"
+shorts_of topic.Why = codes "w"
+shorts_of topic.History = codes "h"
+shorts_of topic.Follow = codes "f"
+shorts_of topic.Help = codes "?"
+shorts_of topic.Quit = codes "q, exit"
+shorts_of other = []

@@ -1,13 +1,13 @@
 //! What is told of a line that asks for nothing that can be done, and help (docs/CONSOLE.md, "Answers").
 
-ghost use Rattle.std.specs.Prelude.{◌≡◌, ◌<◌, ◌++◌, OnOk, map, string_bytes};
+ghost use Rattle.std.specs.Prelude.{◌≡◌, ◌<◌, ◌++◌, None, OnOk, map, string_bytes};
 ghost use Rattle.std.specs.List.{flat_map};
 ghost use Rattle.mpd_model.specs.texts.Words.{words};
 ghost use Rattle.mpd_model.specs.texts.Texts.{line};
 ghost use Rattle.mpd_vocabulary.specs.Faults as spec;
 
 use crate::read::next_word;
-use crate::topic::{TOPICS, Topic, details_of, forms_of, nearest, purpose_of, usage_of};
+use crate::topic::{TOPICS, Topic, details_of, forms_of, nearest, purpose_of, shorts_of, usage_of};
 use crate::word::WordFault;
 use std::alloc::AllocError;
 
@@ -186,11 +186,32 @@ fn push_whole(out: &mut String, forms: &str, purpose: &str, details: &str) -> Re
     push_ended(out, details, "")
 }
 
+/// Adds the line of short forms, where there are any.
+#[tactic(auto, using(crate::proofs::FaultLemmas::shortening))]
+fn push_shorts(out: &mut String, forms: &str) -> Result<(), AllocError>
+    ensures { OnOk result (string_bytes out.new ≡ string_bytes out.old ++ spec.shorts_line forms.now) }
+{
+    if forms.is_empty() {
+        return Ok(());
+    }
+    push_ended(out, "  short: ", forms)
+}
+
 /// Adds what is told of one word.
 fn push_help_of(out: &mut String, topic: Topic) -> Result<(), AllocError>
     ensures { OnOk result (string_bytes out.new ≡ string_bytes out.old ++ spec.help_of topic) }
 {
-    push_whole(out, forms_of(topic), purpose_of(topic), details_of(topic))
+    push_whole(out, forms_of(topic), purpose_of(topic), details_of(topic))?;
+    push_shorts(out, shorts_of(topic))
+}
+
+/// Adds the lines of help of all words, and what is said behind them.
+fn push_all_help(out: &mut String) -> Result<(), AllocError>
+    ensures { OnOk result (string_bytes out.new ≡ string_bytes out.old ++ spec.help_text None) }
+{
+    push_help_lines(out, &TOPICS)?;
+    out.push_str("help WORD tells more of a word, and its short forms\n")?;
+    out.push_str("an empty line does the last word once more\n")
 }
 
 /// Adds the lines of help of all words, or what is told of one. An `Err` is want of memory.
@@ -198,7 +219,7 @@ pub fn push_help(out: &mut String, topic: Option<Topic>) -> Result<(), AllocErro
     ensures { OnOk result (string_bytes out.new ≡ string_bytes out.old ++ spec.help_text topic) }
 {
     match topic {
-        None => push_help_lines(out, &TOPICS),
+        None => push_all_help(out),
         Some(topic) => push_help_of(out, topic),
     }
 }

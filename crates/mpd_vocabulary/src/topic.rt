@@ -42,9 +42,11 @@ pub enum Topic {
 }
 
 /// What the words are called, in the order of the table, the whole name of each before its short forms.
-pub const NAMES: [(&str, Topic); 51] = [
+pub const NAMES: [(&str, Topic); 56] = [
     ("next", Topic::Next),
     ("n", Topic::Next),
+    ("step", Topic::Next),
+    ("s", Topic::Next),
     ("run", Topic::Run),
     ("r", Topic::Run),
     ("continue", Topic::Run),
@@ -75,6 +77,8 @@ pub const NAMES: [(&str, Topic); 51] = [
     ("p", Topic::Print),
     ("vars", Topic::Vars),
     ("ranks", Topic::Ranks),
+    ("bt", Topic::Ranks),
+    ("where", Topic::Ranks),
     ("calls", Topic::Calls),
     ("queues", Topic::Queues),
     ("why", Topic::Why),
@@ -94,6 +98,7 @@ pub const NAMES: [(&str, Topic); 51] = [
     ("?", Topic::Help),
     ("quit", Topic::Quit),
     ("q", Topic::Quit),
+    ("exit", Topic::Quit),
 ];
 
 /// A word of each line of help, in the order of the table.
@@ -167,11 +172,11 @@ fn shared(one: &[u8], other: &[u8]) -> usize
     one.len()
 }
 
-/// The first of some names that begins most like a word, where one begins with more bytes of it than so many; else the best so far.
+/// The first of some names that begins most like a word, where one begins with two bytes of it at least; else none.
 fn nearer(mut names: &[(&'static str, Topic)], word: &[u8]) -> &'static str
-    ensures { result.now ≡ spec.nearer word.now (map (λ k. (k.0.now, k.1)) names.entry.now) 0 [] }
+    ensures { result.now ≡ spec.nearer word.now (map (λ k. (k.0.now, k.1)) names.entry.now) 1 [] }
 {
-    let mut most = 0;
+    let mut most = 1;
     let mut best = "";
     while let [name, rest @ ..] = names {
         let count = shared(name.0.as_bytes(), word);
@@ -184,7 +189,7 @@ fn nearer(mut names: &[(&'static str, Topic)], word: &[u8]) -> &'static str
     best
 }
 
-/// The name that begins most like a word, the first of several; empty where none begins with its first byte.
+/// The name that begins most like a word, the first of several; empty where none begins with its first two bytes.
 #[tactic(auto, unfolding(crate::specs::Topics::nearest))]
 pub(crate) fn nearest(word: &[u8]) -> &'static str
     ensures { result.now ≡ spec.nearest word.now }
@@ -294,18 +299,44 @@ pub(crate) fn details_of(topic: Topic) -> &'static str
         Topic::UndoChoice => "; another candidate can be taken there",
         Topic::Goto => "; back, or along the steps ahead",
         Topic::Redo => "; as far as there are, or all",
+        Topic::Local | Topic::Match | Topic::Wake | Topic::WakeAny | Topic::Release =>
+            "; P is a rank, S and R are a send and a receive as 1.0, and I is the number of a request of a waitany, from 0",
         Topic::Break =>
             "; behind a step by which a rank comes to that line, behind a match of a call of that line, behind a change of that variable or request of rank P",
         Topic::List => "; or the lines about rank P",
         Topic::Print => "; of all ranks, or of rank P",
         Topic::Vars => "; requests, and what was printed, too",
-        Topic::Why => "; of all, of rank P, or of a call why it isn't matched",
+        Topic::Why => "; all of them, or rank P; or why a call isn't matched, CALL as 0.1",
         Topic::Check => "; from here, 1,000 or N of them at most",
-        Topic::Follow => "; N is its number in check",
+        Topic::Follow => "; N is its number in a check from here",
         Topic::Deadlock => "; the first from here, so that run and redo go there",
-        Topic::Trap => "; the first from here",
+        Topic::Trap => "; a trap ends a rank at an error, as a failed assert or a division by 0",
         Topic::Words => "; to be kept in a file",
         Topic::Show => "; docs/FORMATS.md, \"Text of show\"",
+        _ => "",
+    }
+}
+
+/// Its short forms.
+pub(crate) fn shorts_of(topic: Topic) -> &'static str
+    ensures { result.now ≡ spec.shorts_of topic }
+{
+    match topic {
+        Topic::Next => "n, step, s",
+        Topic::Run => "r, continue, c",
+        Topic::Back => "b, reverse-next",
+        Topic::RunBack => "rc, reverse-continue",
+        Topic::UndoChoice => "u",
+        Topic::Goto => "g",
+        Topic::Delete => "d",
+        Topic::List => "l",
+        Topic::Print => "p",
+        Topic::Ranks => "bt, where",
+        Topic::Why => "w",
+        Topic::History => "h",
+        Topic::Follow => "f",
+        Topic::Help => "?",
+        Topic::Quit => "q, exit",
         _ => "",
     }
 }

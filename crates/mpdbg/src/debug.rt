@@ -73,7 +73,9 @@ pub(crate) fn debug_script<'a, R: Eprint + AllocGlobal, S: Source, W: Sink>(
         terminals.is_prompting,
     )?;
     if terminals.is_terminal {
-        let _unwritten = eprintln!(rt; "help lists the words, an empty line repeats the last, quit ends; docs/CONSOLE.md");
+        let _unwritten = eprintln!(rt;
+            "help lists the words, an empty line repeats the last, quit ends; docs/CONSOLE.md"
+        );
     }
     if write_all(sink, &said).is_err() {
         return Err(Fault::from(EngineFault::WriteFailed));

@@ -6,7 +6,7 @@ use Rattle.mpd_vocabulary.proofs.topic.nearer.Given as goal
 
 abbrev pub invariant-loop-names : goal.invariant-loop-names
 invariant-loop-names l = record {
-  best : nearer l.word (map (λ k. (k.0.now, k.1)) l.names) l.most l.best ≡ nearer l.word (map (λ k. (k.0.now, k.1)) l.initial.names) 0 [];
+  best : nearer l.word (map (λ k. (k.0.now, k.1)) l.names) l.most l.best ≡ nearer l.word (map (λ k. (k.0.now, k.1)) l.initial.names) 1 [];
   is_text : shadow (Utf8 l.best);
 }
 
