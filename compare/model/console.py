@@ -13,7 +13,7 @@ from typing import NamedTuple
 
 from model import console_lines, console_words, debugger, explaining, explorer, picture_model, policy, session
 from model.console_lines import plural, step_words
-from model.console_words import Asked, NotAsked, read_line, shown
+from model.console_words import Asked, NotAsked, read_line, shown, to_repeat
 from model.debugger import (BAD_FILE, BAD_MODE, LONGEST_LINE, RENDEZVOUS, Result, enabled_steps, file_content, find_call, lines_of, number_of, refusal, show,
                             step_text)
 from model.language import Declared, Fault, read_script
@@ -34,8 +34,8 @@ NO_WAIT = 'no rank waits for a call'
 BAD_STEPS, BAD_RUNS, BAD_LINE, NO_RANK, NO_CALL = 'steps', 'runs', 'line', 'rank', 'call'
 REFUSALS = {
     session.NOT_ENABLED: 'refused: this step is not enabled', session.FULL: 'refused: no more than 1000000 steps are kept',
-    session.AT_START: 'refused: fewer steps are taken', session.NOT_BEFORE: 'refused: fewer steps are taken',
-    session.NO_REDO: 'refused: fewer steps are ahead', BAD_STEPS: 'refused: 1 to 1000000 steps can be asked for',
+    session.AT_START: 'refused: fewer steps are taken', session.NOT_BEFORE: 'refused: so many steps are neither taken nor ahead',
+    session.NO_REDO: 'refused: no step is ahead', BAD_STEPS: 'refused: 1 to 1000000 steps can be asked for',
     BAD_RUNS: 'refused: 1 to 65536 runs can be asked for', BAD_LINE: 'refused: lines are 1 to 65537',
     NO_RANK: 'refused: there is no such rank', NO_CALL: 'refused: there is no such call',
     session.NO_SUCH_BREAK: 'refused: no breakpoint has this number', session.BREAKS_FULL: 'refused: 64 breakpoints are set'}
@@ -49,7 +49,7 @@ WAYS = 'done', 'leftovers', 'deadlock', 'trap', explorer.CUT
 # What may stand behind the first `[` of a name.
 INDEX = re.compile(rb'([0-9]+)\]')
 # What a terminal is told first, on standard error.
-GREETING = 'help lists the words, quit ends; docs/CONSOLE.md'
+GREETING = 'help lists the words, an empty line repeats the last, quit ends; docs/CONSOLE.md'
 LONG_WITNESS = Result(b'', b'mpdbg: witness of more than 1000000 steps\n', 2)
 # Words whose answers have lines of any length.
 UNFOLDED = frozenset(['list', 'show', 'words', 'picture'])
@@ -106,7 +106,7 @@ def leaf_of(witness):
 
 
 class Console:
-    """A session that is asked by words, what is told before the first of them, and the word that an empty line does once more."""
+    """A session that is asked by words, what is told before the first of them, and what an empty line does."""
 
     def __init__(self, text, mode=RENDEZVOUS, witness=None):
         self.text, self.mode = text, mode
@@ -159,12 +159,12 @@ class Console:
             return console_lines.folded(not_asked.told)
         if asked is None:
             return []
-        self.last = asked
+        self.last = to_repeat(asked)
         told = self.told(asked)
         return told if asked.word in UNFOLDED else console_lines.all_folded(told)
 
     def asked(self, line):
-        """What a line asks for: an empty one what was asked last, and a comment nothing."""
+        """What a line asks for: an empty one the word that was asked last, and a comment nothing."""
         if is_blank(line):
             return self.last
         return None if is_comment(line) else self.understood(read_line(line))
@@ -416,11 +416,11 @@ class Console:
         """Why a call, or the one that a rank waits for, or all that ranks wait for, aren't matched."""
         if asked is None:
             at = self.at
-            return [line for call_id in console_lines.waiting(self.world) for line in console_lines.why_lines(at, call_id)] or [NO_WAIT]
+            return [line for call_id in console_lines.waiting(self.world) for line in console_lines.waiting_lines(at, call_id)] or [NO_WAIT]
         if isinstance(asked, int):
             if self.rank(asked).mode != 'blocked':
                 return [f'rank {asked} waits for no call']
-            asked = debugger.last_call(self.world, asked)
+            return console_lines.waiting_lines(self.at, debugger.last_call(self.world, asked))
         must_be(find_call(self.world, asked) is not None, NO_CALL)
         return console_lines.why_lines(self.at, asked)
 
@@ -475,7 +475,7 @@ class Console:
             more = next(walk, None) is not None
             if not more:
                 break
-        return [f'no {sought}: {counted(looked, more)}']
+        return [f'no {sought}{" found" if more else ""}: {counted(looked, more)}']
 
     def walks(self):
         """The runs that are looked at, and those that are where none of the first ones is sought: each end once."""

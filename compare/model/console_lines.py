@@ -5,10 +5,10 @@ What they are told of is `at`: a world, and the line of each call that was issue
 """
 
 from model import explaining, order
-from model.debugger import call_line, find_call, is_done, last_call, partner, pending, posted, step_text
+from model.debugger import call_line, enabled_steps, find_call, is_done, last_call, partner, pending, posted, step_text
 from model.explaining import Reached, call_text, next_line, wish
 from model.language import Branch, While
-from model.worlds import CallId
+from model.worlds import CallId, Step
 
 ABOUT = 4
 # How long a line of an answer is at most where it can be cut, and how many blanks stand before what goes on.
@@ -16,6 +16,8 @@ WIDTH, INDENT = 80, 8
 # So many cells of an array are shown in short.
 SHOWN = 16
 MESSAGES = 'send', 'recv'
+# What is told of the candidates of a choice.
+TAKES_ONE = 'next N takes one:'
 
 
 def cut(line, room):
@@ -101,10 +103,10 @@ def choice_lines(at, text, steps):
     calls = {chosen_for(at, step) for step in steps}
     candidates = [f'  {number} {step_words(at, step)}' for number, step in enumerate(steps, 1)]
     if len(calls) > 1:
-        return ['stopped at a choice:', *candidates]
+        return [f'stopped at a choice; {TAKES_ONE}', *candidates]
     call_id, = calls
     line = line_of(at, call_id)
-    return [f'stopped at a choice of rank {call_id.rank}, line {line}:', *source(text, [line]), *candidates]
+    return [f'stopped at a choice of rank {call_id.rank}, line {line}; {TAKES_ONE}', *source(text, [line]), *candidates]
 
 
 # ---- the script
@@ -277,11 +279,17 @@ def newly_lost_lines(before, at):
 
 # ---- ranks and calls
 
+def can_go_on(world, number):
+    """Whether the call that a rank waits in is complete: its wake is enabled. A wake by a request of a wait for any is none."""
+    return Step('wake', number) in enabled_steps(world)
+
+
 def rank_line(at, number):
     """What a rank is doing."""
     rank = at.world.ranks[number]
     if rank.mode == 'blocked':
-        return f'rank {number} waits at {call_text(at, last_call(at.world, number))}'
+        told = 'can go on from' if can_go_on(at.world, number) else 'waits at'
+        return f'rank {number} {told} {call_text(at, last_call(at.world, number))}'
     if rank.mode == 'trapped':
         return f'rank {number} is trapped at line {next_line(rank)}: {rank.trap}'
     return f'rank {number} has ended' if has_ended(rank) else f'rank {number} is at line {next_line(rank)}'
@@ -356,3 +364,9 @@ def why_lines(at, call_id):
     if kind == 'barrier':
         return lines + ([f'    {line}' for line in explaining.behind(at, call_id)] if is_waited_at(at.world, call_id) else [])
     return lines + [line for request in requests(at.world, call_id) for line in message_lines(at, request)]
+
+
+def waiting_lines(at, call_id):
+    """Why a call isn't matched that its rank waits for, or that the rank can go on."""
+    is_complete = can_go_on(at.world, call_id.rank)
+    return [*why_lines(at, call_id), *[f'  the call is complete: rank {call_id.rank} can go on'] * is_complete]

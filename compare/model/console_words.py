@@ -9,6 +9,10 @@ from model.debugger import call_id_of, number_of
 
 # How wide the forms of a word are in the list of all words, at least.
 COLUMNS = 36
+# What stands below that list.
+MORE_HELP = 'help WORD tells more of a word, and its short forms', 'an empty line does the last word once more'
+# So many bytes of its beginning a word that is none must have in common with the one that it is told with.
+LEAST_SHARED = 2
 
 
 class Row(NamedTuple):
@@ -24,7 +28,7 @@ class Row(NamedTuple):
 
 
 TABLE = (
-    Row(('next [N]',), ('n',),
+    Row(('next [N]',), ('n', 'step', 's'),
         'takes the step that comes next; at a choice the one that lies ahead, or it lists the candidates, of which next N takes one, from 1; '
         'elsewhere next N is run N'),
     Row(('run [N]',), ('r', 'continue', 'c'), 'goes on to a breakpoint, a choice or an end; or so many steps at most'),
@@ -33,7 +37,8 @@ TABLE = (
     Row(('undo-choice',), ('u',), 'goes back to the last choice; another candidate can be taken there'),
     Row(('goto N',), ('g',), 'goes to where so many steps are taken; back, or along the steps ahead'),
     Row(('redo [N]', 'redo all'), (), 'takes the first step ahead, or so many; as far as there are, or all'),
-    Row(('local P', 'match S R', 'wake P', 'wakeany P I', 'release'), (), 'takes this step'),
+    Row(('local P', 'match S R', 'wake P', 'wakeany P I', 'release'), (),
+        'takes this step; P is a rank, S and R are a send and a receive as 1.0, and I is the number of a request of a waitany, from 0'),
     Row(('break LINE', 'break match LINE', 'break change P NAME'), (),
         'sets a breakpoint (b is back); behind a step by which a rank comes to that line, behind a match of a call of that line, behind a change '
         'of that variable or request of rank P'),
@@ -42,21 +47,21 @@ TABLE = (
     Row(('list [P]',), ('l',), 'shows the script, and where ranks stand; or the lines about rank P'),
     Row(('print NAME [P]',), ('p',), 'shows a variable or a request; of all ranks, or of rank P'),
     Row(('vars [P]',), (), 'shows all variables in short; requests, and what was printed, too'),
-    Row(('ranks',), (), 'shows what each rank is doing'),
+    Row(('ranks',), ('bt', 'where'), 'shows what each rank is doing'),
     Row(('calls [P]',), (), 'lists the calls of all ranks, or of rank P'),
     Row(('queues',), (), 'lists the sends and receives that are free'),
-    Row(('why [P]', 'why CALL'), ('w',), "says why ranks wait; of all, of rank P, or of a call why it isn't matched"),
+    Row(('why [P]', 'why CALL'), ('w',), "says why ranks wait; all of them, or rank P; or why a call isn't matched, CALL as 0.1"),
     Row(('history [N]',), ('h',), 'lists the last 10 steps, or the last N'),
     Row(('picture',), (), 'draws the run so far'),
     Row(('check [N]',), (), 'tries the choices, and lists how runs end; from here, 1,000 or N of them at most'),
-    Row(('follow N',), ('f',), 'lays the steps of a run ahead; N is its number in check'),
+    Row(('follow N',), ('f',), 'lays the steps of a run ahead; N is its number in a check from here'),
     Row(('deadlock',), (), "lays the first deadlock's steps ahead; the first from here, so that run and redo go there"),
-    Row(('trap',), (), "lays the first trap's steps ahead; the first from here"),
+    Row(('trap',), (), "lays the first trap's steps ahead; a trap ends a rank at an error, as a failed assert or a division by 0"),
     Row(('words',), (), 'lists the steps taken as trace words; to be kept in a file'),
     Row(('enabled',), (), 'lists the steps that are enabled'),
     Row(('show',), (), 'shows the whole state, as a trace does; docs/FORMATS.md, "Text of show"'),
     Row(('help [WORD]',), ('?',), 'lists the words, or tells of one'),
-    Row(('quit',), ('q',), 'ends'))
+    Row(('quit',), ('q', 'exit'), 'ends'))
 
 
 def literal(text):
@@ -90,6 +95,11 @@ class Asked(NamedTuple):
     """What a line asks for: a word by its name, and what follows it."""
     word: str
     given: tuple = ()
+
+
+def to_repeat(asked):
+    """What an empty line does behind a line that asks for this: `next` without its number, and all else with what followed it."""
+    return asked._replace(given=()) if asked.word == 'next' else asked
 
 
 class NotAsked(Exception):
@@ -129,10 +139,10 @@ def shared(one, other):
 
 
 def nearest(word):
-    """The name that shares the longest beginning with a word, of several the first in the table; None where none has its first byte."""
+    """The name that shares the longest beginning with a word, of several the first in the table; None where none has its first two bytes."""
     names = [name for row in TABLE for name in names_of(row)]
     found = max(names, key=lambda name: shared(name.encode(), word))
-    return found if shared(found.encode(), word) else None
+    return found if shared(found.encode(), word) >= LEAST_SHARED else None
 
 
 def shown(word):
@@ -185,9 +195,14 @@ def in_short(row):
     return f'{", ".join(row.forms).ljust(COLUMNS - 1)} {row.what.partition(";")[0]}'
 
 
+def short_lines(row):
+    """The short forms of a row, where it has any."""
+    return [f'  short: {", ".join(row.short)}'] if row.short else []
+
+
 def help_of(word=None):
     """The lines of help: of all words, or of one that there is."""
     if word is None:
-        return list(map(in_short, TABLE))
+        return [*map(in_short, TABLE), *MORE_HELP]
     row = row_of(word.decode('latin-1'))
-    return [f'{", ".join(row.forms)}: {row.what}']
+    return [f'{", ".join(row.forms)}: {row.what}', *short_lines(row)]
