@@ -16,6 +16,7 @@ from rows.console_starts import STARTS, start_problem
 from rows.examples import EXAMPLES
 from rows.worked_console_along import ALONG
 from rows.worked_console_choices import ALL_RUNS, CHOICES, MANY_RUNS
+from rows.worked_console_going import GOING
 from rows.worked_console_looks import LOOKS
 from rows.worked_console_moves import FIRST_RUNS, MOVES
 from rows.worked_console_scripts import LOOP, Dialogue
@@ -24,7 +25,7 @@ from rows.worked_console_told import TOLD
 from rows.worked_console_ways import WAYS
 
 PAGE = os.path.join(os.path.dirname(EXAMPLES), 'docs', 'CONSOLE.md')
-DIALOGUES = MOVES + ALONG + LOOKS + TOLD + TEXTS + CHOICES + WAYS
+DIALOGUES = MOVES + ALONG + LOOKS + TOLD + TEXTS + CHOICES + WAYS + GOING
 SLOW = ALL_RUNS + FIRST_RUNS
 # What takes the model long: runs of 100,000 steps, and of one more.
 CUT = (
@@ -96,7 +97,7 @@ at the start
 1000000 ahead: local 0: line 2
     2  while 1 { }
 > goto 1000001
-refused: fewer steps are taken
+refused: so many steps are neither taken nor ahead
 > goto 1000000
 depth 1000000
 next: local 0: line 2
@@ -135,13 +136,19 @@ ENDINGS = (
     Ending('a comment that is too long', b'#' * 4097 + b'\n#' + b'#' * 4095, TOO_LONG),
     Ending('blanks that are too long, and what was last', b'next\n' + b' ' * 4097 + b'\n\n',
            f'{FIRST_STEP}{TOO_LONG}2 local 0: line 2\nnext: local 0: line 2\n{SOURCE}'),
-    Ending('a long word', b'n' * 4096, f"unknown word\n        '{'n' * 4096}':\n        perhaps next\n"),
-    Ending('bytes that are no UTF-8', b'\xff\xfe next\nn\xc3\nn\xc3\xa9\n', "unknown word '??': help lists all\nunknown word 'n?': perhaps next\n"
-           "unknown word 'n??': perhaps next\n"),
+    Ending('a long word', b'n' * 4096, f"unknown word\n        '{'n' * 4096}':\n        help lists all\n"),
+    Ending('a long word that begins as another', b'ne' * 2048, f"unknown word\n        '{'ne' * 2048}':\n        perhaps next\n"),
+    Ending('bytes that are no UTF-8', b'\xff\xfe next\nn\xc3\nn\xc3\xa9\n', "unknown word '??': help lists all\nunknown word 'n?': help lists all\n"
+           "unknown word 'n??': help lists all\n"),
+    Ending('what is no UTF-8 behind two bytes of a word', b'ne\xc3\nn\xffext\nSh\xff\nsh\x80w\n', "unknown word 'ne?': perhaps next\n"
+           "unknown word 'n?ext': help lists all\nunknown word 'Sh?': help lists all\nunknown word 'sh?w': perhaps show\n"),
     Ending('bytes that are no text behind a word', b'next \xff\nprint \x00\nbreak change 0 \xc3\n',
            "usage: next [N]\nno variable or request is called '?'\nno variable or request is called '?'\n"),
     Ending('an empty line first', b'\n\n', ''),
     Ending('what stands behind the end', b'quit\nnext\n', ''),
+    Ending('the end by its other name', b'exit\nnext\n', ''),
+    Ending('next by its other names, and an empty line', b's\nstep 1\n\nexit\n', FIRST_STEP + '1 step, depth 2\nstopped: as many steps as were asked for\n'
+           f'next: local 0: line 2\n{SOURCE}3 local 0: line 2\nnext: local 0: line 2\n{SOURCE}'),
     Ending('the end with blanks', b' \t q\t \r\nnext\n', ''),
     Ending('the end with a carriage return in it', b'quit\r\r\nnext\n', f"unknown word 'quit?': perhaps quit\n{FIRST_STEP}"),
     Ending('the end with one before it', b'\rq\n\r\r\nnext\n', f"unknown word '?q': help lists all\nunknown word '?': help lists all\n{FIRST_STEP}"),

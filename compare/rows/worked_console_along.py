@@ -7,7 +7,7 @@ ALONG = (
     Dialogue('choices of several receives, and ends that differ in nothing', TWO_RACES, '''
 > run
 8 steps, depth 8
-stopped at a choice:
+stopped at a choice; next N takes one:
   1 match 2.0 0.0: rank 2, line 5, to rank 0, line 3
   2 match 3.0 1.0: rank 3, line 5, to rank 1, line 3
 > check
@@ -151,7 +151,7 @@ depth 8
 next: wake 0: line 3
     3    recv x from any tag 0;
 > goto 10
-refused: fewer steps are taken
+refused: so many steps are neither taken nor ahead
 > quit
 '''),
     Dialogue('a step ahead that is none of the candidates', BESIDE_ANY_OF_TWO, f'''
@@ -244,7 +244,7 @@ stopped: as many steps as were asked for
     9    isend r[1] 6 to 0 tag 2;
     5    irecv h y from any tag 2;
 >
-1 step, depth 10
+10 match 1.1 0.1: rank 1, line 9, to rank 0, line 5
 ended: done
 > undo-choice
 refused: no choice was made before

@@ -5,7 +5,7 @@ from rows.worked_console_scripts import (AT_A_BARRIER, BESIDE_ANY, BOTH_RACES, H
                                          STOLEN_CHOICE, THIRD_TRAPS, TRAP_THEN_HANG, TWO_RACES, WAITS, Dialogue)
 
 # The choice of TRAP_THEN_HANG, its trap, its deadlock, and the choice of HANG_THEN_TRAP, whose lines are the same.
-TRAP_CHOICE = '''stopped at a choice of rank 0, line 3:
+TRAP_CHOICE = '''stopped at a choice of rank 0, line 3; next N takes one:
     3    recv x from any tag 0;
   1 match 1.0 0.0: rank 1, line 6, to rank 0, line 3
   2 match 2.0 0.0: rank 2, line 6, to rank 0, line 3'''
@@ -187,7 +187,7 @@ depth 6
 5 ahead: match 2.0 0.0: rank 2, line 6, to rank 0, line 3
     6  } else { send rank to 0 tag 0; }
     3    recv x from any tag 0;
-stopped at a choice of rank 0, line 3:
+stopped at a choice of rank 0, line 3; next N takes one:
     3    recv x from any tag 0;
   1 match 1.0 0.0: rank 1, line 6, to rank 0, line 3
   2 match 2.0 0.0: rank 2, line 6, to rank 0, line 3
@@ -467,7 +467,16 @@ stopped: as many steps as were asked for
 next: local 1: line 8
     8    recv x from 0 tag 0;
 >
-3 steps, depth 6
+4 local 1: line 8
+next: match 0.0 1.0: rank 0, line 6, to rank 1, line 8
+    6    send 7 to 1 tag 0;
+    8    recv x from 0 tag 0;
+>
+5 match 0.0 1.0: rank 0, line 6, to rank 1, line 8
+next: wake 0: line 6
+    6    send 7 to 1 tag 0;
+> step 1
+1 step, depth 6
 stopped: as many steps as were asked for
 next: wake 1: line 8
     8    recv x from 0 tag 0;
@@ -512,16 +521,17 @@ before breakpoint 0: match 8
 9 steps, depth 9
 {STOLEN_CHOICE}
 >
-refused: there is no such candidate
 {STOLEN_CHOICE}
 > next 0
 refused: there is no such candidate
+{STOLEN_CHOICE}
+>
 {STOLEN_CHOICE}
 > next 000000002
 10 match 2.0 0.0: rank 2, line 13, to rank 0, line 8
 next: wake 2: line 13
    13    if rank == 1 {{ send 42 to 0 tag 7; }} else {{ send 5 to 0 tag 1; }}
-> next 2
+> s 2
 2 steps, depth 12
 stopped: as many steps as were asked for
 next: wake 0: line 9
@@ -577,7 +587,7 @@ deadlock 0.1 1.0 is 65 steps ahead
 40 ahead: match 2.0 0.0: rank 2, line 3, to rank 0, line 3
     3    if rank == 0 { recv x from any tag 0; recv x from 2 tag 0; } else {
         send rank to 0 tag 0; }
-stopped at a choice:
+stopped at a choice; next N takes one:
   1 match 1.0 0.0: rank 1, line 3, to rank 0, line 3
   2 match 2.0 0.0: rank 2, line 3, to rank 0, line 3
   3 match 5.0 3.0: rank 5, line 6, to rank 3, line 6
@@ -593,9 +603,9 @@ no deadlock: 2 runs, and no more (1 done, 1 trap)
 ''', runs=6),
     Dialogue('what neither look meets, and there are more', RARE, '''
 > deadlock
-no deadlock: 1 run, and there are more (1 done)
+no deadlock found: 1 run, and there are more (1 done)
 > trap
-no trap: 1 run, and there are more (1 done)
+no trap found: 1 run, and there are more (1 done)
 ''', runs=1))
 # What takes the model some seconds.
 ALL_RUNS = (
@@ -627,9 +637,9 @@ refused: there is no such run
 '''),
     Dialogue('more than 65,536 ends', MANY_ENDS, '''
 > deadlock
-no deadlock: 65536 runs, and there are more (65536 done)
+no deadlock found: 65536 runs, and there are more (65536 done)
 > trap
-no trap: 65536 runs, and there are more (65536 done)
+no trap found: 65536 runs, and there are more (65536 done)
 > follow 65536
 run 65536, done, is 74 steps ahead
 74 ahead: local 0: line 2

@@ -113,7 +113,7 @@ next: match 1.0 0.0: rank 1, line 17, to rank 0, line 9
     9    irecv r[0] answers[0] from 1 tag 0;
 > run
 4 steps, depth 13
-stopped at a choice of rank 0, line 12:
+stopped at a choice of rank 0, line 12; next N takes one:
    12      waitany r to which;
   1 wakeany 0 0: line 12, by line 9, 0.0 irecv from 1 tag 0
   2 wakeany 0 1: line 12, by line 10, 0.1 irecv from 2 tag 0
@@ -128,10 +128,24 @@ wakeany 0 1: line 12, by line 10, 0.1 irecv from 2 tag 0
 line 12, 0.2 waitany 0 2
 line 9, 0.0 irecv from 1 tag 0 with 1.0 value 10
 line 10, 0.1 irecv from 2 tag 0 with 2.0 value 20
+> ranks
+rank 0 waits at line 12, 0.2 waitany 0 2
+rank 1 has ended
+rank 2 has ended
 > back
 depth 12
 1 ahead: wake 2: line 17
    17    send rank * 10 to 0 tag 0;
+> ranks
+rank 0 waits at line 12, 0.2 waitany 0 2
+rank 1 has ended
+rank 2 can go on from line 17, 2.0 send to 0 tag 0 value 20
+> why
+line 12, 0.2 waitany 0 2
+line 9, 0.0 irecv from 1 tag 0 with 1.0 value 10
+line 10, 0.1 irecv from 2 tag 0 with 2.0 value 20
+line 17, 2.0 send to 0 tag 0 value 20 with 0.1
+  the call is complete: rank 2 can go on
 > wakeany 0 0
 13 wakeany 0 0: line 12, by line 9, 0.0 irecv from 1 tag 0
 next: local 0: line 13
@@ -419,12 +433,16 @@ line 5, 1.0 send to 0 tag 5 value 11 buffered free
 > why 0
 line 5, 0.0 send to 1 tag 5 value 10 buffered free
   has no partner yet: for a receive of rank 1 from rank 0 with tag 5
+  the call is complete: rank 0 can go on
+> why 0.0
+line 5, 0.0 send to 1 tag 5 value 10 buffered free
+  has no partner yet: for a receive of rank 1 from rank 0 with tag 5
 > queues
 pending 0 to 1: line 5, 0.0 send to 1 tag 5 value 10
 pending 1 to 0: line 5, 1.0 send to 0 tag 5 value 11
 > ranks
-rank 0 waits at line 5, 0.0 send to 1 tag 5 value 10
-rank 1 waits at line 5, 1.0 send to 0 tag 5 value 11
+rank 0 can go on from line 5, 0.0 send to 1 tag 5 value 10
+rank 1 can go on from line 5, 1.0 send to 0 tag 5 value 11
 > run
 10 steps, depth 12
 rank 0 prints 11
@@ -465,7 +483,7 @@ S send, R receive, W wait, A wait for any, B barrier, o-> match, == release
 at the end: E ended, ! blocked, X trapped, V can go on
 > run
 6 steps, depth 6
-stopped at a choice of rank 0, line 7:
+stopped at a choice of rank 0, line 7; next N takes one:
     7  if rank == 0 { recv x from any tag any status who tag_of; recv x from 1
         tag any; } else { send rank to 0 tag 0; }
   1 match 1.0 0.0: rank 1, line 7, to rank 0, line 7
@@ -526,7 +544,7 @@ picture: draws the run so far
     Dialogue('a choice of requests whose handles stand behind another', BEHIND_ANOTHER, '''
 > run
 5 steps, depth 5
-stopped at a choice of rank 0, line 6:
+stopped at a choice of rank 0, line 6; next N takes one:
     6  waitany r to i;
   1 wakeany 0 0: line 6, by line 4, 0.1 irecv from 0 tag 1
   2 wakeany 0 1: line 6, by line 5, 0.2 isend to 0 tag 1 value 7
@@ -542,6 +560,11 @@ next: wake 0: line 5
     5    wait s;
 > why 0
 line 5, 0.1 wait none
+  the call is complete: rank 0 can go on
+> why 0.1
+line 5, 0.1 wait none
+> ranks
+rank 0 can go on from line 5, 0.1 wait none
 > wake 0
 4 wake 0: line 5
 next: local 0: line 6

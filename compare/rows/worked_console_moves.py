@@ -158,6 +158,7 @@ rank 1 waits for no call
 no step is taken
 > ? q
 quit: ends
+  short: q, exit
 > q
 '''),
     Dialogue('a stolen message, and what holds the other one back', 'stolen_message.mpd', f'''
@@ -403,7 +404,7 @@ end
 > back
 refused: fewer steps are taken
 > goto 12
-refused: fewer steps are taken
+refused: so many steps are neither taken nor ahead
 > goto 9
 depth 9
 2 ahead: match 1.0 0.0: rank 1, line 13, to rank 0, line 8
@@ -644,7 +645,7 @@ local 1: line 5
 next: local 1: line 8
     8    recv x from 0 tag 0;
 > redo
-refused: fewer steps are ahead
+refused: no step is ahead
 '''),
     Dialogue('a match that is enabled behind a local step', 'stolen_message.mpd', '''
 > run 6
@@ -666,7 +667,7 @@ depth 7
 14 ahead: match 1.0 0.0: rank 1, line 15, to rank 0, line 9
    15    send rank to 0 tag 0;
     9      recv x from any tag 0;
-stopped at a choice of rank 0, line 9:
+stopped at a choice of rank 0, line 9; next N takes one:
     9      recv x from any tag 0;
   1 match 1.0 0.0: rank 1, line 15, to rank 0, line 9
   2 match 2.0 0.0: rank 2, line 15, to rank 0, line 9

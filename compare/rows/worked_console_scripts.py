@@ -216,7 +216,7 @@ LOOP = 'mpd 1; ranks 1;\nwhile 1 { }\n'
 PRINTS = 'mpd 1; ranks 1; print -7;\r\n\nprint 2;\t# 2\n#\r\r\n '
 
 # The choice of examples/stolen_message.mpd, its deadlock, and the way there.
-STOLEN_CHOICE = '''stopped at a choice of rank 0, line 8:
+STOLEN_CHOICE = '''stopped at a choice of rank 0, line 8; next N takes one:
     8    irecv r note from any tag any;
   1 match 1.0 0.0: rank 1, line 13, to rank 0, line 8
   2 match 2.0 0.0: rank 2, line 13, to rank 0, line 8'''
@@ -245,23 +245,23 @@ STOLEN_AHEAD = f'leaf 0 [0] deadlock 0.1 2.0\nwitness 0: {STOLEN_STEPS}\n'.repla
     '\nwake', ', wake')
 
 # The choice of BESIDE_ANY_OF_TWO.
-ANY_CHOICE = '''stopped at a choice of rank 0, line 7:
+ANY_CHOICE = '''stopped at a choice of rank 0, line 7; next N takes one:
     7    waitany r to i;
   1 wakeany 0 0: line 7, by line 4, 0.0 irecv from 1 tag 1
   2 wakeany 0 1: line 7, by line 5, 0.1 irecv from 1 tag 3'''
 # The line that receives in THREE_SENDERS, its first choice, and the one behind the message of rank 2.
 TAKES_THREE = '    3    while i < 3 { recv x from any tag 0; i = i + 1; }'
-OF_THREE = f'''stopped at a choice of rank 0, line 3:
+OF_THREE = f'''stopped at a choice of rank 0, line 3; next N takes one:
 {TAKES_THREE}
   1 match 1.0 0.0: rank 1, line 4, to rank 0, line 3
   2 match 2.0 0.0: rank 2, line 4, to rank 0, line 3
   3 match 3.0 0.0: rank 3, line 4, to rank 0, line 3'''
-OF_TWO = f'''stopped at a choice of rank 0, line 3:
+OF_TWO = f'''stopped at a choice of rank 0, line 3; next N takes one:
 {TAKES_THREE}
   1 match 1.0 0.1: rank 1, line 4, to rank 0, line 3
   2 match 3.0 0.1: rank 3, line 4, to rank 0, line 3'''
 # The choice of TWO_RACES.
-BOTH_RACES = '''stopped at a choice:
+BOTH_RACES = '''stopped at a choice; next N takes one:
   1 match 2.0 0.0: rank 2, line 5, to rank 0, line 3
   2 match 3.0 1.0: rank 3, line 5, to rank 1, line 3'''
 

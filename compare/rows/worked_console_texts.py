@@ -31,9 +31,9 @@ refused: 1 to 1000000 steps can be asked for
 > redo 1000001
 refused: 1 to 1000000 steps can be asked for
 > redo 1000000
-refused: fewer steps are ahead
+refused: no step is ahead
 > redo
-refused: fewer steps are ahead
+refused: no step is ahead
 > check 0
 refused: 1 to 65536 runs can be asked for
 > check 65537
@@ -58,7 +58,7 @@ refused: 1 to 1000000 steps can be asked for
 > next 1000001
 refused: 1 to 1000000 steps can be asked for
 > goto 1
-refused: fewer steps are taken
+refused: so many steps are neither taken nor ahead
 > goto 0
 depth 0
 next: local 0: line 6
@@ -99,9 +99,9 @@ depth 4
 7 ahead: local 0: line 7
     7    i = i + 1;
 > goto 12
-refused: fewer steps are taken
+refused: so many steps are neither taken nor ahead
 > goto 999999999
-refused: fewer steps are taken
+refused: so many steps are neither taken nor ahead
 > back 5
 refused: fewer steps are taken
 > redo 0
@@ -130,7 +130,7 @@ depth 10
 rank 0 prints 6
 ended: done
 > redo 2
-refused: fewer steps are ahead
+refused: no step is ahead
 > back
 depth 10
 1 ahead: local 0: line 10
@@ -176,11 +176,11 @@ unknown word 'NEXT': help lists all
 > Next
 unknown word 'Next': help lists all
 > nn
-unknown word 'nn': perhaps next
+unknown word 'nn': help lists all
 > ne xt
 unknown word 'ne': perhaps next
 > rx
-unknown word 'rx': perhaps run
+unknown word 'rx': help lists all
 > ru
 unknown word 'ru': perhaps run
 > rcs 1
@@ -202,9 +202,9 @@ unknown word 'undo': perhaps undo-choice
 > undochoice
 unknown word 'undochoice': perhaps undo-choice
 > f1
-unknown word 'f1': perhaps follow
+unknown word 'f1': help lists all
 > tarp
-unknown word 'tarp': perhaps trap
+unknown word 'tarp': help lists all
 > jump
 unknown word 'jump': help lists all
 > wakeal
@@ -214,15 +214,41 @@ unknown word 'lost': perhaps local
 > li
 unknown word 'li': perhaps list
 > dump
-unknown word 'dump': perhaps delete
+unknown word 'dump': help lists all
 > cont
 unknown word 'cont': perhaps continue
 > finish
-unknown word 'finish': perhaps follow
-> step
-unknown word 'step': perhaps show
+unknown word 'finish': help lists all
+> stop
+unknown word 'stop': perhaps step
+> steps 2
+unknown word 'steps': perhaps step
+> sh
+unknown word 'sh': perhaps show
+> so
+unknown word 'so': help lists all
+> S
+unknown word 'S': help lists all
+> v
+unknown word 'v': help lists all
+> va
+unknown word 'va': perhaps vars
+> wh
+unknown word 'wh': perhaps where
+> whence
+unknown word 'whence': perhaps where
+> whyever
+unknown word 'whyever': perhaps why
+> bt2
+unknown word 'bt2': perhaps bt
+> ex
+unknown word 'ex': perhaps exit
+> exist
+unknown word 'exist': perhaps exit
 > ?next
-unknown word '?next': perhaps ?
+unknown word '?next': help lists all
+> ??
+unknown word '??': help lists all
 > next\xe9
 unknown word 'next?': perhaps next
 > \xfe
@@ -418,7 +444,7 @@ next: local 0: line 7
 next: local 0: line 8
     8    sum = sum + i;
 > nxt
-unknown word 'nxt': perhaps next
+unknown word 'nxt': help lists all
 >
 3 local 0: line 8
 next: local 0: line 6
@@ -430,9 +456,9 @@ usage: next [N]
 next: local 0: line 7
     7    i = i + 1;
 > goto 9
-refused: fewer steps are taken
+refused: so many steps are neither taken nor ahead
 >
-refused: fewer steps are taken
+refused: so many steps are neither taken nor ahead
 > back 2
 depth 2
 2 ahead: local 0: line 8
@@ -532,28 +558,43 @@ enabled                             lists the steps that are enabled
 show                                shows the whole state, as a trace does
 help [WORD]                         lists the words, or tells of one
 quit                                ends
+help WORD tells more of a word, and its short forms
+an empty line does the last word once more
 > help next
 next [N]: takes the step that comes next; at a choice the one that lies ahead,
         or it lists the candidates, of which next N takes one, from 1; elsewhere
         next N is run N
+  short: n, step, s
 > help w
-why [P], why CALL: says why ranks wait; of all, of rank P, or of a call why it
-        isn't matched
+why [P], why CALL: says why ranks wait; all of them, or rank P; or why a call
+        isn't matched, CALL as 0.1
+  short: w
 > help u
 undo-choice: goes back to the last choice; another candidate can be taken there
+  short: u
 > help f
-follow N: lays the steps of a run ahead; N is its number in check
+follow N: lays the steps of a run ahead; N is its number in a check from here
+  short: f
 > help deadlock
 deadlock: lays the first deadlock's steps ahead; the first from here, so that
         run and redo go there
 > help trap
-trap: lays the first trap's steps ahead; the first from here
+trap: lays the first trap's steps ahead; a trap ends a rank at an error, as a
+        failed assert or a division by 0
 > help b
 back [N]: takes a step back, or so many
+  short: b, reverse-next
 > ? wakeany
-local P, match S R, wake P, wakeany P I, release: takes this step
+local P, match S R, wake P, wakeany P I, release: takes this step; P is a rank,
+        S and R are a send and a receive as 1.0, and I is the number of a
+        request of a waitany, from 0
+> help local
+local P, match S R, wake P, wakeany P I, release: takes this step; P is a rank,
+        S and R are a send and a receive as 1.0, and I is the number of a
+        request of a waitany, from 0
 > help g
 goto N: goes to where so many steps are taken; back, or along the steps ahead
+  short: g
 > help redo
 redo [N], redo all: takes the first step ahead, or so many; as far as there are,
         or all
@@ -568,8 +609,28 @@ unknown word 'line': perhaps list
 unknown word 'all': help lists all
 > help l
 list [P]: shows the script, and where ranks stand; or the lines about rank P
+  short: l
 > help c
 run [N]: goes on to a breakpoint, a choice or an end; or so many steps at most
+  short: r, continue, c
+> help reverse-continue
+run-back: goes back to a breakpoint, or to the start
+  short: rc, reverse-continue
+> help where
+ranks: shows what each rank is doing
+  short: bt, where
+> help exit
+quit: ends
+  short: q, exit
+> ? s
+next [N]: takes the step that comes next; at a choice the one that lies ahead,
+        or it lists the candidates, of which next N takes one, from 1; elsewhere
+        next N is run N
+  short: n, step, s
+> help breaks
+breaks: lists the breakpoints
+> help vars
+vars [P]: shows all variables in short; requests, and what was printed, too
 > help check
 check [N]: tries the choices, and lists how runs end; from here, 1,000 or N of
         them at most
@@ -577,6 +638,7 @@ check [N]: tries the choices, and lists how runs end; from here, 1,000 or N of
 show: shows the whole state, as a trace does; docs/FORMATS.md, "Text of show"
 > help ?
 help [WORD]: lists the words, or tells of one
+  short: ?
 > vars
 rank 0 has no variable
 > words

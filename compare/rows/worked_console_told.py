@@ -184,7 +184,7 @@ depth 0
     Dialogue('a match on one line, told once', 'race.mpd', '''
 > run
 6 steps, depth 6
-stopped at a choice of rank 0, line 7:
+stopped at a choice of rank 0, line 7; next N takes one:
     7  if rank == 0 { recv x from any tag any status who tag_of; recv x from 1
         tag any; } else { send rank to 0 tag 0; }
   1 match 1.0 0.0: rank 1, line 7, to rank 0, line 7

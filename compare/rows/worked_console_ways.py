@@ -143,7 +143,7 @@ rank 1 prints 10 11 -1
 rank 2 prints 20 21
 ended: done
 > redo all
-refused: fewer steps are ahead
+refused: no step is ahead
 > run
 0 steps, depth 25
 ended: done
@@ -449,9 +449,9 @@ ended: done
 '''),
     Dialogue('all that are ahead, which may be one, or none', 'first_message.mpd', '''
 > redo all
-refused: fewer steps are ahead
+refused: no step is ahead
 >
-refused: fewer steps are ahead
+refused: no step is ahead
 > run
 8 steps, depth 8
 rank 1 prints 7
@@ -465,7 +465,7 @@ depth 7
 rank 1 prints 7
 ended: done
 >
-refused: fewer steps are ahead
+refused: no step is ahead
 > goto 0
 depth 0
 8 ahead: local 0: line 5
