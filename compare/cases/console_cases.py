@@ -17,7 +17,7 @@ from cases.walks import random_step, respaced, step_line
 from model import debugger, explorer, policy
 from model.console import NO_FILE, Console, debug, is_blank, way
 from model.console_words import ALL, TABLE, Asked, NotAsked, full_name, names_of
-from model.debugger import RENDEZVOUS, Debugger, enabled_steps, lines_of, step_text
+from model.debugger import RENDEZVOUS, Debugger, enabled_steps, last_call, lines_of, step_text
 from model.explorer import CUT, leaf_lines, walk
 from model.files import held
 from model.language import Fault, read_script
@@ -32,7 +32,7 @@ EDGES = ('0', '1', '2', '15', '16', '63', '64', '65', '65536', '65537', '65538',
 NO_NUMBERS = ('-1', '+1', '1.0', '1.', '.1', '0x1', '1234567890', '0000000001', 'x', '1e3', '1,0', '\xb2', 'all', '1;', "'1'")
 NO_NAMES = ('5', 'x[', 'x]', 'x[]', 'x[i]', 'x[-1]', 'x[0', '[0]', 'x[0]]', 'x.0', 'x+1', '*', 'a[0000000000]', '\xe9', 'x[0][0]', 'a [0]')
 OTHER_NAMES = ('foo', 'rank', 'size', 'send', '_', 'X', 'x0', 'y_', 'any', 'a' * 65)
-NO_WORDS = ('zap', 'step', 'finish', 'quitt', 'un do', 'undo', 'undo-', 'undo_choice', 'choice', 'followed', 'fo', 'traps', 'tr', 'ux', 'fx',
+NO_WORDS = ('zap', 'stop', 'steps', 'st', 'exi', 'exits', 'bt1', 'wh', 'whence', 'S', 'v', 'nn', 'rx', '?x', 'sx', 'finish', 'quitt', 'un do', 'undo', 'undo-', 'undo_choice', 'choice', 'followed', 'fo', 'traps', 'tr', 'ux', 'fx',
             'NEXT', 'Next', 'brake', 'reverse', 'reverse-', 'brea', 'breakss', 'loc', 'wakean', 'matches',
             'nexts', '?help', '-', '--', '.', '0', '7', '\xff', '\xc3\xa9', 'next\xe9', 'n\x01', '\x7f', '~', 'run\x0b', '\x0c', 'x\x00y', 'h\xa0',
             'nex\xb2')
@@ -40,7 +40,7 @@ BEHIND = ('', '', ' 0', ' 1', ' x', ' 0 0', ' 1.0', ' # why', ' 0.0 1.0', ' \xff
 COMMENTS = ('#', '# so', '#next', '  # next', '\t#', '# \xff', '## run')
 # A name for requests, with its size or without, which isn't 0.
 REQUEST = re.compile(rb'req (\w+)(\[[1-9]\d*\])?;')
-STEPS_AND_QUIT = 'quit', 'q', 'release', 'wake', 'wakeany', 'local'
+STEPS_AND_QUIT = 'quit', 'q', 'exit', 'release', 'wake', 'wakeany', 'local'
 LAST_LINES = b'next\r', b'#', b'\r', b'x' * 4097, b'show' + b' ' * 4093, b'show' + b' ' * 4092
 ENDS = session_cases.ENDS
 MODES_DRAWN = (*MODES, *MODES, 'slots:1', 'slots:2')
@@ -88,6 +88,7 @@ class Talk:
         self.random, self.habits = random, habits
         self.console = Console(script, mode, witness)
         self.source_lines = script.count(b'\n') + 1
+        self.was_numbered = False
         self.met = Counter()
 
     @property
@@ -208,6 +209,15 @@ class Talk:
             return ['why', self.random.choice(blocked)]
         return ['why', self.rank() if self.chance(0.15) else self.call()]
 
+    def going(self):
+        """The ranks that can go on, their calls being complete."""
+        return [step.first for step in enabled_steps(self.world) if step.kind == 'wake']
+
+    def look_at(self, going):
+        """What tells of ranks that they can go on, or of the call of one, which doesn't."""
+        rank = self.random.choice(going)
+        return self.random.choice([['ranks'], ['why'], ['why', str(rank)], ['why', str(last_call(self.world, rank))]])
+
     def history(self):
         return ['history', *self.maybe(lambda: self.edge(0, 1, 3, 10, self.walked.depth), 0.6)]
 
@@ -271,10 +281,12 @@ class Talk:
         """The next line, without its end."""
         is_along = self.console.last is not None and self.console.last.word in ('run', 'next') and bool(self.console.ahead)
         is_next_again = self.console.last == Asked('next') and self.console.can_choose_again
-        if self.chance(0.7 if is_next_again else 0.35 if is_along else self.habits.empty):
+        is_next_again = is_next_again or self.was_numbered and isinstance(self.console.decided, Choice)
+        if self.chance(0.7 if is_next_again else 0.35 if is_along or self.was_numbered else self.habits.empty):
             return self.random.choice([b'', b'', b' ', b'\t', b' \t '])
-        words = self.habits.words
-        parts = self.parts(self.random.choices(list(words), list(words.values()))[0])
+        words, going = self.habits.words, self.going()
+        is_look = bool(going) and self.chance(0.15)
+        parts = self.look_at(going) if is_look else self.parts(self.random.choices(list(words), list(words.values()))[0])
         parts[0] = self.shortened(parts[0])
         if self.chance(self.habits.spoiled):
             return self.spoiled(parts).encode('latin-1')
@@ -323,9 +335,22 @@ class Talk:
         """Counts what is asked."""
         is_again = is_blank(line) and self.console.last is not None and len(line) <= debugger.LONGEST_LINE
         self.met['an empty line that does the last word again'] += is_again
+        self.note_numbered(line, is_again)
         first = line.split()[:1]
         self.note_ahead(line)
         self.met['a short name'] += any(full_name(word.decode('latin-1')) not in (None, word.decode('latin-1')) for word in first)
+
+    def note_numbered(self, line, is_again):
+        """Counts empty lines behind `next` and a number, and words by each of their names."""
+        self.met['an empty line behind next and a number'] += is_again and self.was_numbered
+        self.met['an empty line at a choice, behind next and a number'] += is_again and self.was_numbered and isinstance(self.console.decided, Choice)
+        try:
+            asked = self.console.asked(line)
+        except NotAsked:
+            return
+        if asked is not None and len(line) <= debugger.LONGEST_LINE:
+            self.was_numbered = asked.word == 'next' and asked.given != () and not is_blank(line)
+            self.met.update(f'the name {name.decode("latin-1")}' for name in line.split()[:1])
 
     def note_ahead(self, line):
         """Counts what goes along the steps ahead, and breakpoints of the word `line`."""
@@ -469,7 +494,7 @@ def ended(random, data, talk):
         return data.rstrip(b'\n')
     if draw < 0.3:
         return data + random.choice(LAST_LINES if talk.is_long(b' ') else (*LAST_LINES, b' '))
-    return data + random.choice([b'quit\n', b'q\nnext\nshow\n', b' q \r\nshow\n', b'quit']) if draw < 0.45 else data
+    return data + random.choice([b'quit\n', b'q\nnext\nshow\n', b' q \r\nshow\n', b'exit\nshow\n', b'quit']) if draw < 0.45 else data
 
 
 def random_case(seed, number):

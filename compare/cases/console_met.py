@@ -3,15 +3,15 @@
 import re
 
 from cases.explained_met import TOLD_BY as EXPLAINED
-from model.console_words import TABLE
+from model.console_words import TABLE, names_of
 
 STEP = r'(local|match|wake|wakeany|release)\b.*'
 CALL = r'line \d+, \d+\.\d+ '
 # What a line of an answer tells, by its form.
 TOLD_BY = {
     **{f'a step {word}': rf'\d+ {word}\b.*: .*' for word in ('local', 'match', 'wake', 'wakeany', 'release')},
-    'steps ahead': rf'\d+ ahead: {STEP}', 'next': rf'next: {STEP}', 'a choice of one call': r'stopped at a choice of rank \d+, line \d+:',
-    'a choice of several calls': r'stopped at a choice:', 'a candidate that is a match': r'  \d+ match .*',
+    'steps ahead': rf'\d+ ahead: {STEP}', 'next': rf'next: {STEP}', 'a choice of one call': r'stopped at a choice of rank \d+, line \d+; next N takes one:',
+    'a choice of several calls': r'stopped at a choice; next N takes one:', 'a candidate that is a match': r'  \d+ match .*',
     'a candidate that is a wake': rf'  \d+ wakeany .*: line \d+, by {CALL}.*',
     **{f'ended {word}': rf'ended: {word}\b.*' for word in ('done', 'leftovers', 'deadlock', 'trap')},
     'a run': r'\d+ steps, depth \d+', 'a run of one step': r'1 step, depth \d+', 'a run back': r'\d+ steps back, depth \d+',
@@ -35,6 +35,7 @@ TOLD_BY = {
     'a line with one that is blocked': r' +\d+  .*  <- .*rank \d+ blocked.*',
     'a line with one that is trapped': r' +\d+  .*  <- .*rank \d+ trapped.*',
     'ranks below the script': r'ended: rank .*', 'a rank that has ended': r'rank \d+ has ended', 'a rank that waits': rf'rank \d+ waits at {CALL}.*',
+    'a rank that can go on': rf'rank \d+ can go on from {CALL}.*', 'a call that is complete': r'  the call is complete: rank \d+ can go on',
     'a rank at a line': r'rank \d+ is at line \d+', 'a rank that is trapped': r'rank \d+ is trapped at line \d+: .*',
     'no call waited for': r'rank \d+ waits for no call', 'no rank that waits': r'no rank waits for a call',
     'a variable': r'rank \d+: \w+ = -?\d+', 'an array': r'rank \d+: \w+\[0\] = -?\d+, .*', 'a request': rf'rank \d+: \w+ = {CALL}.*',
@@ -46,13 +47,14 @@ TOLD_BY = {
     'held back': rf'  could be matched with {CALL}.*, but for {CALL}.*', 'no partner': r'  has no partner yet: for a .*',
     'no step taken': r'no step is taken',
     'a trace word': r'(local|wake) \d+', 'a state': r'depth \d+ of \d+',
+    'short forms': r'  short: .*', 'more of help': r'help WORD tells more of a word, and its short forms',
     'help of one word': r'.*: (takes|goes|sets|removes|lists|shows|says|tries|looks|lays|ends).*',
     'an unknown word, with one that is near': r"unknown word '.*': perhaps .*", 'an unknown word': r"unknown word '.*': help lists all",
     'an unknown word with other bytes': r"unknown word '.*\?.*': .*", 'an unknown name': r"no variable or request is called '\w+'",
     'a name that is none': r"no variable or request is called '.*[^\w'].*'",
     **{f'refused: {why}': f'refused: {why}' for why in (
         'this step is not enabled', 'there is no such candidate', 'there is no such run', 'no choice was made before',
-        'fewer steps are taken', 'fewer steps are ahead', '1 to 1000000 steps can be asked for', '1 to 65536 runs can be asked for',
+        'fewer steps are taken', 'so many steps are neither taken nor ahead', 'no step is ahead', '1 to 1000000 steps can be asked for', '1 to 65536 runs can be asked for',
         'lines are 1 to 65537', 'there is no such rank', 'there is no such call', 'there is no such index', 'an array needs an index here',
         'no breakpoint has this number', '64 breakpoints are set', 'this line is too long')},
     **{f'usage of {word}': rf'usage: .*\b{word}\b.*' for row in TABLE for word in row.words}}
@@ -65,6 +67,7 @@ OF_ERRORS = {'a witness that is refused': rb'mpdbg: witness refused .*', 'a witn
              'a witness that is none': rb'mpdbg: bad witness.*'}
 OF_DIALOGUES = ('slots', 'buffered', 'rendezvous', 'no mode', 'version 2', 'a witness', 'a last line without an end', 'words behind the end',
                 'a script with carriage returns', 'a script whose last line does not end', 'an empty line that does the last word again',
+                'an empty line behind next and a number', 'an empty line at a choice, behind next and a number',
                 'a short name', 'a run that chooses again', 'a run that chooses again by an empty line',
                 'all that are ahead, and more were asked for', 'all that are ahead', 'all that are ahead, which is one',
                 'a step ahead at a choice, by next', 'a candidate, and steps ahead',
@@ -72,12 +75,12 @@ OF_DIALOGUES = ('slots', 'buffered', 'rendezvous', 'no mode', 'version 2', 'a wi
                 'a choice undone, and forced steps', 'a choice undone, and steps that were undone', 'so many steps by next', 'why of several ranks',
                 'a run laid ahead in the place of others', 'a single candidate by next', 'a single candidate by next and a number',
                 'a single candidate by run', 'a single candidate, and steps ahead', 'a single candidate that undo-choice goes past',
-                'a breakpoint of a request')
+                'a breakpoint of a request', *(f'the name {name}' for row in TABLE for name in names_of(row) if 'quit' not in row.words))
 # What is met in lines as they are written, of which those that go on stand behind eight blanks.
 OF_LINES = {'a line that goes on': r'\n {8}\S', 'a line that goes on twice': r'\n {8}\S.*\n {8}\S', 'a line of 80 bytes': r'\n[^\n]{80}\n',
             'a line of the script': r'\nnext: .*\n +\d+  ',
             'two lines of the script': r'\nnext: match.*\n +\d+  .*\n +\d+  ',
-            'lines of the script below what is ahead': r'\n\d+ ahead: match.*\n +\d+  .*\n', 'a line of the script at a choice': r'\nstopped at .*line \d+:\n +\d+  ',
+            'lines of the script below what is ahead': r'\n\d+ ahead: match.*\n +\d+  .*\n', 'a line of the script at a choice': r'\nstopped at .*line \d+; .*:\n +\d+  ',
             'lost at an end': r'\nended: .*\n(  .*\n)*rank \d+ has lost',
             'printed in a step': r'\n\d+ local \d+: .*\nrank \d+ prints ', 'printed in a run': r'\n\d+ steps?, depth \d+\nrank \d+ prints ',
             'printed in steps that are taken again': r'\ndepth \d+\nrank \d+ prints ',
@@ -103,7 +106,7 @@ def met_in(case, wanted):
     yield 'slots' if mode.startswith('slots') else mode
     yield from ['version 2'] * case.script.startswith(b'mpd 2') + ['a witness'] * (case.witness is not None)
     yield from ['a last line without an end'] * (not case.data.endswith(b'\n'))
-    yield from ['words behind the end'] * (re.search(rb'\n *q *\r?\n.', case.data) is not None)
+    yield from ['words behind the end'] * (re.search(rb'\n *(q|exit) *\r?\n.', case.data) is not None)
     yield from ['a script with carriage returns'] * (b'\r\n' in case.script)
     yield from ['a script whose last line does not end'] * (not case.script.endswith(b'\n'))
     yield from [name for name, count in case.met.items() if count]

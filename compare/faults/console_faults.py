@@ -13,7 +13,7 @@ from faults.console_faults_of_words import word_faults
 from faults.policy_faults import Breakage
 from model import console, console_lines, debugger, policy, session
 from model.console import Console
-from model.console_words import ALL, NotAsked
+from model.console_words import ALL, Asked, NotAsked
 from model.debugger import Result
 from model.policy import Forced
 from model.session import must_be
@@ -83,6 +83,17 @@ def long_comments(self, line):
     return [] if console.is_comment(line) else SOUND['lines'](self, line)
 
 
+def steps_again(self, line):
+    """What does `next` of so many steps again, but takes no candidate again."""
+    is_forced, before = isinstance(self.decided, Forced), self.last
+    told = SOUND['lines'](self, line)
+    if self.last == Asked('next') and is_forced and not console.is_blank(line) and not console.is_comment(line) and not is_none(line, self):
+        self.last = self.asked(line)
+    elif console.is_blank(line):
+        self.last = before
+    return told
+
+
 def told_again(*begins):
     """What tells once more, behind an empty line, what isn't understood and is answered by a line that begins so."""
     def lines(self, line):
@@ -109,6 +120,9 @@ def line_of_words_faults():
             'an index that is none is remembered': told_again('refused'),
             'a word that is none is remembered': told_again('unknown'),
             'a form that does not fit is remembered': told_again('usage'),
+            'next of so many steps is done again': steps_again,
+            'next and a number is not remembered': remembering(
+                lambda self, line, before: before if len(line.split()) > 1 and self.last == Asked('next') and not is_none(line, self) else self.last),
             'a refusal is not remembered': lambda self, line: refused_forgotten(self, line)}),
         *named('asked', {
             'blanks do nothing': lambda self, line: None if line and console.is_blank(line) else SOUND['asked'](self, line)}),
@@ -685,6 +699,23 @@ def no_call(self, asked=None):
     return ['no call'] if is_none else SOUND['why'](self, asked)
 
 
+def of_call_too(self, asked=None):
+    """What tells of a call by its name, too, that its rank can go on."""
+    lines = SOUND['why'](self, asked)
+    is_waited = isinstance(asked, CallId) and debugger.find_call(self.world, asked) is not None and console_lines.is_waited_at(self.world, asked)
+    return console_lines.waiting_lines(self.at, asked) if is_waited else lines
+
+
+def of_one_alone(self, asked=None):
+    """What tells of no rank that it can go on where all are asked for."""
+    return [line for line in SOUND['why'](self, asked) if asked is not None or 'complete' not in line]
+
+
+def of_all_alone(self, asked=None):
+    """What tells of no rank that it can go on where one is asked for."""
+    return [line for line in SOUND['why'](self, asked) if asked is None or 'complete' not in line]
+
+
 def from_0(self, *given):
     """What numbers steps from 0."""
     lines = SOUND['history'](self, *given)
@@ -701,6 +732,9 @@ def look_faults():
         *named('why', {
             'the last call of a rank that waits for none': last_call_of,
             'no call is told for no such call': no_call,
+            'of a call too that its rank can go on': of_call_too,
+            'of one rank alone that it can go on': of_one_alone,
+            'of all ranks alone that they can go on': of_all_alone,
             'all ranks, those too that wait for none': why_of(lambda world: range(len(world.ranks))),
             'the first rank that waits alone': why_of(lambda world: blocked(world)[:1]),
             'the last rank that waits first': why_of(lambda world: blocked(world)[::-1]),

@@ -185,7 +185,10 @@ def step_faults():
         *named('choice_lines', {
             'candidates from 0': changed('choice_lines', candidates_from_0),
             'no spaces in front': changed('choice_lines', lambda lines, *_: [line.strip() for line in lines]),
-            'no rank': changed('choice_lines', lambda lines, *_: ['stopped at a choice:', *lines[1:]]),
+            'no rank': changed('choice_lines', lambda lines, *_: [f'stopped at a choice; {console_lines.TAKES_ONE}', *lines[1:]]),
+            'no way to take one': changed('choice_lines', lambda lines, *_: [lines[0].replace(f'; {console_lines.TAKES_ONE}', ':'), *lines[1:]]),
+            'no way to take one of several calls': changed('choice_lines', lambda lines, *_: [
+                lines[0].replace(f'choice; {console_lines.TAKES_ONE}', 'choice:'), *lines[1:]]),
             'always a rank': lambda at, text, steps: [*SOUND['choice_lines'](at, text, steps[:1])[:1], *SOUND['choice_lines'](at, text, steps)[1:]],
             'no colon': changed('choice_lines', lambda lines, *_: [lines[0].rstrip(':'), *lines[1:]]),
             'no line of the script': changed('choice_lines', lambda lines, at, text, steps: [lines[0], *lines[-len(steps):]]),
@@ -449,6 +452,7 @@ def variable_faults():
             'no requests that are lost': changed('variable_lines', lambda lines, *_: [line for line in lines if ' has lost ' not in line]),
             'a line for each name': name_by_name}),
         *named('rank_line', {
+            'at the call that it can go on from': changed('rank_line', lambda text, *_: text.replace('go on from', 'go on at')),
             'no name of a trap': changed('rank_line', lambda text, *_: text.partition(': ')[0] if 'trapped' in text else text),
             'no call': changed('rank_line', lambda text, *_: text.partition(',')[0]),
             'no line of a trap': changed('rank_line', lambda text, *_: re.sub(r'trapped at line \d+', 'trapped', text))}),
@@ -522,6 +526,54 @@ def barrier_lines(change):
     return why_lines
 
 
+# ---- ranks that can go on
+
+def is_waiting(kind, world, number):
+    """Whether a rank waits in a call of a kind."""
+    return world.ranks[number].mode == 'blocked' and find_call(world, last_call(world, number)).kind == kind
+
+
+def by_any(world, number):
+    """What takes a wake by a request of a wait for any for one."""
+    return any(step.kind in ('wake', 'wakeany') and step.first == number for step in debugger.enabled_steps(world))
+
+
+def by_release(world, number):
+    """What takes the release of a barrier for a wake of those that are at it."""
+    can_leave = is_waiting('barrier', world, number) and debugger.Step('release') in debugger.enabled_steps(world)
+    return can_leave or SOUND['can_go_on'](world, number)
+
+
+def first_alone(world, number):
+    """What tells it of the first rank alone."""
+    return SOUND['can_go_on'](world, number) and not any(SOUND['can_go_on'](world, other) for other in range(number))
+
+
+def of_pairs(world, number):
+    """What tells it of calls that are paired alone, and of no wait."""
+    return SOUND['can_go_on'](world, number) and debugger.partner(world, last_call(world, number)) is not None
+
+
+def going_faults():
+    return [
+        *named('can_go_on', {
+            'never': lambda world, number: False,
+            'each rank that waits': lambda world, number: world.ranks[number].mode == 'blocked',
+            'a wait for any by a request': by_any,
+            'no wait for any': lambda world, number: not is_waiting('waitany', world, number) and SOUND['can_go_on'](world, number),
+            'a barrier that is complete': by_release,
+            'the first rank alone': first_alone,
+            'none but of a pair': of_pairs}),
+        *named('waiting_lines', {
+            'it is not told': lambda at, call_id: console_lines.why_lines(at, call_id),
+            'it alone': changed('waiting_lines', lambda lines, *_: lines[-1:] if 'complete' in lines[-1] else lines),
+            'it is told first': changed('waiting_lines', lambda lines, *_: [*lines[-1:], *lines[:-1]] if 'complete' in lines[-1] else lines),
+            'it is told right behind the call': changed('waiting_lines', lambda lines, *_: [lines[0], *lines[-1:], *lines[1:-1]]
+                                                         if 'complete' in lines[-1] else lines),
+            'no rank': changed('waiting_lines', lambda lines, *_: [line.partition(': rank')[0] if 'complete' in line else line for line in lines]),
+            'four spaces': changed('waiting_lines', lambda lines, *_: [f'  {line}' if 'complete' in line else line for line in lines])})]
+
+
 def why_faults():
     return [
         *named('partner_line', {
@@ -550,4 +602,5 @@ def why_faults():
 
 
 def line_faults():
-    return [*fold_faults(), *step_faults(), *list_faults(), *short_faults(), *lost_faults(), *variable_faults(), *queue_faults(), *why_faults()]
+    return [*fold_faults(), *step_faults(), *list_faults(), *short_faults(), *lost_faults(), *variable_faults(), *queue_faults(), *going_faults(),
+            *why_faults()]

@@ -12,7 +12,7 @@ from model.policy import Choice
 from model.session import must_be
 
 SOUND = {name: value for name, value in vars(Console).items() if isfunction(value)}
-SOUND_COUNTED, SOUND_RUN_LINE, BAD_RUNS = console.counted, console.run_line, console.REFUSALS[console.BAD_RUNS]
+SOUND_COUNTED, SOUND_RUN_LINE, SOUND_NONE_FOUND, BAD_RUNS = console.counted, console.run_line, console.none_found, console.REFUSALS[console.BAD_RUNS]
 # How many runs a fault looks at.
 SOME = 200
 
@@ -165,7 +165,7 @@ def ends_at_bad(self, sought):
     """What looks no further than to the first deadlock or trap."""
     found = explorer.up_to_bad(explorer.part(explorer.Run(self.world, self.fuel()), SOME))
     bad = found.leaves[-1]
-    return [f'no {sought}: {console.counted(found.leaves, found.more)}'] if console.way(bad) not in (sought, 'done') else SOUND['seek'](self, sought)
+    return [console.none_found(sought, found.leaves, found.more)] if console.way(bad) not in (sought, 'done') else SOUND['seek'](self, sought)
 
 
 def last_one(self, sought):
@@ -178,7 +178,7 @@ def told_of_first(self, sought):
     """What tells of the runs that were looked at first where there is none."""
     told = SOUND['seek'](self, sought)
     found = explorer.part(explorer.Run(self.world, self.fuel()), explorer.MOST_RUNS)
-    return [f'no {sought}: {console.counted(found.leaves, found.more)}'] if told[0].startswith('no ') else told
+    return [console.none_found(sought, found.leaves, found.more)] if told[0].startswith('no ') else told
 
 
 def dropped_where_none(self, sought):
@@ -227,6 +227,12 @@ def seek_faults():
             'the last one': last_one,
             'told of the first look': told_of_first,
             'what is ahead is dropped where there is none': dropped_where_none}),
+        *named('none_found', {
+            'found where all runs were looked at': lambda sought, leaves, more: SOUND_NONE_FOUND(sought, leaves, more).replace(f'{sought}:', f'{sought} found:'),
+            'not found is none': lambda sought, leaves, more: SOUND_NONE_FOUND(sought, leaves, more).replace(' found', ''),
+            'found where there are no more': lambda sought, leaves, more: f'no {sought}{"" if more else " found"}: {console.counted(leaves, more)}',
+            'a trap is found': lambda sought, leaves, more: f'no {sought} found: {console.counted(leaves, more)}' if sought == 'trap'
+                               else SOUND_NONE_FOUND(sought, leaves, more)}, owner=console),
         *named('trap', {
             'a deadlock': lambda self: self.seek('deadlock')}),
         *named('laid_ahead', {

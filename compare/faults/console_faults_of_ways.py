@@ -13,6 +13,8 @@ SOUND = {name: value for name, value in vars(Console).items() if isfunction(valu
 # Refusals that are told as others.
 REFUSED_OTHERWISE = (
     ('goto', session.NOT_BEFORE, session.NO_REDO), ('redo', session.NO_REDO, session.AT_START), ('back', session.AT_START, console.BAD_STEPS),
+    ('goto as back', session.NOT_BEFORE, session.AT_START), ('redo as goto', session.NO_REDO, session.NOT_BEFORE),
+    ('back as goto', session.AT_START, session.NOT_BEFORE),
     ('delete', session.NO_SUCH_BREAK, console.BAD_LINE), ('full', session.FULL, session.NOT_ENABLED),
     ('breaks', session.BREAKS_FULL, session.NO_SUCH_BREAK), ('steps', console.BAD_STEPS, console.BAD_RUNS),
     ('steps as fewer that are ahead', console.BAD_STEPS, session.NO_REDO), ('runs', console.BAD_RUNS, console.BAD_STEPS),

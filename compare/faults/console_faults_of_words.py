@@ -4,8 +4,8 @@ import re
 from inspect import isfunction
 
 from faults.policy_faults import Breakage
-from model import console_words
-from model.console_words import FOLLOWING, TABLE, names_of, row_of, shared
+from model import console, console_words
+from model.console_words import FOLLOWING, TABLE, Asked, names_of, row_of, shared
 from model.debugger import call_id_of
 
 SOUND = {name: value for name, value in vars(console_words).items() if isfunction(value)}
@@ -13,15 +13,25 @@ ALL_NAMES = [name for row in TABLE for name in names_of(row)]
 ALL_WORDS = [word for row in TABLE for word in row.words]
 
 
-def named(name, faults):
+# Short forms that another word has.
+MOVED = (('s', 'show'), ('step', 'run'), ('where', 'why'), ('where', 'list'), ('bt', 'back'), ('exit', 'history'))
+
+
+def named(name, faults, owner=console_words):
     """Faults that stand in the place of a function, each by what it is called."""
-    return [Breakage(f'{name}: {what}', console_words, name, replacement) for what, replacement in faults.items()]
+    return [Breakage(f'{name}: {what}', owner, name, replacement) for what, replacement in faults.items()]
+
+
+def moved(name, word):
+    """The table, of which a short form is one of another word."""
+    rows = [row._replace(short=tuple(short for short in row.short if short != name)) for row in TABLE]
+    return tuple(row._replace(short=(*row.short, name)) if word in row.words else row for row in rows)
 
 
 def best(names, key):
-    """The first name by which a key is greatest; None where that is 0."""
+    """The first name by which a key is greatest; None where that is too little."""
     found = max(names, key=key)
-    return found if key(found) else None
+    return found if key(found) >= console_words.LEAST_SHARED else None
 
 
 def nearest_among(names):
@@ -34,10 +44,10 @@ def same_places(word):
     return best(ALL_NAMES, lambda name: sum(one == other for one, other in zip(name.encode(), word)))
 
 
-def nearest_of_two(word):
-    """What wants two bytes in common."""
-    found = SOUND['nearest'](word)
-    return found if found is not None and shared(found.encode(), word) > 1 else None
+def nearest_of_short(word):
+    """What wants all bytes of a shorter word in common."""
+    found = max(ALL_NAMES, key=lambda name: shared(name.encode(), word))
+    return found if shared(found.encode(), word) >= min(len(word), console_words.LEAST_SHARED) else None
 
 
 def full_nearest(word):
@@ -111,7 +121,7 @@ def word_faults():
             'no short names': nearest_among(ALL_WORDS),
             'short names after all others': nearest_among([*ALL_WORDS, *ALL_NAMES]),
             'bytes at their places': same_places,
-            'two bytes at least': nearest_of_two,
+            'one byte of a word of one': nearest_of_short,
             'a word for a short form': full_nearest,
             'none': lambda word: None,
             'by the alphabet': nearest_among(sorted(ALL_NAMES)),
@@ -146,9 +156,28 @@ def word_faults():
             'all that it does': lambda row: f'{", ".join(row.forms).ljust(console_words.COLUMNS - 1)} {row.what}',
             'the first form': lambda row: SOUND['in_short'](row._replace(forms=row.forms[:1])),
             'no space behind long forms': lambda row: f'{", ".join(row.forms).ljust(console_words.COLUMNS)}{row.what.partition(";")[0]}'}),
+        *[Breakage(f'nearest: {count} bytes in common', console_words, 'LEAST_SHARED', count) for count in (0, 1, 3)],
+        *[Breakage(f'names: {name} is {word}', console_words, 'TABLE', moved(name, word)) for name, word in MOVED],
+        *named('to_repeat', {
+            'the same number again': lambda asked: asked,
+            'nothing of what followed': lambda asked: asked._replace(given=()) if asked.word in ('next', 'run', 'back', 'redo') else asked,
+            'no number of runs': lambda asked: asked._replace(given=()) if asked.word in ('next', 'check') else asked,
+            'one step': lambda asked: Asked('next', (1,)) if asked.word == 'next' and asked.given else asked}, owner=console),
+        *named('short_lines', {
+            'none': lambda row: [],
+            'of another word': lambda row: SOUND['short_lines'](TABLE[TABLE.index(row) - 1]),
+            'where there is none, too': lambda row: SOUND['short_lines'](row) or ['  short: '],
+            'none is told': lambda row: SOUND['short_lines'](row) or ['  short: none'],
+            'the first alone': lambda row: SOUND['short_lines'](row._replace(short=row.short[:1])),
+            'the word too': lambda row: SOUND['short_lines'](row._replace(short=(*row.words[:1], *row.short) if row.short else ())),
+            'no spaces': lambda row: [line.strip() for line in SOUND['short_lines'](row)]}),
+        *[Breakage(f'help: {what}', console_words, 'MORE_HELP', lines) for what, lines in (
+            ('the last line alone', console_words.MORE_HELP[1:]), ('no last line', console_words.MORE_HELP[:1]),
+            ('the last line first', console_words.MORE_HELP[::-1]))],
         Breakage('help: 35 columns', console_words, 'COLUMNS', 35),
         Breakage('help: 37 columns', console_words, 'COLUMNS', 37),
         *named('help_of', {
             'up to the semicolon': lambda word=None: [line.partition(';')[0] for line in SOUND['help_of'](word)],
             'the form of the word alone': help_of_form,
+            'the short forms first': lambda word=None: SOUND['help_of'](word)[::-1] if word else SOUND['help_of'](),
             'no word': lambda word=None: SOUND['help_of']()})]

@@ -78,6 +78,11 @@ def counted(leaves, more):
     return f'{plural(len(leaves), "run")}, and {"there are more" if more else "no more"} ({ways})'
 
 
+def none_found(sought, leaves, more):
+    """What is told where no run ends so of those that were looked at."""
+    return f'no {sought}{" found" if more else ""}: {counted(leaves, more)}'
+
+
 def run_line(number, leaf):
     """A run by its number and its choices, and how it ends."""
     choices = ' '.join(str(choice + 1) for choice in leaf.choices)
@@ -475,7 +480,7 @@ class Console:
             more = next(walk, None) is not None
             if not more:
                 break
-        return [f'no {sought}{" found" if more else ""}: {counted(looked, more)}']
+        return [none_found(sought, looked, more)]
 
     def walks(self):
         """The runs that are looked at, and those that are where none of the first ones is sought: each end once."""

@@ -10,7 +10,7 @@ take no memory at all.
 from typing import NamedTuple, Optional
 
 from model.console import begun, is_blank, is_comment
-from model.console_words import NotAsked, STEPS
+from model.console_words import NotAsked, STEPS, to_repeat
 from model.debugger import BUFFERED, LONGEST_LINE, RENDEZVOUS, lines_of
 from rows.session_memory import HEAD_TO_HEAD, SCRIPT
 
@@ -154,6 +154,9 @@ next 2
 run 1
 goto 6
 next
+bt
+why
+why 1
 redo 9
 '''
 # One message is taken by a receive of any source, and the other one by nobody.
@@ -180,7 +183,8 @@ def takes_memory(line):
 def remember(talked, line):
     """Has the console understand a line, and do nothing."""
     try:
-        talked.last = talked.asked(line) or talked.last
+        asked = talked.asked(line)
+        talked.last = talked.last if asked is None else to_repeat(asked)
     except NotAsked:
         pass
 

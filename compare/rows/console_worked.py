@@ -11,7 +11,7 @@ from typing import NamedTuple
 from unittest import mock
 
 from model import console, debugger, explorer
-from model.console_words import TABLE, full_name
+from model.console_words import MORE_HELP, TABLE, full_name
 from rows.console_starts import STARTS, start_problem
 from rows.examples import EXAMPLES
 from rows.worked_console_along import ALONG
@@ -123,6 +123,8 @@ class Ending(NamedTuple):
 SOURCE = '    2  while 1 { }\n'
 FIRST_STEP = f'1 local 0: line 2\nnext: local 0: line 2\n{SOURCE}'
 TOO_LONG = 'refused: this line is too long\n'
+# A refusal that the model has not: it has all memory that it wants.
+NO_MEMORY = 'refused: memory'
 ENDINGS = (
     Ending('nothing', b'', ''),
     Ending('a last line without a line feed', b'next', FIRST_STEP),
@@ -197,6 +199,22 @@ def table_problem():
     return None if page_rows() == here else f'the page has {set(page_rows()) ^ set(here)}'
 
 
+def refusals_problem():
+    """What the model refuses by other lines than the page tells; None where nothing is."""
+    with open(PAGE, encoding='ascii') as file:
+        told = set(re.findall(r'^\| `(refused: [^`]+)` \|', file.read(), re.M))
+    here = {*console.REFUSALS.values(), console.NO_CANDIDATE, console.NO_RUN, console.NO_CHOICE, console.NO_INDEX, console.NEEDS_INDEX, NO_MEMORY}
+    return None if told == here else f'the page has {told ^ here}'
+
+
+def lines_problem():
+    """Which lines of the model the page doesn't have: at a terminal, and below the list of all words; None where it has all."""
+    with open(PAGE, encoding='ascii') as file:
+        page = file.read()
+    missing = [line for line in (f'\n    {console.GREETING}\n', *(f'`{line}`' for line in MORE_HELP)) if line not in page]
+    return f'the page has no {missing}' if missing else None
+
+
 def words_without_dialogue():
     """The words that no dialogue types: each must be typed where it fits its forms."""
     answered = [typed.decode('latin-1').split()[0] for row in DIALOGUES for typed, answer in row.turns
@@ -208,4 +226,5 @@ def problems():
     """All rows, each with its problem, or None."""
     found = [(row.what, dialogue_problem(row)) for row in DIALOGUES + SLOW + CUT]
     found += [(row.what, ending_problem(row)) for row in ENDINGS] + [(row.what, start_problem(row)) for row in STARTS]
+    found += [('the refusals', refusals_problem()), ('lines at a terminal, and of help', lines_problem())]
     return found + [('the table of words', table_problem()), ('words without a dialogue', ', '.join(words_without_dialogue()) or None)]

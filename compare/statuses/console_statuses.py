@@ -40,7 +40,7 @@ TURNS = (
     ('next', f'1 local 0: line 4\nnext: local 0: line 4\n{SOURCE}'),
     ('run 3', f'3 steps, depth 4\nstopped: as many steps as were asked for\nnext: {MATCHED}\n{SOURCE}'),
     ('ranks', 'rank 0 waits at line 4, 0.0 send to 1 tag 0 value 7\nrank 1 waits at line 4, 1.0 recv from 0 tag 0\n'),
-    ('goto 9', 'refused: fewer steps are taken\n'),
+    ('goto 9', 'refused: so many steps are neither taken nor ahead\n'),
     ('run', '4 steps, depth 8\nrank 1 prints 7\nended: done\n'),
     ('print x', 'rank 0: x = 0\nrank 1: x = 7\n'),
     ('brake', "unknown word 'brake': perhaps break\n"))
@@ -183,7 +183,7 @@ def order_rows(folder):
 
 def quit_rows(folder):
     """The program ends behind `quit` though its input doesn't."""
-    for word in (b'quit\n', b'q\r\n', b' \t q \n'):
+    for word in (b'quit\n', b'q\r\n', b' \t q \n', b'exit\n'):
         process = subprocess.Popen([folder.program, 'debug', folder.first], stdin=subprocess.PIPE, stdout=subprocess.PIPE, stderr=subprocess.PIPE)
         os.write(process.stdin.fileno(), LINES[0] + word)
         status = process.wait(SECONDS)
