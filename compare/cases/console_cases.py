@@ -32,7 +32,8 @@ EDGES = ('0', '1', '2', '15', '16', '63', '64', '65', '65536', '65537', '65538',
 NO_NUMBERS = ('-1', '+1', '1.0', '1.', '.1', '0x1', '1234567890', '0000000001', 'x', '1e3', '1,0', '\xb2', 'all', '1;', "'1'")
 NO_NAMES = ('5', 'x[', 'x]', 'x[]', 'x[i]', 'x[-1]', 'x[0', '[0]', 'x[0]]', 'x.0', 'x+1', '*', 'a[0000000000]', '\xe9', 'x[0][0]', 'a [0]')
 OTHER_NAMES = ('foo', 'rank', 'size', 'send', '_', 'X', 'x0', 'y_', 'any', 'a' * 65)
-NO_WORDS = ('zap', 'stop', 'steps', 'st', 'exi', 'exits', 'bt1', 'wh', 'whence', 'S', 'v', 'nn', 'rx', '?x', 'sx', 'finish', 'quitt', 'un do', 'undo', 'undo-', 'undo_choice', 'choice', 'followed', 'fo', 'traps', 'tr', 'ux', 'fx',
+NO_WORDS = ('zap', 'stop', 'steps', 'st', 'exi', 'exits', 'bt1', 'wh', 'whence', 'S', 'v', 'nn', 'rx', '?x', 'sx',
+            'finish', 'quitt', 'un do', 'undo', 'undo-', 'undo_choice', 'choice', 'followed', 'fo', 'traps', 'tr', 'ux', 'fx',
             'NEXT', 'Next', 'brake', 'reverse', 'reverse-', 'brea', 'breakss', 'loc', 'wakean', 'matches',
             'nexts', '?help', '-', '--', '.', '0', '7', '\xff', '\xc3\xa9', 'next\xe9', 'n\x01', '\x7f', '~', 'run\x0b', '\x0c', 'x\x00y', 'h\xa0',
             'nex\xb2')

@@ -10,7 +10,8 @@ CALL = r'line \d+, \d+\.\d+ '
 # What a line of an answer tells, by its form.
 TOLD_BY = {
     **{f'a step {word}': rf'\d+ {word}\b.*: .*' for word in ('local', 'match', 'wake', 'wakeany', 'release')},
-    'steps ahead': rf'\d+ ahead: {STEP}', 'next': rf'next: {STEP}', 'a choice of one call': r'stopped at a choice of rank \d+, line \d+; next N takes one:',
+    'steps ahead': rf'\d+ ahead: {STEP}', 'next': rf'next: {STEP}',
+    'a choice of one call': r'stopped at a choice of rank \d+, line \d+; next N takes one:',
     'a choice of several calls': r'stopped at a choice; next N takes one:', 'a candidate that is a match': r'  \d+ match .*',
     'a candidate that is a wake': rf'  \d+ wakeany .*: line \d+, by {CALL}.*',
     **{f'ended {word}': rf'ended: {word}\b.*' for word in ('done', 'leftovers', 'deadlock', 'trap')},
@@ -27,8 +28,10 @@ TOLD_BY = {
     'runs that end in several ways': r'\d+ runs, and .*\(.*, .*\)',
     'a run with choices': r'\d+ choices \d+( \d+)*: .*', 'a run without a choice': r'1 no choice: .*',
     **{f'a breakpoint {kind}': rf'breakpoint \d+: {kind} .*' for kind in ('line', 'match', 'change')},
-    'names in short': r'rank \d+: \w+ = .*, \w+ = .*', 'an array in short': r'rank \d+: .*= \[-?\d+, .*', 'requests in short': r'rank \d+: .*= \[(-|\d+\.\d+), .*',
-    'a call in short': r'rank \d+: .*= \d+\.\d+(, .*)?', 'more cells than are shown': r'rank \d+: .*, \.\.\](, .*)?', 'no cell in short': r'rank \d+: .*= \[\].*',
+    'names in short': r'rank \d+: \w+ = .*, \w+ = .*', 'an array in short': r'rank \d+: .*= \[-?\d+, .*',
+    'requests in short': r'rank \d+: .*= \[(-|\d+\.\d+), .*',
+    'a call in short': r'rank \d+: .*= \d+\.\d+(, .*)?', 'more cells than are shown': r'rank \d+: .*, \.\.\](, .*)?',
+    'no cell in short': r'rank \d+: .*= \[\].*',
     'a request that is lost': rf'rank \d+ has lost a request: {CALL}.*',
     'a breakpoint of a cell of an array': r'breakpoint \d+: change \d+ \w+\[\d+\]', 'no breakpoint': r'no breakpoint', 'deleted': r'deleted \d+',
     'a line with ranks': r' +\d+  .*  <- rank \d+.*', 'a line with several ranks': r' +\d+  .*  <- rank \d+.*, rank .*',
@@ -54,8 +57,8 @@ TOLD_BY = {
     'a name that is none': r"no variable or request is called '.*[^\w'].*'",
     **{f'refused: {why}': f'refused: {why}' for why in (
         'this step is not enabled', 'there is no such candidate', 'there is no such run', 'no choice was made before',
-        'fewer steps are taken', 'so many steps are neither taken nor ahead', 'no step is ahead', '1 to 1000000 steps can be asked for', '1 to 65536 runs can be asked for',
-        'lines are 1 to 65537', 'there is no such rank', 'there is no such call', 'there is no such index', 'an array needs an index here',
+        'fewer steps are taken', 'so many steps are neither taken nor ahead', 'no step is ahead',
+        '1 to 1000000 steps can be asked for', '1 to 65536 runs can be asked for', 'lines are 1 to 65537', 'there is no such rank', 'there is no such call', 'there is no such index', 'an array needs an index here',
         'no breakpoint has this number', '64 breakpoints are set', 'this line is too long')},
     **{f'usage of {word}': rf'usage: .*\b{word}\b.*' for row in TABLE for word in row.words}}
 TOLD_BY = {name: re.compile(form) for name, form in TOLD_BY.items()}
@@ -80,7 +83,8 @@ OF_DIALOGUES = ('slots', 'buffered', 'rendezvous', 'no mode', 'version 2', 'a wi
 OF_LINES = {'a line that goes on': r'\n {8}\S', 'a line that goes on twice': r'\n {8}\S.*\n {8}\S', 'a line of 80 bytes': r'\n[^\n]{80}\n',
             'a line of the script': r'\nnext: .*\n +\d+  ',
             'two lines of the script': r'\nnext: match.*\n +\d+  .*\n +\d+  ',
-            'lines of the script below what is ahead': r'\n\d+ ahead: match.*\n +\d+  .*\n', 'a line of the script at a choice': r'\nstopped at .*line \d+; .*:\n +\d+  ',
+            'lines of the script below what is ahead': r'\n\d+ ahead: match.*\n +\d+  .*\n',
+            'a line of the script at a choice': r'\nstopped at .*line \d+; .*:\n +\d+  ',
             'lost at an end': r'\nended: .*\n(  .*\n)*rank \d+ has lost',
             'printed in a step': r'\n\d+ local \d+: .*\nrank \d+ prints ', 'printed in a run': r'\n\d+ steps?, depth \d+\nrank \d+ prints ',
             'printed in steps that are taken again': r'\ndepth \d+\nrank \d+ prints ',

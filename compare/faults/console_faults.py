@@ -7,6 +7,7 @@ choices that are run through, deadlocks by another walk, near misses that are le
 from inspect import isfunction
 
 from faults.console_faults_of_lines import line_faults
+from faults.console_faults_of_looks import look_faults
 from faults.console_faults_of_runs import run_faults
 from faults.console_faults_of_ways import way_faults
 from faults.console_faults_of_words import word_faults
@@ -17,7 +18,6 @@ from model.console_words import ALL, Asked, NotAsked
 from model.debugger import Result
 from model.policy import Forced
 from model.session import must_be
-from model.worlds import CallId
 
 SOUND = {name: value for name, value in vars(Console).items() if isfunction(value)}
 SOUND_NONE_CALLED, SOUND_REFUSED_WITNESS = console.none_called, console.refused_witness
@@ -665,112 +665,6 @@ def break_faults():
             'any number of digits': any_digits}),
         *named('ranks_of', {
             'all where there is no such rank': rank_where_none})]
-
-
-# ---- looks, and runs from here
-
-def last_call_of(self, asked=None):
-    """What tells the last call of a rank that waits for none."""
-    if isinstance(asked, int) and asked < len(self.world.ranks) and self.world.ranks[asked].calls:
-        asked = debugger.last_call(self.world, asked)
-    return SOUND['why'](self, asked)
-
-
-def why_of(ranks):
-    """What tells of other ranks where none is said, by the world."""
-    def why(self, *given):
-        numbers = ranks(self.world)
-        return SOUND['why'](self, *given) if given or not numbers else [line for number in numbers for line in SOUND['why'](self, number)]
-    return why
-
-
-def blocked(world):
-    return [number for number, rank in enumerate(world.ranks) if rank.mode == 'blocked']
-
-
-def all_steps(self, count=console.LISTED):
-    """What lists as many of the first steps."""
-    return [line for line in SOUND['history'](self, self.debugger.depth or 1)][:count]
-
-
-def no_call(self, asked=None):
-    """What says that there is no call where there is no such one."""
-    is_none = isinstance(asked, CallId) and debugger.find_call(self.world, asked) is None
-    return ['no call'] if is_none else SOUND['why'](self, asked)
-
-
-def of_call_too(self, asked=None):
-    """What tells of a call by its name, too, that its rank can go on."""
-    lines = SOUND['why'](self, asked)
-    is_waited = isinstance(asked, CallId) and debugger.find_call(self.world, asked) is not None and console_lines.is_waited_at(self.world, asked)
-    return console_lines.waiting_lines(self.at, asked) if is_waited else lines
-
-
-def of_one_alone(self, asked=None):
-    """What tells of no rank that it can go on where all are asked for."""
-    return [line for line in SOUND['why'](self, asked) if asked is not None or 'complete' not in line]
-
-
-def of_all_alone(self, asked=None):
-    """What tells of no rank that it can go on where one is asked for."""
-    return [line for line in SOUND['why'](self, asked) if asked is None or 'complete' not in line]
-
-
-def from_0(self, *given):
-    """What numbers steps from 0."""
-    lines = SOUND['history'](self, *given)
-    return [line if line.startswith('no') else f'{int(line.split()[0]) - 1} {line.partition(" ")[2]}' for line in lines]
-
-
-def whole_where_no_rank(self, number=None):
-    """What lists the whole script where there is no such rank."""
-    return SOUND['list'](self, None if number is None or number >= len(self.world.ranks) else number)
-
-
-def look_faults():
-    return [
-        *named('why', {
-            'the last call of a rank that waits for none': last_call_of,
-            'no call is told for no such call': no_call,
-            'of a call too that its rank can go on': of_call_too,
-            'of one rank alone that it can go on': of_one_alone,
-            'of all ranks alone that they can go on': of_all_alone,
-            'all ranks, those too that wait for none': why_of(lambda world: range(len(world.ranks))),
-            'the first rank that waits alone': why_of(lambda world: blocked(world)[:1]),
-            'the last rank that waits first': why_of(lambda world: blocked(world)[::-1]),
-            'nothing where no rank waits': lambda self, *given: [line for line in SOUND['why'](self, *given) if line != console.NO_WAIT]}),
-        *named('history', {
-            'of five': usual('history', 5),
-            'the first steps': all_steps,
-            'the last step first': changed('history', lambda lines, self: lines[::-1]),
-            'none is none': changed('history', without('no step is taken')),
-            'no step is taken where none is asked for': changed('history', lambda lines, self: lines or ['no step is taken']),
-            'numbers from 0': from_0}),
-        *named('picture', {
-            'no row at the end': changed('picture', without('at the end')),
-            'what the letters are is untold': changed('picture', lambda lines, self: lines[:-2])}),
-        *named('words', {
-            'those ahead too': lambda self: [debugger.step_text(step) for step in self.debugger.steps],
-            'in words': lambda self: [line.partition(' ')[2] for line in SOUND['history'](self, self.debugger.depth or 1)]}),
-        *named('show', {
-            'no last line': lambda self: SOUND['show'](self)[:-1],
-            'what is kept is what is taken': lambda self: [f'depth {self.debugger.depth} of {self.debugger.depth}', *SOUND['show'](self)[1:]]}),
-        *named('enabled', {
-            'nothing where there is none': changed('enabled', without('no step')),
-            'as trace words': changed('enabled', lambda lines, self: [line.partition(':')[0] for line in lines]),
-            'matches first': changed('enabled', lambda lines, self: sorted(lines, key=lambda line: not line.startswith('match')))}),
-        *named('calls', {
-            'nothing where there is none': changed('calls', without('no call')),
-            'those of all ranks': lambda self, number=None: SOUND['calls'](self)}),
-        *named('queues', {
-            'nothing where there is none': changed('queues', without('no free'))}),
-        *named('print', {
-            'all ranks': lambda self, name, number=None: SOUND['print'](self, name),
-            'from the last rank on': lambda self, *given: SOUND['print'](self, *given)[::-1]}),
-        *named('variables', {
-            'no output': changed('variables', lambda lines, self: [line for line in lines if 'has printed' not in line])}),
-        *named('list', {
-            'no rank is refused': whole_where_no_rank})]
 
 
 # ---- a witness

@@ -228,7 +228,7 @@ def seek_faults():
             'told of the first look': told_of_first,
             'what is ahead is dropped where there is none': dropped_where_none}),
         *named('none_found', {
-            'found where all runs were looked at': lambda sought, leaves, more: SOUND_NONE_FOUND(sought, leaves, more).replace(f'{sought}:', f'{sought} found:'),
+            'found where all runs were looked at': lambda sought, leaves, more: f'no {sought} found: {console.counted(leaves, more)}',
             'not found is none': lambda sought, leaves, more: SOUND_NONE_FOUND(sought, leaves, more).replace(' found', ''),
             'found where there are no more': lambda sought, leaves, more: f'no {sought}{"" if more else " found"}: {console.counted(leaves, more)}',
             'a trap is found': lambda sought, leaves, more: f'no {sought} found: {console.counted(leaves, more)}' if sought == 'trap'

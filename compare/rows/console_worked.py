@@ -149,8 +149,9 @@ ENDINGS = (
     Ending('an empty line first', b'\n\n', ''),
     Ending('what stands behind the end', b'quit\nnext\n', ''),
     Ending('the end by its other name', b'exit\nnext\n', ''),
-    Ending('next by its other names, and an empty line', b's\nstep 1\n\nexit\n', FIRST_STEP + '1 step, depth 2\nstopped: as many steps as were asked for\n'
-           f'next: local 0: line 2\n{SOURCE}3 local 0: line 2\nnext: local 0: line 2\n{SOURCE}'),
+    Ending('next by its other names, and an empty line', b's\nstep 1\n\nexit\n',
+           f'{FIRST_STEP}1 step, depth 2\nstopped: as many steps as were asked for\nnext: local 0: line 2\n{SOURCE}'
+           f'3 local 0: line 2\nnext: local 0: line 2\n{SOURCE}'),
     Ending('the end with blanks', b' \t q\t \r\nnext\n', ''),
     Ending('the end with a carriage return in it', b'quit\r\r\nnext\n', f"unknown word 'quit?': perhaps quit\n{FIRST_STEP}"),
     Ending('the end with one before it', b'\rq\n\r\r\nnext\n', f"unknown word '?q': help lists all\nunknown word '?': help lists all\n{FIRST_STEP}"),

@@ -72,7 +72,8 @@ SOURCE = ('    7  if rank == 0 { recv x from any tag any status who tag_of; recv
           '        tag any; } else { send rank to 0 tag 0; }\n')
 HELP = {'--help': ['first.stdout'], 'trace --help': ['ok 1\n'], 'verify --help': ['accepted\n'],
         'serve --help': ['listening 4000\nserved 0\n'], 'run --help': ['{"depth":6,"ok":true,"steps":6,"stop":"choice","version":1}\n'],
-        'debug --help': ['6 steps, depth 6\nstopped at a choice of rank 0, line 7; next N takes one:\n' + SOURCE + CANDIDATE.format(1) + CANDIDATE.format(2)],
+        'debug --help': ['6 steps, depth 6\nstopped at a choice of rank 0, line 7; next N takes one:\n' + SOURCE + CANDIDATE.format(1)
+                         + CANDIDATE.format(2)],
         'words --help': [''.join(f'ok {depth}\n' for depth in range(1, 11))],
         'check --help': [
             'leaf 0 [] deadlock 0.0 1.0\nwitness 0: local 0, local 1\n' + STUCK.format(0, 1) + STUCK.format(1, 0)
