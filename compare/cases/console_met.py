@@ -58,7 +58,8 @@ TOLD_BY = {
     **{f'refused: {why}': f'refused: {why}' for why in (
         'this step is not enabled', 'there is no such candidate', 'there is no such run', 'no choice was made before',
         'fewer steps are taken', 'so many steps are neither taken nor ahead', 'no step is ahead',
-        '1 to 1000000 steps can be asked for', '1 to 65536 runs can be asked for', 'lines are 1 to 65537', 'there is no such rank', 'there is no such call', 'there is no such index', 'an array needs an index here',
+        '1 to 1000000 steps can be asked for', '1 to 65536 runs can be asked for', 'lines are 1 to 65537',
+        'there is no such rank', 'there is no such call', 'there is no such index', 'an array needs an index here',
         'no breakpoint has this number', '64 breakpoints are set', 'this line is too long')},
     **{f'usage of {word}': rf'usage: .*\b{word}\b.*' for row in TABLE for word in row.words}}
 TOLD_BY = {name: re.compile(form) for name, form in TOLD_BY.items()}

@@ -156,8 +156,8 @@ ENDINGS = (
     Ending('the end with a carriage return in it', b'quit\r\r\nnext\n', f"unknown word 'quit?': perhaps quit\n{FIRST_STEP}"),
     Ending('the end with one before it', b'\rq\n\r\r\nnext\n', f"unknown word '?q': help lists all\nunknown word '?': help lists all\n{FIRST_STEP}"),
     Ending('an end that is too long', b'quit' + b' ' * 4093 + b'\nnext\n', TOO_LONG + FIRST_STEP),
-    Ending('an end that is a comment, and one with more words', b'#quit\nquit #\nqui\nquitt\nnext\n', "usage: quit\nunknown word 'qui': perhaps quit\n"
-           f"unknown word 'quitt': perhaps quit\n{FIRST_STEP}"),
+    Ending('an end that is a comment, and one with more words', b'#quit\nquit #\nqui\nquitt\nnext\n', "usage: quit\n"
+           f"unknown word 'qui': perhaps quit\nunknown word 'quitt': perhaps quit\n{FIRST_STEP}"),
     Ending('a form feed is no blank', b'next\x0c\n', "unknown word 'next?': perhaps next\n"))
 
 
