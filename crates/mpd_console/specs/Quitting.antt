@@ -3,7 +3,7 @@ use Rattle.std.specs.Prelude.{ℕ, suc, ◌+◌, ◌==◌, ◌&&◌, ◌||◌, B
 use Rattle.mpd_model.specs.declared.limits.TheConstants.{LINE_MAX}
 use Rattle.mpd_model.specs.texts.Words.{is_blank}
 use Rattle.mpd_console.specs.declared.quit.Seen.{Seen}
-use Rattle.mpd_console.specs.declared.quit.Seen.TheVariants.{Blanks, Part, Word, Return, Other}
+use Rattle.mpd_console.specs.declared.quit.Seen.TheVariants.{Blanks, Part, Exit, Word, Return, Other}
 use Rattle.mpd_console.specs.declared.quit.Begun.{Begun}
 
 abbrev pub nothing : Begun
@@ -21,9 +21,17 @@ part_behind n b =
     else (if (n == 3) && (b == 116) then Part 4
     else (if (n == 1) || (n == 4) then word_behind b else Other)))
 
+-- behind so many bytes of its other name, `exit`, which ends as the word does
+abbrev pub exit_behind : ℕ → ℕ → Seen
+exit_behind n b =
+    if (n == 1) && (b == 120) then Exit 2
+    else (if (n == 2) && (b == 105) then Exit 3
+    else (if (n == 3) && (b == 116) then Part 4 else Other))
+
 abbrev pub seen_behind : Seen → ℕ → Seen
-seen_behind Blanks b = if is_blank b then Blanks else (if b == 113 then Part 1 else Other)
+seen_behind Blanks b = if is_blank b then Blanks else (if b == 113 then Part 1 else (if b == 101 then Exit 1 else Other))
 seen_behind (Part n) b = part_behind n b
+seen_behind (Exit n) b = exit_behind n b
 seen_behind Word b = word_behind b
 seen_behind Return b = Other
 seen_behind Other b = Other
@@ -36,6 +44,7 @@ begun_behind s b = record { seen = seen_behind s.seen b; length = if nat_lt LINE
 abbrev pub is_quit_by : Seen → ℕ → Bool
 is_quit_by Blanks n = false
 is_quit_by (Part k) n = ((k == 1) || (k == 4)) && nat_le n LINE_MAX
+is_quit_by (Exit k) n = false
 is_quit_by Word n = nat_le n LINE_MAX
 is_quit_by Return n = nat_le n (LINE_MAX + 1)
 is_quit_by Other n = false

@@ -1,4 +1,4 @@
-//! A source of lines that ends behind the word `quit`.
+//! A source of lines that ends behind the word `quit`, `q` or `exit`.
 
 ghost use Rattle.std.specs.Prelude.{◌≡◌, ◌≤◌, IfSome, None, length};
 ghost use Rattle.mpd_model.specs.texts.Words.{is_blank};
@@ -7,13 +7,15 @@ ghost use Rattle.mpd_console.specs.Quitting as spec;
 use mpd_device::{DeviceFault, Source, Steps};
 use mpd_model::LINE_MAX;
 
-/// What of a line was read so far, as far as it matters whether it is `quit` or `q` alone.
+/// What of a line was read so far, as far as it matters whether it is `quit`, `q` or `exit` alone.
 #[derive(Clone, Copy)]
 enum Seen {
     /// Blanks, or nothing.
     Blanks,
     /// Behind blanks so many bytes of `quit`, 1 to 4.
     Part(usize),
+    /// Behind blanks so many bytes of `exit`, 1 to 3; the whole of it is as the whole of `quit`.
+    Exit(usize),
     /// The word, whole or short, and blanks.
     Word,
     /// That, and a carriage return.
@@ -72,6 +74,18 @@ fn part_behind(count: usize, byte: u8) -> Seen
     }
 }
 
+/// What is read of a line behind so many bytes of `exit`, and one more byte.
+fn exit_behind(count: usize, byte: u8) -> Seen
+    ensures { result ≡ spec.exit_behind count byte }
+{
+    match count {
+        1 if byte == b'x' => Seen::Exit(2),
+        2 if byte == b'i' => Seen::Exit(3),
+        3 if byte == b't' => Seen::Part(4),
+        _ => Seen::Other,
+    }
+}
+
 /// What is read of a line behind one more byte, which doesn't end it.
 fn seen_behind(seen: Seen, byte: u8) -> Seen
     ensures { result ≡ spec.seen_behind seen byte }
@@ -79,7 +93,9 @@ fn seen_behind(seen: Seen, byte: u8) -> Seen
     match seen {
         Seen::Blanks if is_blank(byte) => Seen::Blanks,
         Seen::Blanks if byte == b'q' => Seen::Part(1),
+        Seen::Blanks if byte == b'e' => Seen::Exit(1),
         Seen::Part(count) => part_behind(count, byte),
+        Seen::Exit(count) => exit_behind(count, byte),
         Seen::Word => word_behind(byte),
         _ => Seen::Other,
     }
@@ -108,7 +124,7 @@ fn is_quit(begun: Begun) -> bool
         Seen::Part(count) => (count == 1 || count == 4) && begun.length <= LINE_MAX,
         Seen::Word => begun.length <= LINE_MAX,
         Seen::Return => begun.length <= LINE_MAX + 1,
-        Seen::Blanks | Seen::Other => false,
+        Seen::Blanks | Seen::Exit(_) | Seen::Other => false,
     }
 }
 
