@@ -7,26 +7,24 @@ than memory. All were worked out by hand from docs/CONSOLE.md and docs/FORMATS.m
 """
 
 import os
-import resource
 import select
 import subprocess
-import tempfile
 import tty
+from functools import partial
 
 from cases.console_cases import Case
 from model.console import GREETING
 from model.console_lines import folded
 from model.debugger import MOST_READS, Result
-from model.files import held
-from model.modes import KNOWN
 from rows.console_starts import BOTH_RECEIVE, RECEIVED, STARTS, TYPED
 from rows.console_worked import DIALOGUES, ENDINGS, SLOW
 from rows.worked_console_scripts import LOOP
-from started.devices import SECONDS, Files, at_terminal, broken_off, device, file_of_any_size, full, refused, soft_limit, unread_pipe
+from started.devices import SECONDS, Files, at_terminal, broken_off, device, full, refused
 from started.programs import file_of, run_in_packets
 from started.shims import HERE, built
+from statuses.asked_script import Asked, folder_of, input_rows, mode_rows, output_rows
 from statuses.usage_texts import NO_MODE, known
-from statuses.worked_program import BAD_MODE, NO_FILE
+from statuses.worked_program import NO_FILE
 
 HINT = f'{GREETING}\n'.encode()
 MUCH_MIB = 32
@@ -63,46 +61,17 @@ ended: deadlock 0.0 1.0
 '''
 
 
-class Folder:
-    """A folder with the files of scripts, and a program that is run on them."""
-
-    def __init__(self, program, path):
-        self.program, self.path = program, path
-        self.first, self.both = self.file('first', FIRST), self.file('both', HEAD_TO_HEAD)
-
-    def file(self, name, data):
-        return held(self.path, name, data)
-
-    def run(self, *words, data=DATA, **files):
-        return Files(file_of(data), **files).run(self.program, 'debug', *words)
-
-
-def folder_of(rows):
-    """Rows of a program, from those of a folder."""
-    def rows_of(program):
-        with tempfile.TemporaryDirectory(prefix='console-') as path:
-            yield from ((f'debug, {name}', *results) for name, *results in rows(Folder(program, path)))
-    return rows_of
+ASKED_OF = Asked('debug', FIRST, HEAD_TO_HEAD, LINES, ANSWERS)
 
 
 def word_rows(folder):
     """Words of the command line, and the order in which they, the mode, the file and its script are tested."""
-    first, both = folder.first, folder.both
+    first = folder.first
     bad, missing = folder.file('bad', b'mpd 1;ranks 1;print'), os.path.join(folder.path, 'none')
-    waits, passes = Result(WAITS, b'', 0), Result(PASSES, b'', 0)
     yield 'a dialogue', folder.run(first), ENDED
     yield 'no words', folder.run(first, data=b''), Result(b'', b'', 0)
     yield 'comments and empty lines', folder.run(first, data=b'\n# so\r\n \n'), Result(b'', b'', 0)
-    yield 'no mode', folder.run(both, data=b'run'), waits
-    yield 'rendezvous', folder.run(both, '--mode', 'rendezvous', data=b'run'), waits
-    yield 'buffered', folder.run(both, '--mode', 'buffered', data=b'run'), passes
-    yield 'buffered first', folder.run('--mode=buffered', both, data=b'run'), passes
-    yield 'a file behind --', folder.run('--mode', 'buffered', '--', both, data=b'run'), passes
-    yield from ((f'mode {mode!r}', folder.run(both, '--mode', mode, data=b'run'), passes) for mode in ('slots:1', 'slots:65536') * bool(KNOWN))
-    for mode in ('buffer', '', 'Buffered', 'buffered ', 'slots:', 'slots:65537', *(() if KNOWN else ('slots:1',))):
-        yield f'mode {mode!r}', folder.run(first, '--mode', mode), BAD_MODE
-    yield 'a mode before a missing file', folder.run(missing, '--mode', 'none'), BAD_MODE
-    yield 'a mode before a bad script', folder.run(bad, '--mode', 'none'), BAD_MODE
+    yield from mode_rows(folder, b'run', Result(WAITS, b'', 0), Result(PASSES, b'', 0))
     for name in (missing, folder.path, '', os.path.join(first, 'x'), '/proc/self/mem'):
         yield f'no file at {name}', folder.run(name), NO_FILE
         yield f'no witness at {name}', folder.run(first, '--witness', name), NO_FILE
@@ -139,22 +108,12 @@ def witness_rows(folder):
 def device_rows(folder):
     """Devices that fail: what had been answered stands."""
     first = folder.first
-    for name, reading in (('closed', None), ('a directory', os.open('/', os.O_RDONLY)), ('that is written', unread_pipe())):
-        yield f'input {name}', Files(reading).run(folder.program, 'debug', first), device()
+    yield from input_rows(folder)
+    yield from output_rows(folder)
     yield 'input broken off', Files(broken_off(DATA + b'next')).run(folder.program, 'debug', first), device(ANSWERED)
-    yield 'input broken off in a line that is too long', Files(broken_off(LINES[0] + b'x' * 5000)).run(folder.program, 'debug', first), device(ANSWERS[0])
     yield 'input broken off behind the end', Files(broken_off(DATA + b'quit\n')).run(folder.program, 'debug', first), ENDED
-    for name, output in (('full', full()), ('closed', None), ('unread', unread_pipe())):
-        yield f'output {name}', folder.run(first, output=output), device()
     yield 'output full, nothing to write', folder.run(first, data=b'\n# so\nquit\n', output=full()), Result(b'', b'', 0)
     yield 'output and errors full', folder.run(first, output=full(), errors=full()), Result(b'', b'', 3)
-    for size in (0, 1, 40, len(ANSWERS[0]), len(ANSWERS[0]) + 7, len(ANSWERED) - 1):
-        # standard error is a pipe, so that it has no such limit
-        reading, writing = os.pipe()
-        with soft_limit(resource.RLIMIT_FSIZE, size):
-            result = Files(file_of_any_size(DATA), errors=writing).run(folder.program, 'debug', first)
-        with open(reading, 'rb') as errors:
-            yield f'output of {size} bytes', result._replace(errors=errors.read()), device(ANSWERED[:size])
 
 
 # What each read brings, and the answers that are written behind it.
@@ -273,5 +232,5 @@ def dialogue_rows(folder):
         yield row.what, folder.run(folder.file('loop', LOOP.encode()), data=row.data), Result(row.wanted.encode(), b'', 0)
 
 
-DIALOGUE_ROWS = folder_of(dialogue_rows)
-ROWS = tuple(map(folder_of, (word_rows, witness_rows, device_rows, order_rows, quit_rows, terminal_rows, turn_rows, much_rows)))
+DIALOGUE_ROWS = folder_of(ASKED_OF, dialogue_rows)
+ROWS = tuple(map(partial(folder_of, ASKED_OF), (word_rows, witness_rows, device_rows, order_rows, quit_rows, terminal_rows, turn_rows, much_rows)))

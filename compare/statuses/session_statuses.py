@@ -8,20 +8,19 @@ All were worked out by hand from docs/SESSIONS.md and docs/FORMATS.md, but for l
 
 import os
 import resource
-import tempfile
+from functools import partial
 
 from model.debugger import MOST_READS, Result
-from model.files import held
-from model.modes import KNOWN
 from model.session import serve
 from rows import worked_slots, worked_waitany
 from rows.worked_runs import FIRST, HEAD_TO_HEAD
 from rows.worked_sessions import DIALOGUES, RUN, STATE, deep, no, ran, step, tested_differently, tested_input
-from started.devices import SECONDS, Files, at_terminal, broken_off, device, file_of_any_size, full, refused, soft_limit, unread_pipe
+from started.devices import SECONDS, Files, at_terminal, broken_off, device, full, refused, soft_limit
 from started.programs import file_of, run_in_packets
 from started.shims import HERE, built
+from statuses.asked_script import Asked, folder_of, input_rows, mode_rows, output_rows
 from statuses.usage_texts import NO_MODE, known
-from statuses.worked_program import BAD_MODE, INPUT, NO_FILE, OUTPUT, SCRIPT, Failing, of_what_is_known
+from statuses.worked_program import INPUT, NO_FILE, OUTPUT, SCRIPT, Failing, of_what_is_known
 
 HINT = b'JSON requests, one a line; docs/SESSIONS.md\n'
 STACK_KIB, MUCH_MIB = 512, 32
@@ -35,47 +34,17 @@ ENDED = Result(ANSWERED, b'', 0)
 START = b'{"depth":0,"ok":true,"ranks":["at 2","at 2"],"sets":[],"undone":0,"version":0}\n'
 
 
-class Folder:
-    """A folder with the files of scripts, and a program that is run on them."""
-
-    def __init__(self, program, path):
-        self.program, self.path = program, path
-        self.first, self.head_to_head = self.file('first', FIRST.encode()), self.file('head_to_head', HEAD_TO_HEAD.encode())
-
-    def file(self, name, data):
-        return held(self.path, name, data)
-
-    def run(self, *words, data=DATA, **files):
-        return Files(file_of(data), **files).run(self.program, 'run', *words)
-
-
-def folder_of(rows):
-    """Rows of a program, from those of a folder."""
-    def rows_of(program):
-        with tempfile.TemporaryDirectory(prefix='session-') as path:
-            yield from ((f'run, {name}', *results) for name, *results in rows(Folder(program, path)))
-    return rows_of
+ASKED_OF = Asked('run', FIRST.encode(), HEAD_TO_HEAD.encode(), LINES, ANSWERS)
 
 
 def word_rows(folder):
     """Words of the command line, and the order in which they, the mode, the file and its script are tested."""
-    first, both = folder.first, folder.head_to_head
+    first = folder.first
     bad, missing = folder.file('bad', b'mpd 1;ranks 1;print'), os.path.join(folder.path, 'none')
-    waits, passes = (Result(f'{reply}\n'.encode(), b'', 0) for reply in (ran(2, 2, 'leaf', 1), ran(10, 10, 'leaf', 1)))
-    asked = RUN.encode()
     yield 'a session', folder.run(first), ENDED
     yield 'no requests', folder.run(first, data=b''), Result(b'', b'', 0)
     yield 'empty lines', folder.run(first, data=b'\n\r\n\n'), Result(b'', b'', 0)
-    yield 'no mode', folder.run(both, data=asked), waits
-    yield 'rendezvous', folder.run(both, '--mode', 'rendezvous', data=asked), waits
-    yield 'buffered', folder.run(both, '--mode', 'buffered', data=asked), passes
-    yield 'buffered first', folder.run('--mode=buffered', both, data=asked), passes
-    yield 'a file behind --', folder.run('--mode', 'buffered', '--', both, data=asked), passes
-    yield from ((f'mode {mode!r}', folder.run(both, '--mode', mode, data=asked), passes) for mode in ('slots:1', 'slots:65536') * bool(KNOWN))
-    for mode in ('buffer', '', 'Buffered', 'buffered ', 'slots:', 'slots:65537', 'rendezvous buffered', *(() if KNOWN else ('slots:1',))):
-        yield f'mode {mode!r}', folder.run(first, '--mode', mode), BAD_MODE
-    yield 'a mode before a missing file', folder.run(missing, '--mode', 'none'), BAD_MODE
-    yield 'a mode before a bad script', folder.run(bad, '--mode', 'none'), BAD_MODE
+    yield from mode_rows(folder, RUN.encode(), *(Result(f'{reply}\n'.encode(), b'', 0) for reply in (ran(2, 2, 'leaf', 1), ran(10, 10, 'leaf', 1))))
     for name in (missing, folder.path, '', os.path.join(first, 'x'), '/proc/self/mem'):
         yield f'no file at {name}', folder.run(name), NO_FILE
     yield 'a bad script', folder.run(bad), refused(b'4 expected at 19 line 1')
@@ -92,21 +61,11 @@ def word_rows(folder):
 def device_rows(folder):
     """Devices that fail: what had been answered stands."""
     first = folder.first
-    for name, reading in (('closed', None), ('a directory', os.open('/', os.O_RDONLY)), ('that is written', unread_pipe())):
-        yield f'input {name}', Files(reading).run(folder.program, 'run', first), device()
+    yield from input_rows(folder)
+    yield from output_rows(folder)
     yield 'input broken off', Files(broken_off(DATA)).run(folder.program, 'run', first), device(b''.join(ANSWERS[:3]))
-    yield 'input broken off in a line that is too long', Files(broken_off(LINES[0] + b'x' * 5000)).run(folder.program, 'run', first), device(ANSWERS[0])
-    for name, output in (('full', full()), ('closed', None), ('unread', unread_pipe())):
-        yield f'output {name}', folder.run(first, output=output), device()
     yield 'output full, nothing to write', folder.run(first, data=b'\n', output=full()), Result(b'', b'', 0)
     yield 'output and errors full', folder.run(first, output=full(), errors=full()), Result(b'', b'', 3)
-    for size in (0, 1, 40, len(ANSWERS[0]), len(ANSWERS[0]) + 7, len(ANSWERED) - 1):
-        # standard error is a pipe, so that it has no such limit
-        reading, writing = os.pipe()
-        with soft_limit(resource.RLIMIT_FSIZE, size):
-            result = Files(file_of_any_size(DATA), errors=writing).run(folder.program, 'run', first)
-        with open(reading, 'rb') as errors:
-            yield f'output of {size} bytes', result._replace(errors=errors.read()), device(ANSWERED[:size])
 
 
 def failing():
@@ -228,5 +187,5 @@ def dialogue_rows(folder):
     yield 'lines', tested_differently(folder.run(folder.first, data=tested_input()).output), []
 
 
-DIALOGUE_ROWS = folder_of(dialogue_rows)
-ROWS = tuple(map(folder_of, (word_rows, device_rows, failing_rows, interrupted_rows, order_rows, terminal_rows, turn_rows, stack_rows, much_rows)))
+DIALOGUE_ROWS = folder_of(ASKED_OF, dialogue_rows)
+ROWS = tuple(map(partial(folder_of, ASKED_OF), (word_rows, device_rows, failing_rows, interrupted_rows, order_rows, terminal_rows, turn_rows, stack_rows, much_rows)))
