@@ -28,7 +28,7 @@ LEFT_OUT = {
                                'lost_calls'), BY_WORDS),
     'mpd_moves': dict.fromkeys(('doing_of', 'known_of', 'lead', 'push_break_line', 'push_reply'), BY_WORDS),
     'mpd_fold': {'push_folded': BY_WORDS, **dict.fromkeys(('long_lines_keep_their_words', 'long_lines_can_nowhere_be_cut'), 'a law')},
-    'mpd_search': dict.fromkeys(('seek', 'numbered_run', 'last_choice', 'name', 'push_runs', 'push_none', 'push_ahead', 'push_count', 'push_no_run',
+    'mpd_search': dict.fromkeys(('seek', 'numbered_run', 'last_choice', 'name', 'push_runs', 'push_none', 'push_ahead', 'push_count', 'push_no_run', 'may_hide',
                                  'push_no_choice'), BY_WORDS),
     'mpd_picture': {'arrows_are_pairs': 'a law'}, 'mpd_console': {'has_quit': 'called by the program behind a console'},
     'mpd_vocabulary': dict.fromkeys(('line_of', 'push_fault', 'push_help'), BY_WORDS),

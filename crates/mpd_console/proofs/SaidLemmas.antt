@@ -27,6 +27,7 @@ use Rattle.mpd_console.specs.Looks.{look_text}
 use Rattle.mpd_vocabulary.specs.Reading.{line_of}
 use Rattle.mpd_search.specs.declared.search.WholeRun.{WholeRun}
 use Rattle.mpd_search.specs.declared.way.Way.{Way}
+use Rattle.mpd_search.specs.Hidden.{may_hide}
 use Rattle.mpd_search.specs.Runs.{none_line}
 use Rattle.mpd_search.specs.Seek.{found_run, numbered_run, nothing_line, LiesAhead, ahead_line, no_run_line}
 use Rattle.mpd_search.specs.Choices.{last_choice, no_choice_line}
@@ -91,6 +92,14 @@ pub ruleset leading = (led, known)
 
 pub ruleset looking = (looked, led)
 
+pub not_found : (p b : Bool) (s : Held) (d : DebuggerView) (x : Way) (leaves : List Leaf) (more : Bool) (begun one lent text : List ℕ) → IsReached (standing_of d) → d.trail ≡ s.trail → b ≡ may_hide d.trail.program d.world.board.mode
+    → begun ≡ [] → one ≡ begun ++ none_line b x leaves more → lent ≡ one → text ≡ said p s lent → text ≡ not_found_said p s x leaves more
+not_found p b s d x leaves more begun one lent text reached e hides h k l m =
+    let u : one ≡ none_line (may_hide d.trail.program d.world.board.mode) x leaves more = k ∙ ap (λ z. z ++ none_line b x leaves more) h ∙ ap (λ z. none_line z x leaves more) hides in
+    m ∙ ap (said p s) (l ∙ u ∙ told_at (λ t w. none_line (may_hide t.program w.board.mode) x leaves more) s d reached e)
+
+pub ruleset not_finding = (not_found, led)
+
 pub ruleset finding = (found, told_so)
 
 -- ---- what is added
@@ -152,9 +161,10 @@ found_at s d x o r e h = h ∙ ap (λ t. found_run x t d.world) e ∙ sym (ap (�
 pub numbered_at : (s : Held) (d : DebuggerView) (n : ℕ) (o : Option WholeRun) → IsReached (standing_of d) → d.trail ≡ s.trail → o ≡ numbered_run n d.trail d.world → o ≡ numbered_from s n
 numbered_at s d n o r e h = h ∙ ap (λ t. numbered_run n t d.world) e ∙ sym (ap (λ (w : Option World). option_and_then (λ v. numbered_run n s.trail v) w) (world_at s d r e))
 
-pub none_at_is : (p : Bool) (s : Held) (d : DebuggerView) (x : Way) (leaves : List Leaf) (more : Bool) → IsReached (standing_of d) → d.trail ≡ s.trail → none_line x leaves more ≡ nothing_line x d.trail d.world
-    → not_found_said p s x leaves more ≡ none_said p s x
-none_at_is p s d x leaves more r e h = ap (said p s) (h ∙ told_at (nothing_line x) s d r e)
+pub none_at_is : (p : Bool) (s : Held) (d : DebuggerView) (x : Way) (leaves : List Leaf) (more : Bool) → IsReached (standing_of d) → d.trail ≡ s.trail
+    → none_line (may_hide d.trail.program d.world.board.mode) x leaves more ≡ nothing_line x d.trail d.world → not_found_said p s x leaves more ≡ none_said p s x
+none_at_is p s d x leaves more r e h =
+    ap (said p s) (sym (told_at (λ t w. none_line (may_hide t.program w.board.mode) x leaves more) s d r e) ∙ h ∙ told_at (nothing_line x) s d r e)
 
 pub lies_at : (s : Held) (d : DebuggerView) (o : Option WholeRun) → d.trail ≡ s.trail → IfSome o (LiesAhead d.trail) → IfSome o (LiesAhead s.trail)
 lies_at s d o e h = subst (λ t. IfSome o (LiesAhead t)) e h

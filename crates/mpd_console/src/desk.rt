@@ -17,8 +17,8 @@ use mpd_lines::{LineDesk, ROOM, push_all};
 use mpd_model::LINE_MAX;
 use mpd_moves::{Doing, Known, doing_of, known_of, lead, push_reply};
 use mpd_search::{
-    Search, Way, WholeRun, last_choice, numbered_run, push_ahead, push_no_choice, push_no_run,
-    push_none, seek as seek_run,
+    Search, Way, WholeRun, last_choice, may_hide, numbered_run, push_ahead, push_no_choice,
+    push_no_run, push_none, seek as seek_run,
 };
 use mpd_session::Session;
 use mpd_view::push_standing;
@@ -306,7 +306,7 @@ pub(crate) fn laid_text(
 }
 
 /// What is told where no run ends so.
-#[tactic(auto, using(crate::proofs::SaidLemmas::saying))]
+#[tactic(auto, using(crate::proofs::SaidLemmas::not_finding))]
 fn not_found_text(
     alloc: Global,
     session: &Session<'_>,
@@ -317,7 +317,11 @@ fn not_found_text(
     ensures { IfOk result (λ t. t.items ≡ spec.not_found_said is_prompting session.now way report.now.leaves.items report.now.more) }
 {
     let mut told = String::new(alloc);
-    push_none(&mut told, way, report)?;
+    let debugger = session.debugger();
+    debugger.state_is_reached();
+    let core = debugger.core();
+    let is_hidden = may_hide(core.code(), core.board().mode());
+    push_none(&mut told, is_hidden, way, report)?;
     said(alloc, session, is_prompting, &told)
 }
 

@@ -14,7 +14,8 @@ use Rattle.mpd_model.specs.script.Declaration.{Declared}
 use Rattle.mpd_model.specs.script.Program.{Program}
 use Rattle.mpd_model.specs.steps.World.{World}
 use Rattle.mpd_model.specs.runs.Decisions.{decision}
-use Rattle.mpd_model.specs.runs.Trail.{Trail}
+use Rattle.mpd_model.specs.runs.Running.{ran_back}
+use Rattle.mpd_model.specs.runs.Trail.{Trail, forgotten}
 use Rattle.mpd_model.specs.texts.Texts.{line}
 use Rattle.mpd_model.specs.runs.Breakpoints.{break_at}
 use Rattle.mpd_wire.specs.declared.request.Command.{Command}
@@ -150,15 +151,7 @@ abbrev pub moved_line : ℕ → List ℕ → List ℕ
 moved_line depth [] = line (codes "depth " ++ decimal depth)
 moved_line depth (b ∷ lead) = line (decimal depth ++ 32 ∷ b ∷ lead)
 
--- `run` takes a single step only at a choice
-abbrev pub along_line : Word → List ℕ
-along_line (word.Run n) = line (codes "stopped: behind the choice")
-along_line other = []
-
-abbrev pub move_text : List ℕ → Trail → World → Word → ℕ → List ℕ → Known → List ℕ
-move_text text t w x depth lead k = moved_line depth lead ++ news_text k t w ++ along_line x ++ standing_text text t w
-
--- ---- what is told of a run
+-- ---- the line of a breakpoint
 
 abbrev pub break_parts : List Declared → ℕ → Break → List ℕ
 break_parts ds n b = decimal n ++ codes ": " ++ line (break_text ds b)
@@ -169,6 +162,42 @@ break_line ds n b = codes "breakpoint " ++ break_parts ds n b
 abbrev pub break_line_of : List Declared → ℕ → Option Break → List ℕ
 break_line_of ds n None = []
 break_line_of ds n (Some b) = break_line ds n b
+
+-- ---- what is told of a single step
+
+abbrev pub cause_number : Cause → Option ℕ
+cause_number (for.Break n) = Some n
+cause_number other = None
+
+-- the breakpoint of a run back that undoes one step
+abbrev pub hit_by : Stop → Option ℕ
+hit_by stop = if stop.steps == 1 then cause_number stop.cause else None
+
+-- the lowest breakpoint that the last step hits, before which a run back would stop at once; what is undone doesn't matter
+abbrev pub last_hit : List (Option Break) → Trail → Option ℕ
+last_hit places t = hit_by (ran_back places (forgotten t) (forgotten t).depth)
+
+abbrev pub hit_line : List Declared → List (Option Break) → Option ℕ → List ℕ
+hit_line ds places None = []
+hit_line ds places (Some n) = break_line_of ds n (break_at places n)
+
+-- `run` takes a single step only at a choice, and says so where that hits no breakpoint
+abbrev pub along_line : Word → Option ℕ → List ℕ
+along_line (word.Run n) None = line (codes "stopped: behind the choice")
+along_line other hit = []
+
+abbrev pub hit_text : List Declared → List (Option Break) → Word → Option ℕ → List ℕ
+hit_text ds places x hit = hit_line ds places hit ++ along_line x hit
+
+-- behind a step that is told
+abbrev pub stepped_text : Trail → List (Option Break) → Word → List ℕ → List ℕ
+stepped_text t places x [] = []
+stepped_text t places x (b ∷ lead) = hit_text t.program.decls places x (last_hit places t)
+
+abbrev pub move_text : List ℕ → Trail → World → List (Option Break) → Word → ℕ → List ℕ → Known → List ℕ
+move_text text t w places x depth lead k = moved_line depth lead ++ news_text k t w ++ stepped_text t places x lead ++ standing_text text t w
+
+-- ---- what is told of a run
 
 abbrev pub back_words : Word → List ℕ
 back_words word.RunBack = codes " back"
@@ -252,8 +281,8 @@ refused_text text t w x r = refusal_line (asks_next w x) x r ++ (if stands_behin
 -- ---- what is told of a reply, behind the request, given the text of the script
 
 abbrev pub answer_text : List ℕ → Trail → World → List (Option Break) → Word → List ℕ → Known → Answer → List ℕ
-answer_text text t w places x lead k (answer.Depth depth) = move_text text t w x depth lead k
-answer_text text t w places x lead k (answer.Stepped depth a) = move_text text t w x depth lead k
+answer_text text t w places x lead k (answer.Depth depth) = move_text text t w places x depth lead k
+answer_text text t w places x lead k (answer.Stepped depth a) = move_text text t w places x depth lead k
 answer_text text t w places x lead k (answer.Ran depth stop) = run_text text t w places x depth stop k
 answer_text text t w places x lead k (answer.Added n) = added_line t.program x n
 answer_text text t w places x lead k answer.Removed = removed_line x

@@ -15,7 +15,7 @@ use mpd_code::Code;
 use mpd_core::Core;
 use mpd_model::{Break, Cause, Decision, Decl, Step, Stop};
 use mpd_names::push_break;
-use mpd_policy::{Breaks, decide, only_step, sole};
+use mpd_policy::{Breaks, decide, only_step, run_back, sole};
 use mpd_search::{Way, push_count};
 use mpd_trail::Debugger;
 use mpd_view::{push_standing, push_step};
@@ -516,14 +516,70 @@ fn push_run(
     push_standing(alloc, debugger, text, out)
 }
 
-/// What is told behind a step that `run` takes at a choice.
-fn along_line(word: Word) -> &'static str
-    ensures { result.now ≡ spec.along_line word }
+/// The breakpoint of a run back that undoes one step.
+fn hit_by(stop: Stop) -> Option<usize>
+    ensures { result ≡ spec.hit_by stop }
 {
-    match word {
-        Word::Run(_) => "stopped: behind the choice\n",
+    match stop.cause {
+        Cause::Break(number) if stop.steps == 1 => Some(number),
+        _ => None,
+    }
+}
+
+/// The lowest breakpoint that the last step hits, before which a run back would stop at once.
+fn last_hit(debugger: &Debugger<'_>, breaks: &Breaks) -> Result<Option<usize>, AllocError>
+    ensures { IfOk result (λ o. o ≡ spec.last_hit breaks.now debugger.now.trail) }
+{
+    let mut copy = debugger.copy()?;
+    let stop = run_back(&mut copy, breaks);
+    drop(copy);
+    Ok(hit_by(stop))
+}
+
+/// Adds the line of a breakpoint that was hit.
+fn push_hit(
+    out: &mut String,
+    decls: &[Decl],
+    breaks: &Breaks,
+    hit: Option<usize>,
+) -> Result<(), AllocError>
+    ensures { OnOk result (string_bytes out.new ≡ string_bytes out.old ++ spec.hit_line decls.now breaks.now hit) }
+{
+    let Some(number) = hit else {
+        return Ok(());
+    };
+    match breaks.get(number) {
+        None => Ok(()),
+        Some(stop) => push_break_line(out, decls, number, stop),
+    }
+}
+
+/// What is told behind a step that `run` takes at a choice, and that hits no breakpoint.
+fn along_line(word: Word, hit: Option<usize>) -> &'static str
+    ensures { result.now ≡ spec.along_line word hit }
+{
+    match (word, hit) {
+        (Word::Run(_), None) => "stopped: behind the choice\n",
         _ => "",
     }
+}
+
+/// Adds what is told behind a step that was told: the breakpoint that it hits, or why `run` stops behind it.
+fn push_stepped(
+    debugger: &Debugger<'_>,
+    breaks: &Breaks,
+    out: &mut String,
+    word: Word,
+    lead: &str,
+) -> Result<(), AllocError>
+    ensures { OnOk result (string_bytes out.new ≡ string_bytes out.old ++ spec.stepped_text debugger.now.trail breaks.now word lead.now) }
+{
+    if lead.is_empty() {
+        return Ok(());
+    }
+    let hit = last_hit(debugger, breaks)?;
+    push_hit(out, debugger.core().code().decls(), breaks, hit)?;
+    out.push_str(along_line(word, hit))
 }
 
 /// Adds what is told of a move.
@@ -531,17 +587,18 @@ fn push_move(
     alloc: Global,
     debugger: &Debugger<'_>,
     text: &[u8],
+    breaks: &Breaks,
     out: &mut String,
     word: Word,
     depth: usize,
     lead: &str,
     known: &Known,
 ) -> Result<(), AllocError>
-    ensures { OnOk result (string_bytes out.new ≡ string_bytes out.old ++ spec.move_text text.now debugger.now.trail debugger.now.world word depth lead.now (told known.now.depth known.now.printed.items known.now.lost.items)) }
+    ensures { OnOk result (string_bytes out.new ≡ string_bytes out.old ++ spec.move_text text.now debugger.now.trail debugger.now.world breaks.now word depth lead.now (told known.now.depth known.now.printed.items known.now.lost.items)) }
 {
     push_moved(out, depth, lead)?;
     push_news(alloc, debugger, out, known)?;
-    out.push_str(along_line(word))?;
+    push_stepped(debugger, breaks, out, word, lead)?;
     push_standing(alloc, debugger, text, out)
 }
 
@@ -564,7 +621,9 @@ pub fn push_reply(
         Reply::Refused(refusal) => push_refused(alloc, debugger, text, out, word, *refusal),
         Reply::Done { answer, .. } => match answer {
             Answer::Depth(depth) | Answer::Stepped { depth, .. } => {
-                push_move(alloc, debugger, text, out, word, *depth, lead, known)
+                push_move(
+                    alloc, debugger, text, breaks, out, word, *depth, lead, known,
+                )
             }
             Answer::Ran { depth, stop } => {
                 push_run(

@@ -1,4 +1,5 @@
 pub mod ChoiceLemmas
 pub mod EndLemmas
+pub mod HiddenLemmas
 pub mod LookLemmas
 pub mod SeekLemmas

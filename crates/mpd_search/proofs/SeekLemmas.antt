@@ -23,6 +23,7 @@ use Rattle.mpd_search.specs.declared.search.WholeRun.{WholeRun}
 use Rattle.mpd_search.specs.declared.way.Way.{Way}
 use Rattle.mpd_search.specs.Ways.{ends_in, first_in}
 use Rattle.mpd_explore.specs.Report.{ended_by}
+use Rattle.mpd_search.specs.Hidden.{may_hide}
 use Rattle.mpd_search.specs.Runs.{fuel_at, all_runs, first_runs, is_number, none_line}
 use Rattle.mpd_search.specs.Seek.{LeadsTo, LiesAhead, Looked, whole_run, found_run, numbered_run, last_runs, last_more, looks_twice, nothing_line}
 use Rattle.mpd_search.proofs.EndLemmas.{few_steps, run_leads}
@@ -128,12 +129,12 @@ unmapped f None e = refl
 unmapped f (Some l) e = absurd cc
 
 pub nothing_is : (x : Way) (t u : Trail) (v w : World) (n : ℕ) (leaves : List leaf.Leaf) (others : Bool) (o : Option WholeRun) → v ≡ w → n ≡ fuel_at t.depth → Looked x (looks_twice x n v) n v leaves others
-    → o ≡ option_map (whole_run (done_steps u) n v) (first_in x leaves) → o ≡ None → none_line x leaves others ≡ nothing_line x t w
+    → o ≡ option_map (whole_run (done_steps u) n v) (first_in x leaves) → o ≡ None → none_line (may_hide t.program w.board.mode) x leaves others ≡ nothing_line x t w
 nothing_is x t u v w n leaves others o same fuel h e none =
     let first : first_in x leaves ≡ None = unmapped (whole_run (done_steps u) n v) (first_in x leaves) (sym e ∙ none) in
-    ap (λ ls. none_line x ls others) (h.all first) ∙ ap (none_line x (last_runs x n v)) (h.rest first)
-    ∙ ap (λ m. none_line x (last_runs x m v) (last_more x m v)) fuel
-    ∙ ap (λ z. none_line x (last_runs x (fuel_at t.depth) z) (last_more x (fuel_at t.depth) z)) same
+    ap (λ ls. none_line (may_hide t.program w.board.mode) x ls others) (h.all first) ∙ ap (none_line (may_hide t.program w.board.mode) x (last_runs x n v)) (h.rest first)
+    ∙ ap (λ m. none_line (may_hide t.program w.board.mode) x (last_runs x m v) (last_more x m v)) fuel
+    ∙ ap (λ z. none_line (may_hide t.program w.board.mode) x (last_runs x (fuel_at t.depth) z) (last_more x (fuel_at t.depth) z)) same
 
 pub ruleset seeking = (copied_lies, found_is, nothing_is)
 

@@ -1,5 +1,5 @@
 -- The runs from where a trail stands, and their text.
-use Rattle.std.specs.Prelude.{ℕ, suc, ◌+◌, ◌-◌, ◌==◌, Bool, true, false, ◌||◌, nat_lt, if◌then◌else◌, List, [], ◌∷◌, ◌++◌, length, map, take, codes}
+use Rattle.std.specs.Prelude.{ℕ, suc, ◌+◌, ◌-◌, ◌==◌, Bool, true, false, ◌&&◌, ◌||◌, not, nat_lt, if◌then◌else◌, List, [], ◌∷◌, ◌++◌, length, map, take, codes}
 use Rattle.std.specs.Fmt.{decimal}
 use Rattle.mpd_model.specs.declared.limits.TheConstants.{STEPS_MAX}
 use Rattle.mpd_model.specs.steps.World.{World}
@@ -11,6 +11,7 @@ use Rattle.mpd_explore.specs.Report.{shown}
 use Rattle.mpd_explore.specs.ReportText.{ending_text}
 use Rattle.mpd_search.specs.declared.runs.TheConstants.{FUEL, RUNS_MAX}
 use Rattle.mpd_search.specs.declared.way.Way.{Way}
+use Rattle.mpd_search.specs.declared.way.Way.TheVariants as way
 use Rattle.mpd_search.specs.Ways.{way_name, count_in, ways}
 
 -- ---- runs
@@ -90,11 +91,14 @@ no_number_line = line (codes "refused: 1 to 65536 runs can be asked for")
 abbrev pub check_text : Trail → World → ℕ → List ℕ
 check_text t w n = if is_number n then report_text (first_runs n false (fuel_at t.depth) w) (are_more n false (fuel_at t.depth) w) else no_number_line
 
--- where there are more runs, only none was found
-abbrev pub found_words : Bool → List ℕ
-found_words true = codes " found: "
-found_words false = codes ": "
+-- whether some runs are all ways to end: others needn't be hidden, there are no more, and none is cut
+abbrev pub sees_all : Bool → List Leaf → Bool → Bool
+sees_all hidden leaves more = not hidden && (not more && (count_in way.Cut leaves == 0))
 
--- `no deadlock: 2 runs, and no more (1 done, 1 trap)`
-abbrev pub none_line : Way → List Leaf → Bool → List ℕ
-none_line x leaves more = codes "no " ++ way_name x ++ found_words more ++ total_line leaves more
+abbrev pub found_words : Bool → List ℕ
+found_words true = codes " from here: "
+found_words false = codes " found from here: "
+
+-- `no deadlock from here: 2 runs, and no more (1 done, 1 trap)`
+abbrev pub none_line : Bool → Way → List Leaf → Bool → List ℕ
+none_line hidden x leaves more = codes "no " ++ way_name x ++ found_words (sees_all hidden leaves more) ++ total_line leaves more

@@ -18,6 +18,7 @@ use Rattle.mpd_explore.specs.Witness.{WitnessBy}
 use Rattle.mpd_search.specs.declared.runs.TheConstants.{RUNS_MAX}
 use Rattle.mpd_search.specs.declared.search.WholeRun.{WholeRun}
 use Rattle.mpd_search.specs.declared.way.Way.{Way}
+use Rattle.mpd_search.specs.Hidden.{may_hide}
 use Rattle.mpd_search.specs.Ways.{first_in}
 use Rattle.mpd_search.specs.Runs.{fuel_at, all_runs, first_runs, are_more, is_number, none_line}
 
@@ -50,7 +51,7 @@ pub record Looked (x : Way) (ends : Bool) (fuel : ℕ) (w : World) (leaves : Lis
 
 -- what is told where there is none
 abbrev pub nothing_line : Way → Trail → World → List ℕ
-nothing_line x t w = none_line x (last_runs x (fuel_at t.depth) w) (last_more x (fuel_at t.depth) w)
+nothing_line x t w = none_line (may_hide t.program w.board.mode) x (last_runs x (fuel_at t.depth) w) (last_more x (fuel_at t.depth) w)
 
 -- ---- from the start of the script
 

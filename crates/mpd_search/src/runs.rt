@@ -7,11 +7,15 @@ ghost use Rattle.mpd_model.specs.texts.Texts.{spaced};
 ghost use Rattle.mpd_explore.specs.Report.{ended_by, left_out};
 ghost use Rattle.mpd_explore.specs.ReportText.{ending_text};
 ghost use Rattle.mpd_explore.specs.Witness.{HasWitness};
+ghost use Rattle.mpd_model.specs.script.Tree.{block_of};
+ghost use Rattle.mpd_model.specs.steps.World.{is_limited as limited};
+ghost use Rattle.mpd_search.specs.Hidden.{has_none, may_hide};
 ghost use Rattle.mpd_search.specs.Runs as spec;
 
 use crate::way::{WAYS, Way, count_in};
+use mpd_code::Code;
 use mpd_explore::{Ending, Leaf, Limits, Report, Unwatched, explore};
-use mpd_model::{STEPS_MAX, print_outcome};
+use mpd_model::{Mode, STEPS_MAX, print_outcome};
 use mpd_trail::Debugger;
 use std::alloc::{AllocError, Global};
 
@@ -230,19 +234,57 @@ pub fn push_runs(
     push_total(out, &report.leaves, report.more)
 }
 
-/// What is told between a way and the runs that were looked at, by whether there are more.
-fn found_words(more: bool) -> &'static str
-    ensures { result.now ≡ spec.found_words more }
+/// Whether no waitany stands in a script.
+fn has_none(code: &Code) -> bool
+    ensures { result ≡ has_none (block_of code.now.program.body) }
 {
-    if more { " found: " } else { ": " }
+    code.has_no_waitany()
 }
 
-/// Adds that no run ends in a way, and what was looked at. An `Err` is want of memory.
-pub fn push_none(out: &mut String, way: Way, report: &Report) -> Result<(), AllocError>
-    ensures { OnOk result (string_bytes out.new ≡ string_bytes out.old ++ spec.none_line way report.now.leaves.items report.now.more) }
+/// Whether the buffers of a mode run out.
+fn is_limited(mode: Mode) -> bool
+    ensures { result ≡ limited mode }
+{
+    matches!(mode, Mode::Slots(_))
+}
+
+/// Whether orders of steps that no walk tries may end otherwise: a waitany stands in the script, or the buffers of the mode run out.
+pub fn may_hide(code: &Code, mode: Mode) -> bool
+    ensures { result ≡ may_hide code.now.program mode }
+{
+    !has_none(code) || is_limited(mode)
+}
+
+/// Whether some runs are all ways to end: others needn't be hidden, there are no more, and none is cut.
+fn sees_all(is_hidden: bool, leaves: &[Leaf], more: bool) -> bool
+    ensures { result ≡ spec.sees_all is_hidden leaves.now more }
+{
+    !is_hidden && (!more && count_in(Way::Cut, leaves) == 0)
+}
+
+/// What is told between a way and the runs that were looked at, by whether these are all ways to end.
+fn found_words(sees_all: bool) -> &'static str
+    ensures { result.now ≡ spec.found_words sees_all }
+{
+    if sees_all {
+        " from here: "
+    } else {
+        " found from here: "
+    }
+}
+
+/// Adds that no run ends in a way, and what was looked at; whether other ways to end may be hidden. An `Err` is want of memory.
+pub fn push_none(
+    out: &mut String,
+    is_hidden: bool,
+    way: Way,
+    report: &Report,
+) -> Result<(), AllocError>
+    ensures { OnOk result (string_bytes out.new ≡ string_bytes out.old ++ spec.none_line is_hidden way report.now.leaves.items report.now.more) }
 {
     out.push_str("no ")?;
     out.push_str(way.name())?;
-    out.push_str(found_words(report.more))?;
+    let all = sees_all(is_hidden, &report.leaves, report.more);
+    out.push_str(found_words(all))?;
     push_total(out, &report.leaves, report.more)
 }

@@ -6,6 +6,7 @@ ghost use Rattle.std.specs.Option.{option_map};
 ghost use Rattle.mpd_model.specs.runs.Trail.{done_steps};
 ghost use Rattle.mpd_explore.specs.Witness.{HasWitness};
 ghost use Rattle.mpd_explore.specs.Walk.{run_at, steps_by};
+ghost use Rattle.mpd_search.specs.Hidden.{may_hide};
 ghost use Rattle.mpd_search.specs.Ways as ways;
 ghost use Rattle.mpd_search.specs.Runs as runs;
 ghost use Rattle.mpd_search.specs.Seek as spec;
@@ -216,7 +217,7 @@ fn found_in(
 #[tactic(auto, using(crate::proofs::SeekLemmas::seeking))]
 pub fn seek(alloc: Global, debugger: &Debugger<'_>, way: Way) -> Result<Search, AllocError>
     ensures found { IfOk result (λ s. s.found ≡ spec.found_run way debugger.now.trail debugger.now.world) }
-    ensures none { IfOk result (λ s. s.found ≡ None → runs.none_line way s.report.leaves.items s.report.more ≡ spec.nothing_line way debugger.now.trail debugger.now.world) }
+    ensures none { IfOk result (λ s. s.found ≡ None → runs.none_line (may_hide debugger.now.trail.program debugger.now.world.board.mode) way s.report.leaves.items s.report.more ≡ spec.nothing_line way debugger.now.trail debugger.now.world) }
     ensures lies { IfOk result (λ s. IfSome s.found (LiesAhead debugger.now.trail)) }
 {
     debugger.state_is_reached();
