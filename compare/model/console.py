@@ -14,8 +14,8 @@ from typing import NamedTuple
 from model import console_lines, console_words, debugger, explaining, explorer, picture_model, policy, session
 from model.console_lines import plural, step_words
 from model.console_words import Asked, NotAsked, read_line, shown, to_repeat
-from model.debugger import (BAD_FILE, BAD_MODE, LONGEST_LINE, RENDEZVOUS, Result, enabled_steps, file_content, find_call, lines_of, number_of, refusal, show,
-                            step_text)
+from model.debugger import (BAD_FILE, BAD_MODE, LONGEST_LINE, RENDEZVOUS, Result, enabled_steps, file_content, find_call, lines_of, number_of,
+                            refusal, show, step_text)
 from model.language import Declared, Fault, read_script
 from model.modes import is_mode
 from model.policy import BREAK, FULL, MAX, START, ChangeBreak, Choice, Forced, HandleBreak, LineBreak
@@ -78,9 +78,9 @@ def counted(leaves, more):
     return f'{plural(len(leaves), "run")}, and {"there are more" if more else "no more"} ({ways})'
 
 
-def none_found(sought, leaves, more):
-    """What is told where no run ends so of those that were looked at."""
-    return f'no {sought}{" found" if more else ""}: {counted(leaves, more)}'
+def none_found(sought, leaves, more, are_all):
+    """What is told where no run ends so of those that were looked at, be they all ways to end or not."""
+    return f'no {sought}{"" if are_all else " found"} from here: {counted(leaves, more)}'
 
 
 def run_line(number, leaf):
@@ -233,9 +233,19 @@ class Console:
 
     def take(self, step):
         """Takes a step that somebody asks for, or that is decided."""
-        told = step_words(self.at, step) if debugger.next_world(self.world, step) else None
+        world = self.world
+        told = step_words(self.at, step) if debugger.next_world(world, step) else None
         self.session.take(step)
-        return [f'{self.debugger.depth} {told}', *self.where()]
+        return self.taken(told, self.hit(world, step))
+
+    def taken(self, told, hit):
+        """What is told of a step that was taken, with the breakpoint that it hits."""
+        return [f'{self.debugger.depth} {told}', *hit, *self.where()]
+
+    def hit(self, world, step):
+        """The breakpoint of the lowest number that a step hits which is taken in a world; no line where it hits none."""
+        number = self.session.breaks.lowest_hit(world, step)
+        return [] if number is None else [self.break_line(number)]
 
     def next(self, number=None):
         """Takes what comes next; at a choice a candidate by its number, or without one the step ahead, where one is."""
@@ -253,8 +263,7 @@ class Console:
     def run(self, most=session.MOST_COUNT):
         """Runs on past choices of a single candidate; at one that was made before, and undone, it is made again, whatever the number is but 0."""
         if most and self.can_choose_again:
-            step, *others = self.redo()
-            return [step, BEHIND_CHOICE, *others]
+            return self.again([BEHIND_CHOICE])
         must_be(1 <= most <= session.MOST_COUNT, BAD_STEPS)
         return self.stopped(policy.run_on(self.debugger, self.session.breaks, most), '')
 
@@ -299,13 +308,21 @@ class Console:
 
     def redo(self, count=1):
         """Takes so many steps again, or all that are ahead where these are fewer, or asked for; where none is, the number is looked at."""
-        ahead = self.ahead
-        told = step_words(self.at, ahead[0]) if ahead else None
+        ahead = len(self.ahead)
         count = session.MOST_COUNT if count == console_words.ALL else count
-        count = min(count, len(ahead)) if ahead else count
+        count = min(count, ahead) if ahead else count
         must_be(1 <= count <= session.MOST_COUNT, BAD_STEPS)
+        if ahead and count == 1:
+            return self.again()
         self.session.redo(count)
-        return [f'{self.debugger.depth} {told}', *self.where()] if count == 1 else self.depth_lines()
+        return self.depth_lines()
+
+    def again(self, otherwise=()):
+        """Takes the first step ahead again; what is told otherwise, where it hits no breakpoint."""
+        world, step = self.world, self.ahead[0]
+        told = step_words(self.at, step)
+        self.session.redo(1)
+        return self.taken(told, self.hit(world, step) or otherwise)
 
     # ---- breakpoints
 
@@ -480,7 +497,11 @@ class Console:
             more = next(walk, None) is not None
             if not more:
                 break
-        return [none_found(sought, looked, more)]
+        return [none_found(sought, looked, more, self.are_all_ways(looked, more))]
+
+    def are_all_ways(self, leaves, more):
+        """Whether the runs that were looked at are all ways to end from here."""
+        return explorer.is_whole(explorer.Report(leaves, more)) and explorer.tells_all(self.script, self.mode)
 
     def walks(self):
         """The runs that are looked at, and those that are where none of the first ones is sought: each end once."""

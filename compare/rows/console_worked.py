@@ -17,6 +17,7 @@ from rows.examples import EXAMPLES
 from rows.worked_console_along import ALONG
 from rows.worked_console_choices import ALL_RUNS, CHOICES, MANY_RUNS
 from rows.worked_console_going import GOING
+from rows.worked_console_hits import HITS
 from rows.worked_console_looks import LOOKS
 from rows.worked_console_moves import FIRST_RUNS, MOVES
 from rows.worked_console_scripts import LOOP, Dialogue
@@ -25,7 +26,7 @@ from rows.worked_console_told import TOLD
 from rows.worked_console_ways import WAYS
 
 PAGE = os.path.join(os.path.dirname(EXAMPLES), 'docs', 'CONSOLE.md')
-DIALOGUES = MOVES + ALONG + LOOKS + TOLD + TEXTS + CHOICES + WAYS + GOING
+DIALOGUES = MOVES + ALONG + LOOKS + TOLD + TEXTS + CHOICES + WAYS + GOING + HITS
 SLOW = ALL_RUNS + FIRST_RUNS
 # What takes the model long: runs of 100,000 steps, and of one more.
 CUT = (
@@ -39,7 +40,7 @@ CUT = (
 next: local 0: line 2
     2  while x < 49999 { x = x + 1; }
 > deadlock
-no deadlock: 1 run, and no more (1 done)
+no deadlock from here: 1 run, and no more (1 done)
 > follow 1
 run 1, done, is 100000 steps ahead
 100000 ahead: local 0: line 2
@@ -49,7 +50,7 @@ depth 0
 100001 ahead: local 0: line 2
     2  while x < 49999 { x = x + 1; }
 > trap
-no trap: 1 run, and no more (1 cut)
+no trap found from here: 1 run, and no more (1 cut)
 > follow 1
 run 1, cut, is 100000 steps ahead
 100000 ahead: local 0: line 2

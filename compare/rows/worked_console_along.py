@@ -15,7 +15,7 @@ stopped at a choice; next N takes one:
 2 choices 2 1: done
 2 runs, and no more (2 done)
 > deadlock
-no deadlock: 2 runs, and no more (2 done)
+no deadlock from here: 2 runs, and no more (2 done)
 > next 2
 9 match 3.0 1.0: rank 3, line 5, to rank 1, line 3
 next: wake 1: line 3
@@ -87,7 +87,7 @@ breakpoint 1: line 3
 deleted 1
 > run
 9 match 3.0 1.0: rank 3, line 5, to rank 1, line 3
-stopped: behind the choice
+breakpoint 0: match 3
 5 ahead: wake 1: line 3
     3    recv x from any tag 0;
 >
@@ -109,7 +109,7 @@ depth 8
 {BOTH_RACES}
 > c 1000001
 9 match 3.0 1.0: rank 3, line 5, to rank 1, line 3
-stopped: behind the choice
+breakpoint 0: match 3
 5 ahead: wake 1: line 3
     3    recv x from any tag 0;
 > goto 14
@@ -123,7 +123,7 @@ depth 8
 {BOTH_RACES}
 > run 7
 9 match 3.0 1.0: rank 3, line 5, to rank 1, line 3
-stopped: behind the choice
+breakpoint 0: match 3
 5 ahead: wake 1: line 3
     3    recv x from any tag 0;
 > goto 10
@@ -148,6 +148,7 @@ depth 8
 {BOTH_RACES}
 > next 1
 9 match 2.0 0.0: rank 2, line 5, to rank 0, line 3
+breakpoint 0: match 3
 next: wake 0: line 3
     3    recv x from any tag 0;
 > goto 10

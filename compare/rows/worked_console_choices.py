@@ -67,7 +67,7 @@ stopped: behind the choice
 3 steps, depth 10
 {TRAP_END}
 > deadlock
-no deadlock: 1 run, and no more (1 trap)
+no deadlock from here: 1 run, and no more (1 trap)
 > trap
 trap 0 zero-divisor is 0 steps ahead
 {TRAP_END}
@@ -108,7 +108,7 @@ line 6, 1.0 send to 0 tag 0 value 1 free
     the last that fits is taken: line 3, 0.0 recv from any tag 0, by line 6, 2.0
         send to 0 tag 0 value 2
 > trap
-no trap: 1 run, and no more (1 deadlock)
+no trap from here: 1 run, and no more (1 deadlock)
 > goto 10
 depth 10
 1 ahead: wake 2: line 6
@@ -118,7 +118,7 @@ run 1, deadlock 0.1 1.0, is 1 step ahead
 1 ahead: wake 2: line 6
     6  }} else {{ send rank to 0 tag 0; }}
 > trap
-no trap: 1 run, and no more (1 deadlock)
+no trap from here: 1 run, and no more (1 deadlock)
 > f 000000002
 refused: there is no such run
 > redo
@@ -144,7 +144,7 @@ trap 0 zero-divisor is 10 steps ahead
 next: wake 0: line 3
     3    recv x from any tag 0;
 > trap
-no trap: 1 run, and no more (1 deadlock)
+no trap from here: 1 run, and no more (1 deadlock)
 > u
 depth 6
 1 ahead: match 1.0 0.0: rank 1, line 6, to rank 0, line 3
@@ -166,7 +166,7 @@ trap 0 zero-divisor is 4 steps ahead
 3 choices 3: trap 0 assert
 3 runs, and no more (1 done, 2 trap)
 > deadlock
-no deadlock: 3 runs, and no more (1 done, 2 trap)
+no deadlock from here: 3 runs, and no more (1 done, 2 trap)
 > check 2
 1 choices 1: done
 2 choices 2: trap 0 assert
@@ -196,7 +196,7 @@ stopped at a choice of rank 0, line 3; next N takes one:
 next: wake 0: line 3
     3    recv x from any tag 0;
 > deadlock
-no deadlock: 1 run, and no more (1 trap)
+no deadlock from here: 1 run, and no more (1 trap)
 ''', runs=2),
     Dialogue('a run that is cut, laid ahead', 'mpd 1; ranks 1; var x;\nwhile x < 4 { x = x + 1; }\nprint 1;\nprint 2;', '''
 > follow 1
@@ -215,13 +215,13 @@ run 1, done, is 1 step ahead
 1 ahead: local 0: line 4
     4  print 2;
 > trap
-no trap: 1 run, and no more (1 done)
+no trap from here: 1 run, and no more (1 done)
 > goto 0
 depth 0
 11 ahead: local 0: line 2
     2  while x < 4 { x = x + 1; }
 > trap
-no trap: 1 run, and no more (1 cut)
+no trap found from here: 1 run, and no more (1 cut)
 > follow 1
 run 1, cut, is 10 steps ahead
 10 ahead: local 0: line 2
@@ -251,7 +251,7 @@ run 1, cut, is 0 steps ahead
 next: local 0: line 2
     2  while 1 { }
 > trap
-no trap: 1 run, and no more (1 cut)
+no trap found from here: 1 run, and no more (1 cut)
 > u
 refused: no choice was made before
 ''', limit=3),
@@ -449,7 +449,7 @@ trap 1 zero-divisor is 9 steps ahead
 9 ahead: local 0: line 5
     5  if rank == 0 {
 > deadlock
-no deadlock: 1 run, and no more (1 trap)
+no deadlock from here: 1 run, and no more (1 trap)
 > redo 9
 depth 9
 rank 0 prints 5
@@ -569,7 +569,7 @@ deadlock 0.1 1.0 is 65 steps ahead
 '''),
     Dialogue('a deadlock that the second look alone meets', RARE, '''
 > trap
-no trap: 2 runs, and no more (1 done, 1 deadlock)
+no trap from here: 2 runs, and no more (1 done, 1 deadlock)
 > follow 7
 refused: there is no such run
 > check 7
@@ -599,19 +599,19 @@ trap 0 zero-divisor is 65 steps ahead
 65 ahead: local 0: line 2
     2  if rank < 3 {
 > deadlock
-no deadlock: 2 runs, and no more (1 done, 1 trap)
+no deadlock from here: 2 runs, and no more (1 done, 1 trap)
 ''', runs=6),
     Dialogue('what neither look meets, and there are more', RARE, '''
 > deadlock
-no deadlock found: 1 run, and there are more (1 done)
+no deadlock found from here: 1 run, and there are more (1 done)
 > trap
-no trap found: 1 run, and there are more (1 done)
+no trap found from here: 1 run, and there are more (1 done)
 ''', runs=1))
 # What takes the model some seconds.
 ALL_RUNS = (
     Dialogue('all runs of a race beside others', RARE, '''
 > trap
-no trap: 60 runs, and no more (30 done, 30 deadlock)
+no trap from here: 60 runs, and no more (30 done, 30 deadlock)
 > follow 60
 run 60, deadlock 0.1 1.0, is 65 steps ahead
 65 ahead: local 0: line 2
@@ -627,7 +627,7 @@ deadlock 0.1 1.0 is 143 steps ahead
 143 ahead: local 0: line 2
     2  if rank < 3 {
 > trap
-no trap: 2 runs, and no more (1 done, 1 deadlock)
+no trap from here: 2 runs, and no more (1 done, 1 deadlock)
 > follow 65536
 run 65536, done, is 146 steps ahead
 146 ahead: local 0: line 2
@@ -637,9 +637,9 @@ refused: there is no such run
 '''),
     Dialogue('more than 65,536 ends', MANY_ENDS, '''
 > deadlock
-no deadlock found: 65536 runs, and there are more (65536 done)
+no deadlock found from here: 65536 runs, and there are more (65536 done)
 > trap
-no trap found: 65536 runs, and there are more (65536 done)
+no trap found from here: 65536 runs, and there are more (65536 done)
 > follow 65536
 run 65536, done, is 74 steps ahead
 74 ahead: local 0: line 2

@@ -258,11 +258,11 @@ depth 6
 '''),
     Dialogue('as many runs as are looked at', 'race.mpd', '''
 > trap
-no trap: 2 runs, and no more (1 done, 1 deadlock)
+no trap from here: 2 runs, and no more (1 done, 1 deadlock)
 ''', runs=2),
     Dialogue('a run that is looked at, which is a deadlock, and more', 'race.mpd', '''
 > trap
-no trap found: 1 run, and there are more (1 deadlock)
+no trap found from here: 1 run, and there are more (1 deadlock)
 > run
 6 steps, depth 6
 stopped at a choice of rank 0, line 7; next N takes one:
@@ -276,7 +276,7 @@ next: wake 0: line 7
     7  if rank == 0 { recv x from any tag any status who tag_of; recv x from 1
         tag any; } else { send rank to 0 tag 0; }
 > trap
-no trap: 1 run, and no more (1 done)
+no trap from here: 1 run, and no more (1 done)
 > deadlock
-no deadlock: 1 run, and no more (1 done)
+no deadlock from here: 1 run, and no more (1 done)
 ''', runs=1))

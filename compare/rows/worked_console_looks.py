@@ -255,7 +255,7 @@ depth 0
 9 ahead: local 0: line 5
     5  if rank == 0 {
 > deadlock
-no deadlock: 1 run, and no more (1 trap)
+no deadlock from here: 1 run, and no more (1 trap)
 '''),
     Dialogue('arrays and requests, those of no cell among them', CELLS, '''
 > vars 0
@@ -473,7 +473,7 @@ next: local 0: line 6
 > calls 0
 line 5, 0.0 send to 1 tag 5 value 10 free
 > deadlock
-no deadlock: 1 run, and no more (1 done)
+no deadlock from here: 1 run, and no more (1 done)
 ''', BUFFERED),
     Dialogue('pictures of a race, behind steps that are undone too', 'race.mpd', '''
 > picture

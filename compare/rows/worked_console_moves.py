@@ -226,6 +226,7 @@ refused: there is no such candidate
 {STOLEN_CHOICE}
 > next 1
 10 match 1.0 0.0: rank 1, line 13, to rank 0, line 8
+breakpoint 0: match 8
 next: wake 1: line 13
    13    if rank == 1 {{ send 42 to 0 tag 7; }} else {{ send 5 to 0 tag 1; }}
 > run
@@ -252,6 +253,7 @@ before breakpoint 0: match 8
 {STOLEN_CHOICE}
 > next 2
 10 match 2.0 0.0: rank 2, line 13, to rank 0, line 8
+breakpoint 0: match 8
 next: wake 2: line 13
    13    if rank == 1 {{ send 42 to 0 tag 7; }} else {{ send 5 to 0 tag 1; }}
 > why 0
@@ -373,7 +375,7 @@ depth 11
    13    if rank == 1 {{ send 42 to 0 tag 7; }} else {{ send 5 to 0 tag 1; }}
     9    recv result from 1 tag 7;
 > deadlock
-no deadlock: 1 run, and no more (1 done)
+no deadlock from here: 1 run, and no more (1 done)
 > redo
 12 match 1.0 0.1: rank 1, line 13, to rank 0, line 9
 next: wake 0: line 9
@@ -545,7 +547,7 @@ refused: this step is not enabled
 1 no choice: cut
 1 run, and no more (1 cut)
 > deadlock
-no deadlock: 1 run, and no more (1 cut)
+no deadlock found from here: 1 run, and no more (1 cut)
 > run 1
 0 steps, depth 3
 stopped: no more than 1000000 steps are kept
@@ -592,7 +594,7 @@ next: local 0: line 6
 1 no choice: done
 1 run, and no more (1 done)
 > deadlock
-no deadlock: 1 run, and no more (1 done)
+no deadlock from here: 1 run, and no more (1 done)
 ''', limit=11),
     Dialogue('a run of one step too many, and the same from its second step on, where few may be tried',
              'mpd 1; ranks 1; var x;\nwhile x < 4 { x = x + 1; }\nprint 1;\nprint 2;', '''
@@ -600,7 +602,7 @@ no deadlock: 1 run, and no more (1 done)
 1 no choice: cut
 1 run, and no more (1 cut)
 > deadlock
-no deadlock: 1 run, and no more (1 cut)
+no deadlock found from here: 1 run, and no more (1 cut)
 > next
 1 local 0: line 2
 next: local 0: line 2
@@ -609,7 +611,7 @@ next: local 0: line 2
 1 no choice: done
 1 run, and no more (1 done)
 > deadlock
-no deadlock: 1 run, and no more (1 done)
+no deadlock from here: 1 run, and no more (1 done)
 ''', fuel=10),
     Dialogue('steps ahead that are not those that come next', 'first_message.mpd', '''
 > next

@@ -48,9 +48,9 @@ refused: there is no such run
 > follow 65536
 refused: there is no such run
 > deadlock
-no deadlock: 1 run, and no more (1 done)
+no deadlock from here: 1 run, and no more (1 done)
 > trap
-no trap: 1 run, and no more (1 done)
+no trap from here: 1 run, and no more (1 done)
 > undo-choice
 refused: no choice was made before
 > next 0
