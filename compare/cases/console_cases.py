@@ -16,13 +16,14 @@ from cases.session_cases import is_short
 from cases.walks import random_step, respaced, step_line
 from model import debugger, explorer, policy
 from model.console import NO_FILE, Console, debug, is_blank, way
-from model.console_words import ALL, TABLE, Asked, NotAsked, full_name, names_of
-from model.debugger import RENDEZVOUS, Debugger, enabled_steps, last_call, lines_of, step_text
+from model.console_words import ALL, STEPS, TABLE, Asked, NotAsked, full_name, names_of
+from model.debugger import RENDEZVOUS, Debugger, enabled_steps, last_call, lines_of, next_world, step_text
 from model.explorer import CUT, leaf_lines, walk
 from model.files import held
 from model.language import Fault, read_script
 from model.modes import MODES, by_turns
 from model.policy import Choice, Forced
+from model.worlds import Step
 
 # What takes the model more steps or runs than these isn't asked for.
 LONGEST_RUN, MOST_RUNS, MOST_FUEL = 200, 60, 250
@@ -48,11 +49,12 @@ MODES_DRAWN = (*MODES, *MODES, 'slots:1', 'slots:2')
 
 
 class Habits(NamedTuple):
-    """How often each word is drawn, how many lines there are, and how often a line is spoiled or empty."""
+    """How often each word is drawn, how many lines there are, and how often a line is spoiled or empty, or a breakpoint one that is hit soon."""
     words: dict
     lines: tuple
     spoiled: float = 0.06
     empty: float = 0.05
+    hitting: float = 0.1
 
 
 def shares(usual=2, **named):
@@ -68,7 +70,9 @@ LOOKING = Habits(shares(3, next=12, run=12, why=16, print=16, vars=6, list=4, ca
 ENDING = Habits(shares(1, next=14, run=22, back=4, undo_choice=9, redo=10, deadlock=8, trap=6, follow=8, check=8, why=6, history=3, goto=4), (25, 40))
 FILLING = Habits(shares(0, **{'break': 60}, delete=3, breaks=1, run=2, run_back=2), (90, 110), spoiled=0.01)
 SPOILED = Habits(shares(3, next=8, run=4), (40, 60), spoiled=0.6, empty=0.15)
-ALL_HABITS = (MOVING, MOVING, MOVING, STOPPING, STOPPING, LOOKING, LOOKING, LOOKING, ENDING, ENDING, ENDING, SPOILED, SPOILED, FILLING)
+HITTING = Habits(shares(1, next=10, run=20, back=4, undo_choice=9, redo=6, goto=4, local=6, **{'break': 14}, delete=4), (30, 50), hitting=0.9)
+ALL_HABITS = (MOVING, MOVING, MOVING, STOPPING, STOPPING, HITTING, HITTING, HITTING, LOOKING, LOOKING, LOOKING, ENDING, ENDING, ENDING, SPOILED,
+              SPOILED, FILLING)
 
 
 def is_tried_soon(walked, is_last):
@@ -90,6 +94,8 @@ class Talk:
         self.console = Console(script, mode, witness)
         self.source_lines = script.count(b'\n') + 1
         self.was_numbered = False
+        # The step that a breakpoint was set for, and the depth that it is taken from.
+        self.soon = None
         self.met = Counter()
 
     @property
@@ -185,7 +191,79 @@ class Talk:
             step = self.random.choice(steps)
         return step_line(self.random, step).split()
 
+    def hit_soon(self):
+        """What may follow `break` so that a step which is ahead, or can be taken here, hits it."""
+        steps = [step for step in self.console.ahead[:1] or enabled_steps(self.world) if next_world(self.world, step) is not None]
+        if not steps:
+            return []
+        step = self.seldom(steps)
+        lines = range(1, self.source_lines + 1)
+        found = [([], policy.LineBreak(line)) for line in lines] + [(['match'], policy.MatchBreak(line)) for line in lines]
+        for rank, there in enumerate(self.world.ranks):
+            found += [(['change', rank, 'var'], policy.ChangeBreak(rank, cell)) for cell in range(len(there.cells))]
+            found += [(['change', rank, 'req'], policy.HandleBreak(rank, handle)) for handle in range(len(there.handles))]
+        self.soon = step, self.walked.depth
+        return [(words, stop) for words, stop in found if policy.is_hit(stop, self.world, step)]
+
+    def seldom(self, steps):
+        """One of some steps, mostly one that is a candidate, prints something or is the last one, and as likely of each kind."""
+        told = [step for step in steps if self.is_told_of(step)]
+        candidates = getattr(self.console.decided, 'steps', ())
+        steps = [step for step in steps if step in candidates and self.chance(0.8)] or (told if told and self.chance(0.8) else steps)
+        kind = self.random.choice(sorted({step.kind for step in steps}))
+        return self.random.choice([step for step in steps if step.kind == kind])
+
+    def is_seldom(self):
+        """Whether a rank can go on by one of its requests, or now and then a choice is open, or a step prints something or is the last one."""
+        steps = enabled_steps(self.world)
+        is_any = any(step.kind == 'wakeany' for step in steps) and self.chance(0.9)
+        return is_any or self.chance(0.5) and (isinstance(self.console.decided, Choice) or any(map(self.is_told_of, steps)))
+
+    def is_told_of(self, step):
+        """Whether a step prints something, or is the last one."""
+        after = next_world(self.world, step)
+        return not enabled_steps(after) or any(old.printed != new.printed for old, new in zip(self.world.ranks, after.ranks))
+
+    def towards(self, step):
+        """One of the words that take a step here."""
+        decided, is_ahead = self.console.decided, self.console.ahead[:1] == [step]
+        found = [step_text(step).split()]
+        if isinstance(decided, Choice) and step in decided.steps:
+            found += [['next', str(decided.steps.index(step) + 1)]] * 2
+        if is_ahead and isinstance(decided, Choice) or isinstance(decided, Forced) and decided.step == step:
+            found += [['next'], ['next']]
+        if is_ahead and isinstance(decided, Choice):
+            found += [['run'], ['run'], ['run', '3']]
+        return self.random.choice(found + [['redo'], ['redo', ALL], ['goto', str(self.walked.depth + 1)]] * is_ahead)
+
+    def behind_break(self):
+        """What is asked behind a breakpoint that was set so that a step hits it: that step, and again, as it lies ahead; None where no more is."""
+        if self.soon is None and self.habits is HITTING and self.is_seldom():
+            return self.break_()
+        if self.soon is None or self.chance(0.2):
+            self.soon = None
+            return None
+        step, depth = self.soon
+        if self.walked.depth == depth:
+            return self.towards(step)
+        return self.random.choice([['back'], ['goto', str(depth)]]) if self.walked.depth == depth + 1 else None
+
+    def break_hit_soon(self):
+        """A breakpoint that is hit soon; None where there is none."""
+        found = self.hit_soon()
+        if not found:
+            return None
+        words, stop = self.random.choice(found)
+        if words[:1] == ['change']:
+            _, rank, kind = words
+            return ['break', 'change', str(rank), self.console.cell_name(kind, stop[1])]
+        return ['break', *words, str(stop.line)]
+
     def break_(self):
+        soon = self.break_hit_soon() if self.chance(self.habits.hitting) else None
+        return self.break_anywhere() if soon is None else soon
+
+    def break_anywhere(self):
         kind = self.random.choice(['line', 'line', 'match', 'change', 'change'])
         if kind == 'change':
             return ['break', 'change', self.rank(), self.name()]
@@ -287,7 +365,9 @@ class Talk:
             return self.random.choice([b'', b'', b' ', b'\t', b' \t '])
         words, going = self.habits.words, self.going()
         is_look = bool(going) and self.chance(0.15)
-        parts = self.look_at(going) if is_look else self.parts(self.random.choices(list(words), list(words.values()))[0])
+        parts = self.behind_break()
+        if parts is None:
+            parts = self.look_at(going) if is_look else self.parts(self.random.choices(list(words), list(words.values()))[0])
         parts[0] = self.shortened(parts[0])
         if self.chance(self.habits.spoiled):
             return self.spoiled(parts).encode('latin-1')
@@ -365,6 +445,7 @@ class Talk:
         self.met['a run that chooses again'] += asked.word == 'run' and self.console.can_choose_again and number != 0
         self.met['a run that chooses again by an empty line'] += asked.word == 'run' and is_blank(line) and self.console.can_choose_again
         self.note_next(line, asked)
+        self.note_hits(asked)
         if asked == Asked('redo', (ALL,)):
             self.met['all that are ahead'] += undone > 1
             self.met['all that are ahead, which is one'] += undone == 1
@@ -381,6 +462,34 @@ class Talk:
         self.met['a step ahead at a choice, by next and an empty line'] += is_again and is_blank(line)
         self.met['a step ahead that is no candidate, by next'] += is_again and self.console.ahead[0] not in self.console.decided.steps
         self.met['a candidate, and steps ahead'] += asked.word == 'next' and asked.given > (0,) and self.console.can_choose_again
+
+    def single_step(self, asked):
+        """The step that a word takes, and how that is counted; nothing where it takes none, or several."""
+        ahead, decided, number = self.console.ahead, self.console.decided, asked.given[0] if asked.given else None
+        if asked.word in STEPS:
+            return Step(asked.word, *asked.given), 'a step by hand'
+        if asked.word == 'redo' and ahead and (number in (None, 1) or len(ahead) == 1 and number != 0):
+            return ahead[0], 'redo'
+        if asked.word == 'run' and self.console.can_choose_again and number != 0:
+            return ahead[0], 'run at a choice'
+        if asked.word != 'next':
+            return None, ''
+        if isinstance(decided, Choice):
+            is_there = number is not None and 0 < number <= len(decided.steps)
+            if number is None and ahead:
+                return ahead[0], 'next at a choice'
+            return (decided.steps[number - 1], 'next and a number') if is_there else (None, '')
+        return (decided.step, 'next') if isinstance(decided, Forced) and number is None else (None, '')
+
+    def note_hits(self, asked):
+        """Counts the breakpoints that a single step hits, and those that `goto` goes past."""
+        step, way = self.single_step(asked)
+        if step is not None and next_world(self.world, step) is not None:
+            hit = [stop for stop in self.console.session.breaks.places if stop is not None and policy.is_hit(stop, self.world, step)]
+            self.met[f'a breakpoint hit by {way}'] += bool(hit)
+            self.met['several hit by one step'] += len(hit) > 1
+        if asked.word == 'goto' and 0 < asked.given[0] - self.walked.depth <= len(self.console.ahead):
+            self.met['a breakpoint that goto goes past'] += self.console.session.breaks.lowest_hit(self.world, self.console.ahead[0]) is not None
 
     def note_choices(self, asked):
         """Counts where a choice is undone, and what goes so many steps or tells of all that wait."""

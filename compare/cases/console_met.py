@@ -4,6 +4,7 @@ import re
 
 from cases.explained_met import TOLD_BY as EXPLAINED
 from model.console_words import TABLE, names_of
+from model.modes import BUFFERED
 
 STEP = r'(local|match|wake|wakeany|release)\b.*'
 CALL = r'line \d+, \d+\.\d+ '
@@ -20,8 +21,9 @@ TOLD_BY = {
     'before a breakpoint': r'before breakpoint \d+: .*', 'stopped by a number': r'stopped: as many steps .*',
     'stopped behind a choice': r'stopped: behind the choice', 'printed on the way': r'rank \d+ prints -?\d+',
     'several values on the way': r'rank \d+ prints -?\d+( -?\d+)+', 'no statement at a line': r'no statement begins at line \d+',
-    'a depth': r'depth \d+', 'a deadlock ahead': r'deadlock .* is \d+ steps? ahead', 'no deadlock': r'no deadlock: .*',
-    'a trap ahead': r'trap .* is \d+ steps? ahead', 'no trap': r'no trap: .*',
+    'a depth': r'depth \d+', 'a deadlock ahead': r'deadlock .* is \d+ steps? ahead', 'a trap ahead': r'trap .* is \d+ steps? ahead',
+    **{f'no {way}': rf'no {way} from here: .*' for way in ('deadlock', 'trap')},
+    **{f'no {way} found': rf'no {way} found from here: .*' for way in ('deadlock', 'trap')},
     **{f'a run that is {way} ahead': rf'run \d+, {way}.*, is \d+ steps? ahead' for way in ('done', 'leftovers', 'deadlock', 'trap')},
     'more runs': r'\d+ runs?, and there are more \(.*\)', 'no more runs': r'\d+ runs?, and no more \(.*\)', 'one run': r'1 run, .*',
     **{f'runs that are {way}': rf'.*runs?, and .*[(,] ?\d+ {way}\b.*' for way in ('done', 'leftovers', 'deadlock', 'trap')},
@@ -69,6 +71,12 @@ OF_EXPLANATIONS = ('a rank at recv', 'a rank at send', 'a rank at wait', 'a rank
 # What may be told on standard error.
 OF_ERRORS = {'a witness that is refused': rb'mpdbg: witness refused .*', 'a witness of no such step': rb'mpdbg: witness refused 32 .* at \d+',
              'a witness that is none': rb'mpdbg: bad witness.*'}
+# By what a breakpoint is hit that is told behind a single step, and by what it isn't told.
+HITS = ('a breakpoint hit by next', 'a breakpoint hit by next and a number', 'a breakpoint hit by next at a choice',
+        'a breakpoint hit by run at a choice', 'a breakpoint hit by redo', 'a breakpoint hit by a step by hand', 'several hit by one step',
+        'a breakpoint that goto goes past')
+# Why the runs that were looked at needn't be all ways to end, and where they are all.
+OF_LOOKS = 'none found beside a wait for any', 'none found in slots', 'none in version 2', 'none with buffers'
 OF_DIALOGUES = ('slots', 'buffered', 'rendezvous', 'no mode', 'version 2', 'a witness', 'a last line without an end', 'words behind the end',
                 'a script with carriage returns', 'a script whose last line does not end', 'an empty line that does the last word again',
                 'an empty line behind next and a number', 'an empty line at a choice, behind next and a number',
@@ -79,7 +87,10 @@ OF_DIALOGUES = ('slots', 'buffered', 'rendezvous', 'no mode', 'version 2', 'a wi
                 'a choice undone, and forced steps', 'a choice undone, and steps that were undone', 'so many steps by next', 'why of several ranks',
                 'a run laid ahead in the place of others', 'a single candidate by next', 'a single candidate by next and a number',
                 'a single candidate by run', 'a single candidate, and steps ahead', 'a single candidate that undo-choice goes past',
-                'a breakpoint of a request', *(f'the name {name}' for row in TABLE for name in names_of(row) if 'quit' not in row.words))
+                'a breakpoint of a request', *HITS, *OF_LOOKS,
+                *(f'the name {name}' for row in TABLE for name in names_of(row) if 'quit' not in row.words))
+# What may stand between the line of a step and the breakpoint that it hits.
+ON_THE_WAY = r'(( {8}|rank \d+ (prints|has lost) ).*\n)*'
 # What is met in lines as they are written, of which those that go on stand behind eight blanks.
 OF_LINES = {'a line that goes on': r'\n {8}\S', 'a line that goes on twice': r'\n {8}\S.*\n {8}\S', 'a line of 80 bytes': r'\n[^\n]{80}\n',
             'a line of the script': r'\nnext: .*\n +\d+  ',
@@ -94,9 +105,25 @@ OF_LINES = {'a line that goes on': r'\n {8}\S', 'a line that goes on twice': r'\
             'lost in a run': r'\n\d+ steps?, depth \d+\n(rank \d+ prints .*\n)*rank \d+ has lost',
             'lost in steps that are taken again': r'\ndepth \d+\n(rank \d+ prints .*\n)*rank \d+ has lost',
             'printed and lost on the way': r'\nrank \d+ prints .*\nrank \d+ has lost',
+            **{f'a breakpoint that a step {word} hits': rf'\n\d+ {word}\b.*\n{ON_THE_WAY}breakpoint \d+: '
+               for word in ('local', 'match', 'wake', 'wakeany')},
+            **{f'a breakpoint {kind} that a step hits': rf'\n\d+ {STEP}\n{ON_THE_WAY}breakpoint \d+: {kind} '
+               for kind in ('line', 'match', 'change')},
+            'a breakpoint behind what a step prints': rf'\n\d+ {STEP}\nrank \d+ prints .*\n{ON_THE_WAY}breakpoint \d+: ',
+            'a breakpoint that is hit before an end': rf'\n\d+ {STEP}\n{ON_THE_WAY}breakpoint \d+: .*\nended: ',
             'no statement of a line': r'\nbreakpoint \d+: line \d+\nno statement begins',
             'no statement of a match': r'\nbreakpoint \d+: match \d+\nno statement begins'}
 MUST_MEET = (*TOLD_BY, *OF_EXPLANATIONS, *OF_ERRORS, *OF_DIALOGUES, *OF_LINES)
+
+
+def looks_met(case, lines):
+    """Why looks that found nothing may not have seen all, and where they have."""
+    is_found, is_none = (any(re.match(rf'no (deadlock|trap){word} from here: ', line) for line in lines) for word in (' found', ''))
+    is_in_slots, has_any = (case.mode or '').startswith('slots'), b'waitany' in case.script
+    yield from ['none found beside a wait for any'] * (is_found and has_any and not is_in_slots)
+    yield from ['none found in slots'] * (is_found and is_in_slots and not has_any)
+    yield from ['none in version 2'] * (is_none and case.script.startswith(b'mpd 2'))
+    yield from ['none with buffers'] * (is_none and case.mode == BUFFERED)
 
 
 def met_in(case, wanted):
@@ -107,6 +134,7 @@ def met_in(case, wanted):
     yield from [name for name, form in TOLD_BY.items() if any(map(form.fullmatch, lines))]
     yield from [name for name in OF_EXPLANATIONS if any(map(EXPLAINED[name].match, lines))]
     yield from [name for name, form in OF_ERRORS.items() if re.match(form, wanted.errors)]
+    yield from looks_met(case, lines)
     mode = case.mode or 'no mode'
     yield 'slots' if mode.startswith('slots') else mode
     yield from ['version 2'] * case.script.startswith(b'mpd 2') + ['a witness'] * (case.witness is not None)
