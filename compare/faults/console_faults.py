@@ -6,6 +6,7 @@ choices that are run through, deadlocks by another walk, near misses that are le
 
 from inspect import isfunction
 
+from faults.console_faults_of_hits import hit_faults
 from faults.console_faults_of_lines import line_faults
 from faults.console_faults_of_looks import look_faults
 from faults.console_faults_of_runs import run_faults
@@ -329,6 +330,8 @@ def choosing_again(change):
 
 def again(self, count=1):
     """What is told of a run that takes steps ahead at a choice."""
+    if count == 1:
+        return self.again([console.BEHIND_CHOICE])
     lines = self.redo(count)
     return [lines[0], console.BEHIND_CHOICE, *lines[1:]]
 
@@ -353,8 +356,9 @@ def runs_on(self, *_):
 
 def first_candidate(self, *_):
     """What takes the first candidate, and not the step ahead."""
-    lines = self.take(self.decided.steps[0])
-    return [lines[0], console.BEHIND_CHOICE, *lines[1:]]
+    world, step = self.world, self.decided.steps[0]
+    lines = self.take(step)
+    return [lines[0], *([] if self.hit(world, step) else [console.BEHIND_CHOICE]), *lines[1:]]
 
 
 def refused_at_choice(self, *given):
@@ -411,8 +415,8 @@ def number_not_looked_at(self, count=1):
 
 def all_as_several(self, count=1):
     """What tells a depth where more were asked for than the one step that was ahead."""
-    lines = SOUND['redo'](self, count)
-    return [f'depth {self.debugger.depth}', *lines[1:]]
+    SOUND['redo'](self, count)
+    return self.depth_lines()
 
 
 def as_far_as_it_goes(name, most):
@@ -436,8 +440,8 @@ def with_end(self, stop, back):
 
 def one_as_several(self, count=1):
     """What tells a depth where one step is taken again."""
-    lines = SOUND['redo'](self, count)
-    return [f'depth {self.debugger.depth}', *lines[1:]]
+    SOUND['redo'](self, count)
+    return self.depth_lines()
 
 
 def move_faults():
@@ -469,7 +473,7 @@ def move_faults():
             'at a choice without a number alone': choosing_again(lambda self, *given: stays(self) if given else again(self)),
             'so many steps behind a choice': choosing_again(lambda self, most=1: again(self, most)),
             'no reason behind a choice': choosing_again(lambda self, *_: self.redo()),
-            'another reason behind a choice': choosing_again(lambda self, *_: [again(self)[0], console.STOPS[policy.MAX], *self.where()]),
+            'another reason behind a choice': choosing_again(lambda self, *_: self.again([console.STOPS[policy.MAX]])),
             'a number of steps at a choice that is looked at': choosing_again(refused_at_choice),
             '0 at a choice, too': lambda self, *given: again(self) if self.can_choose_again else SOUND['run'](self, *given),
             'the step ahead everywhere': always_ahead,
@@ -713,4 +717,4 @@ def witness_faults():
 def breakages():
     """All faults."""
     return [*line_of_words_faults(), *where_faults(), *move_faults(), *break_faults(), *look_faults(), *run_faults(), *way_faults(),
-            *witness_faults(), *line_faults(), *word_faults()]
+            *hit_faults(), *witness_faults(), *line_faults(), *word_faults()]

@@ -161,11 +161,16 @@ def bad_too(self, sought):
     return SOUND['seek'](self, sought) if found is None else self.found(found)
 
 
+def none_of(self, sought, found):
+    """What is told of the runs of a report, of which none is sought."""
+    return console.none_found(sought, *found, self.are_all_ways(*found))
+
+
 def ends_at_bad(self, sought):
     """What looks no further than to the first deadlock or trap."""
     found = explorer.up_to_bad(explorer.part(explorer.Run(self.world, self.fuel()), SOME))
     bad = found.leaves[-1]
-    return [console.none_found(sought, found.leaves, found.more)] if console.way(bad) not in (sought, 'done') else SOUND['seek'](self, sought)
+    return [none_of(self, sought, found)] if console.way(bad) not in (sought, 'done') else SOUND['seek'](self, sought)
 
 
 def last_one(self, sought):
@@ -178,7 +183,7 @@ def told_of_first(self, sought):
     """What tells of the runs that were looked at first where there is none."""
     told = SOUND['seek'](self, sought)
     found = explorer.part(explorer.Run(self.world, self.fuel()), explorer.MOST_RUNS)
-    return [console.none_found(sought, found.leaves, found.more)] if told[0].startswith('no ') else told
+    return [none_of(self, sought, found)] if told[0].startswith('no ') else told
 
 
 def dropped_where_none(self, sought):
@@ -228,11 +233,11 @@ def seek_faults():
             'told of the first look': told_of_first,
             'what is ahead is dropped where there is none': dropped_where_none}),
         *named('none_found', {
-            'found where all runs were looked at': lambda sought, leaves, more: f'no {sought} found: {console.counted(leaves, more)}',
-            'not found is none': lambda sought, leaves, more: SOUND_NONE_FOUND(sought, leaves, more).replace(' found', ''),
-            'found where there are no more': lambda sought, leaves, more: f'no {sought}{"" if more else " found"}: {console.counted(leaves, more)}',
-            'a trap is found': lambda sought, leaves, more: f'no {sought} found: {console.counted(leaves, more)}' if sought == 'trap'
-                               else SOUND_NONE_FOUND(sought, leaves, more)}, owner=console),
+            'found where all were looked at': lambda sought, leaves, more, are_all: SOUND_NONE_FOUND(sought, leaves, more, False),
+            'not found is none': lambda sought, leaves, more, are_all: SOUND_NONE_FOUND(sought, leaves, more, True),
+            'found where there are no more': lambda sought, leaves, more, are_all: SOUND_NONE_FOUND(sought, leaves, more, not are_all),
+            'a trap is found': lambda sought, leaves, more, are_all: SOUND_NONE_FOUND(sought, leaves, more, are_all and sought != 'trap'),
+            'not from here': lambda *given: SOUND_NONE_FOUND(*given).replace(' from here', '')}, owner=console),
         *named('trap', {
             'a deadlock': lambda self: self.seek('deadlock')}),
         *named('laid_ahead', {

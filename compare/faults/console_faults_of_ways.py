@@ -146,8 +146,7 @@ def at_choice(change):
 
 def as_run(self):
     """What tells the step ahead as a run tells it."""
-    lines = self.redo()
-    return [lines[0], console.BEHIND_CHOICE, *lines[1:]]
+    return self.again([console.BEHIND_CHOICE])
 
 
 def every(change):
@@ -156,8 +155,8 @@ def every(change):
 
 
 def one_as_several(self):
-    lines = SOUND['redo'](self, ALL)
-    return [f'depth {self.debugger.depth}', *lines[1:]]
+    SOUND['redo'](self, ALL)
+    return self.depth_lines()
 
 
 def to_choice(self):
