@@ -5,7 +5,8 @@
     .ci/noticed.py --record    writes that all faults were noticed, of these files
 
 The program takes no part in them, so what they show depends on the files of `compare/`, of the examples and of two pages that rows read: a
-digest of those stands in `.ci/noticed.txt`. A whole gate that passes writes it, and an ordinary one makes these runs where it is another.
+digest of those stands in `.ci/noticed.txt`. A whole gate makes these runs, and an ordinary one where the digest is another; where
+nothing fails it is written.
 """
 import os
 import sys
@@ -15,7 +16,7 @@ from record import bytes_of, digest_of, files_below
 FILE = '.ci/noticed.txt'
 FOLDERS = ('compare', 'examples')
 PAGES = ('docs/CONSOLE.md', 'docs/FORMATS.md')
-HEAD = '# Written by .ci/noticed.py --record behind a whole gate that passed, and never by hand.\n'
+HEAD = '# Written by .ci/noticed.py --record behind a gate that made these runs and passed, and never by hand.\n'
 
 
 def digest(root):
