@@ -2,6 +2,7 @@
 """Shows that the comparison with the model refuses wrong bodies that no contract can.
 
     .ci/planted.py [--builds N] [--jobs N] [PROGRAM]    at the top of the repository
+    .ci/planted.py --read                               only whether each body can be made
 
 A body that answers want of memory where there is no want of it may still be proved. Each file of compare/broken/ is such a body:
 an edit as those of must-fail/, with its crate and an input that meets it:
@@ -164,21 +165,31 @@ def differs(program, body):
     return (ended.stdout, ended.stderr, ended.returncode) != tuple(body.wanted)
 
 
+def read_bodies():
+    """The bodies that can be made, and how many can't."""
+    bodies, failed = [], 0
+    for name in sorted(it for it in os.listdir(FOLDER) if it.endswith('.edit')):
+        try:
+            body = Planted(f'{FOLDER}/{name}')
+            body.regions()
+            bodies.append(body)
+        except BadEdit as error:
+            failed += 1
+            print(f'{name}: BAD EDIT: {error}')
+    return bodies, failed
+
+
 def main():
     given = argparse.ArgumentParser(description=__doc__, formatter_class=argparse.RawDescriptionHelpFormatter)
     given.add_argument('program', nargs='?', metavar='PROGRAM')
     given.add_argument('--builds', type=int, metavar='N', help='how many copies, 2 at least')
     given.add_argument('--jobs', type=int, default=2, metavar='N', help='how many at a time')
+    given.add_argument('--read', action='store_true', help='only read the bodies: whether each can be made')
     given = given.parse_args()
-    bodies, failed = [], 0
-    for name in sorted(it for it in os.listdir(FOLDER) if it.endswith('.edit')):
-        try:
-            bodies.append(Planted(f'{FOLDER}/{name}'))
-            bodies[-1].regions()
-        except BadEdit as error:
-            failed += 1
-            bodies = [it for it in bodies if it.name != name.removesuffix('.edit')]
-            print(f'{name}: BAD EDIT: {error}')
+    bodies, failed = read_bodies()
+    if given.read:
+        print(f'{len(bodies)} wrong bodies can be made, {failed} not')
+        return 1 if failed or not bodies else 0
     if given.program:
         for body in bodies:
             if differs(os.path.abspath(given.program), body):
