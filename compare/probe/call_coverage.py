@@ -26,7 +26,7 @@ LEFT_OUT = {
     'mpd_view': dict.fromkeys(('push_calls', 'push_enabled', 'push_history', 'push_queues', 'push_ranks', 'push_standing', 'push_step', 'push_step_line',
                                'push_why', 'push_why_rank', 'push_why_ranks', 'push_words', 'push_lost', 'push_all_lost', 'push_lost_line',
                                'lost_calls'), BY_WORDS),
-    'mpd_moves': dict.fromkeys(('doing_of', 'known_of', 'lead', 'push_break_line', 'push_reply'), BY_WORDS),
+    'mpd_moves': dict.fromkeys(('doing_of', 'known_for', 'lead', 'push_break_line', 'push_reply'), BY_WORDS),
     'mpd_fold': {'push_folded': BY_WORDS, **dict.fromkeys(('long_lines_keep_their_words', 'long_lines_can_nowhere_be_cut'), 'a law')},
     'mpd_search': dict.fromkeys(('seek', 'numbered_run', 'last_choice', 'name', 'push_runs', 'push_none', 'push_ahead', 'push_count', 'push_no_run', 'may_hide',
                                  'push_no_choice'), BY_WORDS),

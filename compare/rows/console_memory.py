@@ -189,8 +189,15 @@ def remember(talked, line):
         pass
 
 
+def is_silent(talked, line):
+    """Whether a line looks, and is answered by nothing, which takes no memory: `words` where no step is taken."""
+    return takes_memory(line) and word_in(talked, line) == 'words' and not talked.answer(line)
+
+
 def answer_len(talked, line, said):
     """How many bytes of what is said behind it answer a line; None where they don't. The model goes on as they tell."""
+    if is_silent(talked, line):
+        return 0
     if said.startswith(REFUSED) and takes_memory(line) and not (is_blank(line) and talked.last is None):
         remember(talked, line)
         return len(REFUSED)

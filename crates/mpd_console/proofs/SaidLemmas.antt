@@ -21,7 +21,7 @@ use Rattle.mpd_vocabulary.specs.declared.word.WordFault.{WordFault}
 use Rattle.mpd_vocabulary.specs.declared.read.Line.{Line}
 use Rattle.mpd_vocabulary.specs.declared.read.Line.TheVariants.{Blank, Comment, Says, Wrong}
 use Rattle.mpd_fold.specs.Folding.{folded}
-use Rattle.mpd_moves.specs.News.{Known, known_of}
+use Rattle.mpd_moves.specs.News.{Known, known_for}
 use Rattle.mpd_moves.specs.Moves.{doing_of, lead_text, reply_text}
 use Rattle.mpd_console.specs.Looks.{look_text}
 use Rattle.mpd_vocabulary.specs.Reading.{line_of}
@@ -51,8 +51,8 @@ replied p script s d places x lead begun one lent text k r reached e pl b h l m 
 pub led : (s : Held) (d : DebuggerView) (x : Word) (text : List ℕ) → IsReached (standing_of d) → d.trail ≡ s.trail → text ≡ lead_text d.trail d.world x → text ≡ lead_said s x
 led s d x text reached e h = h ∙ told_at (λ t w. lead_text t w x) s d reached e
 
-pub known : (s : Held) (d : DebuggerView) (k : Known) → IsReached (standing_of d) → d.trail ≡ s.trail → k ≡ known_of d.trail d.world → k ≡ known_in s
-known s d k reached e h = h ∙ ap (λ t. known_of t d.world) e ∙ sym (ap (known_at s.trail) (world_at s d reached e))
+pub known : (s : Held) (d : DebuggerView) (x : Word) (k : Known) → IsReached (standing_of d) → d.trail ≡ s.trail → k ≡ known_for d.trail d.world x → k ≡ known_in s x
+known s d x k reached e h = h ∙ ap (λ t. known_for t d.world x) e ∙ sym (ap (known_at s.trail x) (world_at s d reached e))
 
 pub looked : (p q : Bool) (script : List ℕ) (s : Held) (d : DebuggerView) (places : List (Option Break)) (x : Word) (begun one lent none two text : List ℕ) → IsReached (standing_of d) → d.trail ≡ s.trail → places ≡ s.breaks
     → q ≡ prompts_behind p x → begun ≡ [] → one ≡ begun ++ look_text d.trail d.world places script x → lent ≡ one → none ≡ [] → two ≡ none ++ laid_out x lent → text ≡ two ++ prompt q s → text ≡ look_said p script s x
@@ -130,14 +130,14 @@ pub ruleset telling = (told_whole, told_not, looked_whole, looked_not)
 
 -- ---- what a word does
 
-pub carried : (p : Bool) (script : List ℕ) (s t : Held) (x : Word) (c : Command) (lead before after : List ℕ) (k : Known) (r : Reply) → lead ≡ lead_said s x → k ≡ known_in s → r ≡ (respond s (asking c)).0 → t ≡ (respond s (asking c)).1
+pub carried : (p : Bool) (script : List ℕ) (s t : Held) (x : Word) (c : Command) (lead before after : List ℕ) (k : Known) (r : Reply) → lead ≡ lead_said s x → k ≡ known_in s x → r ≡ (respond s (asking c)).0 → t ≡ (respond s (asking c)).1
     → Adds (Told (reply_said p script t x lead k r)) before after → Adds (Carried p script s x c t) before after
 carried p script s t x c lead before after k r is knows e held (z, h, told) = (
   z,
   h,
   inl (
     held,
-    subst (λ y. Told (reply_said p script t x y (known_in s) (respond s (asking c)).0) z) is
+    subst (λ y. Told (reply_said p script t x y (known_in s x) (respond s (asking c)).0) z) is
         (subst (λ y. Told (reply_said p script t x lead y (respond s (asking c)).0) z) knows (subst (λ y. Told (reply_said p script t x lead k y) z) e told)),
   ),
 )

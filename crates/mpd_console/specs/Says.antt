@@ -24,7 +24,7 @@ use Rattle.mpd_vocabulary.specs.declared.read.Line.TheVariants.{Blank, Comment, 
 use Rattle.mpd_vocabulary.specs.Reading.{line_of}
 use Rattle.mpd_moves.specs.declared.moves.Doing.{Doing}
 use Rattle.mpd_moves.specs.declared.moves.Doing.TheVariants.{Asks, Undoes, Seeks, Follows, Looks}
-use Rattle.mpd_moves.specs.News.{Known, told, known_of}
+use Rattle.mpd_moves.specs.News.{Known, told, known_for}
 use Rattle.mpd_moves.specs.Moves.{doing_of, lead_text, reply_text}
 use Rattle.mpd_console.specs.Looks.{look_text}
 use Rattle.mpd_search.specs.declared.search.WholeRun.{WholeRun}
@@ -65,12 +65,12 @@ abbrev pub lead_said : Held → Word → List ℕ
 lead_said s x = at_world (λ w. lead_text s.trail w x) (world_of s.trail)
 
 -- what is known of a session before a word
-abbrev pub known_at : Trail → Option World → Known
-known_at t None = told t.depth [] []
-known_at t (Some w) = known_of t w
+abbrev pub known_at : Trail → Word → Option World → Known
+known_at t x None = told t.depth [] []
+known_at t x (Some w) = known_for t w x
 
-abbrev pub known_in : Held → Known
-known_in s = known_at s.trail (world_of s.trail)
+abbrev pub known_in : Held → Word → Known
+known_in s x = known_at s.trail x (world_of s.trail)
 
 abbrev pub reply_said : Bool → List ℕ → Held → Word → List ℕ → Known → Reply → List ℕ
 reply_said p script s x lead k r = said p s (at_world (λ w. reply_text script s.trail w s.breaks x lead k r) (world_of s.trail))
@@ -121,7 +121,7 @@ asking c = record { command = c; at = None }
 -- the session is as before.
 abbrev pub Carried : Bool → List ℕ → Held → Word → Command → Held → List ℕ → Type 0
 Carried p script s x c t text =
-    ((t ≡ (respond s (asking c)).1) × Told (reply_said p script t x (lead_said s x) (known_in s) (respond s (asking c)).0) text) ⊎ ((t ≡ s) × (text ≡ memory_line))
+    ((t ≡ (respond s (asking c)).1) × Told (reply_said p script t x (lead_said s x) (known_in s x) (respond s (asking c)).0) text) ⊎ ((t ≡ s) × (text ≡ memory_line))
 
 -- A word that is refused by its own: the session is as before.
 abbrev pub Refused : Bool → Held → List ℕ → Held → List ℕ → Type 0

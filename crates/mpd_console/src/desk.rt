@@ -15,7 +15,7 @@ use mpd_explore::{Ending, Report};
 use mpd_fold::push_folded;
 use mpd_lines::{LineDesk, ROOM, push_all};
 use mpd_model::LINE_MAX;
-use mpd_moves::{Doing, Known, doing_of, known_of, lead, push_reply};
+use mpd_moves::{Doing, Known, doing_of, known_for, lead, push_reply};
 use mpd_search::{
     Search, Way, WholeRun, last_choice, may_hide, numbered_run, push_ahead, push_no_choice,
     push_no_run, push_none, seek as seek_run,
@@ -197,13 +197,13 @@ struct Lead {
 #[tactic(auto, using(crate::proofs::SaidLemmas::leading))]
 fn lead_of(alloc: Global, session: &Session<'_>, word: Word) -> Result<Lead, AllocError>
     ensures text { IfOk result (λ l. string_bytes l.text ≡ spec.lead_said session.now word) }
-    ensures known { IfOk result (λ l. told l.known.depth l.known.printed.items l.known.lost.items ≡ spec.known_in session.now) }
+    ensures known { IfOk result (λ l. told l.known.depth l.known.printed.items l.known.lost.items ≡ spec.known_in session.now word) }
 {
     let debugger = session.debugger();
     debugger.state_is_reached();
     Ok(Lead {
         text: lead(alloc, debugger, word)?,
-        known: known_of(alloc, debugger)?,
+        known: known_for(alloc, debugger, word)?,
     })
 }
 

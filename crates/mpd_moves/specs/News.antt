@@ -1,5 +1,5 @@
 -- What the steps of a word did: what ranks print by them, and the requests that are lost by them (docs/CONSOLE.md, "Answers").
-use Rattle.std.specs.Prelude.{ℕ, ℤ, Bool, nat_lt, if◌then◌else◌, List, [], ◌∷◌, ◌++◌, length, drop, get_or, slice_get, Option, Some, None, codes}
+use Rattle.std.specs.Prelude.{ℕ, ℤ, Bool, true, false, nat_lt, if◌then◌else◌, List, [], ◌∷◌, ◌++◌, length, drop, get_or, slice_get, Option, Some, None, codes}
 use Rattle.std.specs.Fmt.{decimal, signed_decimal}
 use Rattle.std.specs.List.{flat_map, list_any}
 use Rattle.mpd_model.specs.declared.decision.Decision.{Decision}
@@ -10,6 +10,8 @@ use Rattle.mpd_model.specs.steps.World.{RankWorld, World, rank_numbers, id_eq}
 use Rattle.mpd_model.specs.runs.Decisions.{decision}
 use Rattle.mpd_model.specs.runs.Trail.{Trail}
 use Rattle.mpd_model.specs.texts.Texts.{line, spaced}
+use Rattle.mpd_vocabulary.specs.declared.word.Word.{Word}
+use Rattle.mpd_vocabulary.specs.declared.word.Word.TheVariants as word
 use Rattle.mpd_view.specs.Lost.{lost_line, lost_calls}
 
 -- what is known of a session before a word: how many steps are not undone, how many values each rank has printed, and which requests are lost
@@ -30,6 +32,16 @@ printed_counts w = flat_map (λ p. printed_count (slice_get w.ranks p) ∷ []) (
 
 abbrev pub known_of : Trail → World → Known
 known_of t w = told t.depth (printed_counts w) (lost_calls w)
+
+-- Words that go back tell nothing of this, so nothing but the depth has to be known for them, and no memory is asked for.
+abbrev pub goes_back : Word → Bool
+goes_back (word.Back n) = true
+goes_back word.RunBack = true
+goes_back word.UndoChoice = true
+goes_back other = false
+
+abbrev pub known_for : Trail → World → Word → Known
+known_for t w x = if goes_back x then told t.depth [] [] else known_of t w
 
 -- ---- what ranks print
 

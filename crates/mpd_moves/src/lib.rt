@@ -6,4 +6,4 @@ pub mod moves;
 pub mod news;
 
 pub use moves::{Doing, doing_of, lead, push_break_line, push_reply};
-pub use news::{Known, known_of};
+pub use news::{Known, known_for};

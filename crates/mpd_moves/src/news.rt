@@ -11,6 +11,7 @@ use mpd_model::{CallId, Decision};
 use mpd_policy::decide;
 use mpd_trail::Debugger;
 use mpd_view::{lost_calls, push_lost_line};
+use mpd_vocabulary::Word;
 use std::alloc::{AllocError, Global};
 
 /// What is known of a session before a word, so that it can be told behind the word what its steps did.
@@ -47,8 +48,8 @@ fn printed_counts(alloc: Global, core: &Core<'_>) -> Result<Vec<usize>, AllocErr
     Ok(counts)
 }
 
-/// What is known before a word is done. An `Err` is want of memory.
-pub fn known_of(alloc: Global, debugger: &Debugger<'_>) -> Result<Known, AllocError>
+/// What is known of a session. An `Err` is want of memory.
+fn known_of(alloc: Global, debugger: &Debugger<'_>) -> Result<Known, AllocError>
     ensures { IfOk result (λ k. spec.told k.depth k.printed.items k.lost.items ≡ spec.known_of debugger.now.trail debugger.now.world) }
 {
     let core = debugger.core();
@@ -57,6 +58,27 @@ pub fn known_of(alloc: Global, debugger: &Debugger<'_>) -> Result<Known, AllocEr
         printed: printed_counts(alloc, core)?,
         lost: lost_calls(alloc, core)?,
     })
+}
+
+/// Whether a word only goes back.
+fn goes_back(word: Word) -> bool
+    ensures { result ≡ spec.goes_back word }
+{
+    matches!(word, Word::Back(_) | Word::RunBack | Word::UndoChoice)
+}
+
+/// What is known before a word is done: of one that goes back the depth alone, which takes no memory. An `Err` is want of memory.
+pub fn known_for(alloc: Global, debugger: &Debugger<'_>, word: Word) -> Result<Known, AllocError>
+    ensures { IfOk result (λ k. spec.told k.depth k.printed.items k.lost.items ≡ spec.known_for debugger.now.trail debugger.now.world word) }
+{
+    if goes_back(word) {
+        return Ok(Known {
+            depth: debugger.depth(),
+            printed: Vec::new(alloc),
+            lost: Vec::new(alloc),
+        });
+    }
+    known_of(alloc, debugger)
 }
 
 /// Adds values, each with a space before it.
