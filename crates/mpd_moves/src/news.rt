@@ -1,6 +1,6 @@
 //! What the steps of a word did: what ranks print by them, and the requests that are lost by them (docs/CONSOLE.md, "Answers").
 
-ghost use Rattle.std.specs.Prelude.{◌≡◌, ◌++◌, IfOk, OnOk, drop, get_or, slice_get, string_bytes};
+ghost use Rattle.std.specs.Prelude.{◌≡◌, ◌++◌, IfOk, OnErr, OnOk, drop, false, get_or, slice_get, string_bytes};
 ghost use Rattle.std.specs.Fmt.{signed_decimal};
 ghost use Rattle.mpd_model.specs.runs.Decisions.{decision};
 ghost use Rattle.mpd_model.specs.texts.Texts.{spaced};
@@ -69,7 +69,8 @@ fn goes_back(word: Word) -> bool
 
 /// What is known before a word is done: of one that goes back the depth alone, which takes no memory. An `Err` is want of memory.
 pub fn known_for(alloc: Global, debugger: &Debugger<'_>, word: Word) -> Result<Known, AllocError>
-    ensures { IfOk result (λ k. spec.told k.depth k.printed.items k.lost.items ≡ spec.known_for debugger.now.trail debugger.now.world word) }
+    ensures known { IfOk result (λ k. spec.told k.depth k.printed.items k.lost.items ≡ spec.known_for debugger.now.trail debugger.now.world word) }
+    ensures memory { OnErr result (spec.goes_back word ≡ false) }
 {
     if goes_back(word) {
         return Ok(Known {
