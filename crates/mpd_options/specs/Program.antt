@@ -5,6 +5,8 @@ use Rattle.clap.specs.Words.{App, Rule, new_app, new_rule, with_rule, with_subco
 use Rattle.clap.specs.declared.builder.action.ArgAction.TheVariants.{Set, SetTrue}
 use Rattle.clap.specs.declared.builder.value_parser.ValueParser.{ValueParser}
 use Rattle.clap.specs.declared.builder.value_parser.ValueParser.TheVariants.{Names, Unsigned}
+use Rattle.mpd_options.specs.declared.command.Topic.{Topic}
+use Rattle.mpd_options.specs.declared.command.Topic.TheVariants as topic
 use Rattle.mpd_options.specs.Asked.{most_clients, most_fuel, most_leaf, most_modes, most_piece, most_port, most_runs, most_sample, most_seed, most_split, most_workers}
 
 -- the word of a file, which must be there
@@ -161,6 +163,19 @@ picture_app = with_rule (with_rule (with_rule (with_rule (script_app (codes "pic
 
 abbrev pub named_app : App
 named_app = let app = new_app (codes "mpdbg") in record app { top = record app.top { has_version = true; no_binary_name = true; subcommand_required = true } }
+
+-- what help speaks of: the program, before it has its commands, or one of these, by the words that `--until` takes
+abbrev pub command_app : Topic → Choices → App
+command_app topic.Program words = named_app
+command_app topic.Trace words = trace_app
+command_app topic.Debug words = debug_app
+command_app topic.Run words = run_app
+command_app topic.Serve words = serve_app
+command_app topic.Check words = check_app words
+command_app topic.Verify words = verify_app
+command_app topic.Words words = words_app
+command_app topic.Translate words = translate_app
+command_app topic.Picture words = picture_app
 
 -- `mpdbg` and its commands, by the words that `--until` takes
 abbrev pub mpdbg_app : Choices → App

@@ -2,114 +2,20 @@
 
 ghost use Rattle.std.specs.Prelude.{◌≡◌, ◌∷◌, IfOk, ℕ, List, [], Some, codes, map, option_map, false};
 ghost use Rattle.std.specs.Borrow.{Bor};
-ghost use Rattle.clap.specs.Words.{app_of, rule_of};
+ghost use Rattle.clap.specs.Words.{App, Rule, app_of, rule_of, with_rule, with_subcommand};
 ghost use Rattle.clap.specs.declared.builder.command.Command.TheViews.{out-Command as fields_of};
 ghost use Rattle.mpd_options.specs.Help.{example_of};
 ghost use Rattle.mpd_options.specs.declared.command.Topic.TheVariants.{Check, Debug, Picture, Program, Run, Serve, Trace, Translate, Verify, Words};
-ghost use Rattle.mpd_options.specs.Program.{check_app, choices_rule, chosen_app, clients_rule, complete_rule, debug_app, ends_rule, explain_rule, file_app, file_rule, flag_rule, fuel_rule, group_rule, laid_witness_rule, leaf_rule, mode_rule, modes_rule, mpdbg_app, named_app, number_rule, numbers_app, picture_app, piece_rule, pieces_rule, port_rule, required_number_rule, run_app, runs_rule, sample_rule, script_app, seed_rule, serve_app, split_rule, told_app, trace_app, translate_app, until_rule, valued_rule, verify_app, witness_rule, word_rule, words_app, work_app, workers_rule};
+ghost use Rattle.mpd_options.specs.Program.{check_app, choices_rule, clients_rule, command_app, complete_rule, debug_app, ends_rule, explain_rule, file_app, file_rule, flag_rule, fuel_rule, group_rule, laid_witness_rule, leaf_rule, mode_rule, modes_rule, mpdbg_app, named_app, number_rule, picture_app, piece_rule, pieces_rule, port_rule, required_number_rule, run_app, runs_rule, sample_rule, script_app, seed_rule, serve_app, split_rule, told_app, trace_app, translate_app, until_rule, valued_rule, verify_app, witness_rule, word_rule, words_app, work_app, workers_rule};
 
+use crate::names::{
+    CHECK, CHOICES, CLIENTS, COMPLETE, DEBUG, ENDS, EXPLAIN, FILE, FUEL, GROUP, LAID_WITNESS, LEAF,
+    MODE, MODES, PICTURE, PIECE, PIECES, PORT, RUN, RUNS, SAMPLE, SEED, SERVE, SPLIT, TRACE,
+    TRANSLATE, UNTIL, VERIFY, WITNESS, WITNESS_FILE, WORDS, WORDS_FILE, WORKERS,
+};
 use clap::builder::ValueParser;
 use clap::{Arg, ArgAction, Command};
 use std::alloc::{AllocError, Global};
-
-/// The word of a script's file.
-pub(crate) const FILE: &str = "FILE";
-
-/// The option of the mode, without its hyphens.
-pub(crate) const MODE: &str = "mode";
-
-/// The option of up to how many slots modes are tried, without its hyphens.
-pub(crate) const MODES: &str = "modes";
-
-/// The option of the port, without its hyphens.
-pub(crate) const PORT: &str = "port";
-
-/// The option of how many clients are answered, without its hyphens.
-pub(crate) const CLIENTS: &str = "clients";
-
-/// The option of how many runs are tried, without its hyphens.
-pub(crate) const RUNS: &str = "runs";
-
-/// The option of the fuel of a run, without its hyphens.
-pub(crate) const FUEL: &str = "fuel";
-
-/// The option of by how many choices the runs are cut into pieces, without its hyphens.
-pub(crate) const SPLIT: &str = "split";
-
-/// The option of how many workers make the report, without its hyphens.
-pub(crate) const WORKERS: &str = "workers";
-
-/// The flag that asks for the runs that differ in more than the order of choices, without its hyphens.
-pub(crate) const ENDS: &str = "ends";
-
-/// The option of how many runs are drawn at random, without its hyphens.
-pub(crate) const SAMPLE: &str = "sample";
-
-/// The option of what the draw begins with, without its hyphens.
-pub(crate) const SEED: &str = "seed";
-
-/// The flag that asks for explanations, without its hyphens.
-pub(crate) const EXPLAIN: &str = "explain";
-
-/// The flag that asks for the ends in place of the runs, without its hyphens.
-pub(crate) const GROUP: &str = "group";
-
-/// The option of where the report ends, without its hyphens.
-pub(crate) const UNTIL: &str = "until";
-
-/// The flag that asks for a witness, without its hyphens.
-pub(crate) const WITNESS: &str = "witness";
-
-/// The flag that asks whether all runs were tried, without its hyphens.
-pub(crate) const COMPLETE: &str = "complete";
-
-/// The option of the piece that is wanted alone, without its hyphens.
-pub(crate) const PIECE: &str = "piece";
-
-/// The flag that asks how many pieces there are, without its hyphens.
-pub(crate) const PIECES: &str = "pieces";
-
-/// The option of the leaf whose witness is taken, without its hyphens.
-pub(crate) const LEAF: &str = "leaf";
-
-/// The option of the choices of a run, without its hyphens.
-pub(crate) const CHOICES: &str = "choices";
-
-/// The word of a witness's file.
-pub(crate) const WITNESS_FILE: &str = "WITNESS";
-
-/// What `clap` knows the option of a witness's file by, whose word is that of the flag.
-pub(crate) const LAID_WITNESS: &str = "laid_witness";
-
-/// The word of the command that traces a script.
-pub(crate) const TRACE: &str = "trace";
-
-/// The word of the command that debugs a script.
-pub(crate) const DEBUG: &str = "debug";
-
-/// The word of the command that answers requests.
-pub(crate) const RUN: &str = "run";
-
-/// The word of the command that answers requests of several clients.
-pub(crate) const SERVE: &str = "serve";
-
-/// The word of the command that looks for deadlocks.
-pub(crate) const CHECK: &str = "check";
-
-/// The word of the command that checks a witness.
-pub(crate) const VERIFY: &str = "verify";
-
-/// The word of the command that writes the trace words of a run.
-pub(crate) const WORDS: &str = "words";
-
-/// The word of the command that writes a script in C.
-pub(crate) const TRANSLATE: &str = "c";
-
-/// The word of the command that draws a run.
-pub(crate) const PICTURE: &str = "picture";
-
-/// The option of a file of trace words, without its hyphens.
-pub(crate) const WORDS_FILE: &str = "words";
 
 const MOST_PORT: u64 = 65_535;
 
@@ -286,6 +192,9 @@ fn example<'a>(topic: Topic) -> &'a str
     }
 }
 
+/// A command, where memory was given for it.
+type Made<'a> = Result<Command<'a>, AllocError>;
+
 /// The word of a file, which must be there.
 fn file_word<'a>(alloc: Global, name: &'a str, help: &'a str) -> Arg<'a>
     ensures rule { rule_of result ≡ file_rule name.entry.now }
@@ -302,12 +211,8 @@ fn mode_option<'a>(alloc: Global) -> Arg<'a>
     ensures rule { rule_of result ≡ mode_rule }
     ensures own { result.global ≡ false }
 {
-    Arg::new(alloc, MODE)
-        .long(MODE)
-        .value_name("M")
-        .action(ArgAction::Set)
-        .default_value("rendezvous")
-        .help("How standard sends behave: rendezvous, buffered, or slots:K with K from 0 to 65536")
+    let help = "How standard sends behave: rendezvous, buffered, or slots:K with K from 0 to 65536";
+    word_option(alloc, MODE, "M", help).default_value("rendezvous")
 }
 
 /// An option with a value, which may be left out.
@@ -321,12 +226,7 @@ fn valued_option<'a>(
     ensures rule { rule_of result ≡ valued_rule name.entry.now parser.entry }
     ensures own { result.global ≡ false }
 {
-    Arg::new(alloc, name)
-        .long(name)
-        .value_name(value_name)
-        .action(ArgAction::Set)
-        .value_parser(parser)
-        .help(help)
+    word_option(alloc, name, value_name, help).value_parser(parser)
 }
 
 /// An option whose value is a number from `least` to `most`.
@@ -553,12 +453,8 @@ fn choices_option<'a>(alloc: Global) -> Arg<'a>
     ensures rule { rule_of result ≡ choices_rule }
     ensures own { result.global ≡ false }
 {
-    Arg::new(alloc, CHOICES)
-        .long(CHOICES)
-        .value_name("C")
-        .required(true)
-        .action(ArgAction::Set)
-        .help("The choices of the run, numbers from 0 with spaces between them")
+    let help = "The choices of the run, numbers from 0 with spaces between them";
+    word_option(alloc, CHOICES, "C", help).required(true)
 }
 
 /// `--witness WITNESS`.
@@ -585,168 +481,162 @@ fn word_option<'a>(alloc: Global, name: &'a str, value_name: &'a str, help: &'a 
         .help(help)
 }
 
-/// The command with what help says of it, and its example.
-fn with_help<'a>(command: Command<'a>, topic: Topic) -> Command<'a>
-    ensures app { app_of result ≡ app_of command.entry }
-    ensures own { (fields_of result).has_globals ≡ (fields_of command.entry).has_globals }
-    ensures example { option_map (λ (t : Bor (List ℕ)). t.now) (fields_of result).after_help ≡ Some (example_of topic) }
+/// The command, where it was made, with what help says of it, and its example.
+fn with_help<'a>(command: Made<'a>, topic: Topic) -> Made<'a>
+    ensures app { (app : App) → IfOk command.entry (λ c. app_of c ≡ app) → IfOk result (λ c. app_of c ≡ app) }
+    ensures own { IfOk command.entry (λ c. (fields_of c).has_globals ≡ false) → IfOk result (λ c. (fields_of c).has_globals ≡ false) }
+    ensures example { IfOk result (λ c. option_map (λ (t : Bor (List ℕ)). t.now) (fields_of c).after_help ≡ Some (example_of topic)) }
 {
-    command.about(about(topic)).after_help(example(topic))
+    match command {
+        Ok(command) => Ok(command.about(about(topic)).after_help(example(topic))),
+        Err(error) => Err(error),
+    }
+}
+
+/// The command, where it was made, with one argument more.
+fn with_arg<'a>(command: Made<'a>, arg: Arg<'a>) -> Made<'a>
+    ensures app { (app : App) (rule : Rule) → IfOk command.entry (λ c. app_of c ≡ app) → rule_of arg.entry ≡ rule → arg.entry.global ≡ false → IfOk result (λ c. app_of c ≡ with_rule app rule) }
+    ensures own { IfOk command.entry (λ c. (fields_of c).has_globals ≡ false) → arg.entry.global ≡ false → IfOk result (λ c. (fields_of c).has_globals ≡ false) }
+{
+    match command {
+        Ok(command) => command.arg(arg),
+        Err(error) => {
+            drop(arg);
+            Err(error)
+        }
+    }
 }
 
 /// A command on the script of a file: `NAME FILE`.
-fn file_command<'a>(alloc: Global, name: &'a str) -> Result<Command<'a>, AllocError>
+fn file_command<'a>(alloc: Global, name: &'a str) -> Made<'a>
     ensures app { IfOk result (λ c. app_of c ≡ file_app name.entry.now) }
     ensures own { IfOk result (λ c. (fields_of c).has_globals ≡ false) }
 {
-    Command::new(alloc, name).arg(file_word(alloc, FILE, "The script"))
+    let command = Command::new(alloc, name);
+    command.arg(file_word(alloc, FILE, "The script"))
 }
 
 /// A command on the script of a file, in a mode: `NAME FILE --mode M`.
-fn script_command<'a>(alloc: Global, name: &'a str) -> Result<Command<'a>, AllocError>
+fn script_command<'a>(alloc: Global, name: &'a str) -> Made<'a>
     ensures app { IfOk result (λ c. app_of c ≡ script_app name.entry.now) }
     ensures own { IfOk result (λ c. (fields_of c).has_globals ≡ false) }
 {
-    file_command(alloc, name)?.arg(mode_option(alloc))
+    with_arg(file_command(alloc, name), mode_option(alloc))
 }
 
 /// `mpdbg trace FILE --mode M`.
-fn trace_command<'a>(alloc: Global) -> Result<Command<'a>, AllocError>
+fn trace_command<'a>(alloc: Global) -> Made<'a>
     ensures app { IfOk result (λ c. app_of c ≡ trace_app) }
     ensures own { IfOk result (λ c. (fields_of c).has_globals ≡ false) }
     ensures example { IfOk result (λ c. option_map (λ (t : Bor (List ℕ)). t.now) (fields_of c).after_help ≡ Some (example_of Trace)) }
 {
-    let command = script_command(alloc, TRACE)?;
-    Ok(with_help(command, Topic::Trace))
+    with_help(script_command(alloc, TRACE), Topic::Trace)
 }
 
 /// `mpdbg debug FILE --mode M --witness WITNESS`.
-fn debug_command<'a>(alloc: Global) -> Result<Command<'a>, AllocError>
+fn debug_command<'a>(alloc: Global) -> Made<'a>
     ensures app { IfOk result (λ c. app_of c ≡ debug_app) }
     ensures own { IfOk result (λ c. (fields_of c).has_globals ≡ false) }
     ensures example { IfOk result (λ c. option_map (λ (t : Bor (List ℕ)). t.now) (fields_of c).after_help ≡ Some (example_of Debug)) }
 {
     let help = "A witness or a report, whose deadlock is laid ahead";
-    let command = script_command(alloc, DEBUG)?.arg(laid_witness_option(alloc, help))?;
-    Ok(with_help(command, Topic::Debug))
+    let command = script_command(alloc, DEBUG);
+    let command = with_arg(command, laid_witness_option(alloc, help));
+    with_help(command, Topic::Debug)
 }
 
 /// `mpdbg run FILE --mode M`.
-fn run_command<'a>(alloc: Global) -> Result<Command<'a>, AllocError>
+fn run_command<'a>(alloc: Global) -> Made<'a>
     ensures app { IfOk result (λ c. app_of c ≡ run_app) }
     ensures own { IfOk result (λ c. (fields_of c).has_globals ≡ false) }
     ensures example { IfOk result (λ c. option_map (λ (t : Bor (List ℕ)). t.now) (fields_of c).after_help ≡ Some (example_of Run)) }
 {
-    let command = script_command(alloc, RUN)?;
-    Ok(with_help(command, Topic::Run))
+    with_help(script_command(alloc, RUN), Topic::Run)
 }
 
 /// `mpdbg serve FILE --mode M --port P --clients N`.
-fn serve_command<'a>(alloc: Global) -> Result<Command<'a>, AllocError>
+fn serve_command<'a>(alloc: Global) -> Made<'a>
     ensures app { IfOk result (λ c. app_of c ≡ serve_app) }
     ensures own { IfOk result (λ c. (fields_of c).has_globals ≡ false) }
     ensures example { IfOk result (λ c. option_map (λ (t : Bor (List ℕ)). t.now) (fields_of c).after_help ≡ Some (example_of Serve)) }
 {
-    let command = script_command(alloc, SERVE)?
-        .arg(port_option(alloc))?
-        .arg(clients_option(alloc))?;
-    Ok(with_help(command, Topic::Serve))
-}
-
-/// `mpdbg check FILE --mode M --modes N --runs N --fuel N`.
-fn numbers_command<'a>(alloc: Global) -> Result<Command<'a>, AllocError>
-    ensures app { IfOk result (λ c. app_of c ≡ numbers_app) }
-    ensures own { IfOk result (λ c. (fields_of c).has_globals ≡ false) }
-{
-    script_command(alloc, CHECK)?
-        .arg(modes_option(alloc))?
-        .arg(runs_option(alloc))?
-        .arg(fuel_option(alloc))
+    let command = with_arg(script_command(alloc, SERVE), port_option(alloc));
+    let command = with_arg(command, clients_option(alloc));
+    with_help(command, Topic::Serve)
 }
 
 /// `mpdbg check FILE --mode M --modes N --runs N --fuel N --split K --workers N`.
-fn work_command<'a>(alloc: Global) -> Result<Command<'a>, AllocError>
+fn work_command<'a>(alloc: Global) -> Made<'a>
     ensures app { IfOk result (λ c. app_of c ≡ work_app) }
     ensures own { IfOk result (λ c. (fields_of c).has_globals ≡ false) }
 {
-    numbers_command(alloc)?
-        .arg(split_option(alloc))?
-        .arg(workers_option(alloc))
+    let command = with_arg(script_command(alloc, CHECK), modes_option(alloc));
+    let command = with_arg(command, runs_option(alloc));
+    let command = with_arg(command, fuel_option(alloc));
+    let command = with_arg(command, split_option(alloc));
+    with_arg(command, workers_option(alloc))
 }
 
-/// The same, with the options of which runs are listed: `--ends --sample N --seed S`.
-fn chosen_command<'a>(alloc: Global) -> Result<Command<'a>, AllocError>
-    ensures app { IfOk result (λ c. app_of c ≡ chosen_app) }
-    ensures own { IfOk result (λ c. (fields_of c).has_globals ≡ false) }
-{
-    work_command(alloc)?
-        .arg(ends_flag(alloc))?
-        .arg(sample_option(alloc))?
-        .arg(seed_option(alloc))
-}
-
-/// The same, with the options of how they are told: `--explain --group`.
-fn told_command<'a>(alloc: Global) -> Result<Command<'a>, AllocError>
+/// The same, with the options of which runs are listed, and how: `--ends --sample N --seed S --explain --group`.
+fn told_command<'a>(alloc: Global) -> Made<'a>
     ensures app { IfOk result (λ c. app_of c ≡ told_app) }
     ensures own { IfOk result (λ c. (fields_of c).has_globals ≡ false) }
 {
-    chosen_command(alloc)?
-        .arg(explain_flag(alloc))?
-        .arg(group_flag(alloc))
+    let command = with_arg(work_command(alloc), ends_flag(alloc));
+    let command = with_arg(command, sample_option(alloc));
+    let command = with_arg(command, seed_option(alloc));
+    let command = with_arg(command, explain_flag(alloc));
+    with_arg(command, group_flag(alloc))
 }
 
 /// `mpdbg check FILE`, with all its options, by the words that `--until` takes.
-fn check_command<'a>(alloc: Global, until: &'a [&'a str]) -> Result<Command<'a>, AllocError>
+fn check_command<'a>(alloc: Global, until: &'a [&'a str]) -> Made<'a>
     ensures app { IfOk result (λ c. app_of c ≡ check_app until.entry) }
     ensures own { IfOk result (λ c. (fields_of c).has_globals ≡ false) }
     ensures example { IfOk result (λ c. option_map (λ (t : Bor (List ℕ)). t.now) (fields_of c).after_help ≡ Some (example_of Check)) }
 {
-    let command = told_command(alloc)?
-        .arg(until_option(alloc, until))?
-        .arg(witness_flag(alloc))?
-        .arg(complete_flag(alloc))?
-        .arg(piece_option(alloc))?
-        .arg(pieces_flag(alloc))?;
-    Ok(with_help(command, Topic::Check))
+    let command = with_arg(told_command(alloc), until_option(alloc, until));
+    let command = with_arg(command, witness_flag(alloc));
+    let command = with_arg(command, complete_flag(alloc));
+    let command = with_arg(command, piece_option(alloc));
+    let command = with_arg(command, pieces_flag(alloc));
+    with_help(command, Topic::Check)
 }
 
 /// `mpdbg verify FILE WITNESS --mode M --leaf N`.
-fn verify_command<'a>(alloc: Global) -> Result<Command<'a>, AllocError>
+fn verify_command<'a>(alloc: Global) -> Made<'a>
     ensures app { IfOk result (λ c. app_of c ≡ verify_app) }
     ensures own { IfOk result (λ c. (fields_of c).has_globals ≡ false) }
     ensures example { IfOk result (λ c. option_map (λ (t : Bor (List ℕ)). t.now) (fields_of c).after_help ≡ Some (example_of Verify)) }
 {
     let witness = file_word(alloc, WITNESS_FILE, "The file of the witness");
-    let command = script_command(alloc, VERIFY)?
-        .arg(witness)?
-        .arg(leaf_option(alloc))?;
-    Ok(with_help(command, Topic::Verify))
+    let command = with_arg(script_command(alloc, VERIFY), witness);
+    let command = with_arg(command, leaf_option(alloc));
+    with_help(command, Topic::Verify)
 }
 
 /// `mpdbg words FILE --mode M --choices C --fuel N`.
-fn words_command<'a>(alloc: Global) -> Result<Command<'a>, AllocError>
+fn words_command<'a>(alloc: Global) -> Made<'a>
     ensures app { IfOk result (λ c. app_of c ≡ words_app) }
     ensures own { IfOk result (λ c. (fields_of c).has_globals ≡ false) }
     ensures example { IfOk result (λ c. option_map (λ (t : Bor (List ℕ)). t.now) (fields_of c).after_help ≡ Some (example_of Words)) }
 {
-    let command = script_command(alloc, WORDS)?
-        .arg(choices_option(alloc))?
-        .arg(fuel_option(alloc))?;
-    Ok(with_help(command, Topic::Words))
+    let command = with_arg(script_command(alloc, WORDS), choices_option(alloc));
+    let command = with_arg(command, fuel_option(alloc));
+    with_help(command, Topic::Words)
 }
 
 /// `mpdbg c FILE`.
-fn translate_command<'a>(alloc: Global) -> Result<Command<'a>, AllocError>
+fn translate_command<'a>(alloc: Global) -> Made<'a>
     ensures app { IfOk result (λ c. app_of c ≡ translate_app) }
     ensures own { IfOk result (λ c. (fields_of c).has_globals ≡ false) }
     ensures example { IfOk result (λ c. option_map (λ (t : Bor (List ℕ)). t.now) (fields_of c).after_help ≡ Some (example_of Translate)) }
 {
-    let command = file_command(alloc, TRANSLATE)?;
-    Ok(with_help(command, Topic::Translate))
+    with_help(file_command(alloc, TRANSLATE), Topic::Translate)
 }
 
 /// `mpdbg picture FILE --mode M --choices C --witness WITNESS --words WORDS --fuel N`.
-fn picture_command<'a>(alloc: Global) -> Result<Command<'a>, AllocError>
+fn picture_command<'a>(alloc: Global) -> Made<'a>
     ensures app { IfOk result (λ c. app_of c ≡ picture_app) }
     ensures own { IfOk result (λ c. (fields_of c).has_globals ≡ false) }
     ensures example { IfOk result (λ c. option_map (λ (t : Bor (List ℕ)). t.now) (fields_of c).after_help ≡ Some (example_of Picture)) }
@@ -754,17 +644,18 @@ fn picture_command<'a>(alloc: Global) -> Result<Command<'a>, AllocError>
     let choices = "Draw the run with these choices, numbers from 0 with spaces between them";
     let witness = "Draw the run of a witness or a report";
     let words = "Draw the run of a file of trace words, one a line";
-    let command = script_command(alloc, PICTURE)?
-        .arg(word_option(alloc, CHOICES, "C", choices))?
-        .arg(laid_witness_option(alloc, witness))?
-        .arg(word_option(alloc, WORDS_FILE, "WORDS", words))?
-        .arg(fuel_option(alloc))?;
-    Ok(with_help(command, Topic::Picture))
+    let command = script_command(alloc, PICTURE);
+    let command = with_arg(command, word_option(alloc, CHOICES, "C", choices));
+    let command = with_arg(command, laid_witness_option(alloc, witness));
+    let command = with_arg(command, word_option(alloc, WORDS_FILE, "WORDS", words));
+    let command = with_arg(command, fuel_option(alloc));
+    with_help(command, Topic::Picture)
 }
 
 /// `mpdbg`, which wants a command.
-fn named_program<'a>(alloc: Global) -> Result<Command<'a>, AllocError>
-    ensures { IfOk result (λ c. app_of c ≡ named_app) }
+fn named_program<'a>(alloc: Global) -> Made<'a>
+    ensures app { IfOk result (λ c. app_of c ≡ named_app) }
+    ensures own { IfOk result (λ c. (fields_of c).has_globals ≡ false) }
 {
     Command::new(alloc, "mpdbg")
         .version("0.1.0")
@@ -773,20 +664,59 @@ fn named_program<'a>(alloc: Global) -> Result<Command<'a>, AllocError>
         .bin_name("mpdbg")
 }
 
+/// What help speaks of: the program, before it has its commands, or one of these.
+fn command_of<'a>(alloc: Global, topic: Topic, until: &'a [&'a str]) -> Made<'a>
+    ensures app { IfOk result (λ c. app_of c ≡ command_app topic until.entry) }
+    ensures own { IfOk result (λ c. (fields_of c).has_globals ≡ false) }
+{
+    match topic {
+        Topic::Program => named_program(alloc),
+        Topic::Trace => trace_command(alloc),
+        Topic::Debug => debug_command(alloc),
+        Topic::Run => run_command(alloc),
+        Topic::Serve => serve_command(alloc),
+        Topic::Check => check_command(alloc, until),
+        Topic::Verify => verify_command(alloc),
+        Topic::Words => words_command(alloc),
+        Topic::Translate => translate_command(alloc),
+        Topic::Picture => picture_command(alloc),
+    }
+}
+
+/// The program, where it was made, with the command that help speaks of, where that was made.
+fn with_command<'a>(
+    alloc: Global,
+    program: Made<'a>,
+    topic: Topic,
+    until: &'a [&'a str],
+) -> Made<'a>
+    ensures { (app : App) → IfOk program.entry (λ c. app_of c ≡ app) → IfOk result (λ c. app_of c ≡ with_subcommand app (command_app topic until.entry).top) }
+{
+    match program {
+        Ok(program) => match command_of(alloc, topic, until) {
+            Ok(command) => program.subcommand(command),
+            Err(error) => {
+                drop(program);
+                Err(error)
+            }
+        },
+        Err(error) => Err(error),
+    }
+}
+
 /// `mpdbg` and its commands, by the words that `--until` of `check` takes.
 pub(crate) fn program<'a>(alloc: Global, until: &'a [&'a str]) -> Result<Command<'a>, AllocError>
     ensures app { IfOk result (λ c. app_of c ≡ mpdbg_app until.entry) }
     ensures example { IfOk result (λ c. option_map (λ (t : Bor (List ℕ)). t.now) (fields_of c).after_help ≡ Some (example_of Program)) }
 {
-    let command = named_program(alloc)?
-        .subcommand(trace_command(alloc)?)?
-        .subcommand(debug_command(alloc)?)?
-        .subcommand(run_command(alloc)?)?
-        .subcommand(serve_command(alloc)?)?
-        .subcommand(check_command(alloc, until)?)?
-        .subcommand(verify_command(alloc)?)?
-        .subcommand(words_command(alloc)?)?
-        .subcommand(translate_command(alloc)?)?
-        .subcommand(picture_command(alloc)?)?;
-    Ok(with_help(command, Topic::Program))
+    let program = with_command(alloc, named_program(alloc), Topic::Trace, until);
+    let program = with_command(alloc, program, Topic::Debug, until);
+    let program = with_command(alloc, program, Topic::Run, until);
+    let program = with_command(alloc, program, Topic::Serve, until);
+    let program = with_command(alloc, program, Topic::Check, until);
+    let program = with_command(alloc, program, Topic::Verify, until);
+    let program = with_command(alloc, program, Topic::Words, until);
+    let program = with_command(alloc, program, Topic::Translate, until);
+    let program = with_command(alloc, program, Topic::Picture, until);
+    with_help(program, Topic::Program)
 }

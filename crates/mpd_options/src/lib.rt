@@ -2,6 +2,7 @@
 #![tactic(auto)]
 
 pub mod command;
+mod names;
 pub mod options;
 
 pub use command::Topic;

@@ -5,11 +5,11 @@ ghost use Rattle.mpd_options.specs.Asked.{IsFound, IsInRange, asked, checker, de
 ghost use Rattle.mpd_options.specs.Numbers.{flag_in, most_usize, number_in};
 ghost use Rattle.mpd_options.specs.Refused.{IsRefused, is_answer, usage_of, usage_status, usage_text};
 
-use crate::command::{
+use crate::command::{USUAL_RUNS, USUAL_SPLIT, only_deadlock, program};
+use crate::names::{
     CHECK, CHOICES, CLIENTS, COMPLETE, DEBUG, ENDS, EXPLAIN, FILE, FUEL, GROUP, LAID_WITNESS, LEAF,
     MODE, MODES, PICTURE, PIECE, PIECES, PORT, RUN, RUNS, SAMPLE, SEED, SERVE, SPLIT, TRACE,
-    TRANSLATE, UNTIL, USUAL_RUNS, USUAL_SPLIT, VERIFY, WITNESS, WITNESS_FILE, WORDS, WORDS_FILE,
-    WORKERS, only_deadlock, program,
+    TRANSLATE, UNTIL, VERIFY, WITNESS, WITNESS_FILE, WORDS, WORDS_FILE, WORKERS,
 };
 use clap::ArgMatches;
 use clap::error::ErrorKind;

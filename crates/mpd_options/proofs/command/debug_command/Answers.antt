@@ -1,13 +1,14 @@
-use Rattle.std.proofs.Common.{◌∙◌, ◌||◌, ap₂}
-use Rattle.clap.specs.Words.{with_rule}
 use Rattle.mpd_options.proofs.command.debug_command.Goals as goal
 
 pub returns-clause-app : goal.returns-clause-app
 returns-clause-app c =
-    c.with_help.ensures.app ∙ c.in_ok-command.ensures.shape c.laid_witness_option.ensures.own ∙ ap₂ with_rule c.in_ok-script_command.ensures.app c.laid_witness_option.ensures.rule
+    let laid = c.with_arg-command.ensures.app _ _ c.script_command-command.ensures.app c.laid_witness_option.ensures.rule c.laid_witness_option.ensures.own in
+    c.with_help.ensures.app _ laid
 
 pub returns-clause-own : goal.returns-clause-own
-returns-clause-own c = c.with_help.ensures.own ∙ c.in_ok-command.ensures.globals ∙ ap₂ (λ a b. a || b) c.in_ok-script_command.ensures.own c.laid_witness_option.ensures.own
+returns-clause-own c =
+    let laid = c.with_arg-command.ensures.own c.script_command-command.ensures.own c.laid_witness_option.ensures.own in
+    c.with_help.ensures.own laid
 
 pub returns-clause-example : goal.returns-clause-example
 returns-clause-example c = c.with_help.ensures.example
