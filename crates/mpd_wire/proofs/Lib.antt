@@ -3,3 +3,4 @@ pub mod Json
 pub mod Texts
 pub mod SayLemmas
 pub mod EndLemmas
+pub mod ListLemmas

@@ -1,6 +1,7 @@
 //! Copies of replies.
 
 ghost use Rattle.std.specs.Prelude.{◌≡◌, ◌++◌, ◌∷◌, [], IfOk, OnOk, OnErr, true, map, string_bytes};
+ghost use Rattle.mpd_wire.specs.declared.reply.Answer.TheVariants as answer;
 ghost use Rattle.mpd_wire.specs.Copies.{holds_list, lists_in};
 
 use crate::reply::{Answer, HandleList, IntegerList, Reply, Text, TextList};
@@ -55,6 +56,100 @@ fn copy_handles(alloc: Global, handles: &[Option<usize>]) -> Result<HandleList, 
     })
 }
 
+/// A state of its own, of lists that are already its own.
+fn with_outcome(
+    alloc: Global,
+    depth: usize,
+    ranks: TextList,
+    sets: TextList,
+    undone: usize,
+    outcome: &Option<Text>,
+) -> Result<Answer, AllocError>
+    ensures { IfOk result (λ copy. copy ≡ answer.State depth ranks sets undone outcome.now) }
+{
+    match copy_text(alloc, outcome) {
+        Ok(outcome) => Ok(Answer::State {
+            depth,
+            ranks,
+            sets,
+            undone,
+            outcome,
+        }),
+        Err(refused) => {
+            drop(ranks);
+            drop(sets);
+            Err(refused)
+        }
+    }
+}
+
+/// A state of its own.
+fn copy_state(
+    alloc: Global,
+    depth: usize,
+    ranks: &TextList,
+    sets: &TextList,
+    undone: usize,
+    outcome: &Option<Text>,
+) -> Result<Answer, AllocError>
+    ensures { IfOk result (λ copy. copy ≡ answer.State depth ranks.now sets.now undone outcome.now) }
+{
+    let ranks = copy_texts(alloc, &ranks.items)?;
+    match copy_texts(alloc, &sets.items) {
+        Ok(sets) => with_outcome(alloc, depth, ranks, sets, undone, outcome),
+        Err(refused) => {
+            drop(ranks);
+            Err(refused)
+        }
+    }
+}
+
+/// What a rank holds, of its own, of cells and handles that are already its own.
+fn with_output(
+    alloc: Global,
+    vars: IntegerList,
+    handles: HandleList,
+    out: &IntegerList,
+) -> Result<Answer, AllocError>
+    ensures { IfOk result (λ copy. copy ≡ answer.Vars vars handles out.now) }
+{
+    match copy_integers(alloc, &out.items) {
+        Ok(out) => Ok(Answer::Vars { vars, handles, out }),
+        Err(refused) => {
+            drop(vars);
+            drop(handles);
+            Err(refused)
+        }
+    }
+}
+
+/// What a rank holds, of its own.
+fn copy_vars(
+    alloc: Global,
+    vars: &IntegerList,
+    handles: &HandleList,
+    out: &IntegerList,
+) -> Result<Answer, AllocError>
+    ensures { IfOk result (λ copy. copy ≡ answer.Vars vars.now handles.now out.now) }
+{
+    let vars = copy_integers(alloc, &vars.items)?;
+    match copy_handles(alloc, &handles.items) {
+        Ok(handles) => with_output(alloc, vars, handles, out),
+        Err(refused) => {
+            drop(vars);
+            Err(refused)
+        }
+    }
+}
+
+/// Leaves of their own, and whether there are more.
+fn copy_leaves(alloc: Global, leaves: &TextList, more: bool) -> Result<Answer, AllocError>
+    ensures { IfOk result (λ copy. copy ≡ answer.Explored leaves.now more) }
+{
+    let leaves = copy_texts(alloc, &leaves.items)?;
+    Ok(Answer::Explored { leaves, more })
+}
+
 /// An answer of its own. An `Err` is want of memory, and comes only where the answer has a list.
 fn copy_answer(alloc: Global, answer: &Answer) -> Result<Answer, AllocError>
     ensures same { IfOk result (λ copy. copy ≡ answer.now) }
@@ -70,34 +165,21 @@ fn copy_answer(alloc: Global, answer: &Answer) -> Result<Answer, AllocError>
             depth: *depth,
             stop: *stop,
         }),
-        Answer::Enabled(steps) => Ok(Answer::Enabled(copy_texts(alloc, &steps.items)?)),
+        Answer::Enabled(steps) => copy_texts(alloc, &steps.items).map(Answer::Enabled),
         Answer::State {
             depth,
             ranks,
             sets,
             undone,
             outcome,
-        } => Ok(Answer::State {
-            depth: *depth,
-            ranks: copy_texts(alloc, &ranks.items)?,
-            sets: copy_texts(alloc, &sets.items)?,
-            undone: *undone,
-            outcome: copy_text(alloc, outcome)?,
-        }),
-        Answer::Vars { vars, handles, out } => Ok(Answer::Vars {
-            vars: copy_integers(alloc, &vars.items)?,
-            handles: copy_handles(alloc, &handles.items)?,
-            out: copy_integers(alloc, &out.items)?,
-        }),
-        Answer::Calls(calls) => Ok(Answer::Calls(copy_texts(alloc, &calls.items)?)),
-        Answer::Partners(partners) => Ok(Answer::Partners(copy_texts(alloc, &partners.items)?)),
+        } => copy_state(alloc, *depth, ranks, sets, *undone, outcome),
+        Answer::Vars { vars, handles, out } => copy_vars(alloc, vars, handles, out),
+        Answer::Calls(calls) => copy_texts(alloc, &calls.items).map(Answer::Calls),
+        Answer::Partners(partners) => copy_texts(alloc, &partners.items).map(Answer::Partners),
         Answer::Added(number) => Ok(Answer::Added(*number)),
         Answer::Removed => Ok(Answer::Removed),
-        Answer::Breaks(breaks) => Ok(Answer::Breaks(copy_texts(alloc, &breaks.items)?)),
-        Answer::Explored { leaves, more } => Ok(Answer::Explored {
-            leaves: copy_texts(alloc, &leaves.items)?,
-            more: *more,
-        }),
+        Answer::Breaks(breaks) => copy_texts(alloc, &breaks.items).map(Answer::Breaks),
+        Answer::Explored { leaves, more } => copy_leaves(alloc, leaves, *more),
     }
 }
 

@@ -1,15 +1,19 @@
 //! Replies as JSON.
 
 ghost use Rattle.std.specs.Prelude.{◌≡◌, IfOk, map, string_bytes, codes, true, false, Some, None, ◌∷◌, [], ◌++◌, List, ℕ};
-ghost use Rattle.serde_json.specs.View.{view};
-ghost use Rattle.serde_json.specs.Data.{object, boolean, string};
-ghost use Rattle.mpd_wire.specs.Replies.{natural, integer, or_null, listed, members, is_ok, stop_name, refused, refusal_fields, answer_fields, fields_of, reply_data, reply_text};
+ghost use Rattle.serde_json.specs.View.{view, members_view};
+ghost use Rattle.serde_json.specs.Data.{Members, no_members, member, object, boolean, string, put};
+ghost use Rattle.mpd_wire.specs.Replies.{natural, integer, or_null, listed, members, maybe, is_ok, stop_name, stop_number, refused, refusal_fields, answer_fields, fields_of, reply_data, reply_text};
 ghost use Rattle.mpd_wire.specs.declared.reply.Answer.TheVariants as answer;
+ghost use Rattle.mpd_wire.specs.declared.reply.Refusal.TheVariants as refusal;
 
-use crate::reply::{Answer, Refusal, Reply, Text};
+use crate::reply::{Answer, HandleList, IntegerList, Refusal, Reply, Text, TextList};
 use mpd_model::{Cause, Step, Stop, print_step};
-use serde_json::{Value, json};
+use serde_json::{Map, Value, put};
 use std::alloc::{AllocError, Global};
+
+/// The fields of an object so far, or that memory was refused for one of them.
+type Fields = Result<Map<String, Value>, AllocError>;
 
 /// The text of a reply (docs/SESSIONS.md, "Replies"), without its line feed. An `Err` is want of memory.
 pub fn print(alloc: Global, reply: &Reply) -> Result<String, AllocError>
@@ -28,10 +32,143 @@ fn value_of(alloc: Global, reply: &Reply) -> Result<Value, AllocError>
     }
 }
 
+/// An object without fields.
+fn no_fields(alloc: Global) -> Fields
+    ensures { IfOk result (λ f. members_view f.entries ≡ no_members) }
+{
+    Ok(Map::new(alloc))
+}
+
+/// The fields with one more.
+fn one_more(alloc: Global, fields: Map<String, Value>, key: &str, value: Value) -> Fields
+    ensures { IfOk result (λ f. members_view f.entries ≡ put key.now (view value) (members_view fields.entries)) }
+{
+    let mut more = fields;
+    match put(&mut more, alloc, key, value) {
+        Ok(()) => Ok(more),
+        Err(refused) => {
+            drop(more);
+            Err(refused)
+        }
+    }
+}
+
+/// The fields with one more, where none was refused before it.
+fn with_field(alloc: Global, fields: Fields, key: &str, value: Value) -> Fields
+    ensures { (held : Members) → IfOk fields (λ f. members_view f.entries ≡ held) → IfOk result (λ f. members_view f.entries ≡ put key.now (view value) held) }
+{
+    match fields {
+        Ok(fields) => one_more(alloc, fields, key, value),
+        Err(refused) => {
+            drop(value);
+            Err(refused)
+        }
+    }
+}
+
+/// The fields with a number more, where none was refused before it.
+fn with_number(alloc: Global, fields: Fields, key: &str, number: usize) -> Fields
+    ensures { (held : Members) → IfOk fields (λ f. members_view f.entries ≡ held) → IfOk result (λ f. members_view f.entries ≡ put key.now (natural number) held) }
+{
+    with_field(alloc, fields, key, Value::from(number))
+}
+
+/// The fields with a truth value more, where none was refused before it.
+fn with_flag(alloc: Global, fields: Fields, key: &str, flag: bool) -> Fields
+    ensures { (held : Members) → IfOk fields (λ f. members_view f.entries ≡ held) → IfOk result (λ f. members_view f.entries ≡ put key.now (boolean flag) held) }
+{
+    with_field(alloc, fields, key, Value::Bool(flag))
+}
+
+/// The fields with a text more.
+fn one_text_more(alloc: Global, fields: Map<String, Value>, key: &str, text: &str) -> Fields
+    ensures { IfOk result (λ f. members_view f.entries ≡ put key.now (string text.now) (members_view fields.entries)) }
+{
+    match Value::try_from_str(alloc, text) {
+        Ok(value) => one_more(alloc, fields, key, value),
+        Err(refused) => {
+            drop(fields);
+            Err(refused)
+        }
+    }
+}
+
+/// The fields with a text more, where none was refused before it.
+fn with_text(alloc: Global, fields: Fields, key: &str, text: &str) -> Fields
+    ensures { (held : Members) → IfOk fields (λ f. members_view f.entries ≡ held) → IfOk result (λ f. members_view f.entries ≡ put key.now (string text.now) held) }
+{
+    match fields {
+        Ok(fields) => one_text_more(alloc, fields, key, text),
+        Err(refused) => Err(refused),
+    }
+}
+
+/// The object of some fields.
+fn object_of(fields: Fields) -> Result<Value, AllocError>
+    ensures { (held : Members) → IfOk fields (λ f. members_view f.entries ≡ held) → IfOk result (λ v. view v ≡ object held) }
+{
+    match fields {
+        Ok(fields) => Ok(Value::Object(fields)),
+        Err(refused) => Err(refused),
+    }
+}
+
+/// The object of some fields, with the version of the session as its last.
+fn with_version(alloc: Global, fields: Fields, version: u64) -> Result<Value, AllocError>
+    ensures { (held : Members) → IfOk fields (λ f. members_view f.entries ≡ held) → IfOk result (λ v. view v ≡ object (put (codes "version") (natural version) held)) }
+{
+    object_of(with_field(alloc, fields, "version", Value::from(version)))
+}
+
+/// The fields with a depth more, and that the request was carried out.
+fn with_depth(alloc: Global, fields: Fields, depth: usize) -> Fields
+    ensures { (held : Members) → IfOk fields (λ f. members_view f.entries ≡ held) → IfOk result (λ f. members_view f.entries ≡ put (codes "ok") (boolean true) (put (codes "depth") (natural depth) held)) }
+{
+    let fields = with_number(alloc, fields, "depth", depth);
+    with_flag(alloc, fields, "ok", true)
+}
+
+/// An object with one field before `ok`.
+fn before_ok(alloc: Global, version: u64, key: &str, value: Value) -> Result<Value, AllocError>
+    ensures { IfOk result (λ v. view v ≡ object (put (codes "version") (natural version) (put (codes "ok") (boolean true) (member key.now (view value) no_members)))) }
+{
+    let fields = with_field(alloc, no_fields(alloc), key, value);
+    let fields = with_flag(alloc, fields, "ok", true);
+    with_version(alloc, fields, version)
+}
+
+/// An object with one field between `ok` and the version.
+fn behind_ok(alloc: Global, version: u64, key: &str, value: Value) -> Result<Value, AllocError>
+    ensures { IfOk result (λ v. view v ≡ object (put (codes "version") (natural version) (put key.now (view value) (member (codes "ok") (boolean true) no_members)))) }
+{
+    let fields = with_flag(alloc, no_fields(alloc), "ok", true);
+    let fields = with_field(alloc, fields, key, value);
+    with_version(alloc, fields, version)
+}
+
 fn named(alloc: Global, name: &str) -> Result<Value, AllocError>
     ensures { IfOk result (λ v. view v ≡ object (members (refused name.now))) }
 {
-    json!(in alloc; {"error": name, "ok": false})
+    let fields = with_text(alloc, no_fields(alloc), "error", name);
+    object_of(with_flag(alloc, fields, "ok", false))
+}
+
+/// The object of a request for a version that is past.
+fn stale_value(alloc: Global, now: u64) -> Result<Value, AllocError>
+    ensures { IfOk result (λ v. view v ≡ object (members (refusal_fields (refusal.Stale now)))) }
+{
+    let fields = with_text(alloc, no_fields(alloc), "error", "stale");
+    let fields = with_field(alloc, fields, "now", Value::from(now));
+    object_of(with_flag(alloc, fields, "ok", false))
+}
+
+/// The object of a request at a choice that was not made.
+fn choice_value(alloc: Global, count: usize) -> Result<Value, AllocError>
+    ensures { IfOk result (λ v. view v ≡ object (members (refusal_fields (refusal.NeedsChoice count)))) }
+{
+    let fields = with_number(alloc, no_fields(alloc), "count", count);
+    let fields = with_text(alloc, fields, "error", "needs-choice");
+    object_of(with_flag(alloc, fields, "ok", false))
 }
 
 fn refused_value(alloc: Global, refusal: Refusal) -> Result<Value, AllocError>
@@ -47,10 +184,8 @@ fn refused_value(alloc: Global, refusal: Refusal) -> Result<Value, AllocError>
         Refusal::NotJson => named(alloc, "not-json"),
         Refusal::BadField => named(alloc, "bad-field"),
         Refusal::UnknownCommand => named(alloc, "unknown-command"),
-        Refusal::Stale { now } => json!(in alloc; {"error": "stale", "now": now, "ok": false}),
-        Refusal::NeedsChoice { count } => {
-            json!(in alloc; {"count": count, "error": "needs-choice", "ok": false})
-        }
+        Refusal::Stale { now } => stale_value(alloc, now),
+        Refusal::NeedsChoice { count } => choice_value(alloc, count),
         Refusal::NoSuchBreak => named(alloc, "no-such-break"),
         Refusal::BreaksFull => named(alloc, "breaks-full"),
         Refusal::BadNumber => named(alloc, "bad-number"),
@@ -62,7 +197,7 @@ fn done(alloc: Global, version: u64, answer: &Answer) -> Result<Value, AllocErro
     ensures { IfOk result (λ v. view v ≡ object (members (answer_fields answer.now ++ (codes "version", natural version) ∷ []))) }
 {
     match answer {
-        Answer::Depth(depth) => json!(in alloc; {"depth": *depth, "ok": true, "version": version}),
+        Answer::Depth(depth) => depth_value(alloc, version, *depth),
         Answer::Stepped { depth, step } => stepped_value(alloc, version, *depth, *step),
         Answer::Ran { depth, stop } => ran_value(alloc, version, *depth, *stop),
         Answer::Enabled(steps) => steps_value(alloc, version, &steps.items),
@@ -72,17 +207,8 @@ fn done(alloc: Global, version: u64, answer: &Answer) -> Result<Value, AllocErro
             sets,
             undone,
             outcome,
-        } => {
-            let ranks = texts_value(alloc, &ranks.items)?;
-            let sets = texts_value(alloc, &sets.items)?;
-            state_value(alloc, version, *depth, ranks, sets, *undone, outcome)
-        }
-        Answer::Vars { vars, handles, out } => {
-            let vars = integers_value(alloc, &vars.items)?;
-            let handles = handles_value(alloc, &handles.items)?;
-            let out = integers_value(alloc, &out.items)?;
-            vars_value(alloc, version, vars, handles, out)
-        }
+        } => lists_value(alloc, version, *depth, ranks, sets, *undone, outcome),
+        Answer::Vars { vars, handles, out } => cells_value(alloc, version, vars, handles, out),
         Answer::Calls(calls) => calls_value(alloc, version, &calls.items),
         Answer::Partners(partners) => partners_value(alloc, version, &partners.items),
         Answer::Added(number) => added_value(alloc, version, *number),
@@ -92,11 +218,20 @@ fn done(alloc: Global, version: u64, answer: &Answer) -> Result<Value, AllocErro
     }
 }
 
+/// The object of a depth.
+fn depth_value(alloc: Global, version: u64, depth: usize) -> Result<Value, AllocError>
+    ensures { IfOk result (λ v. view v ≡ object (members (answer_fields (answer.Depth depth) ++ (codes "version", natural version) ∷ []))) }
+{
+    with_version(alloc, with_depth(alloc, no_fields(alloc), depth), version)
+}
+
 fn stepped_value(alloc: Global, version: u64, depth: usize, step: Step) -> Result<Value, AllocError>
     ensures { IfOk result (λ v. view v ≡ object (members (answer_fields (answer.Stepped depth step) ++ (codes "version", natural version) ∷ []))) }
 {
     let text = print_step(alloc, step)?;
-    json!(in alloc; {"depth": depth, "ok": true, "step": text.as_str(), "version": version})
+    let fields = with_depth(alloc, no_fields(alloc), depth);
+    let fields = with_text(alloc, fields, "step", text.as_str());
+    with_version(alloc, fields, version)
 }
 
 fn stop_name(cause: Cause) -> &'static str
@@ -112,26 +247,42 @@ fn stop_name(cause: Cause) -> &'static str
     }
 }
 
+/// The fields of why a run has stopped that stand before its depth.
+fn break_fields(alloc: Global, cause: Cause) -> Fields
+    ensures { IfOk result (λ f. members_view f.entries ≡ members (maybe (codes "break") natural (stop_number cause))) }
+{
+    match cause {
+        Cause::Break(number) => with_number(alloc, no_fields(alloc), "break", number),
+        Cause::Leaf | Cause::Choice | Cause::Full | Cause::Max | Cause::Start => no_fields(alloc),
+    }
+}
+
 fn ran_value(alloc: Global, version: u64, depth: usize, stop: Stop) -> Result<Value, AllocError>
     ensures { IfOk result (λ v. view v ≡ object (members (answer_fields (answer.Ran depth stop) ++ (codes "version", natural version) ∷ []))) }
 {
     let Stop { steps, cause } = stop;
-    let name = stop_name(cause);
-    match cause {
-        Cause::Break(number) => {
-            json!(in alloc; {"break": number, "depth": depth, "ok": true, "steps": steps, "stop": name, "version": version})
-        }
-        Cause::Leaf | Cause::Choice | Cause::Full | Cause::Max | Cause::Start => {
-            json!(in alloc; {"depth": depth, "ok": true, "steps": steps, "stop": name, "version": version})
-        }
-    }
+    let fields = with_depth(alloc, break_fields(alloc, cause), depth);
+    let fields = with_number(alloc, fields, "steps", steps);
+    let fields = with_text(alloc, fields, "stop", stop_name(cause));
+    with_version(alloc, fields, version)
 }
 
 fn steps_value(alloc: Global, version: u64, steps: &[String]) -> Result<Value, AllocError>
     ensures { IfOk result (λ v. view v ≡ object (members (answer_fields (answer.Enabled (map string_bytes steps.now)) ++ (codes "version", natural version) ∷ []))) }
 {
     let steps = texts_value(alloc, steps)?;
-    json!(in alloc; {"ok": true, "steps": steps, "version": version})
+    behind_ok(alloc, version, "steps", steps)
+}
+
+/// The fields of a state that stand before its lists.
+fn state_fields(alloc: Global, depth: usize, outcome: &Option<Text>) -> Fields
+    ensures { IfOk result (λ f. members_view f.entries ≡ members ((codes "depth", natural depth) ∷ is_ok ∷ maybe (codes "outcome") string outcome.now)) }
+{
+    let fields = with_depth(alloc, no_fields(alloc), depth);
+    match outcome {
+        None => fields,
+        Some(outcome) => with_text(alloc, fields, "outcome", outcome.string.as_str()),
+    }
 }
 
 fn state_value(
@@ -145,12 +296,31 @@ fn state_value(
 ) -> Result<Value, AllocError>
     ensures { (rs ss : List (List ℕ)) → view ranks ≡ listed string rs → view sets ≡ listed string ss → IfOk result (λ v. view v ≡ object (members (answer_fields (answer.State depth rs ss undone outcome.now) ++ (codes "version", natural version) ∷ []))) }
 {
-    match outcome {
-        None => {
-            json!(in alloc; {"depth": depth, "ok": true, "ranks": ranks, "sets": sets, "undone": undone, "version": version})
-        }
-        Some(outcome) => {
-            json!(in alloc; {"depth": depth, "ok": true, "outcome": outcome.string.as_str(), "ranks": ranks, "sets": sets, "undone": undone, "version": version})
+    let fields = state_fields(alloc, depth, outcome);
+    let fields = with_field(alloc, fields, "ranks", ranks);
+    let fields = with_field(alloc, fields, "sets", sets);
+    let fields = with_number(alloc, fields, "undone", undone);
+    with_version(alloc, fields, version)
+}
+
+/// The object of a state, whose lists are still to be made.
+fn lists_value(
+    alloc: Global,
+    version: u64,
+    depth: usize,
+    ranks: &TextList,
+    sets: &TextList,
+    undone: usize,
+    outcome: &Option<Text>,
+) -> Result<Value, AllocError>
+    ensures { IfOk result (λ v. view v ≡ object (members (answer_fields (answer.State depth ranks.now sets.now undone outcome.now) ++ (codes "version", natural version) ∷ []))) }
+{
+    let ranks = texts_value(alloc, &ranks.items)?;
+    match texts_value(alloc, &sets.items) {
+        Ok(sets) => state_value(alloc, version, depth, ranks, sets, undone, outcome),
+        Err(refused) => {
+            drop(ranks);
+            Err(refused)
         }
     }
 }
@@ -164,40 +334,85 @@ fn vars_value(
 ) -> Result<Value, AllocError>
     ensures { IfOk result (λ v. view v ≡ object (members ((codes "handles", view handles) ∷ is_ok ∷ (codes "out", view out) ∷ (codes "vars", view vars) ∷ (codes "version", natural version) ∷ []))) }
 {
-    json!(in alloc; {"handles": handles, "ok": true, "out": out, "vars": vars, "version": version})
+    let fields = with_field(alloc, no_fields(alloc), "handles", handles);
+    let fields = with_flag(alloc, fields, "ok", true);
+    let fields = with_field(alloc, fields, "out", out);
+    let fields = with_field(alloc, fields, "vars", vars);
+    with_version(alloc, fields, version)
+}
+
+/// The object of what a rank holds, where what it has printed is still to be made.
+fn printed_value(
+    alloc: Global,
+    version: u64,
+    vars: Value,
+    handles: Value,
+    out: &IntegerList,
+) -> Result<Value, AllocError>
+    ensures { IfOk result (λ v. view v ≡ object (members ((codes "handles", view handles) ∷ is_ok ∷ (codes "out", listed integer out.now) ∷ (codes "vars", view vars) ∷ (codes "version", natural version) ∷ []))) }
+{
+    match integers_value(alloc, &out.items) {
+        Ok(out) => vars_value(alloc, version, vars, handles, out),
+        Err(refused) => {
+            drop(vars);
+            drop(handles);
+            Err(refused)
+        }
+    }
+}
+
+/// The object of what a rank holds, whose lists are still to be made.
+fn cells_value(
+    alloc: Global,
+    version: u64,
+    vars: &IntegerList,
+    handles: &HandleList,
+    out: &IntegerList,
+) -> Result<Value, AllocError>
+    ensures { IfOk result (λ v. view v ≡ object (members (answer_fields (answer.Vars vars.now handles.now out.now) ++ (codes "version", natural version) ∷ []))) }
+{
+    let vars = integers_value(alloc, &vars.items)?;
+    match handles_value(alloc, &handles.items) {
+        Ok(handles) => printed_value(alloc, version, vars, handles, out),
+        Err(refused) => {
+            drop(vars);
+            Err(refused)
+        }
+    }
 }
 
 fn calls_value(alloc: Global, version: u64, calls: &[String]) -> Result<Value, AllocError>
     ensures { IfOk result (λ v. view v ≡ object (members (answer_fields (answer.Calls (map string_bytes calls.now)) ++ (codes "version", natural version) ∷ []))) }
 {
     let calls = texts_value(alloc, calls)?;
-    json!(in alloc; {"calls": calls, "ok": true, "version": version})
+    before_ok(alloc, version, "calls", calls)
 }
 
 fn partners_value(alloc: Global, version: u64, partners: &[String]) -> Result<Value, AllocError>
     ensures { IfOk result (λ v. view v ≡ object (members (answer_fields (answer.Partners (map string_bytes partners.now)) ++ (codes "version", natural version) ∷ []))) }
 {
     let partners = texts_value(alloc, partners)?;
-    json!(in alloc; {"ok": true, "partners": partners, "version": version})
+    behind_ok(alloc, version, "partners", partners)
 }
 
 fn added_value(alloc: Global, version: u64, number: usize) -> Result<Value, AllocError>
     ensures { IfOk result (λ v. view v ≡ object (members (answer_fields (answer.Added number) ++ (codes "version", natural version) ∷ []))) }
 {
-    json!(in alloc; {"break": number, "ok": true, "version": version})
+    before_ok(alloc, version, "break", Value::from(number))
 }
 
 fn removed_value(alloc: Global, version: u64) -> Result<Value, AllocError>
     ensures { IfOk result (λ v. view v ≡ object (members (is_ok ∷ (codes "version", natural version) ∷ []))) }
 {
-    json!(in alloc; {"ok": true, "version": version})
+    let fields = with_flag(alloc, no_fields(alloc), "ok", true);
+    with_version(alloc, fields, version)
 }
 
 fn breaks_value(alloc: Global, version: u64, breaks: &[String]) -> Result<Value, AllocError>
     ensures { IfOk result (λ v. view v ≡ object (members (answer_fields (answer.Breaks (map string_bytes breaks.now)) ++ (codes "version", natural version) ∷ []))) }
 {
     let breaks = texts_value(alloc, breaks)?;
-    json!(in alloc; {"breaks": breaks, "ok": true, "version": version})
+    before_ok(alloc, version, "breaks", breaks)
 }
 
 fn leaves_value(
@@ -209,7 +424,10 @@ fn leaves_value(
     ensures { IfOk result (λ v. view v ≡ object (members (answer_fields (answer.Explored (map string_bytes leaves.now) more) ++ (codes "version", natural version) ∷ []))) }
 {
     let leaves = texts_value(alloc, leaves)?;
-    json!(in alloc; {"leaves": leaves, "more": more, "ok": true, "version": version})
+    let fields = with_field(alloc, no_fields(alloc), "leaves", leaves);
+    let fields = with_flag(alloc, fields, "more", more);
+    let fields = with_flag(alloc, fields, "ok", true);
+    with_version(alloc, fields, version)
 }
 
 fn texts_value(alloc: Global, texts: &[String]) -> Result<Value, AllocError>
@@ -222,14 +440,31 @@ fn texts_value(alloc: Global, texts: &[String]) -> Result<Value, AllocError>
     Ok(Value::Array(values))
 }
 
+/// What a variable holds, or what was printed.
+fn integer_value(number: &i64) -> Value
+    ensures { view result ≡ integer number.now }
+{
+    Value::from(*number)
+}
+
 fn integers_value(alloc: Global, numbers: &[i64]) -> Result<Value, AllocError>
     ensures { IfOk result (λ v. view v ≡ listed integer numbers.now) }
 {
     let mut values = Vec::new(alloc);
     for number in numbers {
-        values.push(Value::from(*number))?;
+        values.push(integer_value(number))?;
     }
     Ok(Value::Array(values))
+}
+
+/// The number of a handle's call, or null.
+fn handle_value(handle: Option<usize>) -> Value
+    ensures { view result ≡ or_null handle }
+{
+    match handle {
+        Some(number) => Value::from(number),
+        None => Value::Null,
+    }
 }
 
 fn handles_value(alloc: Global, handles: &[Option<usize>]) -> Result<Value, AllocError>
@@ -237,10 +472,7 @@ fn handles_value(alloc: Global, handles: &[Option<usize>]) -> Result<Value, Allo
 {
     let mut values = Vec::new(alloc);
     for handle in handles {
-        values.push(match handle {
-            Some(number) => Value::from(*number),
-            None => Value::Null,
-        })?;
+        values.push(handle_value(*handle))?;
     }
     Ok(Value::Array(values))
 }

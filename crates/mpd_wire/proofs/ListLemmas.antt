@@ -1,0 +1,30 @@
+-- A list that is made of another, element by element.
+use Rattle.std.proofs.Common.{◌≡◌, ◌<◌, ◌≤◌, ℕ, Vec, Global, ◌+◌, List, [], ◌∷◌, ◌++◌, length, map, take, get_or, ap, sym, ◌∙◌}
+use Rattle.std.proofs.lemmas.List.{map_more, map-append, take_all}
+use Rattle.serde_json.specs.Data.{Data, array}
+use Rattle.serde_json.specs.View.{view, items_of}
+use Rattle.serde_json.specs.declared.value.Value.{Value, Array}
+use Rattle.serde_json.proofs.Views.{view-Array}
+use Rattle.mpd_wire.specs.Replies.{listed}
+
+-- what is told of the elements so far, and of one more
+pub told_more : {X D : Type 0} (f : X → D) (xs : List X) (old new : List D) (i : ℕ) (d : X) (t : D) → i < length xs → old ≡ map f (take i xs) → t ≡ f (get_or xs i d) → new ≡ old ++ t ∷ [] → new ≡ map f (take (i + 1) xs)
+told_more f xs old new i d t within so_far is added = added ∙ ap (λ l. l ++ t ∷ []) so_far ∙ ap (λ z. map f (take i xs) ++ z ∷ []) is ∙ sym (map_more f xs i d within)
+
+-- the same of elements that are shown as something else
+pub made_more : {X Y D : Type 0} (f : X → D) (seen : Y → D) (xs : List X) (old new : List Y) (i : ℕ) (d : X) (y : Y) → i < length xs → map seen old ≡ map f (take i xs) → seen y ≡ f (get_or xs i d) → new ≡ old ++ y ∷ [] → map seen new ≡ map f (take (i + 1) xs)
+made_more f seen xs old new i d y within so_far is added = told_more f xs (map seen old) (map seen new) i d (seen y) within so_far is (ap (map seen) added ∙ map-append seen old (y ∷ []))
+
+-- the same where what is told of each is made in two steps
+pub made_twice : {X Y C D : Type 0} (g : C → D) (f : X → C) (seen : Y → D) (xs : List X) (old new : List Y) (i : ℕ) (d : X) (y : Y) → i < length xs → map seen old ≡ map g (map f (take i xs)) → seen y ≡ g (f (get_or xs i d)) → new ≡ old ++ y ∷ []
+    → map seen new ≡ map g (map f (take (i + 1) xs))
+made_twice g f seen xs old new i d y within so_far is added =
+    ap (map seen) added ∙ map-append seen old (y ∷ []) ∙ ap (λ l. l ++ seen y ∷ []) so_far ∙ ap (λ z. map g (map f (take i xs)) ++ z ∷ []) is
+    ∙ sym (ap (map g) (map_more f xs i d within) ∙ map-append g (map f (take i xs)) (f (get_or xs i d) ∷ []))
+
+-- the array of all that was made
+pub made_all : {X : Type 0} (f : X → Data) (values : Vec Value Global) (xs : List X) (i : ℕ) → length xs ≤ i → map view values.items ≡ map f (take i xs) → view (Array values) ≡ listed f xs
+made_all f values xs i all made = view-Array values ∙ ap (λ l. array (items_of l)) (made ∙ ap (map f) (take_all i xs all))
+
+pub made_all_twice : {X C : Type 0} (g : C → Data) (f : X → C) (values : Vec Value Global) (xs : List X) (i : ℕ) → length xs ≤ i → map view values.items ≡ map g (map f (take i xs)) → view (Array values) ≡ listed g (map f xs)
+made_all_twice g f values xs i all made = view-Array values ∙ ap (λ l. array (items_of l)) (made ∙ ap (λ l. map g (map f l)) (take_all i xs all))
