@@ -54,6 +54,22 @@ fn end_prompt<'a, W: Sink>(
     Ok(())
 }
 
+/// Writes what a console says first, and answers the words of a source, up to `quit` or its end.
+fn talk<'a, S: Source, W: Sink>(
+    alloc: Global,
+    opened: &mut Opened<'_, '_>,
+    is_prompting: bool,
+    source: &mut S,
+    sink: &mut W,
+) -> Result<(), Fault<'a>> {
+    if write_all(sink, &opened.said).is_err() {
+        return Err(Fault::from(EngineFault::WriteFailed));
+    }
+    let mut source = UntilQuit::new(source);
+    run_console(alloc, &mut opened.desk, &mut source, sink)?;
+    end_prompt(is_prompting, source.has_quit(), sink)
+}
+
 /// Answers the words of a source on a script, up to `quit` or its end. At a terminal it says first how to go on.
 pub(crate) fn debug_script<'a, R: Eprint + AllocGlobal, S: Source, W: Sink>(
     rt: &R,
@@ -64,23 +80,14 @@ pub(crate) fn debug_script<'a, R: Eprint + AllocGlobal, S: Source, W: Sink>(
     source: &mut S,
     sink: &mut W,
 ) -> Result<(), Fault<'a>> {
-    let alloc = rt.alloc();
-    let Opened { mut desk, said } = console_of(
-        alloc,
-        script,
-        text,
-        witness,
-        terminals.is_prompting,
-    )?;
+    let is_prompting = terminals.is_prompting;
+    let mut opened = console_of(rt.alloc(), script, text, witness, is_prompting)?;
     if terminals.is_terminal {
         let _unwritten = eprintln!(rt;
             "help lists the words, an empty line repeats the last, quit ends; docs/CONSOLE.md"
         );
     }
-    if write_all(sink, &said).is_err() {
-        return Err(Fault::from(EngineFault::WriteFailed));
-    }
-    let mut source = UntilQuit::new(source);
-    run_console(alloc, &mut desk, &mut source, sink)?;
-    end_prompt(terminals.is_prompting, source.has_quit(), sink)
+    let talked = talk(rt.alloc(), &mut opened, is_prompting, source, sink);
+    drop(opened);
+    talked
 }

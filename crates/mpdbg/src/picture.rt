@@ -128,6 +128,38 @@ fn lead<'a>(
     }
 }
 
+/// Writes the drawing of the steps of a debugger.
+fn write_drawing<'a, W: Sink>(
+    alloc: Global,
+    debugger: &Debugger<'_>,
+    sink: &mut W,
+) -> Result<(), Fault<'a>> {
+    let svg = match draw(alloc, debugger) {
+        Ok(svg) => svg,
+        Err(DrawFault::TooLong) => return Err(Fault::LongPicture),
+        Err(DrawFault::Memory) => return Err(Fault::from(EngineFault::Memory)),
+    };
+    if write_all(sink, svg.as_bytes()).is_err() {
+        return Err(Fault::from(EngineFault::WriteFailed));
+    }
+    Ok(())
+}
+
+/// Takes the steps of the run that is asked for, and writes its drawing.
+fn draw_from<'a, W: Sink>(
+    alloc: Global,
+    script: &(Mode, Code),
+    debugger: &mut Debugger<'_>,
+    asked: Asked<'a>,
+    fuel: usize,
+    sink: &mut W,
+) -> Result<(), Fault<'a>>
+    requires { fuel ≤ STEPS_MAX }
+{
+    lead(alloc, script, debugger, asked, fuel)?;
+    write_drawing(alloc, debugger, sink)
+}
+
 /// Draws the run that is asked for, and writes it.
 pub(crate) fn draw_run<'a, W: Sink>(
     alloc: Global,
@@ -139,14 +171,7 @@ pub(crate) fn draw_run<'a, W: Sink>(
     requires { fuel ≤ STEPS_MAX }
 {
     let mut debugger = started(alloc, script)?;
-    lead(alloc, script, &mut debugger, asked, fuel)?;
-    let svg = match draw(alloc, &debugger) {
-        Ok(svg) => svg,
-        Err(DrawFault::TooLong) => return Err(Fault::LongPicture),
-        Err(DrawFault::Memory) => return Err(Fault::from(EngineFault::Memory)),
-    };
-    if write_all(sink, svg.as_bytes()).is_err() {
-        return Err(Fault::from(EngineFault::WriteFailed));
-    }
-    Ok(())
+    let drawn = draw_from(alloc, script, &mut debugger, asked, fuel, sink);
+    drop(debugger);
+    drawn
 }

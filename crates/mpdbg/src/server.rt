@@ -249,6 +249,69 @@ fn serve_seats<'a, L: Opening + Send + Sync, R: Threads + Wait + Sync + Eprint, 
     }
 }
 
+/// A session at the start of a script, for so many clients, and their seats.
+fn session_of<'s, 'a, L: Opening>(
+    alloc: Global,
+    blank: Blank,
+    script: &'s (Mode, Code),
+    clients: usize,
+) -> Result<(Shared<'s, L>, Vec<Seat<L>>), Fault<'a>>
+    requires name { blank.name ≡ L.name }
+    requires blank { blank.parts ≡ L.parts }
+    requires parts { L.parts ≡ clients }
+    requires program { script.now.1.program ≡ L.program }
+    requires mode { script.now.0 ≡ L.mode }
+{
+    let (mode, code) = script;
+    let Ok(session) = Session::start(alloc, code, *mode) else {
+        return Err(Fault::from(EngineFault::Memory));
+    };
+    match Shared::<L>::new(alloc, blank, session, clients) {
+        Ok(opened) => Ok(opened),
+        Err(_) => Err(Fault::from(EngineFault::Memory)),
+    }
+}
+
+/// How many entries the history of a session has, once all clients have left and the receipts of their seats agree with it.
+fn entries_settled<'a, L: Opening>(
+    shared: Shared<'_, L>,
+    seats: Vec<Seat<L>>,
+) -> Result<usize, Fault<'a>> {
+    match shared.settle(seats) {
+        Ok(book) => {
+            let entries = book.len();
+            drop(book);
+            Ok(entries)
+        }
+        Err(SettleFault::CountsDiffer(book)) => {
+            drop(book);
+            Err(Fault::Settle(57))
+        }
+        Err(SettleFault::ReceiptDiffers(book)) => {
+            drop(book);
+            Err(Fault::Settle(58))
+        }
+    }
+}
+
+/// Serves the clients of a session by their seats, and answers how many entries its history has in the end.
+fn host_session<'a, L: Opening + Send + Sync, R: Threads + Wait + Sync + Eprint, W: Sink>(
+    rt: &R,
+    alloc: Global,
+    shared: Shared<'_, L>,
+    seats: Vec<Seat<L>>,
+    arrivals: Arrivals<'_>,
+    sink: &mut W,
+) -> Result<usize, Fault<'a>> {
+    match serve_seats(rt, alloc, &shared, seats, arrivals, sink) {
+        Ok(Left { seats, .. }) => entries_settled(shared, seats),
+        Err(fault) => {
+            drop(shared);
+            Err(fault)
+        }
+    }
+}
+
 /// Serves the clients on a session at the start of a script, and answers how many entries its history has in the end.
 fn host<'a, L: Opening + Send + Sync, R: Threads + Wait + Sync + Eprint, W: Sink>(
     rt: &R,
@@ -264,25 +327,8 @@ fn host<'a, L: Opening + Send + Sync, R: Threads + Wait + Sync + Eprint, W: Sink
     requires program { script.now.1.program ≡ L.program }
     requires mode { script.now.0 ≡ L.mode }
 {
-    let (mode, code) = script;
-    let Ok(session) = Session::start(alloc, code, *mode) else {
-        return Err(Fault::from(EngineFault::Memory));
-    };
-    let Ok((shared, seats)) = Shared::<L>::new(alloc, blank, session, arrivals.clients) else {
-        return Err(Fault::from(EngineFault::Memory));
-    };
-    let Left { seats, .. } = match serve_seats(rt, alloc, &shared, seats, arrivals, sink) {
-        Ok(left) => left,
-        Err(fault) => {
-            drop(shared);
-            return Err(fault);
-        }
-    };
-    match shared.settle(seats) {
-        Ok(book) => Ok(book.len()),
-        Err(SettleFault::CountsDiffer(_)) => Err(Fault::Settle(57)),
-        Err(SettleFault::ReceiptDiffers(_)) => Err(Fault::Settle(58)),
-    }
+    let (shared, seats) = session_of::<L>(alloc, blank, script, arrivals.clients)?;
+    host_session(rt, alloc, shared, seats, arrivals, sink)
 }
 
 /// The same, with a ledger of its own.
