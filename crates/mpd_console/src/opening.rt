@@ -1,6 +1,6 @@
 //! Opens a console: at the start of a script, or with a deadlock ahead.
 
-ghost use Rattle.std.specs.Prelude.{◌≡◌, IfOk, None, length};
+ghost use Rattle.std.specs.Prelude.{◌≡◌, ◌≤◌, IfOk, None, length};
 ghost use Rattle.mpd_model.specs.runs.Trail.{IsRun};
 ghost use Rattle.mpd_explore.specs.Witness.{IsWitness};
 ghost use Rattle.mpd_session.specs.Held.{opened};
@@ -55,6 +55,45 @@ pub fn open<'c, 't>(
     Ok(Opened { desk, said })
 }
 
+/// Checks a witness for a script, of which no more steps are taken than a debugger has room for.
+fn check_witness(alloc: Global, code: &Code, mode: Mode, witness: &Witness) -> Result<(), OpenFault>
+    ensures is { IfOk result (λ _. IsWitness code.now.program mode witness.now) }
+    ensures fits { IfOk result (λ _. length witness.now.steps ≤ STEPS_MAX) }
+{
+    if witness.steps.items.len() > STEPS_MAX {
+        return Err(OpenFault::TooLong);
+    }
+    match verify(alloc, code, mode, witness) {
+        Ok(()) => Ok(()),
+        Err(WitnessFault::Memory) => Err(OpenFault::Memory),
+        Err(fault) => Err(OpenFault::Refused(fault)),
+    }
+}
+
+/// A console on a session whose steps lie ahead. It says how the run ends that they make, and where it stands.
+fn console_before<'c, 't>(
+    alloc: Global,
+    session: Session<'c>,
+    script: &'t [u8],
+    is_prompting: bool,
+    ending: &Ending,
+    ahead: usize,
+) -> Result<Opened<'c, 't>, OpenFault>
+    ensures desk { IfOk result (λ o. o.desk ≡ record { session = session.entry; script = script.entry.now; last = None; prompts = is_prompting }) }
+    ensures said { IfOk result (λ o. o.said.items ≡ laid_said is_prompting script.entry.now session.entry None ending.now ahead) }
+{
+    match laid_text(alloc, &session, is_prompting, script, None, ending, ahead) {
+        Ok(said) => {
+            let desk = ConsoleDesk::new(session, script, is_prompting);
+            Ok(Opened { desk, said })
+        }
+        Err(_) => {
+            drop(session);
+            Err(OpenFault::Memory)
+        }
+    }
+}
+
 /// A console at the start of a script, with the steps of a witness ahead, which it is checked for first (docs/DEFINITIONS.md,
 /// "Witnesses"). It says where it stands.
 pub fn open_with<'c, 't>(
@@ -69,23 +108,12 @@ pub fn open_with<'c, 't>(
     ensures desk { IfOk result (λ o. o.desk ≡ record { session = laid (opened code.now.program mode) witness.steps; script = script.entry.now; last = None; prompts = is_prompting }) }
     ensures said { IfOk result (λ o. o.said.items ≡ laid_said is_prompting script.entry.now (laid (opened code.now.program mode) witness.steps) None (Ended (Deadlock witness.blocked)) (length witness.steps)) }
 {
-    if witness.steps.items.len() > STEPS_MAX {
-        return Err(OpenFault::TooLong);
-    }
-    match verify(alloc, code, mode, &witness) {
-        Ok(()) => {}
-        Err(WitnessFault::Memory) => return Err(OpenFault::Memory),
-        Err(fault) => return Err(OpenFault::Refused(fault)),
-    }
+    check_witness(alloc, code, mode, &witness)?;
     let Ok(mut session) = Session::start(alloc, code, mode) else {
         return Err(OpenFault::Memory);
     };
     let ahead = witness.steps.items.len();
     let ending = Ending::Ended(Outcome::Deadlock(witness.blocked));
     session.lay(witness.steps.items);
-    let Ok(said) = laid_text(alloc, &session, is_prompting, script, None, &ending, ahead) else {
-        return Err(OpenFault::Memory);
-    };
-    let desk = ConsoleDesk::new(session, script, is_prompting);
-    Ok(Opened { desk, said })
+    console_before(alloc, session, script, is_prompting, &ending, ahead)
 }
