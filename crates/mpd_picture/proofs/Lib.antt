@@ -1,3 +1,4 @@
 pub mod GlyphLemmas
 pub mod SvgLemmas
 pub mod LawLemmas
+pub mod TextLemmas

@@ -66,18 +66,31 @@ fn push_how(alloc: Global, out: &mut String, ended: &Option<Outcome>) -> Result<
     }
 }
 
-/// The title of a picture of so many steps.
+/// Adds what the title of a picture of so many steps says that have ended so.
 #[tactic(auto, unfolding(crate::specs::Pictures::title_of))]
+fn push_title_text(
+    alloc: Global,
+    core: &Core<'_>,
+    out: &mut String,
+    depth: usize,
+    ended: &Option<Outcome>,
+) -> Result<(), AllocError>
+    ensures { OnOk result (string_bytes out.new ≡ string_bytes out.old ++ spec.title_of core.now.world.board depth ended.now) }
+{
+    let ranks = core.rank_count();
+    write!(out, "{ranks} ranks, ")?;
+    push_mode(out, core.board().mode())?;
+    write!(out, ", {depth} steps: ")?;
+    push_how(alloc, out, ended)
+}
+
+/// The title of a picture of so many steps.
 fn title_of(alloc: Global, core: &Core<'_>, depth: usize) -> Result<String, AllocError>
     ensures { IfOk result (λ t. string_bytes t ≡ spec.title_of core.now.world.board depth (outcome core.now.world)) }
 {
     let ended = core.outcome(alloc)?;
-    let ranks = core.rank_count();
     let mut title = String::new(alloc);
-    write!(title, "{ranks} ranks, ")?;
-    push_mode(&mut title, core.board().mode())?;
-    write!(title, ", {depth} steps: ")?;
-    push_how(alloc, &mut title, &ended)?;
+    push_title_text(alloc, core, &mut title, depth, &ended)?;
     Ok(title)
 }
 

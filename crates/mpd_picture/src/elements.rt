@@ -1,6 +1,7 @@
 //! The elements of a drawing.
 
-ghost use Rattle.std.specs.Prelude.{◌≡◌, ◌++◌, OnOk, string_bytes};
+ghost use Rattle.std.specs.Prelude.{◌≡◌, ◌++◌, OnOk, codes, string_bytes};
+ghost use Rattle.std.specs.Fmt.{decimal};
 ghost use Rattle.mpd_picture.specs.Svg as spec;
 
 use std::alloc::AllocError;
@@ -32,12 +33,25 @@ fn push_closed(out: &mut String) -> Result<(), AllocError>
     out.push_str("/>\n")
 }
 
+/// Adds a letter of a path, with what stands before it, and the place that it leads to.
+pub(crate) fn push_corner(
+    out: &mut String,
+    letter: &str,
+    x: usize,
+    y: usize,
+) -> Result<(), AllocError>
+    ensures { OnOk result (string_bytes out.new ≡ string_bytes out.old ++ (letter.now ++ decimal x ++ codes " " ++ decimal y)) }
+{
+    out.push_str(letter)?;
+    write!(out, "{x} {y}")
+}
+
 /// Adds the data of a path.
 #[tactic(auto, unfolding(crate::specs::Svg::path_at))]
 fn push_path_at(out: &mut String, x: usize, y: usize, path: &str) -> Result<(), AllocError>
     ensures { OnOk result (string_bytes out.new ≡ string_bytes out.old ++ spec.path_at x y path.now) }
 {
-    write!(out, " d=\"M{x} {y}")?;
+    push_corner(out, " d=\"M", x, y)?;
     out.push_str(path)?;
     out.push('"')
 }

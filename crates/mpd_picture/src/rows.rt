@@ -225,6 +225,16 @@ fn push_short(out: &mut String, kind: Option<CallKind>) -> Result<(), AllocError
     }
 }
 
+/// Adds that a call is free, where it is.
+fn push_free_word(out: &mut String, is_free: bool) -> Result<(), AllocError>
+    ensures { OnOk result (string_bytes out.new ≡ string_bytes out.old ++ spec.free_text is_free) }
+{
+    if is_free {
+        out.push_str(" free")?;
+    }
+    Ok(())
+}
+
 /// Adds the words of a call.
 #[tactic(auto, unfolding(crate::specs::Rows::call_words))]
 fn push_call_words(core: &Core<'_>, out: &mut String, call: CallId) -> Result<(), AllocError>
@@ -233,10 +243,7 @@ fn push_call_words(core: &Core<'_>, out: &mut String, call: CallId) -> Result<()
     let line = issue_line(core, call);
     write!(out, "{line}: {call} ")?;
     push_short(out, core.board().kind(call))?;
-    if core.board().is_free(call) {
-        out.push_str(" free")?;
-    }
-    Ok(())
+    push_free_word(out, core.board().is_free(call))
 }
 
 /// Adds the row of a call.

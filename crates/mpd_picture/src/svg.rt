@@ -1,12 +1,12 @@
 //! The text of each shape of a drawing.
 
-ghost use Rattle.std.specs.Prelude.{◌≡◌, ◌++◌, ◌≤◌, OnOk, IfOk, IfSome, slice_get, string_bytes};
+ghost use Rattle.std.specs.Prelude.{◌≡◌, ◌++◌, ◌+◌, ◌≤◌, codes, OnOk, IfOk, IfSome, slice_get, string_bytes};
 ghost use Rattle.std.specs.List.{flat_map};
 ghost use Rattle.mpd_model.specs.steps.World.{kind_at};
 ghost use Rattle.mpd_model.specs.texts.Texts.{send_word, recv_word};
 ghost use Rattle.mpd_picture.specs.Svg as spec;
 
-use crate::elements::{push_group, push_group_end, push_line, push_path, push_text};
+use crate::elements::{push_corner, push_group, push_group_end, push_line, push_path, push_text};
 use crate::places::{column_x, lane_x, row_y};
 use crate::shape::Shape;
 use mpd_core::Core;
@@ -308,8 +308,9 @@ fn push_bow(out: &mut String, x: usize, from: usize, to: usize) -> Result<(), Al
     ensures { OnOk result (string_bytes out.new ≡ string_bytes out.old ++ spec.bow x from to) }
 {
     let left = x.saturating_sub(40);
-    write!(out, "C{left} {from} {left} ")?;
-    write!(out, "{to} {x} {to}")
+    push_corner(out, "C", left, from)?;
+    push_corner(out, " ", left, to)?;
+    push_corner(out, " ", x, to)
 }
 
 /// Adds a straight line.
@@ -317,7 +318,7 @@ fn push_bow(out: &mut String, x: usize, from: usize, to: usize) -> Result<(), Al
 fn push_straight(out: &mut String, x: usize, y: usize) -> Result<(), AllocError>
     ensures { OnOk result (string_bytes out.new ≡ string_bytes out.old ++ spec.straight x y) }
 {
-    write!(out, "L{x} {y}")
+    push_corner(out, "L", x, y)
 }
 
 /// The path of an arrow.
@@ -439,8 +440,28 @@ fn finish_path(finish: Finish) -> &'static str
     }
 }
 
-/// Its words.
+/// Adds its words.
 #[tactic(auto, unfolding(crate::specs::Svg::finish_told))]
+fn push_finish_words(
+    core: &Core<'_>,
+    out: &mut String,
+    rank: usize,
+    finish: Finish,
+) -> Result<(), AllocError>
+    ensures { OnOk result (string_bytes out.new ≡ string_bytes out.old ++ spec.finish_told core.now.program (slice_get core.now.world.ranks rank) finish) }
+{
+    match finish {
+        Finish::Ended => out.push_str("ended"),
+        Finish::Running => {
+            let line = rank_line(core, rank);
+            write!(out, "at line {line}")
+        }
+        Finish::Blocked => out.push_str("blocked"),
+        Finish::Trapped(trap) => out.push_str(trap.name()),
+    }
+}
+
+/// Its words.
 fn finish_told(
     alloc: Global,
     core: &Core<'_>,
@@ -450,15 +471,7 @@ fn finish_told(
     ensures { IfOk result (λ t. string_bytes t ≡ spec.finish_told core.now.program (slice_get core.now.world.ranks rank) finish) }
 {
     let mut told = String::new(alloc);
-    match finish {
-        Finish::Ended => told.push_str("ended")?,
-        Finish::Running => {
-            let line = rank_line(core, rank);
-            write!(told, "at line {line}")?;
-        }
-        Finish::Blocked => told.push_str("blocked")?,
-        Finish::Trapped(trap) => told.push_str(trap.name())?,
-    }
+    push_finish_words(core, &mut told, rank, finish)?;
     Ok(told)
 }
 
@@ -474,6 +487,27 @@ fn end_title(alloc: Global, name: &str, told: &str) -> Result<String, AllocError
     Ok(title)
 }
 
+/// Adds how a rank of that name is at the end, with its words and a title.
+fn push_finish_group(
+    out: &mut String,
+    rank: usize,
+    row: usize,
+    finish: Finish,
+    name: &str,
+    told: &str,
+    title: &str,
+) -> Result<(), AllocError>
+    ensures { OnOk result (string_bytes out.new ≡ string_bytes out.old ++ (spec.group_begun title.now ++ spec.path_element (spec.finish_class finish) (spec.lane_x rank) (spec.row_y row) (spec.finish_path finish) ++ spec.text_element (codes "name") (spec.lane_x rank) (spec.row_y row + 24) name.now ++ spec.text_element (codes "name") (spec.lane_x rank) (spec.row_y row + 38) told.now ++ spec.group_ended)) }
+{
+    let x = lane_x(rank);
+    let y = row_y(row);
+    push_group(out, title)?;
+    push_path(out, finish_class(finish), x, y, finish_path(finish))?;
+    push_text(out, "name", x, y + 24, name)?;
+    push_text(out, "name", x, y + 38, told)?;
+    push_group_end(out)
+}
+
 /// Adds how a rank is at the end, with its words.
 #[tactic(auto, unfolding(crate::specs::Svg::end_told))]
 fn push_finish(
@@ -487,14 +521,8 @@ fn push_finish(
     ensures { OnOk result (string_bytes out.new ≡ string_bytes out.old ++ spec.end_told rank row finish told.now) }
 {
     let name = rank_name(alloc, rank)?;
-    let x = lane_x(rank);
-    let y = row_y(row);
     let title = end_title(alloc, &name, told)?;
-    push_group(out, &title)?;
-    push_path(out, finish_class(finish), x, y, finish_path(finish))?;
-    push_text(out, "name", x, y + 24, &name)?;
-    push_text(out, "name", x, y + 38, told)?;
-    push_group_end(out)
+    push_finish_group(out, rank, row, finish, &name, told, &title)
 }
 
 /// Adds how a rank is at the end.
