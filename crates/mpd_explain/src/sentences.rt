@@ -1,6 +1,6 @@
 //! What is told of calls that are blocked and of ranks that are trapped (docs/FORMATS.md, "Explanations").
 
-ghost use Rattle.std.specs.Prelude.{◌≡◌, ◌++◌, IfOk, OnOk, slice_get, string_bytes};
+ghost use Rattle.std.specs.Prelude.{◌≡◌, ◌++◌, IfOk, OnOk, codes, slice_get, string_bytes};
 ghost use Rattle.std.specs.Fmt.{decimal};
 ghost use Rattle.std.specs.List.{flat_map};
 ghost use Rattle.mpd_model.specs.steps.World.{call_at, kind_at, rank_numbers};
@@ -117,15 +117,22 @@ pub fn push_wish(out: &mut String, rank: usize, kind: Option<CallKind>) -> Resul
     }
 }
 
+/// Adds where a call was issued, what it is and what it waits for, and ends the line.
+fn push_placed_wish(core: &Core<'_>, out: &mut String, call: CallId) -> Result<(), AllocError>
+    ensures { OnOk result (string_bytes out.new ≡ string_bytes out.old ++ (explained.placed core.now.program core.now.world.board call ++ codes ": " ++ explained.wish call.rank (kind_at core.now.world.board call) ++ codes "\n")) }
+{
+    push_placed(core, out, call)?;
+    out.push_str(": ")?;
+    push_wish(out, call.rank, core.board().kind(call))?;
+    out.push_str("\n")
+}
+
 /// Adds the line of a call that a wait is for.
 fn push_request(core: &Core<'_>, out: &mut String, call: CallId) -> Result<(), AllocError>
     ensures { OnOk result (string_bytes out.new ≡ string_bytes out.old ++ explained.request_line core.now.program core.now.world.board call) }
 {
     out.push_str("    ")?;
-    push_placed(core, out, call)?;
-    out.push_str(": ")?;
-    push_wish(out, call.rank, core.board().kind(call))?;
-    out.push('\n')
+    push_placed_wish(core, out, call)
 }
 
 /// Adds the line of the call that nearly fits another, where there is one.
@@ -143,7 +150,7 @@ fn push_miss(
     push_placed(core, out, call)?;
     out.push_str(": ")?;
     out.push_str(miss_text(miss))?;
-    out.push('\n')
+    out.push_str("\n")
 }
 
 /// Adds the line of the call that would have fitted another, where there is one, with the call that has it.
@@ -278,10 +285,7 @@ fn push_blocked_line(core: &Core<'_>, out: &mut String, call: CallId) -> Result<
 {
     let rank = call.rank;
     write!(out, "  rank {rank} waits at ")?;
-    push_placed(core, out, call)?;
-    out.push_str(": ")?;
-    push_wish(out, rank, core.board().kind(call))?;
-    out.push('\n')
+    push_placed_wish(core, out, call)
 }
 
 /// Adds the lines of a blocked call.
