@@ -191,6 +191,15 @@ finish_other known (b ∷ l) false e none s =
     ∙ ap (λ (v : Bool). before known (let r : Halves = if v then ([], joined []) else before (b ∷ l) ([], []) in r)) (ap (λ x. same_bytes x (45 ∷ 45 ∷ 45 ∷ [])) (bare_part (b ∷ l) part) ∙ s)
     ∙ ap (λ x. let p : Halves = (known ++ x, []) in p) (append-nil (b ∷ l))
 
+-- a byte of a piece, behind which it goes on, or the line that divides has come
+pub brings_more : (self old new : Begun) (rest piece left : List ℕ) (b : ℕ) → ((z : List ℕ) → splits self (rest ++ z) ≡ splits old (piece ++ z)) → rest ≡ b ∷ left
+    → ((z : List ℕ) → splits new z ≡ splits self (b ∷ z)) → (z : List ℕ) → splits new (left ++ z) ≡ splits old (piece ++ z)
+brings_more self old new rest piece left b going is on z = on (left ++ z) ∙ ap (λ x. splits self (x ++ z)) (sym is) ∙ going z
+
+pub brings_here : (self old new : Begun) (rest piece left : List ℕ) (b : ℕ) → ((z : List ℕ) → splits self (rest ++ z) ≡ splits old (piece ++ z)) → rest ≡ b ∷ left
+    → ((z : List ℕ) → splits self (b ∷ z) ≡ (let p : Halves = (new.known, z) in p)) → (z : List ℕ) → splits old (piece ++ z) ≡ (let p : Halves = (new.known, left ++ z) in p)
+brings_here self old new rest piece left b going is here z = sym (going z) ∙ ap (λ x. splits self (x ++ z)) is ∙ here (left ++ z)
+
 -- a piece that makes the script too long
 pub brings_long : (self old new : Begun) (rest piece left : List ℕ) (b : ℕ) → ((z : List ℕ) → splits self (rest ++ z) ≡ splits old (piece ++ z)) → rest ≡ b ∷ left
     → ((z : List ℕ) → (more : List ℕ) × ((splits self (b ∷ z)).0 ≡ new.known ++ more)) → (z : List ℕ) → (more : List ℕ) × ((splits old (piece ++ z)).0 ≡ new.known ++ more)

@@ -7,7 +7,8 @@ use Rattle.mpd_model.specs.script.Program.{Program}
 use Rattle.mpd_model.specs.declared.read_fault.ReadFault.{ReadFault}
 use Rattle.mpd_model.specs.declared.read_fault.FaultCode.TheVariants as code
 use Rattle.mpd_lines.specs.declared.engine.EngineFault.TheVariants as engine
-use Rattle.mpd_lines.specs.UpTo.{IsWhole, IsRead}
+use Rattle.mpd_lines.specs.UpTo.{IsWhole, IsRead, IsUnread}
+use Rattle.mpd_lines.specs.declared.engine.EngineFault.{EngineFault}
 use Rattle.mpd_trace.specs.FileText.{IsRefusedText, IsScriptOf, IsNoCode}
 use Rattle.mpd_trace.specs.Plain.{line_at}
 use Rattle.mpd_trace.specs.PlainFaults.{is_memory, refused_as}
@@ -38,6 +39,13 @@ refused_text s t text shown f r h same err is =
       | true ↦ λ e. h.failures
       | false ↦ λ e. (h, not_memory f e, subst Q (sym same) (refused_on s t text f h.whole (ap reading (sym same) ∙ err (not_memory f e))))
     ] refl)
+
+-- a text that could not be read
+pub unread_text : (s t : SourceSeen) (text : List ℕ) (f : EngineFault) → IsUnread SCRIPT_MAX s t f → IsNoCode s t text (Engine f)
+unread_text s t text engine.ReadFailed h = h
+unread_text s t text engine.WriteFailed h = absurd h
+unread_text s t text engine.TooManyTurns h = absurd h
+unread_text s t text engine.Memory h = ap (λ (x : SourceSeen). x.failures) h
 
 -- a text that is a script was read to its end
 whole_ends : (s t : SourceSeen) (text : List ℕ) (p : Program) → IsWhole SCRIPT_MAX s t text → reading text ≡ Ok p → t.ends ≡ s.ends + 1

@@ -14,11 +14,12 @@ use Rattle.mpd_model.specs.declared.call.Mode.TheVariants.{Rendezvous}
 use Rattle.mpd_model.specs.declared.read_fault.ReadFault.{ReadFault}
 use Rattle.mpd_model.specs.declared.read_fault.FaultCode.TheVariants as code
 use Rattle.mpd_lines.specs.Telling.{Tells, waiting_below}
+use Rattle.mpd_lines.specs.FaultWords.{reads_failed, writes_failed}
 use Rattle.mpd_lines.specs.Served.{Served, Counted}
 use Rattle.mpd_lines.specs.declared.engine.EngineFault.{EngineFault}
 use Rattle.mpd_lines.specs.declared.engine.EngineFault.TheVariants as engine
-use Rattle.mpd_trace.specs.Collected.{HeadOf, Collected, IsJustRead}
-use Rattle.mpd_trace.specs.Plain.{line_at, IsRefused, TracesSoFar, PlainServed}
+use Rattle.mpd_trace.specs.Collected.{HeadOf, Collected, CollectCounted, IsJustRead}
+use Rattle.mpd_trace.specs.Plain.{line_at, IsRefused, TracesSoFar, PlainServed, KeepsRefused}
 use Rattle.mpd_trace.specs.PlainFaults.{is_memory, refused_as, plain_failed_reads, plain_failed_writes}
 use Rattle.mpd_trace.specs.declared.plain_trace.HeadEnd.{HeadEnd}
 use Rattle.mpd_trace.specs.declared.plain_trace.HeadEnd.TheVariants.{InputEnds, LineDivides, TooLong}
@@ -92,6 +93,21 @@ counted_refused s t v f line n r is calls few failures =
       | true ↦ record { calls = omega (arith, calls, few); reads_failed = omega (arith, failures); writes_failed = omega arith }
       | false ↦ record { calls = omega (arith, calls, few); reads_failed = omega (arith, failures); writes_failed = omega arith }
     ])
+
+-- the same of a text that is shown
+pub refused_so : (shown text : List ℕ) (f : ReadFault) → shown ≡ text → (f.code ≢ code.Memory → reading shown ≡ Err f) → f.code ≢ code.Memory → reading text ≡ Err f
+refused_so shown text f same err not = ap reading (sym same) ∙ err not
+
+pub told_so : (shown text : List ℕ) (f : ReadFault) (r : PlainFault) → shown ≡ text → r ≡ refused_as f (line_at shown f.place) → r ≡ refused_as f (line_at text f.place)
+told_so shown text f r same is = is ∙ ap (λ x. refused_as f (line_at x f.place)) same
+
+pub kept_refused : (text : List ℕ) (f : ReadFault) (r : PlainFault) → (f.code ≢ code.Memory → reading text ≡ Err f) → r ≡ refused_as f (line_at text f.place) → KeepsRefused text (Err r)
+kept_refused text f r err is =
+    let P : PlainFault → Type 0 = λ x. KeepsRefused text (Err x) in
+    subst P (sym is) (elim (is_memory f.code) as (λ m. is_memory f.code ≡ m → KeepsRefused text (Err (if m then Engine engine.Memory else Script f (line_at text f.place)))) [
+      | true ↦ λ e. tt
+      | false ↦ λ e. (err (not_memory f e), refl)
+    ] refl)
 
 -- ---- a script that stands
 
@@ -211,6 +227,17 @@ plain_uncollected engine.ReadFailed s t v h = (h.0, h.1, h.3, inl (h.2, refl))
 plain_uncollected engine.WriteFailed s t v h = absurd h
 plain_uncollected engine.TooManyTurns s t v h = (h.0, h.1, h.3, h.4, h.5, inl (h.2, refl))
 plain_uncollected engine.Memory s t v h = refl
+
+-- and the calls that were made for it
+pub counted_uncollected : (f : EngineFault) (s t : SourceSeen) (v : SinkSeen) → Collected s t (Err f) → CollectCounted s t (Err f) → Counted 1000000 (reads_failed f) (writes_failed f) s t v v
+counted_uncollected engine.ReadFailed s t v h c = record { calls = c.calls; reads_failed = c.reads_failed; writes_failed = omega arith }
+counted_uncollected engine.WriteFailed s t v h c = absurd h
+counted_uncollected engine.TooManyTurns s t v h c = record { calls = c.calls; reads_failed = c.reads_failed; writes_failed = omega arith }
+counted_uncollected engine.Memory s t v h c = record { calls = c.calls; reads_failed = c.reads_failed; writes_failed = omega arith }
+
+-- the calls of a script behind which the input has ended
+pub counted_ended : (s t : SourceSeen) (v : SinkSeen) (n : ℕ) → t.calls ≡ s.calls + n → n ≤ 1000000 → t.failures ≡ s.failures + 0 → Counted 1000000 0 0 s t v v
+counted_ended s t v n calls few failures = record { calls = omega (arith, calls, few); reads_failed = failures; writes_failed = omega arith }
 
 -- the calls of the script, and those behind it
 pub counted_on : (n turns reads writes : ℕ) (s t u : SourceSeen) (v w : SinkSeen) → t.calls ≡ s.calls + n → n + turns ≡ 1000000 → t.failures ≡ s.failures

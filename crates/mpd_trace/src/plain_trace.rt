@@ -117,6 +117,17 @@ pub enum PlainFault {
     Engine(EngineFault),
 }
 
+/// The line of a fault of the engine.
+fn engine_line(fault: EngineFault) -> &'static str
+    ensures { result.now ≡ fault_line (PlainFault.Engine fault) }
+{
+    match fault {
+        EngineFault::ReadFailed | EngineFault::WriteFailed => "mpdbg: device",
+        EngineFault::TooManyTurns => "mpdbg: turns",
+        EngineFault::Memory => "mpdbg: memory",
+    }
+}
+
 impl fmt::Display for PlainFault {
     ghost use Rattle.std.specs.Prelude.{Some};
 
@@ -133,10 +144,7 @@ impl fmt::Display for PlainFault {
                     "mpdbg: script refused {number} {name} at {place} line {line}"
                 )
             }
-            PlainFault::Engine(EngineFault::ReadFailed) => write!(f, "mpdbg: device"),
-            PlainFault::Engine(EngineFault::WriteFailed) => write!(f, "mpdbg: device"),
-            PlainFault::Engine(EngineFault::TooManyTurns) => write!(f, "mpdbg: turns"),
-            PlainFault::Engine(EngineFault::Memory) => write!(f, "mpdbg: memory"),
+            PlainFault::Engine(fault) => f.write_str(engine_line(fault)),
         }
     }
 }

@@ -1,6 +1,7 @@
 //! The text of `show` (docs/FORMATS.md, "Text of show").
 
 ghost use Rattle.std.specs.Prelude.{◌≡◌, ◌++◌, ◌∷◌, ◌<◌, IfOk, OnOk, length, slice_get, string_bytes};
+ghost use Rattle.std.specs.Fmt.{decimal};
 ghost use Rattle.std.specs.List.{flat_map};
 ghost use Rattle.mpd_model.specs.steps.World.{rank_numbers};
 ghost use Rattle.mpd_model.specs.steps.Outcomes.{outcome};
@@ -100,9 +101,16 @@ fn push_handle(out: &mut String, handle: Option<usize>) -> Result<(), AllocError
     ensures { OnOk result (string_bytes out.new ≡ string_bytes out.old ++ 32 ∷ handle_text handle) }
 {
     match handle {
-        None => out.push_str(" -")?,
-        Some(index) => write!(out, " {index}")?,
+        None => out.push_str(" -"),
+        Some(index) => push_index(out, index),
     }
+}
+
+/// Adds a number behind a space.
+fn push_index(out: &mut String, index: usize) -> Result<(), AllocError>
+    ensures { OnOk result (string_bytes out.new ≡ string_bytes out.old ++ 32 ∷ decimal index) }
+{
+    write!(out, " {index}")?;
     Ok(())
 }
 
@@ -168,7 +176,7 @@ fn push_pending(
     }
     write!(out, "pending {sender} to {receiver}:")?;
     'walk: while let Some(index) = here {
-        write!(out, " {index}")?;
+        push_index(out, index)?;
         let id = CallId {
             rank: sender,
             index,
@@ -202,7 +210,7 @@ fn push_posted(out: &mut String, board: &Board, rank: usize) -> Result<(), Alloc
     }
     write!(out, "posted {rank}:")?;
     'walk: while let Some(index) = here {
-        write!(out, " {index}")?;
+        push_index(out, index)?;
         here = board.next_free(CallId { rank, index }, &mut looks);
     }
     out.push('\n')?;

@@ -26,7 +26,7 @@ walk-preserved c =
     let xs : List ℕ = posted b c.args.rank in
     let stands = writing_stands xs _ _ c.in-Some.index c.walk.here c.in-Some.is c.walk.invariant in
     writing_steps xs _ _ _ c.in-Some.index c.walk.here c.next_free-here.result (posted_once b c.args.rank) c.in-Some.is c.walk.invariant
-    (c.next_free-here.ensures.posted (posted_tells b c.args.rank c.in-Some.index stands)) c.in_ok-write-2.ensures.bytes
+    (c.next_free-here.ensures.posted (posted_tells b c.args.rank c.in-Some.index stands)) c.in_ok-push_index.ensures
 
 pub returns : goal.returns
 unfolding lib.Utf8.encode
