@@ -1,9 +1,10 @@
 -- What a walk along a list has found so far of all that it holds, and of every two; and receipts that rise.
-use Rattle.std.proofs.Common.{⊎_elim, nat_eq, ◌≡◌, ◌≢◌, ◌<◌, ◌≤◌, ◌+◌, ◌-◌, ℕ, Bool, true, false, not, List, length, get_or, take, refl, ap, sym, subst, ◌∙◌, arith}
+use Rattle.std.proofs.Common.{⊎_elim, nat_eq, ◌==◌, ◌≡◌, ◌≢◌, ◌<◌, ◌≤◌, ◌+◌, ◌-◌, ℕ, Bool, true, false, not, List, length, get_or, take, refl, ap, sym, subst, ◌∙◌, arith}
 use Rattle.std.proofs.lemmas.List.{get_or-take, get_or_default, take_all, take_more, length-take}
 use Rattle.std.proofs.lemmas.Bool.{cases_eq, cases_lt}
 use Rattle.std.proofs.lemmas.List.Elements.{All-get_or, All-more, All-weaker}
 use Rattle.std.proofs.lemmas.List.Quantifiers.{all_pairs_push}
+use Rattle.std.proofs.lemmas.List.Sums.{sum_by_more, sum_by-take-le}
 use Rattle.std.proofs.lemmas.Bool.Decides.{Decides-eqb, Decides-like, Decides-not}
 use Rattle.std.specs.Bool.{Decides}
 use Rattle.std.specs.List.{All, AllPairs, HoldsAt}
@@ -46,6 +47,29 @@ module _ {X : Type 0} (R : X → X → Type 0) (xs : List X) where
 
   pub pairs_hold : (n : ℕ) → length xs ≤ n → AllPairs R (take n xs) → Decides true (AllPairs R xs)
   pairs_hold n end all = (λ e. subst (AllPairs R) (take_all n xs end) all, λ h. refl)
+
+-- ---- how many receipts there are
+
+module _ {X : Type 0} (f : X → Noted) (xs : List X) where
+  with_next : (i : ℕ) (x : X) → i < length xs → x ≡ get_or xs i x → receipts_in f (take (i + 1) xs) ≡ receipts_in f (take i xs) + length (f x).receipts
+  with_next i x within at = sum_by_more (λ y. length (f y).receipts) xs i x within ∙ ap (λ y. receipts_in f (take i xs) + length (f y).receipts) (sym at)
+
+  pub too_many : (i n left count : ℕ) (x : X) → i < length xs → x ≡ get_or xs i x → n ≡ length (f x).receipts → receipts_in f (take i xs) + left ≡ count → left < n → Decides false (receipts_in f xs ≡ count)
+  too_many i n left count x within at is before lt =
+      let le : receipts_in f (take (i + 1) xs) ≤ receipts_in f xs = sum_by-take-le (λ y. length (f y).receipts) xs (i + 1) in
+      let more : receipts_in f (take (i + 1) xs) ≡ receipts_in f (take i xs) + length (f x).receipts = with_next i x within at in
+      (λ e. cc, λ e. absurd (omega (arith, le, more, is, before, lt, e)))
+
+  pub fewer_left : (i n left count : ℕ) (x : X) → i < length xs → x ≡ get_or xs i x → n ≡ length (f x).receipts → receipts_in f (take i xs) + left ≡ count → n ≤ left → receipts_in f (take (i + 1) xs) + (left - n) ≡ count
+  fewer_left i n left count x within at is before le =
+      let more : receipts_in f (take (i + 1) xs) ≡ receipts_in f (take i xs) + length (f x).receipts = with_next i x within at in
+      omega (arith, more, is, before, le)
+
+  pub all_counted : (i left count : ℕ) → length xs ≤ i → receipts_in f (take i xs) + left ≡ count → Decides (left == 0) (receipts_in f xs ≡ count)
+  all_counted i left count end before =
+      let all : receipts_in f (take i xs) ≡ receipts_in f xs = ap (receipts_in f) (take_all i xs end) in
+      let none : Decides (left == 0) (left ≡ 0) = Decides-eqb left 0 in
+      (λ e. let z : left ≡ 0 = none.0 e in omega (arith, all, before, z), λ e. none.1 (omega (arith, all, before, e)))
 
 -- ---- receipts that rise
 

@@ -1,6 +1,7 @@
 -- What looks at the state come to.
-use Rattle.std.proofs.Common.{◌≡◌, ℕ, ℤ, suc, ◌+◌, ◌-◌, ◌<◌, ◌≤◌, Bool, true, false, List, [], ◌∷◌, ◌++◌, map, length, take, nat_lt, Option, Some, is_some, slice_get, refl, ap, sym, ◌∙◌, arith, append_assoc}
-use Rattle.std.proofs.lemmas.Option.{slice_get_past}
+use Rattle.std.proofs.Common.{◌≡◌, ℕ, ℤ, suc, ◌+◌, ◌-◌, ◌<◌, ◌≤◌, Bool, true, false, List, [], ◌∷◌, ◌++◌, map, length, take, nat_lt, Option, Some, is_some, slice_get, refl, ap, sym, ◌∙◌, arith, append_assoc, append-nil, inl, inr}
+use Rattle.std.proofs.lemmas.Bool.{lt-ltb, le-ltb}
+use Rattle.std.proofs.lemmas.Option.{slice_get_past, slice_get_cases}
 use Rattle.std.specs.List.{flat_map, range_with_len}
 use Rattle.mpd_model.specs.steps.World.{RankWorld, World}
 use Rattle.mpd_model.specs.runs.Breakpoints.{cell_at, held_at}
@@ -30,6 +31,12 @@ no_cell w p c h = ap (λ (o : Option RankWorld). is_some (held_at o c)) (sym (sl
 pub some_cell : (w : World) (p c : ℕ) (r : RankWorld) (vars : List ℤ) → slice_get w.ranks p ≡ Some r → vars ≡ r.vars → is_some (slice_get vars c) ≡ is_some (cell_at w p c)
 some_cell w p c r vars e v = ap (λ xs. is_some (slice_get xs c)) v ∙ ap (λ (o : Option RankWorld). is_some (held_at o c)) (sym e)
 
+has_item : {A : Type 0} (xs : List A) (i : ℕ) → nat_lt i (length xs) ≡ is_some (slice_get xs i)
+has_item xs i = elim (slice_get_cases xs i).1 [ inl t ↦ lt-ltb i (length xs) t.1 ∙ sym (ap is_some t.2) | inr t ↦ le-ltb i (length xs) t.0 ∙ sym (ap is_some t.1) ]
+
+pub cell_told : (w : World) (p c : ℕ) (r : RankWorld) (vars : List ℤ) (test : Bool) → slice_get w.ranks p ≡ Some r → vars ≡ r.vars → test ≡ nat_lt c (length vars) → test ≡ is_some (cell_at w p c)
+cell_told w p c r vars test e v is = is ∙ has_item vars c ∙ some_cell w p c r vars e v
+
 pub no_handle : (w : World) (p h : ℕ) → length w.ranks ≤ p → false ≡ has_handle (slice_get w.ranks p) h
 no_handle w p h past = ap (λ (o : Option RankWorld). has_handle o h) (sym (slice_get_past w.ranks p past))
 
@@ -55,6 +62,13 @@ joined_more f i n so_far now total h e more =
     let k : n - i ≡ suc (n - (i + 1)) = omega arith in
     let u : flat_map f (range_with_len i (n - i)) ≡ f i ++ flat_map f (range_with_len (i + 1) (n - (i + 1))) = rw k refl in
     ap (λ xs. xs ++ flat_map f (range_with_len (i + 1) (n - (i + 1)))) more ∙ append_assoc so_far (f i) (flat_map f (range_with_len (i + 1) (n - (i + 1)))) ∙ ap (λ xs. so_far ++ xs) (sym u) ∙ e
+
+-- where no number is left, all is there
+pub joined_all : {A : Type 0} (f : ℕ → List A) (i n : ℕ) (so_far total : List A) → n ≤ i → so_far ++ flat_map f (range_with_len i (n - i)) ≡ total → so_far ≡ total
+joined_all f i n so_far total h e =
+    let k : n - i ≡ 0 = omega arith in
+    let u : flat_map f (range_with_len i (n - i)) ≡ [] = rw k refl in
+    sym (append-nil so_far) ∙ ap (λ xs. so_far ++ xs) (sym u) ∙ e
 
 -- ---- runs from here
 

@@ -1,5 +1,5 @@
 use Rattle.std.proofs.Common.{List, rules, ap, sym, subst, take, ◌∙◌}
-use Rattle.std.proofs.lemmas.List.Elements.{All-get_or}
+use Rattle.std.proofs.lemmas.List.Elements.{All-get_or, All-take}
 use Rattle.std.specs.Bool.{Decides}
 use Rattle.std.specs.List.{All}
 use Rattle.mpd_session.specs.History.{Noted}
@@ -7,6 +7,9 @@ use Rattle.mpd_session.specs.Audit.{IsApart, IsRising}
 use Rattle.mpd_session.specs.declared.history.Receipt.{Receipt}
 use Rattle.mpd_session.proofs.AuditLemmas.{pair_fails, pair_more, pairs_hold}
 use Rattle.mpd_session.proofs.audit.are_apart.Goals as goal
+
+pub are_before-requires-clause-logs : goal.are_before-requires-clause-logs
+are_before-requires-clause-logs g c = All-take (λ x. IsRising (g.T.Logged.logged x).receipts) c.loop-place.place c.args.logs.now c.requires
 
 pub are_before-requires-clause-rising : goal.are_before-requires-clause-rising
 are_before-requires-clause-rising g c =
