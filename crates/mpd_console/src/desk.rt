@@ -10,6 +10,7 @@ ghost use Rattle.mpd_console.specs.Says as spec;
 ghost use Rattle.mpd_console.specs.Says.{Adds, OrElse, Told, Carried, UndoneBy, SoughtBy, FollowedBy, Answered, Looked, RepeatSays};
 
 use crate::looks::push_look;
+use crate::prompts::{idle_text, push_idle, said};
 use itoa::Buffer;
 use mpd_explore::{Ending, Report};
 use mpd_fold::push_folded;
@@ -48,78 +49,6 @@ fn add(text: &[u8], otherwise: &[u8], out: &mut Vec<u8>)
         Ok(()) => {}
         Err(_) => push_all(out, otherwise),
     }
-}
-
-/// Adds the prompt, where one is wanted: how many steps are not undone.
-fn push_prompt(
-    session: &Session<'_>,
-    out: &mut String,
-    is_prompting: bool,
-) -> Result<(), AllocError>
-    ensures { OnOk result (string_bytes out.new ≡ string_bytes out.old ++ spec.prompt is_prompting session.now) }
-{
-    if !is_prompting {
-        return Ok(());
-    }
-    let depth = session.debugger().depth();
-    write!(out, "({depth}) ")
-}
-
-/// The prompt, where one is wanted, which is what is told where nothing is done.
-pub(crate) fn idle_text(
-    alloc: Global,
-    session: &Session<'_>,
-    is_prompting: bool,
-) -> Result<String, AllocError>
-    ensures { IfOk result (λ t. string_bytes t ≡ spec.prompt is_prompting session.now) }
-{
-    let mut out = String::new(alloc);
-    push_prompt(session, &mut out, is_prompting)?;
-    Ok(out)
-}
-
-/// Adds the prompt to the bytes of an answer.
-#[tactic(auto, using(crate::proofs::SaidLemmas::saying))]
-fn push_idle(
-    alloc: Global,
-    session: &Session<'_>,
-    is_prompting: bool,
-    out: &mut Vec<u8>,
-) -> Result<(), AllocError>
-    ensures { OnOk result (out.new.items ≡ out.old.items ++ spec.prompt is_prompting session.now) }
-{
-    let prompt = idle_text(alloc, session, is_prompting)?;
-    out.extend_from_slice(prompt.as_bytes())
-}
-
-/// The prompt, where one is wanted, as bytes.
-#[tactic(auto, using(crate::proofs::SaidLemmas::saying))]
-pub(crate) fn idle_bytes(
-    alloc: Global,
-    session: &Session<'_>,
-    is_prompting: bool,
-) -> Result<Vec<u8>, AllocError>
-    ensures { IfOk result (λ t. t.items ≡ spec.prompt is_prompting session.now) }
-{
-    let mut out = Vec::new(alloc);
-    push_idle(alloc, session, is_prompting, &mut out)?;
-    Ok(out)
-}
-
-/// An answer whose long lines go on in further lines, with the prompt behind it.
-#[tactic(auto, using(crate::proofs::SaidLemmas::saying))]
-fn said(
-    alloc: Global,
-    session: &Session<'_>,
-    is_prompting: bool,
-    told: &str,
-) -> Result<Vec<u8>, AllocError>
-    ensures { IfOk result (λ t. t.items ≡ spec.said is_prompting session.now told.now) }
-{
-    let mut out = Vec::new(alloc);
-    push_folded(&mut out, told.as_bytes())?;
-    push_idle(alloc, session, is_prompting, &mut out)?;
-    Ok(out)
 }
 
 /// The answer to a word by the reply of the session, behind it.

@@ -4,6 +4,7 @@
 pub mod desk;
 mod looks;
 pub mod opening;
+mod prompts;
 pub mod quit;
 pub mod run;
 

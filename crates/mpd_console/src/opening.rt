@@ -9,7 +9,8 @@ ghost use Rattle.mpd_model.specs.declared.outcome.Outcome.TheVariants.{Deadlock}
 ghost use Rattle.mpd_explore.specs.declared.report.Ending.TheVariants.{Ended};
 ghost use Rattle.mpd_console.specs.Says.{prompt, laid_said};
 
-use crate::desk::{ConsoleDesk, idle_bytes, laid_text};
+use crate::desk::{ConsoleDesk, laid_text};
+use crate::prompts::idle_bytes;
 use mpd_code::Code;
 use mpd_explore::{Ending, Witness, WitnessFault, verify};
 use mpd_model::{Mode, Outcome, STEPS_MAX};
