@@ -1,4 +1,3 @@
 pub mod GlyphLemmas
 pub mod SvgLemmas
 pub mod LawLemmas
-pub mod TextLemmas
