@@ -1,6 +1,6 @@
 -- The text of a script in C (docs/FORMATS.md, "A script in C").
 use Rattle.std.specs.Prelude.{ℕ, Bool, true, false, ◌||◌, ◌==◌, if◌then◌else◌, List, [], ◌∷◌, ◌++◌, Option, Some, None, codes}
-use Rattle.std.specs.List.{flat_map}
+use Rattle.std.specs.List.{flat_map, list_any}
 use Rattle.std.specs.Fmt.{decimal}
 use Rattle.mpd_model.specs.declared.place.DeclKind.{DeclKind}
 use Rattle.mpd_model.specs.declared.place.DeclKind.TheVariants.{Variable, Handle}
@@ -27,8 +27,7 @@ is_handle Variable = false
 is_handle Handle = true
 
 abbrev pub has_handle : List Declared → Bool
-has_handle [] = false
-has_handle (d ∷ ds) = is_handle d.kind || has_handle ds
+has_handle ds = list_any (λ (d : Declared). is_handle d.kind) ds
 
 -- what is written of requests stands where one is declared
 abbrev pub requests_text : List Declared → List ℕ

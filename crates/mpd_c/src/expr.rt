@@ -1,7 +1,6 @@
 //! The text of expressions and places.
 
 ghost use Rattle.std.specs.Prelude.{◌≡◌, ◌++◌, OnOk, slice_get, string_bytes};
-ghost use Rattle.mpd_model.specs.grammar.Canonical.{op_text};
 ghost use Rattle.mpd_c.specs.Expressions.{c_handles, c_name, c_target, c_term, c_whole, is_comparison, is_logical, is_number, is_scalar, macro_text, size_of, stands_between};
 
 use crate::piece::{Piece, text_of};
@@ -52,27 +51,6 @@ fn stands_between(op: BinaryOp, left: &Expr, right: &Expr) -> bool
     ensures { result ≡ stands_between op left.now right.now }
 {
     is_logical(op) || is_comparison(op) && is_scalar(left) && is_number(right)
-}
-
-/// An operator of C with the spaces around it.
-fn op_name(op: BinaryOp) -> &'static str
-    ensures { result.now ≡ op_text op }
-{
-    match op {
-        BinaryOp::Or => " || ",
-        BinaryOp::And => " && ",
-        BinaryOp::Equal => " == ",
-        BinaryOp::NotEqual => " != ",
-        BinaryOp::Less => " < ",
-        BinaryOp::AtMost => " <= ",
-        BinaryOp::Greater => " > ",
-        BinaryOp::AtLeast => " >= ",
-        BinaryOp::Add => " + ",
-        BinaryOp::Subtract => " - ",
-        BinaryOp::Multiply => " * ",
-        BinaryOp::Divide => " / ",
-        BinaryOp::Remainder => " % ",
-    }
 }
 
 /// The macro of an operator that isn't written as one of C, with its bracket.
@@ -148,7 +126,7 @@ fn push_term(
                 out.push_str("(")?;
             }
             push_term(out, decls, true, left)?;
-            out.push_str(op_name(*op))?;
+            out.push_str(op.spaced())?;
             push_term(out, decls, true, right)?;
             if is_operand {
                 out.push_str(")")?;

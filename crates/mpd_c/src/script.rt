@@ -62,12 +62,9 @@ fn push_head(out: &mut String, ranks: usize) -> Result<(), AllocError>
 fn has_handle(decls: &[Decl]) -> bool
     ensures { result ≡ has_handle decls.now }
 {
-    for decl in decls {
-        if let DeclKind::Handle = decl.kind {
-            return true;
-        }
-    }
-    false
+    decls
+        .iter()
+        .any(|decl| matches!(decl.kind, DeclKind::Handle))
 }
 
 /// Adds the part on requests where a handle is declared.

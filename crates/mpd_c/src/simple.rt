@@ -94,18 +94,28 @@ fn push_checked(
     out.push_str(");\n")
 }
 
+/// The pieces that the line of a source or of a tag of a receive is made of.
+#[derive(Clone, Copy)]
+struct LinePieces {
+    /// What stands before the value.
+    before: Piece,
+    /// What checks a value.
+    check: Piece,
+    /// What stands for any.
+    any: Piece,
+}
+
 /// Adds the line of a source or a tag of a receive, which may be any.
 fn push_checked_or_any(
     out: &mut String,
     decls: &[Decl],
     level: usize,
-    before: Piece,
-    check: Piece,
-    any: Piece,
+    pieces: LinePieces,
     expr: &Option<Expr>,
 ) -> Result<(), AllocError>
-    ensures { OnOk result (string_bytes out.new ≡ string_bytes out.old ++ line_text level (checked_or_any decls.now before check any expr.now)) }
+    ensures { OnOk result (string_bytes out.new ≡ string_bytes out.old ++ line_text level (checked_or_any decls.now pieces.before pieces.check pieces.any expr.now)) }
 {
+    let LinePieces { before, check, any } = pieces;
     let Some(expr) = expr else {
         push_margin(out, level)?;
         out.push_str(text_of(before))?;
@@ -197,24 +207,18 @@ fn push_taken(
 ) -> Result<(), AllocError>
     ensures { OnOk result (string_bytes out.new ≡ string_bytes out.old ++ lines_text level (taken_lines decls.now recv.now [])) }
 {
-    push_checked_or_any(
-        out,
-        decls,
-        level,
-        Piece::SourceIs,
-        Piece::AsRank,
-        Piece::AnySource,
-        &recv.from,
-    )?;
-    push_checked_or_any(
-        out,
-        decls,
-        level,
-        Piece::TagIs,
-        Piece::AsTag,
-        Piece::AnyTag,
-        &recv.tag,
-    )
+    let source = LinePieces {
+        before: Piece::SourceIs,
+        check: Piece::AsRank,
+        any: Piece::AnySource,
+    };
+    let tag = LinePieces {
+        before: Piece::TagIs,
+        check: Piece::AsTag,
+        any: Piece::AnyTag,
+    };
+    push_checked_or_any(out, decls, level, source, &recv.from)?;
+    push_checked_or_any(out, decls, level, tag, &recv.tag)
 }
 
 /// Adds the lines of a receive with a status, behind its source and its tag.

@@ -1,26 +1,16 @@
 //! How many cells declarations have.
 
 ghost use Rattle.std.specs.Prelude.{◌≡◌, ◌≤◌};
-ghost use Rattle.mpd_model.specs.script.Declaration.{cells_of, variable_cells, handle_cells, variables_in, handles_in};
+ghost use Rattle.mpd_model.specs.script.Declaration.{variable_cells, handle_cells, variables_in, handles_in};
 
 use mpd_model::{CELLS_MAX, Decl, DeclKind, HANDLES_MAX};
-
-/// How many cells one name or array has.
-fn cell_count(size: Option<usize>) -> usize
-    ensures { result ≡ cells_of size }
-{
-    match size {
-        None => 1,
-        Some(count) => count,
-    }
-}
 
 /// How many cells of variables a declaration has.
 fn variable_cell_count(decl: &Decl) -> usize
     ensures { result ≡ variable_cells decl.now.kind decl.now.size }
 {
     match decl.kind {
-        DeclKind::Variable => cell_count(decl.size),
+        DeclKind::Variable => decl.size.unwrap_or(1),
         DeclKind::Handle => 0,
     }
 }
@@ -31,7 +21,7 @@ fn handle_cell_count(decl: &Decl) -> usize
 {
     match decl.kind {
         DeclKind::Variable => 0,
-        DeclKind::Handle => cell_count(decl.size),
+        DeclKind::Handle => decl.size.unwrap_or(1),
     }
 }
 

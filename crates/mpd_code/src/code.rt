@@ -67,12 +67,7 @@ fn is_of_first(node: &Node) -> bool
 fn are_of_first(nodes: &[Node]) -> bool
     ensures { result ≡ list_all is_of_first nodes.now }
 {
-    for node in nodes {
-        if !is_of_first(node) {
-            return false;
-        }
-    }
-    true
+    nodes.iter().all(|node| is_of_first(node))
 }
 
 impl Code {

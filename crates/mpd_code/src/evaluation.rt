@@ -233,12 +233,7 @@ fn handles_of<'a>(requests: Place, env: &Env<'a>) -> &'a [Option<usize>]
 fn is_active(handles: &[Option<usize>]) -> bool
     ensures { result ≡ list_any is_some handles.now }
 {
-    for handle in handles {
-        if handle.is_some() {
-            return true;
-        }
-    }
-    false
+    handles.iter().any(|handle| handle.is_some())
 }
 
 /// The call of a wait for one of several: the index of the place that tells which is evaluated first.

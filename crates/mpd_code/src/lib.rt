@@ -8,6 +8,7 @@ pub mod evaluation;
 pub mod lowering;
 pub mod node;
 mod operate;
+pub mod subject;
 
 pub use code::Code;
 pub use env::Env;
@@ -17,3 +18,4 @@ pub use evaluation::{
 };
 pub use lowering::lower;
 pub use node::{Action, Node};
+pub use subject::Subject;

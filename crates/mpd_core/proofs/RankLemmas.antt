@@ -72,6 +72,10 @@ count_is s vs numbers = sym (length-map vs (λ (x : RankView). x.rank)) ∙ ap l
 pub board_count : (s : Program) (vs : List RankView) (b : Board) (n : ℕ) → Holds s vs b → n ≡ length vs → n ≡ length b.calls
 board_count s vs b n h e = e ∙ count_is s vs h.numbers ∙ sym h.calls
 
+-- as many as the program has
+pub all_there : (s : Program) (vs : List RankView) (b : Board) → Holds s vs b → s.ranks ≡ length (ranks_in s vs)
+all_there s vs b h = sym (length-map vs (rank_of s) ∙ count_is s vs h.numbers)
+
 -- a rank that was read has the number of its place, and the board has its calls
 pub rank_is : (s : Program) (vs : List RankView) (b : Board) (n p : ℕ) (v : RankView) → n ≡ length vs → p < n → v ≡ get_or vs p v → Holds s vs b → v.rank ≡ p
 rank_is s vs b n p v e h read held = (as_numbered s vs n p v e h read held.numbers).0

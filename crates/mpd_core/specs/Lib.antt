@@ -8,4 +8,5 @@ pub mod Stepped
 pub mod Listed
 pub mod Looks
 pub mod Writes
+pub mod CoreStepped
 pub mod KindRows

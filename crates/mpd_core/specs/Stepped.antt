@@ -1,5 +1,5 @@
 -- What a call that takes the local step of a rank comes to, by its result. It is one relation for that rank alone and for all ranks.
-use Rattle.std.specs.Prelude.{◌≡◌, ◌↔◌, ℕ, ◌+◌, ◌≤◌, min, List, Option, Some, None, Result, IfOk, OnOk, OnErr, IsErrOf}
+use Rattle.std.specs.Prelude.{◌≡◌, ◌↔◌, ℕ, min, List, Option, Some, None, Result, IfOk, OnOk, OnErr, IsErrOf}
 use Rattle.mpd_model.specs.declared.step.Step.TheVariants.{Local}
 use Rattle.mpd_model.specs.script.Program.{Program}
 use Rattle.mpd_model.specs.steps.World.{RankWorld, Board}
@@ -40,14 +40,3 @@ undone_at s p ranks done = update_at ranks p (λ r. undone_rank s r done)
 abbrev pub RanksStepped : Program → ℕ → List RankView → BoardView → List RankView → BoardView → Result LocalDone StepFault → Type 0
 RanksStepped s p vs b ws c result =
     Stepped (next (world_in s vs b.board) (Local p)) (world_in s ws c.board) (local_record_at (ranks_in s vs) p) (undone_at s p) p (ranks_in s vs) (ranks_in s ws) b.board c.board (room_in b.room vs) result
-
--- what the call takes of the room that was kept: that for one step, or none where it is refused
-pub record Spent (old new : ℕ) (result : Result LocalDone StepFault) : Type 0 where
-  pub room_left : old ≤ new + 1
-  pub err_room : OnErr result (old ≤ new)
-
--- how many writes it counts: 1 to 16, or none where it is refused
-pub record Wrote (old new : ℕ) (result : Result LocalDone StepFault) : Type 0 where
-  pub rises : OnOk result (old + 1 ≤ new)
-  pub few : new ≤ old + 16
-  pub unwritten : OnErr result (new ≡ old)

@@ -9,9 +9,10 @@ pub mod record;
 pub mod state;
 pub mod step;
 pub mod text;
-mod waitany;
+pub mod waitany;
 
 pub use fault::StepFault;
 pub use record::{OtherRecord, Record};
 pub use state::Core;
 pub use step::{AnyStep, OtherStep};
+pub use waitany::Request;

@@ -14,7 +14,8 @@ ghost use Rattle.mpd_core.specs.Views.{ranks_in, numbers_in, room_in, writes_in,
 ghost use Rattle.mpd_rank.specs.Plans.{HasTag};
 ghost use Rattle.mpd_core.specs.OneRank.{CanUnissueIf};
 ghost use Rattle.mpd_core.specs.Records.{wake_record_at};
-ghost use Rattle.mpd_core.specs.Stepped.{RankStepped, RanksStepped, Spent, Wrote};
+ghost use Rattle.mpd_core.specs.Stepped.{RankStepped, RanksStepped};
+ghost use Rattle.mpd_core.specs.CoreStepped.{Spent, Wrote};
 
 use crate::fault::StepFault;
 use mpd_code::Code;
@@ -101,7 +102,7 @@ fn step_call(
     ensures stepped { RankStepped code.now.program state.old board.old state.new board.new result }
     ensures room { Spent state.old.room state.new.room result }
     ensures board_room { Spent board.old.room board.new.room result }
-    ensures writes { Wrote (state.old.writes + board.old.writes) (state.new.writes + board.new.writes) result }
+    ensures writes { Wrote 1 16 (state.old.writes + board.old.writes) (state.new.writes + board.new.writes) result }
     ensures number { state.new.rank ≡ state.old.rank }
     ensures ranks { length board.new.board.calls ≡ length board.old.board.calls }
     ensures tags { HasTags board.old.board → HasTags board.new.board }
@@ -129,7 +130,7 @@ fn step_rank(
     ensures stepped { RankStepped code.now.program state.old board.old state.new board.new result }
     ensures room { Spent state.old.room state.new.room result }
     ensures board_room { Spent board.old.room board.new.room result }
-    ensures writes { Wrote (state.old.writes + board.old.writes) (state.new.writes + board.new.writes) result }
+    ensures writes { Wrote 1 16 (state.old.writes + board.old.writes) (state.new.writes + board.new.writes) result }
     ensures number { state.new.rank ≡ state.old.rank }
     ensures ranks { length board.new.board.calls ≡ length board.old.board.calls }
     ensures tags { HasTags board.old.board → HasTags board.new.board }
@@ -159,7 +160,7 @@ pub(crate) fn step_one(
     requires held { Holds code.now.program ranks.old.items board.old.board }
     ensures stepped { RanksStepped code.now.program rank ranks.old.items board.old ranks.new.items board.new result }
     ensures room { Spent (room_in board.old.room ranks.old.items) (room_in board.new.room ranks.new.items) result }
-    ensures writes { Wrote (writes_in ranks.old.items + board.old.writes) (writes_in ranks.new.items + board.new.writes) result }
+    ensures writes { Wrote 1 16 (writes_in ranks.old.items + board.old.writes) (writes_in ranks.new.items + board.new.writes) result }
     ensures held { Holds code.now.program ranks.new.items board.new.board }
     ensures size { vec_len ranks.new ≡ vec_len ranks.old }
 {

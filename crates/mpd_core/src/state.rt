@@ -1,23 +1,19 @@
 //! The state of a run.
 
-ghost use Rattle.std.specs.Prelude.{◌≡◌, ◌↔◌, ◌<◌, ◌≤◌, ◌+◌, ◌∷◌, ℕ, true, length, map, slice_get, IfOk, IfSome, is_some, OnOk, OnErr, IsErrOf, Some, None};
+ghost use Rattle.std.specs.Prelude.{◌≡◌, ◌<◌, ◌≤◌, ◌+◌, ◌∷◌, ℕ, true, length, slice_get, IfOk, IfSome, is_some, OnOk, OnErr, Some, None};
 ghost use Rattle.std.specs.Option.{option_map};
 ghost use Rattle.std.specs.List.{list_all};
 ghost use Rattle.mpd_model.specs.steps.Outcomes.{has_ended, first_number};
 ghost use Rattle.mpd_model.specs.declared.call.MatchSet.TheVariants as sets;
-ghost use Rattle.mpd_model.specs.script.Program.{Program};
 ghost use Rattle.mpd_model.specs.steps.World.{eligible, start, kind_at, last_call};
 ghost use Rattle.mpd_model.specs.steps.Next as next_specs;
-ghost use Rattle.mpd_model.specs.steps.Next.{next, is_enabled, local_at, update_at, wake_writes, wake_clears, status_writes, can_wake, any_handle, any_call, any_writes, can_wake_any, can_release, is_at_barrier, waits};
+ghost use Rattle.mpd_model.specs.steps.Next.{next, is_enabled, local_at, wake_writes, wake_clears, status_writes, can_wake, any_handle, any_call, any_writes, can_wake_any, can_release, is_at_barrier, waits};
 ghost use Rattle.mpd_core.specs.Views.{IsMessage};
 ghost use Rattle.mpd_rank.specs.Views.{rank_of};
-ghost use Rattle.mpd_rank.specs.Undone.{blocked_again};
-ghost use Rattle.mpd_match.specs.Changes.{last_set, without_last_set};
+ghost use Rattle.mpd_match.specs.Changes.{last_set};
 ghost use Rattle.mpd_match.specs.Slots.{slots_of};
-ghost use Rattle.mpd_core.specs.Records.{record_of};
 ghost use Rattle.mpd_core.specs.Steps.{other_step};
-ghost use Rattle.mpd_core.specs.Looks.{step_looks, most_looks};
-ghost use Rattle.mpd_core.specs.Writes.{most_writes, most_writes_back};
+ghost use Rattle.mpd_core.specs.CoreStepped.{CoreStepped, CoreUndone, StepWrote, Wrote};
 
 use crate::fault::StepFault;
 use crate::ranks;
@@ -25,7 +21,7 @@ use crate::record::{OtherRecord, Record};
 use crate::step::{AnyStep, OtherStep};
 use crate::waitany::{Request, own_writes, request_handle, requests_of, with_index};
 use mpd_code::Code;
-use mpd_device::Steps;
+use mpd_counter::Counter;
 use mpd_match::Board;
 use mpd_model::{
     Activity, CallId, CallKind, HANDLES_MAX, Message, Mode, RANKS_MAX, RecvCall, Step, is_barrier,
@@ -42,7 +38,7 @@ pub struct Core<'c> {
     ranks: Vec<RankState>,
     board: Board,
     /// At lists of free calls, to know whether a match is enabled that was asked for.
-    looks: Steps,
+    looks: Counter,
 }
 
 impl<'c> Model for Core<'c> {
@@ -104,7 +100,7 @@ fn writes_of(kind: Option<CallKind>, message: Option<Message>) -> Cells
 }
 
 impl<'c> Core<'c> {
-    ghost use Rattle.mpd_core.specs.Undone.{undone, CanUndo};
+    ghost use Rattle.mpd_core.specs.Undone.{CanUndo};
 
     /// Every rank before its first step. An `Err` is want of memory.
     #[tactic(auto, using(crate::proofs::RankLemmas::board))]
@@ -119,7 +115,7 @@ impl<'c> Core<'c> {
             code,
             ranks: ranks::start_ranks(alloc, code, size)?,
             board: Board::new(alloc, size, mode)?,
-            looks: Steps::new(),
+            looks: Counter::new(),
         })
     }
 
@@ -135,7 +131,7 @@ impl<'c> Core<'c> {
             code: self.code,
             ranks: ranks::copy_ranks(&self.ranks)?,
             board: self.board.copy()?,
-            looks: Steps::new(),
+            looks: Counter::new(),
         })
     }
 
@@ -166,6 +162,15 @@ impl<'c> Core<'c> {
         ensures small { result ≤ RANKS_MAX }
     {
         self.ranks.len()
+    }
+
+    /// The law that all ranks of the program are there, which holds at all times. It does nothing.
+    #[inline(always)]
+    #[tactic(auto, using(crate::proofs::RankLemmas::all_there))]
+    pub fn all_ranks_are_there(&self)
+        ensures { self.now.program.ranks ≡ length self.now.world.ranks }
+    {
+        let _ = &self.board;
     }
 
     /// What a rank is doing, where there is one.
@@ -232,7 +237,7 @@ impl<'c> Core<'c> {
 
     /// The request of an index, of the waitany that a rank has issued last, where its handle has a call.
     #[tactic(auto, using(crate::proofs::RankLemmas::reading, crate::proofs::AnyLemmas::requesting))]
-    fn request(&self, rank: usize, index: usize) -> Option<Request>
+    pub fn request(&self, rank: usize, index: usize) -> Option<Request>
         ensures handle { IfSome result (λ request. any_handle self.now.world rank index ≡ Some request.handle) }
         ensures call { any_call self.now.world rank index ≡ option_map (λ request. request.call) result }
         ensures low { IfSome result (λ _. index < HANDLES_MAX) }
@@ -307,7 +312,7 @@ impl<'c> Core<'c> {
         match step {
             Step::Local(rank) => self.can_step(rank),
             Step::Match(send, recv) => {
-                let mut looks = Steps::new();
+                let mut looks = Counter::new();
                 self.board.eligible(send, recv, &mut looks)
             }
             Step::Wake(rank) => self.can_wake(rank),
@@ -319,20 +324,8 @@ impl<'c> Core<'c> {
     /// A local step, as `apply` takes it. It answers what takes the step back, but for the rank.
     #[inline(always)]
     pub fn step_local(&mut self, rank: usize) -> Result<LocalRecord, StepFault>
-        ensures ok { OnOk result (next self.old.world (Step.Local rank) ≡ Some self.new.world) }
-        ensures back { IfOk result (λ done. undone self.old.program self.new.world (Record.Local rank done) ≡ self.old.world) }
-        ensures recorded { IfOk result (λ done. record_of self.old.world (Step.Local rank) ≡ Some (Record.Local rank done)) }
-        ensures can { IfOk result (λ done. CanUndo self.new.world (Record.Local rank done)) }
-        ensures not_enabled { IsErrOf result StepFault.NotEnabled ↔ (next self.old.world (Step.Local rank) ≡ None) }
-        ensures memory { IsErrOf result StepFault.Memory → self.old.room ≡ 0 }
-        ensures err { OnErr result (self.new.world ≡ self.old.world) }
-        ensures program { self.new.program ≡ self.old.program }
-        ensures room_left { self.old.room ≤ self.new.room + 1 }
-        ensures err_room { OnErr result (self.old.room ≤ self.new.room) }
-        ensures rises { OnOk result (self.old.writes + 1 ≤ self.new.writes) }
-        ensures few { self.new.writes ≤ self.old.writes + 16 }
-        ensures unwritten { OnErr result (self.new.writes ≡ self.old.writes) }
-        ensures looks { self.new.looks ≡ self.old.looks }
+        ensures stepped { CoreStepped (Record.Local rank) (Step.Local rank) self.old self.new result }
+        ensures writes { StepWrote (Step.Local rank) self.old self.new result }
     {
         if rank >= self.ranks.len() {
             return Err(StepFault::NotEnabled);
@@ -343,20 +336,9 @@ impl<'c> Core<'c> {
     /// A match.
     #[tactic(auto, using(crate::proofs::RoomLemmas::refused, crate::proofs::RoomLemmas::spending, crate::proofs::TagLemmas::tagging))]
     fn apply_match(&mut self, send: CallId, recv: CallId) -> Result<OtherRecord, StepFault>
-        ensures ok { OnOk result (next self.old.world (Step.Match send recv) ≡ Some self.new.world) }
-        ensures back { IfOk result (λ done. undone self.old.program self.new.world (Record.Other done) ≡ self.old.world) }
-        ensures recorded { IfOk result (λ done. record_of self.old.world (Step.Match send recv) ≡ Some (Record.Other done)) }
-        ensures can { IfOk result (λ done. CanUndo self.new.world (Record.Other done)) }
-        ensures not_enabled { IsErrOf result StepFault.NotEnabled ↔ (next self.old.world (Step.Match send recv) ≡ None) }
-        ensures memory { IsErrOf result StepFault.Memory → self.old.room ≡ 0 }
-        ensures err { OnErr result (self.new.world ≡ self.old.world) }
-        ensures program { self.new.program ≡ self.old.program }
-        ensures room_left { self.old.room ≤ self.new.room + 1 }
-        ensures err_room { OnErr result (self.old.room ≤ self.new.room) }
+        ensures stepped { CoreStepped Record.Other (Step.Match send recv) self.old self.new result }
         ensures writes { OnOk result (self.new.writes ≡ self.old.writes + 7 + slots_of (kind_at self.old.world.board send)) }
         ensures unwritten { OnErr result (self.new.writes ≡ self.old.writes) }
-        ensures looks { self.new.looks ≡ self.old.looks + step_looks self.old.world.board (Step.Match send recv) }
-        ensures few_looks { self.new.looks ≤ self.old.looks + most_looks self.old.world.board (Step.Match send recv) }
     {
         if !self.board.eligible(send, recv, &mut self.looks) {
             return Err(StepFault::NotEnabled);
@@ -398,22 +380,10 @@ impl<'c> Core<'c> {
     }
 
     /// A wake.
-    #[tactic(auto, using(crate::proofs::RankLemmas::waking_blocked, crate::proofs::RoomLemmas::refused, crate::proofs::RoomLemmas::spending, crate::proofs::TagLemmas::tagging))]
+    #[tactic(auto, using(crate::proofs::RankLemmas::board, crate::proofs::RankLemmas::waking_blocked, crate::proofs::RoomLemmas::refused, crate::proofs::RoomLemmas::spending, crate::proofs::TagLemmas::tagging))]
     fn apply_wake(&mut self, rank: usize) -> Result<OtherRecord, StepFault>
-        ensures ok { OnOk result (next self.old.world (Step.Wake rank) ≡ Some self.new.world) }
-        ensures back { IfOk result (λ done. undone self.old.program self.new.world (Record.Other done) ≡ self.old.world) }
-        ensures recorded { IfOk result (λ done. record_of self.old.world (Step.Wake rank) ≡ Some (Record.Other done)) }
-        ensures can { IfOk result (λ done. CanUndo self.new.world (Record.Other done)) }
-        ensures not_enabled { IsErrOf result StepFault.NotEnabled ↔ (next self.old.world (Step.Wake rank) ≡ None) }
-        ensures memory { IsErrOf result StepFault.Memory → self.old.room ≡ 0 }
-        ensures err { OnErr result (self.new.world ≡ self.old.world) }
-        ensures program { self.new.program ≡ self.old.program }
-        ensures room_left { self.old.room ≤ self.new.room + 1 }
-        ensures err_room { OnErr result (self.old.room ≤ self.new.room) }
-        ensures rises { OnOk result (self.old.writes + 2 ≤ self.new.writes) }
-        ensures few { self.new.writes ≤ self.old.writes + 7 }
-        ensures unwritten { OnErr result (self.new.writes ≡ self.old.writes) }
-        ensures looks { self.new.looks ≡ self.old.looks }
+        ensures stepped { CoreStepped Record.Other (Step.Wake rank) self.old self.new result }
+        ensures writes { Wrote 2 7 self.old.writes self.new.writes result }
     {
         if rank >= self.ranks.len() || !self.can_wake(rank) {
             return Err(StepFault::NotEnabled);
@@ -430,20 +400,8 @@ impl<'c> Core<'c> {
     /// A wake by the request of an index, of a waitany.
     #[tactic(auto, using(crate::proofs::RankLemmas::board, crate::proofs::RankLemmas::waking_blocked, crate::proofs::RoomLemmas::refused, crate::proofs::RoomLemmas::spending, crate::proofs::TagLemmas::tagging))]
     fn apply_wake_any(&mut self, rank: usize, index: usize) -> Result<OtherRecord, StepFault>
-        ensures ok { OnOk result (next self.old.world (Step.WakeAny rank index) ≡ Some self.new.world) }
-        ensures back { IfOk result (λ done. undone self.old.program self.new.world (Record.Other done) ≡ self.old.world) }
-        ensures recorded { IfOk result (λ done. record_of self.old.world (Step.WakeAny rank index) ≡ Some (Record.Other done)) }
-        ensures can { IfOk result (λ done. CanUndo self.new.world (Record.Other done)) }
-        ensures not_enabled { IsErrOf result StepFault.NotEnabled ↔ (next self.old.world (Step.WakeAny rank index) ≡ None) }
-        ensures memory { IsErrOf result StepFault.Memory → self.old.room ≡ 0 }
-        ensures err { OnErr result (self.new.world ≡ self.old.world) }
-        ensures program { self.new.program ≡ self.old.program }
-        ensures room_left { self.old.room ≤ self.new.room + 1 }
-        ensures err_room { OnErr result (self.old.room ≤ self.new.room) }
-        ensures rises { OnOk result (self.old.writes + 2 ≤ self.new.writes) }
-        ensures few { self.new.writes ≤ self.old.writes + 7 }
-        ensures unwritten { OnErr result (self.new.writes ≡ self.old.writes) }
-        ensures looks { self.new.looks ≡ self.old.looks }
+        ensures stepped { CoreStepped Record.Other (Step.WakeAny rank index) self.old self.new result }
+        ensures writes { Wrote 2 7 self.old.writes self.new.writes result }
     {
         let Some(request) = self.ready_request(rank, index) else {
             return Err(StepFault::NotEnabled);
@@ -459,19 +417,9 @@ impl<'c> Core<'c> {
     /// A release.
     #[tactic(auto, using(crate::proofs::ReleaseLemmas::releasing, crate::proofs::RoomLemmas::refused, crate::proofs::RoomLemmas::spending, crate::proofs::TagLemmas::tagging))]
     fn apply_release(&mut self) -> Result<OtherRecord, StepFault>
-        ensures ok { OnOk result (next self.old.world Step.Release ≡ Some self.new.world) }
-        ensures back { IfOk result (λ done. undone self.old.program self.new.world (Record.Other done) ≡ self.old.world) }
-        ensures recorded { IfOk result (λ done. record_of self.old.world Step.Release ≡ Some (Record.Other done)) }
-        ensures can { IfOk result (λ done. CanUndo self.new.world (Record.Other done)) }
-        ensures not_enabled { IsErrOf result StepFault.NotEnabled ↔ (next self.old.world Step.Release ≡ None) }
-        ensures memory { IsErrOf result StepFault.Memory → self.old.room ≡ 0 }
-        ensures err { OnErr result (self.new.world ≡ self.old.world) }
-        ensures program { self.new.program ≡ self.old.program }
-        ensures room_left { self.old.room ≤ self.new.room + 1 }
-        ensures err_room { OnErr result (self.old.room ≤ self.new.room) }
+        ensures stepped { CoreStepped Record.Other Step.Release self.old self.new result }
         ensures writes { OnOk result (self.new.writes ≡ self.old.writes + self.old.program.ranks + 1) }
         ensures unwritten { OnErr result (self.new.writes ≡ self.old.writes) }
-        ensures looks { self.new.looks ≡ self.old.looks }
     {
         if !self.can_release() {
             return Err(StepFault::NotEnabled);
@@ -501,21 +449,8 @@ impl<'c> Core<'c> {
     /// A step that isn't local, as `apply` takes it.
     #[tactic(auto, using(crate::proofs::StepLemmas::writing))]
     pub fn step_other(&mut self, step: OtherStep) -> Result<OtherRecord, StepFault>
-        ensures ok { OnOk result (next self.old.world (other_step step) ≡ Some self.new.world) }
-        ensures back { IfOk result (λ done. undone self.old.program self.new.world (Record.Other done) ≡ self.old.world) }
-        ensures recorded { IfOk result (λ done. record_of self.old.world (other_step step) ≡ Some (Record.Other done)) }
-        ensures can { IfOk result (λ done. CanUndo self.new.world (Record.Other done)) }
-        ensures not_enabled { IsErrOf result StepFault.NotEnabled ↔ (next self.old.world (other_step step) ≡ None) }
-        ensures memory { IsErrOf result StepFault.Memory → self.old.room ≡ 0 }
-        ensures err { OnErr result (self.new.world ≡ self.old.world) }
-        ensures program { self.new.program ≡ self.old.program }
-        ensures room_left { self.old.room ≤ self.new.room + 1 }
-        ensures err_room { OnErr result (self.old.room ≤ self.new.room) }
-        ensures rises { OnOk result (self.old.writes + 1 ≤ self.new.writes) }
-        ensures few { self.new.writes ≤ self.old.writes + most_writes self.old.program.ranks (other_step step) }
-        ensures unwritten { OnErr result (self.new.writes ≡ self.old.writes) }
-        ensures looks { self.new.looks ≡ self.old.looks + step_looks self.old.world.board (other_step step) }
-        ensures few_looks { self.new.looks ≤ self.old.looks + most_looks self.old.world.board (other_step step) }
+        ensures stepped { CoreStepped Record.Other (other_step step) self.old self.new result }
+        ensures writes { StepWrote (other_step step) self.old self.new result }
     {
         match step {
             OtherStep::Match(send, recv) => self.apply_match(send, recv),
@@ -530,21 +465,8 @@ impl<'c> Core<'c> {
     /// (docs/DEFINITIONS.md, "Steps"). A step takes 1 to 16 writes, a release two more for each rank at most, and looks at lists
     /// of free calls only for a match that fits: at most at their cells, and twice more.
     pub fn apply(&mut self, step: Step) -> Result<Record, StepFault>
-        ensures ok { OnOk result (next self.old.world step ≡ Some self.new.world) }
-        ensures back { IfOk result (λ done. undone self.old.program self.new.world done ≡ self.old.world) }
-        ensures recorded { IfOk result (λ done. record_of self.old.world step ≡ Some done) }
-        ensures can { IfOk result (λ done. CanUndo self.new.world done) }
-        ensures not_enabled { IsErrOf result StepFault.NotEnabled ↔ (next self.old.world step ≡ None) }
-        ensures memory { IsErrOf result StepFault.Memory → self.old.room ≡ 0 }
-        ensures err { OnErr result (self.new.world ≡ self.old.world) }
-        ensures program { self.new.program ≡ self.old.program }
-        ensures room_left { self.old.room ≤ self.new.room + 1 }
-        ensures err_room { OnErr result (self.old.room ≤ self.new.room) }
-        ensures rises { OnOk result (self.old.writes + 1 ≤ self.new.writes) }
-        ensures few { self.new.writes ≤ self.old.writes + most_writes self.old.program.ranks step }
-        ensures unwritten { OnErr result (self.new.writes ≡ self.old.writes) }
-        ensures looks { self.new.looks ≡ self.old.looks + step_looks self.old.world.board step }
-        ensures few_looks { self.new.looks ≤ self.old.looks + most_looks self.old.world.board step }
+        ensures stepped { CoreStepped (λ done. done) step self.old self.new result }
+        ensures writes { StepWrote step self.old self.new result }
     {
         match AnyStep::of(step) {
             AnyStep::Local(rank) => {
@@ -560,12 +482,7 @@ impl<'c> Core<'c> {
     #[tactic(auto, using(crate::proofs::RoomLemmas::sparing, crate::proofs::TagLemmas::tagging))]
     pub fn undo_local(&mut self, rank: usize, done: &LocalRecord)
         requires { CanUndo self.old.world (Record.Local rank done.now) }
-        ensures world { self.new.world ≡ undone self.old.program self.old.world (Record.Local rank done.now) }
-        ensures program { self.new.program ≡ self.old.program }
-        ensures room_left { self.old.room ≤ self.new.room }
-        ensures rises { self.old.writes + 1 ≤ self.new.writes }
-        ensures few { self.new.writes ≤ self.old.writes + 16 }
-        ensures looks { self.new.looks ≡ self.old.looks }
+        ensures { CoreUndone (Record.Local rank done.now) self.old self.new }
     {
         if let LocalChange::Issued { .. } = done.change() {
             self.board.unissue(rank);
@@ -577,11 +494,8 @@ impl<'c> Core<'c> {
     #[tactic(auto, using(crate::proofs::ReleaseLemmas::releasing, crate::proofs::RoomLemmas::sparing, crate::proofs::TagLemmas::tagging))]
     fn undo_release(&mut self)
         requires { last_set self.old.world.board ≡ Some sets.Barrier }
-        ensures world { self.new.world ≡ record { ranks = map blocked_again self.old.world.ranks; board = without_last_set self.old.world.board } }
-        ensures program { self.new.program ≡ self.old.program }
-        ensures room_left { self.old.room ≤ self.new.room }
+        ensures undone { CoreUndone (Record.Other OtherRecord.Released) self.old self.new }
         ensures writes { self.new.writes ≡ self.old.writes + self.old.program.ranks + 1 }
-        ensures looks { self.new.looks ≡ self.old.looks }
     {
         self.board.unreleased();
         ranks::block_all(&mut self.ranks);
@@ -591,12 +505,7 @@ impl<'c> Core<'c> {
     #[tactic(auto, using(crate::proofs::RoomLemmas::sparing, crate::proofs::TagLemmas::tagging))]
     pub fn undo_other(&mut self, done: &OtherRecord)
         requires { CanUndo self.old.world (Record.Other done.now) }
-        ensures world { self.new.world ≡ undone self.old.program self.old.world (Record.Other done.now) }
-        ensures program { self.new.program ≡ self.old.program }
-        ensures room_left { self.old.room ≤ self.new.room }
-        ensures rises { self.old.writes + 1 ≤ self.new.writes }
-        ensures few { self.new.writes ≤ self.old.writes + most_writes_back self.old.program.ranks (Record.Other done.now) }
-        ensures looks { self.new.looks ≡ self.old.looks }
+        ensures { CoreUndone (Record.Other done.now) self.old self.new }
     {
         match done {
             OtherRecord::Matched(places) => self.board.unpair(*places),
@@ -612,12 +521,7 @@ impl<'c> Core<'c> {
     /// the one before that step. It takes 1 to 16 writes, for a release two more for each rank at most.
     pub fn undo(&mut self, done: Record)
         requires { CanUndo self.old.world done }
-        ensures world { self.new.world ≡ undone self.old.program self.old.world done }
-        ensures program { self.new.program ≡ self.old.program }
-        ensures room_left { self.old.room ≤ self.new.room }
-        ensures rises { self.old.writes + 1 ≤ self.new.writes }
-        ensures few { self.new.writes ≤ self.old.writes + most_writes_back self.old.program.ranks done }
-        ensures looks { self.new.looks ≡ self.old.looks }
+        ensures { CoreUndone done self.old self.new }
     {
         match done {
             Record::Local { rank, done } => self.undo_local(rank, &done),

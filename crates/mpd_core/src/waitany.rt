@@ -8,7 +8,7 @@ use mpd_rank::Cells;
 
 /// One of the requests: its handle, and the call that this has.
 #[derive(Clone, Copy)]
-pub(crate) struct Request {
+pub struct Request {
     pub handle: usize,
     pub call: CallId,
 }

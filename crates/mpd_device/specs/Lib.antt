@@ -1,4 +1,3 @@
-pub mod Depth
 pub mod Ends
 pub mod Limits
 pub mod Seen

@@ -6,7 +6,7 @@ ghost use Rattle.mpd_device.specs.Seen.{SourceSeen, SinkSeen};
 ghost use Rattle.std.specs.Io.{ReadsAtMost, WritesAtMost};
 ghost use Rattle.std.specs.Io.KnownBytes.{ReadConsumes, WriteAppends};
 
-use crate::steps::Steps;
+use mpd_counter::Counter;
 use std::io;
 use std::io::{ErrorKind, Read, Write};
 use thiserror::Error;
@@ -92,9 +92,9 @@ fn write_again<W: Write>(writer: &mut W, piece: &[u8]) -> Result<usize, DeviceFa
 #[derive(Drop)]
 pub struct FromReader<R> {
     reader: R,
-    calls: Steps,
-    failures: Steps,
-    ends: Steps,
+    calls: Counter,
+    failures: Counter,
+    ends: Counter,
 }
 
 impl<R: Read> FromReader<R> {
@@ -104,9 +104,9 @@ impl<R: Read> FromReader<R> {
     {
         FromReader {
             reader,
-            calls: Steps::new(),
-            failures: Steps::new(),
-            ends: Steps::new(),
+            calls: Counter::new(),
+            failures: Counter::new(),
+            ends: Counter::new(),
         }
     }
 }
@@ -136,8 +136,8 @@ impl<R: Read> Source for FromReader<R> {
 #[derive(Drop)]
 pub struct ToWriter<W> {
     writer: W,
-    calls: Steps,
-    failures: Steps,
+    calls: Counter,
+    failures: Counter,
 }
 
 impl<W: Write> ToWriter<W> {
@@ -147,8 +147,8 @@ impl<W: Write> ToWriter<W> {
     {
         ToWriter {
             writer,
-            calls: Steps::new(),
-            failures: Steps::new(),
+            calls: Counter::new(),
+            failures: Counter::new(),
         }
     }
 

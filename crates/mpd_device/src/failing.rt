@@ -6,7 +6,7 @@ ghost use Rattle.mpd_device.specs.Ends.{ends_of};
 ghost use Rattle.mpd_device.specs.Limits.{is_reached, limit_after, most_of};
 
 use crate::device::{DeviceFault, Sink, Source};
-use crate::steps::Steps;
+use mpd_counter::Counter;
 use std::cmp;
 
 /// How far a device still goes before it fails in each call.
@@ -58,9 +58,9 @@ impl Limit {
 pub struct FailingSource<S> {
     inner: S,
     limit: Limit,
-    calls: Steps,
-    failures: Steps,
-    ends: Steps,
+    calls: Counter,
+    failures: Counter,
+    ends: Counter,
 }
 
 impl<S: Source> FailingSource<S> {
@@ -72,9 +72,9 @@ impl<S: Source> FailingSource<S> {
         FailingSource {
             inner,
             limit,
-            calls: Steps::new(),
-            failures: Steps::new(),
-            ends: Steps::new(),
+            calls: Counter::new(),
+            failures: Counter::new(),
+            ends: Counter::new(),
         }
     }
 }
@@ -125,8 +125,8 @@ impl<S: Source> Source for FailingSource<S> {
 pub struct FailingSink<W> {
     inner: W,
     limit: Limit,
-    calls: Steps,
-    failures: Steps,
+    calls: Counter,
+    failures: Counter,
 }
 
 impl<W: Sink> FailingSink<W> {
@@ -138,8 +138,8 @@ impl<W: Sink> FailingSink<W> {
         FailingSink {
             inner,
             limit,
-            calls: Steps::new(),
-            failures: Steps::new(),
+            calls: Counter::new(),
+            failures: Counter::new(),
         }
     }
 

@@ -3,8 +3,6 @@
 
 pub mod device;
 pub mod failing;
-pub mod steps;
 
 pub use device::{DeviceFault, FromReader, Sink, Source, ToWriter};
 pub use failing::{FailingSink, FailingSource, Limit};
-pub use steps::Steps;

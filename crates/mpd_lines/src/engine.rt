@@ -1,5 +1,5 @@
 //! Reads lines from a source, asks a desk each of them, and writes the answers to a sink.
-ghost use Rattle.std.specs.Prelude.{◌≡◌, [], OnOk};
+ghost use Rattle.std.specs.Prelude.{◌≡◌, [], OnOk, length};
 ghost use Rattle.mpd_lines.specs.FaultWords.{engine_fault_number, engine_fault_name, failed_reads, failed_writes};
 ghost use Rattle.mpd_lines.specs.Forward.{ended_from, part_from, last_line};
 ghost use Rattle.mpd_lines.specs.Gathering.{Spoken};
@@ -70,6 +70,13 @@ impl fmt::Display for EngineFault {
 
 impl Error for EngineFault {}
 
+/// What the engine keeps between reads.
+#[derive(Drop)]
+struct Buffers {
+    feeder: Feeder,
+    outbox: Outbox,
+}
+
 /// What one read has brought.
 #[derive(Clone, Copy)]
 enum Turn {
@@ -113,7 +120,7 @@ fn tell_last<W: Sink, D: LineDesk>(
     outbox.flush(sink)
 }
 
-/// Makes one read, and writes the answers to all lines that have ended.
+/// Makes one read, of 4,096 bytes at most, and writes the answers to all lines that have ended.
 fn take_turn<S: Source, W: Sink, D: LineDesk>(
     source: &mut S,
     buffer: &mut [u8; READ_MAX],
@@ -126,6 +133,7 @@ fn take_turn<S: Source, W: Sink, D: LineDesk>(
     ensures turned { Turned D.says (waiting_below D.gathers) desk.old feeder.old (S.seen source.old) (S.seen source.new) (W.seen sink.old) (W.seen sink.new) desk.new feeder.new result }
     ensures counted { CountedOnce (S.seen source.old) (S.seen source.new) (W.seen sink.old) (W.seen sink.new) result }
     ensures none { OnOk result (outbox.new ≡ []) }
+    ensures asked { length buffer.new ≡ 4096 }
 {
     let Ok(count) = source.read(buffer) else {
         return Err(EngineFault::ReadFailed);
@@ -175,24 +183,28 @@ pub fn run_behind<S: Source, W: Sink, D: LineDesk>(
     let Ok(outbox) = Outbox::new(alloc) else {
         return Err(EngineFault::Memory);
     };
-    run_kept(feeder, outbox, source, sink, desk, before, turns)
+    let buffers = Buffers { feeder, outbox };
+    run_kept(buffers, source, sink, desk, before, turns)
 }
 
 /// The same with the buffers that it keeps.
 fn run_kept<S: Source, W: Sink, D: LineDesk>(
-    mut feeder: Feeder,
-    mut outbox: Outbox,
+    buffers: Buffers,
     source: &mut S,
     sink: &mut W,
     desk: &mut D,
     before: &[u8],
     turns: usize,
 ) -> Result<(), EngineFault>
-    requires part { feeder ≡ [] }
-    requires none { outbox ≡ [] }
+    requires part { buffers.feeder ≡ [] }
+    requires none { buffers.outbox ≡ [] }
     ensures served { Served D.says (waiting_below D.gathers) desk.old before.now turns (S.seen source.old) (S.seen source.new) (W.seen sink.old) (W.seen sink.new) desk.new result }
     ensures counted { Counted turns (failed_reads result) (failed_writes result) (S.seen source.old) (S.seen source.new) (W.seen sink.old) (W.seen sink.new) }
 {
+    let Buffers {
+        mut feeder,
+        mut outbox,
+    } = buffers;
     match tell(&mut feeder, &mut outbox, desk, sink, before) {
         Ok(()) => {}
         Err(_) => return Err(EngineFault::WriteFailed),

@@ -4,7 +4,6 @@
 pub mod desk;
 pub mod engine;
 mod feeder;
-pub mod line;
 mod line_bytes;
 pub mod outbox;
 pub mod room;
@@ -13,7 +12,6 @@ pub mod verdict;
 
 pub use desk::{LineDesk, ROOM};
 pub use engine::{EngineFault, READ_MAX, run, run_behind};
-pub use line::without_return;
 pub use outbox::write_all;
 pub use room::push_all;
 pub use up_to::read_up_to;

@@ -8,7 +8,7 @@ ghost use Rattle.mpd_match.specs.Picked.{picked_with, picked_at, picked_on};
 
 use crate::board::Board;
 use crate::kinds;
-use mpd_device::Steps;
+use mpd_counter::Counter;
 use mpd_model::{CallId, Step};
 use std::alloc::AllocError;
 
@@ -27,7 +27,7 @@ impl Board {
         if sender >= self.rank_count() {
             return None;
         }
-        let mut looks = Steps::new();
+        let mut looks = Counter::new();
         let Some(index) = self.candidate(sender, recv, &mut looks) else {
             return None;
         };
@@ -43,7 +43,7 @@ impl Board {
         requires { receiver < length self.now.board.calls }
         ensures { result ≡ first_in (picked_at is_named_match self.now.board receiver) }
     {
-        let mut looks = Steps::new();
+        let mut looks = Counter::new();
         let mut here = self.first_posted(receiver, &mut looks);
         'walk: while let Some(index) = here {
             let recv = CallId {
@@ -64,7 +64,7 @@ impl Board {
     fn has_many_posted(&self, receiver: usize) -> bool
         requires { receiver < length self.now.board.calls }
     {
-        let mut looks = Steps::new();
+        let mut looks = Counter::new();
         let mut here = self.first_posted(receiver, &mut looks);
         for _ in 0..MANY {
             let Some(index) = here else {
@@ -128,7 +128,7 @@ impl Board {
         ensures ok { OnOk result (out.new.items ≡ out.old.items ++ picked_at is_open_match self.now.board receiver) }
         ensures memory { OnErr result (0 < length (picked_at is_open_match self.now.board receiver)) }
     {
-        let mut looks = Steps::new();
+        let mut looks = Counter::new();
         let mut here = self.first_posted(receiver, &mut looks);
         'walk: while let Some(index) = here {
             let recv = CallId {

@@ -21,8 +21,8 @@ pub(crate) fn line_of(kind: CallKind) -> Option<usize>
     }
 }
 
-/// Whether it is any number, or this one.
-fn is_any_or(wanted: Option<usize>, number: usize) -> bool
+/// Whether a source or a tag that a receive takes is this number: `None` is any (MPI 4.0, section 3.2.4).
+pub fn is_any_or(wanted: Option<usize>, number: usize) -> bool
     ensures { result ≡ any_or wanted number }
 {
     match wanted {

@@ -18,5 +18,6 @@ mod walk;
 pub mod why;
 
 pub use board::Board;
+pub use kinds::is_any_or;
 pub use record::PairRecord;
 pub use why::Why;

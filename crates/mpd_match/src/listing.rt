@@ -3,7 +3,7 @@ ghost use Rattle.std.specs.Prelude.{◌≡◌, ◌++◌, ◌<◌, length, OnOk, 
 ghost use Rattle.mpd_match.specs.Matches as listed;
 
 use crate::board::Board;
-use mpd_device::Steps;
+use mpd_counter::Counter;
 use mpd_model::{CallId, Step};
 use std::alloc::AllocError;
 
@@ -20,7 +20,7 @@ impl Board {
         ensures ok { OnOk result (out.new.items ≡ out.old.items ++ listed.matches_from self.now.board recv sender) }
         ensures memory { OnErr result (0 < length (listed.matches_from self.now.board recv sender)) }
     {
-        let mut looks = Steps::new();
+        let mut looks = Counter::new();
         let Some(index) = self.candidate(sender, recv, &mut looks) else {
             return Ok(());
         };
@@ -55,7 +55,7 @@ impl Board {
         ensures ok { OnOk result (out.new.items ≡ out.old.items ++ listed.matches_at self.now.board receiver) }
         ensures memory { OnErr result (0 < length (listed.matches_at self.now.board receiver)) }
     {
-        let mut looks = Steps::new();
+        let mut looks = Counter::new();
         let mut here = self.first_posted(receiver, &mut looks);
         'walk: while let Some(index) = here {
             let recv = CallId {

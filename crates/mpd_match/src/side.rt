@@ -5,7 +5,7 @@ ghost use Rattle.mpd_match.specs.Lines.{line_of as line_in, kind_in, mark_in, wi
 ghost use Rattle.mpd_match.specs.Changes.{issue_writes, unissue_writes};
 
 use crate::kinds;
-use mpd_device::Steps;
+use mpd_counter::Counter;
 use mpd_model::{Call, CallId, CallKind, RANKS_MAX};
 use mpd_queue::{Lists, Spot, Tape};
 use std::alloc::{AllocError, Global};
@@ -194,7 +194,7 @@ impl Side {
     }
 
     /// The first call of a line. One look.
-    pub(crate) fn first(&self, line: usize, looks: &mut Steps) -> Option<usize>
+    pub(crate) fn first(&self, line: usize, looks: &mut Counter) -> Option<usize>
         requires { line < self.now.lines }
         ensures first { result ≡ first_of (waiting self.now.calls (mark_in self.now.marks) line) }
         ensures looks { looks.new ≡ looks.old + 1 }
@@ -203,7 +203,7 @@ impl Side {
     }
 
     /// What comes next after a free call in its line. One look.
-    pub(crate) fn next(&self, index: usize, looks: &mut Steps) -> Option<usize>
+    pub(crate) fn next(&self, index: usize, looks: &mut Counter) -> Option<usize>
         requires line { is_none (line_in (kind_in self.now.calls index)) ≡ false }
         requires free { mark_in self.now.marks index ≡ None }
         ensures next { (line : ℕ) → line_in (kind_in self.now.calls index) ≡ Some line → result ≡ next_of (waiting self.now.calls (mark_in self.now.marks) line) index }

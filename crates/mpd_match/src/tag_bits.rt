@@ -9,7 +9,7 @@ ghost use Rattle.mpd_match.specs.Tags as tags;
 ghost use Rattle.mpd_match.specs.Tags.{tag_place, sent_tag as tag_in, marked, Covers};
 
 use crate::board::Board;
-use mpd_device::Steps;
+use mpd_counter::Counter;
 use mpd_model::{CallId, CallKind, RANKS_MAX, Step};
 
 /// How many places there are for the tags of all senders: as many as there are tags.
@@ -105,7 +105,7 @@ impl Board {
         ensures marked { (i : ℕ) → is_pending self.now.board sender receiver i ≡ true → tags.is_marked marks.new (tag_place sender (tag_in (kind_at self.now.board (call_id sender i)))) ≡ true }
         ensures kept { (n : ℕ) → tags.is_marked marks.old n ≡ true → tags.is_marked marks.new n ≡ true }
     {
-        let mut looks = Steps::new();
+        let mut looks = Counter::new();
         let mut here = self.first_pending(sender, receiver, &mut looks);
         'walk: while let Some(index) = here {
             let send = CallId {
@@ -155,7 +155,7 @@ impl Board {
         requires covers { Covers self.now.board receiver marks.now }
         ensures { result ≡ first_in (picked_at is_named_match self.now.board receiver) }
     {
-        let mut looks = Steps::new();
+        let mut looks = Counter::new();
         let mut here = self.first_posted(receiver, &mut looks);
         'walk: while let Some(index) = here {
             let recv = CallId {
@@ -197,7 +197,7 @@ impl Board {
     fn may_have_many_posted(&self, receiver: usize) -> bool
         requires { receiver < length self.now.board.calls }
     {
-        let mut looks = Steps::new();
+        let mut looks = Counter::new();
         let Some(first) = self.first_posted(receiver, &mut looks) else {
             return false;
         };

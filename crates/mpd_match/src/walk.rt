@@ -11,7 +11,7 @@ ghost use Rattle.mpd_match.specs.Looks.{eligible_looks, candidate_looks};
 use crate::board::Board;
 use crate::kinds;
 use crate::side::Side;
-use mpd_device::Steps;
+use mpd_counter::Counter;
 use mpd_laws::ordering;
 use mpd_model::{CallId, CallKind};
 
@@ -25,7 +25,7 @@ impl Side {
         other: Option<CallKind>,
         sender: usize,
         receiver: usize,
-        looks: &mut Steps,
+        looks: &mut Counter,
     ) -> bool
         requires { line < self.now.lines }
         ensures found { result ≡ has_earlier_in self.now.calls (mark_in self.now.marks) line index other sender receiver }
@@ -48,7 +48,7 @@ impl Side {
 impl Board {
     /// Whether the two may be paired (MPI 4.0, section 3.5: messages don't overtake). The line of the send is walked up to
     /// it, and that of the receive. No other send of the sender may then be paired with the receive.
-    pub fn eligible(&self, send: CallId, recv: CallId, looks: &mut Steps) -> bool
+    pub fn eligible(&self, send: CallId, recv: CallId, looks: &mut Counter) -> bool
         ensures eligible { result ≡ eligible_on self.now.board send recv }
         ensures one_send { result ≡ true → (i : ℕ) → eligible_on self.now.board (call_id send.rank i) recv ≡ true → i ≡ send.index }
         ensures looks { looks.new ≡ looks.old + eligible_looks self.now.board send recv }
@@ -83,7 +83,12 @@ impl Board {
     }
 
     /// The number of the sender's first free send to the receiver, where there is one. One look.
-    pub fn first_pending(&self, sender: usize, receiver: usize, looks: &mut Steps) -> Option<usize>
+    pub fn first_pending(
+        &self,
+        sender: usize,
+        receiver: usize,
+        looks: &mut Counter,
+    ) -> Option<usize>
         requires sender { sender < length self.now.board.calls }
         requires receiver { receiver < length self.now.board.calls }
         ensures first { result ≡ first_of (pending self.now.board sender receiver) }
@@ -93,7 +98,7 @@ impl Board {
     }
 
     /// The number of the rank's first free receive, where there is one. One look.
-    pub fn first_posted(&self, rank: usize, looks: &mut Steps) -> Option<usize>
+    pub fn first_posted(&self, rank: usize, looks: &mut Counter) -> Option<usize>
         requires { rank < length self.now.board.calls }
         ensures first { result ≡ first_of (posted self.now.board rank) }
         ensures looks { looks.new ≡ looks.old + 1 }
@@ -103,7 +108,7 @@ impl Board {
 
     /// The number of the next free call behind this one, which is free: the same rank's next send to the same receiver, or
     /// its next receive. One look.
-    pub fn next_free(&self, id: CallId, looks: &mut Steps) -> Option<usize>
+    pub fn next_free(&self, id: CallId, looks: &mut Counter) -> Option<usize>
         requires { is_free_on self.now.board id ≡ true }
         ensures pending { (receiver : ℕ) → is_pending self.now.board id.rank receiver id.index ≡ true → result ≡ next_of (pending self.now.board id.rank receiver) id.index }
         ensures posted { is_posted self.now.board id.rank id.index ≡ true → result ≡ next_of (posted self.now.board id.rank) id.index }
@@ -114,7 +119,12 @@ impl Board {
 
     /// The number of the sender's first free send to the receive's rank that fits the receive, where there is one. One look,
     /// and one for each free send ahead of it.
-    pub(crate) fn first_send(&self, sender: usize, recv: CallId, looks: &mut Steps) -> Option<usize>
+    pub(crate) fn first_send(
+        &self,
+        sender: usize,
+        recv: CallId,
+        looks: &mut Counter,
+    ) -> Option<usize>
         requires sender { sender < length self.now.board.calls }
         requires receiver { recv.rank < length self.now.board.calls }
         ensures first { result ≡ first_send_on self.now.board sender recv }
@@ -137,7 +147,7 @@ impl Board {
 
     /// The number of the rank's first free receive that fits the send, where there is one. One look, and one for each free
     /// receive ahead of it.
-    pub(crate) fn first_recv(&self, send: CallId, rank: usize, looks: &mut Steps) -> Option<usize>
+    pub(crate) fn first_recv(&self, send: CallId, rank: usize, looks: &mut Counter) -> Option<usize>
         requires { rank < length self.now.board.calls }
         ensures first { result ≡ first_recv_on self.now.board send rank }
         ensures looks { looks.new ≡ looks.old + 1 + ahead (λ j. fits self.now.board send (call_id rank j)) (posted self.now.board rank) }
@@ -157,7 +167,7 @@ impl Board {
     /// The number of the sender's send that is eligible with the receive, where there is one: its first free send that fits,
     /// if no earlier free receive fits that (MPI 4.0, section 3.5). The sender's line is walked up to that send, and the
     /// receiver's up to the first that fits it. A call that is no free receive, or names another source, takes no look.
-    pub fn candidate(&self, sender: usize, recv: CallId, looks: &mut Steps) -> Option<usize>
+    pub fn candidate(&self, sender: usize, recv: CallId, looks: &mut Counter) -> Option<usize>
         requires { sender < length self.now.board.calls }
         ensures found { filter (λ i. eligible_on self.now.board (call_id sender i) recv) (call_numbers self.now.board sender) ≡ option_to_list result }
         ensures looks { looks.new ≡ looks.old + candidate_looks self.now.board sender recv }
@@ -187,7 +197,7 @@ impl Board {
         requires { sender < length self.now.board.calls }
         ensures { result ≡ list_any (λ i. eligible_on self.now.board (call_id sender i) recv) (call_numbers self.now.board sender) }
     {
-        let mut looks = Steps::new();
+        let mut looks = Counter::new();
         self.candidate(sender, recv, &mut looks).is_some()
     }
 
@@ -210,7 +220,7 @@ impl Board {
         requires { receiver < length self.now.board.calls }
         ensures { result ≡ list_any (λ j. list_any (λ p. list_any (λ i. eligible_on self.now.board (call_id p i) (call_id receiver j)) (call_numbers self.now.board p)) (rank_numbers self.now.board)) (call_numbers self.now.board receiver) }
     {
-        let mut looks = Steps::new();
+        let mut looks = Counter::new();
         let mut here = self.first_posted(receiver, &mut looks);
         'walk: while let Some(index) = here {
             let recv = CallId {

@@ -6,7 +6,7 @@ ghost use Rattle.mpd_match.specs.Entries.{partner_entry};
 
 use crate::board::Board;
 use crate::kinds;
-use mpd_device::Steps;
+use mpd_counter::Counter;
 use mpd_model::{CallId, CallKind};
 use std::alloc::{AllocError, Global};
 use std::marker::Model;
@@ -74,7 +74,7 @@ impl Board {
         if self.rank_count() <= rank {
             return Ok(());
         }
-        let mut looks = Steps::new();
+        let mut looks = Counter::new();
         let mut here = self.first_posted(rank, &mut looks);
         'walk: while let Some(index) = here {
             let recv = CallId { rank, index };
@@ -113,7 +113,7 @@ impl Board {
         ensures ok { OnOk result (out.new.items ≡ out.old.items ++ why_from self.now.board recv sender) }
         ensures missing { OnErr result (0 < length (why_from self.now.board recv sender)) }
     {
-        let mut looks = Steps::new();
+        let mut looks = Counter::new();
         let mut here = self.first_pending(sender, recv.rank, &mut looks);
         'walk: while let Some(index) = here {
             let send = CallId {
@@ -164,7 +164,7 @@ impl Board {
         requires receiver { recv.rank < length self.now.board.calls }
         ensures { result ≡ earlier_send_on self.now.board send recv }
     {
-        let mut looks = Steps::new();
+        let mut looks = Counter::new();
         let index = self.first_send(send.rank, recv, &mut looks)?;
         if send.index <= index {
             return None;
@@ -180,7 +180,7 @@ impl Board {
         requires { recv.rank < length self.now.board.calls }
         ensures { result ≡ earlier_recv_on self.now.board send recv }
     {
-        let mut looks = Steps::new();
+        let mut looks = Counter::new();
         let index = self.first_recv(send, recv.rank, &mut looks)?;
         if recv.index <= index {
             return None;

@@ -1,6 +1,7 @@
 //! Expressions.
 
 ghost use Rattle.std.specs.Prelude.{◌≡◌, IfOk};
+ghost use Rattle.mpd_model.specs.grammar.Canonical.{op_text};
 ghost use Rattle.mpd_model.specs.script.Term.{element, op1, op2};
 
 use crate::place::Place;
@@ -27,6 +28,29 @@ pub enum BinaryOp {
     Divide,
     /// `%`, with the sign of the dividend.
     Remainder,
+}
+
+impl BinaryOp {
+    /// The operator as scripts and C write it, with a space on each side.
+    pub fn spaced(self) -> &'static str
+        ensures { result.now ≡ op_text self }
+    {
+        match self {
+            BinaryOp::Or => " || ",
+            BinaryOp::And => " && ",
+            BinaryOp::Equal => " == ",
+            BinaryOp::NotEqual => " != ",
+            BinaryOp::Less => " < ",
+            BinaryOp::AtMost => " <= ",
+            BinaryOp::Greater => " > ",
+            BinaryOp::AtLeast => " >= ",
+            BinaryOp::Add => " + ",
+            BinaryOp::Subtract => " - ",
+            BinaryOp::Multiply => " * ",
+            BinaryOp::Divide => " / ",
+            BinaryOp::Remainder => " % ",
+        }
+    }
 }
 
 /// An operator before its operand.

@@ -30,9 +30,9 @@ pub use expr::{BinaryOp, Expr, ExprNode, UnaryOp};
 pub use kind::{blocks, is_barrier};
 pub use limits::{
     BLOCKS_MAX, BREAKS_MAX, CELLS_MAX, HANDLES_MAX, LANGUAGE_MAX, LINE_MAX, NAME_MAX, NESTING_MAX,
-    RANKS_MAX, READS_MAX, SCRIPT_MAX, SLOTS_MAX, STATEMENTS_MAX, STEPS_MAX, TAGS,
+    RANKS_MAX, READS_MAX, RUNS_MAX, SCRIPT_MAX, SLOTS_MAX, STATEMENTS_MAX, STEPS_MAX, TAGS,
 };
-pub use lines::lines_lose_nothing;
+pub use lines::{bare_line, cut_line, lines_lose_nothing, without_return};
 pub use mode::mode_of;
 pub use outcome::{CallList, Outcome, TrapList, TrappedRank};
 pub use place::{Decl, DeclKind, Place};
@@ -44,6 +44,6 @@ pub use stmt::{
     AssignStmt, IrecvStmt, IsendStmt, RecvStmt, SendStmt, Simple, StatusStmt, Stmt, StmtNode,
     Target, WaitanyStmt,
 };
-pub use text::{print_outcome, print_step};
+pub use text::{print_outcome, print_step, recv_word, send_word};
 pub use token::{Class, RESERVED, Symbol, Token};
-pub use words::{TraceWord, has_word, step_of, trace_word_of};
+pub use words::{TraceWord, call_of, has_word, next_word, number_of, step_of, trace_word_of};

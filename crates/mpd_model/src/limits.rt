@@ -37,6 +37,9 @@ pub const SLOTS_MAX: usize = 65_536;
 /// Steps of a trail, undone ones included.
 pub const STEPS_MAX: usize = 1_000_000;
 
+/// Runs that a report lists.
+pub const RUNS_MAX: usize = 65_536;
+
 /// Breakpoints of a run.
 pub const BREAKS_MAX: usize = 64;
 

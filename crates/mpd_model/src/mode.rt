@@ -1,11 +1,37 @@
 //! The modes as words (docs/FORMATS.md, "Modes").
 
 ghost use Rattle.std.specs.Prelude.{◌≡◌};
+ghost use Rattle.mpd_model.specs.steps.World.{is_limited};
 ghost use Rattle.mpd_model.specs.texts.Modes.{limited_of, mode_of, slots_of};
 
 use crate::call::Mode;
 use crate::limits::SLOTS_MAX;
 use crate::words;
+use std::fmt;
+
+impl fmt::Display for Mode {
+    ghost use Rattle.std.specs.Prelude.{Some};
+    ghost use Rattle.mpd_model.specs.texts.Modes.{mode_word};
+
+    ghost output = { λ mode. Some (mode_word mode) };
+
+    fn fmt<W: fmt::Write>(&self, f: &mut fmt::Formatter<W>) -> fmt::Result {
+        match *self {
+            Mode::Rendezvous => f.write_str("rendezvous"),
+            Mode::Buffered => f.write_str("buffered"),
+            Mode::Slots(count) => write!(f, "slots:{count}"),
+        }
+    }
+}
+
+impl Mode {
+    /// Whether its buffers run out.
+    pub fn is_limited(self) -> bool
+        ensures { result ≡ is_limited self }
+    {
+        matches!(self, Mode::Slots(_))
+    }
+}
 
 /// Reads a mode: `rendezvous`, `buffered`, or `slots:` and a number of 1 to 5 digits, at most 65,536 (MPI 4.0, section 3.4). `None`
 /// where the text is none of these. It takes no memory.

@@ -45,8 +45,8 @@ pub fn print_step(alloc: Global, step: Step) -> Result<String, AllocError>
     Ok(out)
 }
 
-/// The word of a send.
-fn send_word(synchronous: bool, blocks: bool) -> &'static str
+/// The word of a send: whether it is synchronous (MPI 4.0, section 3.4), and whether its rank waits for it.
+pub fn send_word(synchronous: bool, blocks: bool) -> &'static str
     ensures { result.now ≡ send_word synchronous blocks }
 {
     match (synchronous, blocks) {
@@ -57,8 +57,8 @@ fn send_word(synchronous: bool, blocks: bool) -> &'static str
     }
 }
 
-/// The word of a receive.
-fn recv_word(blocks: bool) -> &'static str
+/// The word of a receive: whether its rank waits for it.
+pub fn recv_word(blocks: bool) -> &'static str
     ensures { result.now ≡ recv_word blocks }
 {
     if blocks { "recv" } else { "irecv" }

@@ -45,9 +45,9 @@ pub fn has_word(line: &[u8]) -> bool
     next_word(line).is_some()
 }
 
-/// The first word, and what stands behind it.
+/// The first word of a line, and what stands after it; `None` if there is no word. Blanks are spaces and tabs.
 #[tactic(auto, using(crate::proofs::WordLemmas::cutting))]
-fn next_word(text: &[u8]) -> Option<(&[u8], &[u8])>
+pub fn next_word(text: &[u8]) -> Option<(&[u8], &[u8])>
     ensures { MatchOption result (words text.now ≡ []) (λ q. words text.now ≡ q.0.now ∷ words q.1.now) }
 {
     let (_, start) = text.split_at(blank_len(text));
@@ -96,8 +96,8 @@ fn dot_len(text: &[u8]) -> usize
     text.len()
 }
 
-/// A number of 1 to 9 digits.
-pub(crate) fn number_of(word: &[u8]) -> Option<usize>
+/// A number of 1 to 9 digits; `None` if the word is none.
+pub fn number_of(word: &[u8]) -> Option<usize>
     ensures { result ≡ number_of word.now }
 {
     if word.is_empty() || word.len() > 9 {
@@ -113,9 +113,9 @@ pub(crate) fn number_of(word: &[u8]) -> Option<usize>
     Some(value)
 }
 
-/// A call: two numbers with one `.` between them.
+/// A call: two numbers with one `.` between them; `None` if the word is none.
 #[tactic(auto, using(crate::proofs::WordLemmas::cutting))]
-fn call_of(word: &[u8]) -> Option<CallId>
+pub fn call_of(word: &[u8]) -> Option<CallId>
     ensures { result ≡ call_of word.now }
 {
     let dot = dot_len(word);

@@ -1,5 +1,6 @@
 -- How many cells stand before those of a declaration.
-use Rattle.std.proofs.Common.{◌≡◌, ℕ, zero, suc, ◌+◌, ◌≤◌, List, [], ◌∷◌, take, Some, slice_get, refl, ap, sym, arith}
+use Rattle.std.proofs.Common.{◌≡◌, ℕ, zero, suc, ◌+◌, ◌≤◌, List, [], ◌∷◌, take, Option, Some, None, slice_get, refl, ap, sym, arith}
+use Rattle.std.specs.Option.{unwrap_or}
 use Rattle.mpd_model.specs.declared.place.DeclKind.{DeclKind}
 use Rattle.mpd_model.specs.declared.place.DeclKind.TheVariants.{Variable, Handle}
 use Rattle.mpd_model.specs.declared.limits.TheConstants.{CELLS_MAX, HANDLES_MAX}
@@ -21,6 +22,10 @@ few_in Variable ds v h = omega (arith, all_variables ds, v)
 few_in Handle ds v h = omega (arith, all_handles ds, h)
 
 -- ---- those of one declaration stand among them
+
+pub cells_or_one : (size : Option ℕ) → unwrap_or size 1 ≡ cells_of size
+cells_or_one None = refl
+cells_or_one (Some n) = refl
 
 some_is : (d e : Declared) → Some d ≡ Some e → d ≡ e
 some_is d e h = cc

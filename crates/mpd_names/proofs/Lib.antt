@@ -1,6 +1,7 @@
 pub mod CellLemmas
 pub mod HeldLemmas
 pub mod StandLemmas
-pub mod LineLemmas
 pub mod SourceLemmas
 pub mod ListLemmas
+pub mod JoinLemmas
+pub mod PlacedLemmas

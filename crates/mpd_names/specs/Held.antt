@@ -7,7 +7,7 @@ use Rattle.mpd_model.specs.script.Declaration.{Declared}
 use Rattle.mpd_model.specs.script.Program.{Program}
 use Rattle.mpd_model.specs.steps.World.{RankWorld, World, Board, call_id}
 use Rattle.mpd_model.specs.texts.Texts.{line, spaced, id_text}
-use Rattle.mpd_explain.specs.Explained.{placed}
+use Rattle.mpd_names.specs.Placed.{placed}
 use Rattle.mpd_names.specs.declared.name.Named.{Named}
 use Rattle.mpd_names.specs.Cells.{whole}
 use Rattle.mpd_names.specs.Called.{cell_name}

@@ -1,9 +1,9 @@
+pub mod Placed
 pub mod Cells
 pub mod Names
 pub mod Called
 pub mod Held
 pub mod Stand
-pub mod Cuts
 pub mod Listed
 pub mod Sources
 pub mod NameRows

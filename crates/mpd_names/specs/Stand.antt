@@ -5,7 +5,7 @@ use Rattle.mpd_model.specs.declared.call.Activity.TheVariants.{Running, Blocked,
 use Rattle.mpd_model.specs.script.Program.{Program}
 use Rattle.mpd_model.specs.steps.World.{RankWorld, World, Board, call_at, last_call}
 use Rattle.mpd_model.specs.steps.Outcomes.{has_ended}
-use Rattle.mpd_explain.specs.Explained.{issue_line, rank_line}
+use Rattle.mpd_names.specs.Placed.{issue_line, rank_line}
 
 abbrev pub ended_by : Option RankWorld → Bool
 ended_by None = false

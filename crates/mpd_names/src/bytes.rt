@@ -1,25 +1,8 @@
 //! Bytes of a word.
 
 ghost use Rattle.std.specs.Prelude.{◌≡◌, ◌≤◌, length, MatchOption, Some, None};
-ghost use Rattle.mpd_model.specs.texts.Words.{stop_len, number_of};
+ghost use Rattle.mpd_model.specs.texts.Words.{stop_len};
 ghost use Rattle.mpd_names.specs.Names as names;
-
-/// A number of 1 to 9 digits.
-pub(crate) fn number_of(word: &[u8]) -> Option<usize>
-    ensures { result ≡ number_of word.now }
-{
-    if word.is_empty() || word.len() > 9 {
-        return None;
-    }
-    let mut value = 0;
-    for byte in word {
-        if !byte.is_ascii_digit() {
-            return None;
-        }
-        value = value * 10 + (*byte - b'0') as usize;
-    }
-    Some(value)
-}
 
 /// How many bytes stand before the first `[`, or all.
 pub(crate) fn name_len(word: &[u8]) -> usize

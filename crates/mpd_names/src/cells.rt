@@ -1,30 +1,20 @@
 //! The cells of declarations, by their kind.
 
 ghost use Rattle.std.specs.Prelude.{◌≡◌, ◌≤◌, ◌+◌, Some, take, slice_get};
-ghost use Rattle.mpd_model.specs.script.Declaration.{cells_of, variables_in, handles_in};
+ghost use Rattle.mpd_model.specs.script.Declaration.{variables_in, handles_in};
 ghost use Rattle.mpd_names.specs.Cells as counted;
 
 use crate::name::Named;
 use mpd_code::Code;
 use mpd_model::{CELLS_MAX, Decl, DeclKind, HANDLES_MAX};
 
-/// How many cells one name or array has.
-fn cell_count(size: Option<usize>) -> usize
-    ensures { result ≡ cells_of size }
-{
-    match size {
-        None => 1,
-        Some(count) => count,
-    }
-}
-
 /// How many cells of a kind a declaration has.
 pub(crate) fn kind_cells(decl: &Decl, kind: DeclKind) -> usize
     ensures { result ≡ counted.kind_cells kind decl.now }
 {
     match (kind, decl.kind) {
-        (DeclKind::Variable, DeclKind::Variable) => cell_count(decl.size),
-        (DeclKind::Handle, DeclKind::Handle) => cell_count(decl.size),
+        (DeclKind::Variable, DeclKind::Variable) => decl.size.unwrap_or(1),
+        (DeclKind::Handle, DeclKind::Handle) => decl.size.unwrap_or(1),
         (DeclKind::Variable, DeclKind::Handle) => 0,
         (DeclKind::Handle, DeclKind::Variable) => 0,
     }
@@ -57,7 +47,7 @@ fn whole_in(decls: &[Decl], number: usize, decl: &Decl) -> Named
         kind,
         declaration: number,
         first: cells_in(before, kind),
-        cells: cell_count(decl.size),
+        cells: decl.size.unwrap_or(1),
     }
 }
 

@@ -4,11 +4,11 @@ ghost use Rattle.std.specs.Prelude.{◌≡◌, ◌≤◌, ◌+◌, slice_get};
 ghost use Rattle.mpd_model.specs.script.Declaration.{cells_of};
 ghost use Rattle.mpd_names.specs.Names as names;
 
-use crate::bytes::{digits_of, name_len, number_of};
+use crate::bytes::{digits_of, name_len};
 use crate::cells::whole;
 use crate::name::{NameFault, Named};
 use mpd_code::Code;
-use mpd_model::{CELLS_MAX, Decl};
+use mpd_model::{CELLS_MAX, Decl, number_of};
 
 /// The number of the declaration of a name, where there is one.
 fn declaration_of(decls: &[Decl], name: &[u8]) -> Option<usize>

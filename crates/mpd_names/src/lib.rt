@@ -4,18 +4,18 @@
 mod bytes;
 mod cells;
 pub mod find;
-pub mod lines;
 pub mod list;
 pub mod name;
+pub mod placed;
 pub mod source;
 mod stand;
 pub mod text;
 pub mod values;
 
 pub use find::find_named;
-pub use lines::{bare, cut};
 pub use list::{push_list, push_list_about};
 pub use name::{NameFault, Named};
+pub use placed::{issue_line, push_placed, rank_line};
 pub use source::push_source;
 pub use text::{push_break, push_cell_name};
-pub use values::{push_named, push_variables};
+pub use values::{push_named, push_spaced, push_variables};

@@ -3,27 +3,15 @@
 ghost use Rattle.std.specs.Prelude.{◌≡◌, ◌<◌, ◌++◌, ℕ, List, IfOk, OnOk, map, string_bytes};
 ghost use Rattle.std.specs.List.{list_any};
 ghost use Rattle.mpd_model.specs.steps.World.{rank_numbers};
-ghost use Rattle.mpd_model.specs.runs.Breakpoints.{is_number as same_number};
 ghost use Rattle.mpd_model.specs.texts.Lines.{lines_of};
 ghost use Rattle.mpd_names.specs.Held.{begun};
 ghost use Rattle.mpd_names.specs.Stand.{rank_ended};
 ghost use Rattle.mpd_names.specs.Listed as listed;
 
-use crate::lines::{bare, cut};
 use crate::stand::{has_ended, stand};
 use mpd_core::Core;
-use mpd_model::Activity;
+use mpd_model::{Activity, bare_line, cut_line};
 use std::alloc::AllocError;
-
-/// Whether it is this number.
-fn is_number(number: Option<usize>, wanted: usize) -> bool
-    ensures { result ≡ same_number number wanted }
-{
-    match number {
-        None => false,
-        Some(number) => number == wanted,
-    }
-}
 
 /// What is said of a rank that doesn't run.
 fn activity_note(activity: Option<Activity>) -> &'static str
@@ -62,7 +50,7 @@ fn push_rank_at(
 ) -> Result<&'static str, AllocError>
     ensures { IfOk result (λ next. (ts : List (List ℕ)) → string_bytes out.new ++ begun next.now ts ≡ string_bytes out.old ++ begun before.now (listed.rank_at_line core.now.program core.now.world line rank ++ ts)) }
 {
-    if !is_number(stand(core, rank), line) {
+    if stand(core, rank) != Some(line) {
         return Ok(before);
     }
     push_named_rank(core, out, before, rank)?;
@@ -161,8 +149,8 @@ fn push_lines(
 {
     let mut rest = text;
     let mut above = 0;
-    while let Some((line, behind)) = cut(rest) {
-        push_line_if(core, out, about, above + 1, bare(line))?;
+    while let Some((line, behind)) = cut_line(rest) {
+        push_line_if(core, out, about, above + 1, bare_line(line))?;
         above += 1;
         rest = behind;
     }

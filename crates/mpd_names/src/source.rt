@@ -4,8 +4,8 @@ ghost use Rattle.std.specs.Prelude.{◌≡◌, ◌++◌, OnOk, MatchOption, None
 ghost use Rattle.mpd_model.specs.texts.Lines.{lines_of};
 ghost use Rattle.mpd_names.specs.Sources as spec;
 
-use crate::lines::{bare, cut};
 use crate::list::{push_column, push_shown};
+use mpd_model::{bare_line, cut_line};
 use std::alloc::AllocError;
 
 /// The line of a text behind so many others, without what ends it, where there is one.
@@ -15,12 +15,12 @@ fn line_behind(text: &[u8], above: usize) -> Option<&[u8]>
 {
     let mut rest = text;
     let mut left = above;
-    while let Some((line, behind)) = cut(rest) {
+    while let Some((line, behind)) = cut_line(rest) {
         if left > 0 {
             left -= 1;
             rest = behind;
         } else {
-            return Some(bare(line));
+            return Some(bare_line(line));
         }
     }
     None

@@ -3,8 +3,8 @@
 ghost use Rattle.std.specs.Prelude.{◌≡◌, slice_get};
 ghost use Rattle.mpd_names.specs.Stand as standing;
 
+use crate::placed::{issue_line, rank_line};
 use mpd_core::Core;
-use mpd_explain::{issue_line, rank_line};
 use mpd_model::Activity;
 
 /// Whether a rank is there, and has ended.

@@ -7,9 +7,9 @@ ghost use Rattle.mpd_names.specs.Held as held;
 
 use crate::cells::whole;
 use crate::name::Named;
+use crate::placed::push_placed;
 use crate::text::push_cell_name;
 use mpd_core::Core;
-use mpd_explain::push_placed;
 use mpd_model::{CallId, Decl, DeclKind};
 use std::alloc::AllocError;
 
@@ -229,7 +229,7 @@ pub fn push_named(
 }
 
 /// Adds values, each with a space before it.
-fn push_spaced(out: &mut String, values: &[i64]) -> Result<(), AllocError>
+pub fn push_spaced(out: &mut String, values: &[i64]) -> Result<(), AllocError>
     ensures { OnOk result (string_bytes out.new ≡ string_bytes out.old ++ spaced signed_decimal values.now) }
 {
     for value in values {

@@ -2,7 +2,7 @@
 
 ghost use Rattle.std.specs.Prelude.{◌≡◌, ◌≤◌, ◌++◌, OnOk, string_bytes};
 ghost use Rattle.mpd_model.specs.grammar.Written.{left_level};
-ghost use Rattle.mpd_model.specs.grammar.Canonical.{name_text, below, op_text, sign_text, term_text, whole_text, index_text, target_text};
+ghost use Rattle.mpd_model.specs.grammar.Canonical.{name_text, below, sign_text, term_text, whole_text, index_text, target_text};
 
 use mpd_model::{BinaryOp, Decl, Expr, ExprNode, Place, Target, UnaryOp};
 use std::alloc::AllocError;
@@ -34,27 +34,6 @@ fn left_of(right: u32) -> u32
     ensures { result ≡ left_level right }
 {
     if right == 2 { right } else { right + 1 }
-}
-
-/// An operator with the spaces around it.
-fn op_name(op: BinaryOp) -> &'static str
-    ensures { result.now ≡ op_text op }
-{
-    match op {
-        BinaryOp::Or => " || ",
-        BinaryOp::And => " && ",
-        BinaryOp::Equal => " == ",
-        BinaryOp::NotEqual => " != ",
-        BinaryOp::Less => " < ",
-        BinaryOp::AtMost => " <= ",
-        BinaryOp::Greater => " > ",
-        BinaryOp::AtLeast => " >= ",
-        BinaryOp::Add => " + ",
-        BinaryOp::Subtract => " - ",
-        BinaryOp::Multiply => " * ",
-        BinaryOp::Divide => " / ",
-        BinaryOp::Remainder => " % ",
-    }
 }
 
 /// The sign of an operator before its operand.
@@ -103,7 +82,7 @@ fn push_term(out: &mut String, decls: &[Decl], level: u32, expr: &Expr) -> Resul
                 out.push_str("(")?;
             }
             push_term(out, decls, left_of(within), left)?;
-            out.push_str(op_name(*op))?;
+            out.push_str(op.spaced())?;
             push_term(out, decls, within, right)?;
             if is_looser {
                 out.push_str(")")?;

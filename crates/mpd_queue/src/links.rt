@@ -4,7 +4,7 @@ ghost use Rattle.mpd_queue.specs.Chained.{written, HasCell};
 ghost use Rattle.mpd_queue.specs.Cells.{next_at, previous_at};
 
 use crate::link::Link;
-use mpd_device::Steps;
+use mpd_counter::Counter;
 
 /// The neighbours of an item in its list. Eight bytes.
 #[derive(Clone, Copy)]
@@ -25,7 +25,7 @@ pub(crate) struct Ends {
 pub(crate) struct Links {
     pub(crate) cells: Vec<Cell>,
     pub(crate) ends: Vec<Ends>,
-    pub(crate) writes: Steps,
+    pub(crate) writes: Counter,
 }
 
 impl Links {

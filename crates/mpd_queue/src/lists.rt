@@ -5,7 +5,7 @@ ghost use Rattle.mpd_queue.specs.InOrder.{list_at, places_in, places, first_of, 
 use crate::link::Link;
 use crate::links::{Cell, Ends, Links};
 use crate::snapshot::{Change, Shown};
-use mpd_device::Steps;
+use mpd_counter::Counter;
 use std::alloc::{AllocError, Global};
 use std::marker::Model;
 
@@ -71,7 +71,7 @@ impl Lists {
             links: Links {
                 cells: Vec::new(alloc),
                 ends,
-                writes: Steps::new(),
+                writes: Counter::new(),
             },
             shown: Shown::empty(lists),
         })
@@ -196,7 +196,7 @@ impl Lists {
     }
 
     /// The first item of a list. One look.
-    pub fn first(&self, list: usize, looks: &mut Steps) -> Option<usize>
+    pub fn first(&self, list: usize, looks: &mut Counter) -> Option<usize>
         requires { list < length self.now.lists }
         ensures first { result ≡ first_of (list_at self.now.lists list) }
         ensures looks { looks.new ≡ looks.old + 1 }
@@ -207,7 +207,7 @@ impl Lists {
     }
 
     /// What comes next after an item in the list that it stands in. One look.
-    pub fn next(&self, item: usize, looks: &mut Steps) -> Option<usize>
+    pub fn next(&self, item: usize, looks: &mut Counter) -> Option<usize>
         requires { 0 < places self.now.lists item }
         ensures next { (list : ℕ) → 0 < places_in (list_at self.now.lists list) item → result ≡ next_of (list_at self.now.lists list) item }
         ensures looks { looks.new ≡ looks.old + 1 }
@@ -240,7 +240,7 @@ impl Lists {
             links: Links {
                 cells,
                 ends,
-                writes: Steps::new(),
+                writes: Counter::new(),
             },
             shown: self.shown.copy(),
         })

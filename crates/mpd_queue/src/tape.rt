@@ -1,7 +1,7 @@
 //! A list that grows and shrinks at its end, and counts its writes.
 ghost use Rattle.std.specs.Prelude.{◌≡◌, ℕ, ◌+◌, ◌<◌, ◌≤◌, [], ◌∷◌, ◌++◌, length, option_to_list, replicate, slice_get, slice_set, IsOk, IfOk, IfSome, IfNone, OnOk, OnErr};
 
-use mpd_device::Steps;
+use mpd_counter::Counter;
 use std::alloc::{AllocError, Global};
 use std::marker::Model;
 
@@ -12,7 +12,7 @@ use std::marker::Model;
 #[derive(Drop)]
 pub struct Tape<T: Copy> {
     items: Vec<T>,
-    writes: Steps,
+    writes: Counter,
 }
 
 impl<T: Copy> Model for Tape<T> {
@@ -33,7 +33,7 @@ impl<T: Copy> Tape<T> {
     {
         Tape {
             items: Vec::new(alloc),
-            writes: Steps::new(),
+            writes: Counter::new(),
         }
     }
 
@@ -46,7 +46,7 @@ impl<T: Copy> Tape<T> {
         items.resize(count, value)?;
         Ok(Tape {
             items,
-            writes: Steps::new(),
+            writes: Counter::new(),
         })
     }
 
@@ -126,7 +126,7 @@ impl<T: Copy> Tape<T> {
         items.extend_from_slice(self.items.as_slice())?;
         Ok(Tape {
             items,
-            writes: Steps::new(),
+            writes: Counter::new(),
         })
     }
 }

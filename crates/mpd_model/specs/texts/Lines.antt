@@ -1,5 +1,5 @@
 -- How a text is cut into lines, and how the script of an input is divided from what follows it.
-use Rattle.std.specs.Prelude.{ℕ, Bool, true, false, ◌&&◌, ◌||◌, ◌==◌, if◌then◌else◌, List, [], ◌∷◌, ◌++◌, map, filter}
+use Rattle.std.specs.Prelude.{ℕ, suc, Bool, true, false, ◌&&◌, ◌||◌, ◌==◌, if◌then◌else◌, List, [], ◌∷◌, ◌++◌, map, filter}
 
 -- a byte before the first of these lines
 abbrev pub grow : ℕ → List (List ℕ) → List (List ℕ)
@@ -10,6 +10,11 @@ grow b (l ∷ ls) = (b ∷ l) ∷ ls
 abbrev pub raw_lines : List ℕ → List (List ℕ)
 raw_lines [] = []
 raw_lines (b ∷ z) = if b == 10 then (b ∷ []) ∷ raw_lines z else grow b (raw_lines z)
+
+-- how many bytes the first line of a text has, with its line feed
+abbrev pub line_len : List ℕ → ℕ
+line_len [] = 0
+line_len (b ∷ z) = if b == 10 then 1 else suc (line_len z)
 
 -- the lines, one after another
 abbrev pub joined : List (List ℕ) → List ℕ

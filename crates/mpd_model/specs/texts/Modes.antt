@@ -1,5 +1,6 @@
 -- The modes as words.
-use Rattle.std.specs.Prelude.{ℕ, List, [], ◌∷◌, codes, Bool, ◌&&◌, length, nat_le, Option, Some, None, option_and_then, if◌then◌else◌, bytes_eq, take, drop}
+use Rattle.std.specs.Prelude.{ℕ, List, [], ◌∷◌, ◌++◌, codes, Bool, ◌&&◌, length, nat_le, Option, Some, None, option_and_then, if◌then◌else◌, bytes_eq, take, drop}
+use Rattle.std.specs.Fmt.{decimal}
 use Rattle.mpd_model.specs.declared.call.Mode.{Mode}
 use Rattle.mpd_model.specs.declared.call.Mode.TheVariants.{Rendezvous, Buffered, Slots}
 use Rattle.mpd_model.specs.declared.limits.TheConstants.{SLOTS_MAX}
@@ -15,6 +16,12 @@ buffered_word = codes "buffered"
 -- what stands before the number of slots
 abbrev pub slots_word : List ℕ
 slots_word = codes "slots:"
+
+-- the word of a mode
+abbrev pub mode_word : Mode → List ℕ
+mode_word Rendezvous = rendezvous_word
+mode_word Buffered = buffered_word
+mode_word (Slots count) = slots_word ++ decimal count
 
 -- a number of slots: 1 to 5 digits, at most `SLOTS_MAX`
 abbrev pub is_slot_count : List ℕ → Bool

@@ -5,7 +5,7 @@ use Rattle.mpd_lines.proofs.engine.run_kept.Goals as goal
 
 pub returns-in-Err-clause-served : goal.returns-in-Err-clause-served
 returns-in-Err-clause-served g c =
-    served_before g.D.LineDesk.says (waiting_below g.D.LineDesk.gathers) c.args.desk.now c.tell.new.desk c.args.before.now c.args.feeder c.args.turns (g.S.Source.seen c.args.source.now)
+    served_before g.D.LineDesk.says (waiting_below g.D.LineDesk.gathers) c.args.desk.now c.tell.new.desk c.args.before.now c.args.buffers.feeder c.args.turns (g.S.Source.seen c.args.source.now)
     (g.W.Sink.seen c.args.sink.now) (g.W.Sink.seen c.tell.new.sink) c.in-Err.field-0 c.requires.part c.in-Err.ensures.spoken
 
 pub returns-in-Ok-End-clause-served : goal.returns-in-Ok-End-clause-served

@@ -1,6 +1,6 @@
 use Rattle.std.proofs.Common.{List, ℕ, [], ◌∷◌, ◌++◌, codes, slice_get, string_bytes}
 use Rattle.std.specs.Fmt.{decimal}
-use Rattle.mpd_explain.proofs.JoinLemmas.{grown}
+use Rattle.mpd_names.proofs.JoinLemmas.{grown}
 use Rattle.mpd_names.specs.Held.{cells_at}
 use Rattle.mpd_names.proofs.values.push_held.Goals as goal
 

@@ -1,7 +1,7 @@
 use Rattle.std.proofs.Common.{List, ℕ, [], ◌∷◌, ◌++◌, codes, string_bytes}
 use Rattle.std.specs.Fmt.{decimal, signed_decimal}
 use Rattle.mpd_model.specs.texts.Texts.{spaced}
-use Rattle.mpd_explain.proofs.JoinLemmas.{grown}
+use Rattle.mpd_names.proofs.JoinLemmas.{grown}
 use Rattle.mpd_names.proofs.values.push_printed_values.Goals as goal
 
 pub returns : goal.returns

@@ -20,9 +20,9 @@ invariant_of-self-in-Local c =
     let apart : c.keep_next.new.others.items ≡ s.others.items = search rules in
     let there : c.note.new.steps.items ≡ noted s.steps.items n a = search rules in
     let kept : c.note.new.steps.items ≡ noted s.steps.items n (Local p) = there ∙ ap (noted s.steps.items n) (is_local c.of.result a p c.of.ensures c.in-Local.is) in
-    rw (pushed, apart, kept, c.in_ok-done-in-Local.ensures.program)
-    (keeps_local s.core.program (start s.core.program s.mode) s.locals.items s.others.items s.steps.items s.core.world c.step_local.new.self.world u p c.self.invariant room c.in_ok-done-in-Local.ensures.ok
-    c.in_ok-done-in-Local.ensures.back c.in_ok-done-in-Local.ensures.can c.in_ok-done-in-Local.ensures.recorded)
+    rw (pushed, apart, kept, c.in_ok-done-in-Local.ensures.stepped.program)
+    (keeps_local s.core.program (start s.core.program s.mode) s.locals.items s.others.items s.steps.items s.core.world c.step_local.new.self.world u p c.self.invariant room c.in_ok-done-in-Local.ensures.stepped.ok
+    c.in_ok-done-in-Local.ensures.stepped.back c.in_ok-done-in-Local.ensures.stepped.can c.in_ok-done-in-Local.ensures.stepped.recorded)
 
 pub returns-in_ok-done-in-Local-clause-reached : goal.returns-in_ok-done-in-Local-clause-reached
 returns-in_ok-done-in-Local-clause-reached c =
@@ -37,9 +37,9 @@ returns-in_ok-done-in-Local-clause-reached c =
     let there : c.note.new.steps.items ≡ noted s.steps.items n a = search rules in
     let kept : c.note.new.steps.items ≡ noted s.steps.items n (Local p) = there ∙ ap (noted s.steps.items n) (is_local c.of.result a p c.of.ensures c.in-Local.is) in
     let after : Keeps c.step_local.new.self.program (start c.step_local.new.self.program s.mode) c.push_reserved.new.self.items c.keep_next.new.others.items c.note.new.steps.items c.step_local.new.self.world =
-    rw (pushed, apart, kept, c.in_ok-done-in-Local.ensures.program)
-    (keeps_local s.core.program (start s.core.program s.mode) s.locals.items s.others.items s.steps.items s.core.world c.step_local.new.self.world u p c.self.invariant room c.in_ok-done-in-Local.ensures.ok
-    c.in_ok-done-in-Local.ensures.back c.in_ok-done-in-Local.ensures.can c.in_ok-done-in-Local.ensures.recorded) in
+    rw (pushed, apart, kept, c.in_ok-done-in-Local.ensures.stepped.program)
+    (keeps_local s.core.program (start s.core.program s.mode) s.locals.items s.others.items s.steps.items s.core.world c.step_local.new.self.world u p c.self.invariant room c.in_ok-done-in-Local.ensures.stepped.ok
+    c.in_ok-done-in-Local.ensures.stepped.back c.in_ok-done-in-Local.ensures.stepped.can c.in_ok-done-in-Local.ensures.stepped.recorded) in
     keeps_reached _ c.push_reserved.new.self.items c.keep_next.new.others.items refl after
 
 pub invariant_of-self-in-Other : goal.invariant_of-self-in-Other
@@ -54,9 +54,9 @@ invariant_of-self-in-Other c =
     let pushed : c.push_reserved-in-Other.new.self.items ≡ s.others.items ++ u ∷ [] = search rules in
     let there : c.note-in-Other.new.steps.items ≡ noted s.steps.items n a = search rules in
     let kept : c.note-in-Other.new.steps.items ≡ noted s.steps.items n (other_step o) = there ∙ ap (noted s.steps.items n) (is_other c.of.result a o c.of.ensures c.in-Other.is) in
-    rw (own, pushed, kept, c.in_ok-done-in-Other.ensures.program)
-    (keeps_apart s.core.program (start s.core.program s.mode) s.locals.items s.others.items s.steps.items s.core.world c.step_other.new.self.world u o c.self.invariant room c.in_ok-done-in-Other.ensures.ok
-    c.in_ok-done-in-Other.ensures.back c.in_ok-done-in-Other.ensures.can c.in_ok-done-in-Other.ensures.recorded)
+    rw (own, pushed, kept, c.in_ok-done-in-Other.ensures.stepped.program)
+    (keeps_apart s.core.program (start s.core.program s.mode) s.locals.items s.others.items s.steps.items s.core.world c.step_other.new.self.world u o c.self.invariant room c.in_ok-done-in-Other.ensures.stepped.ok
+    c.in_ok-done-in-Other.ensures.stepped.back c.in_ok-done-in-Other.ensures.stepped.can c.in_ok-done-in-Other.ensures.stepped.recorded)
 
 pub returns-in_ok-done-in-Other-clause-reached : goal.returns-in_ok-done-in-Other-clause-reached
 returns-in_ok-done-in-Other-clause-reached c =
@@ -71,7 +71,7 @@ returns-in_ok-done-in-Other-clause-reached c =
     let there : c.note-in-Other.new.steps.items ≡ noted s.steps.items n a = search rules in
     let kept : c.note-in-Other.new.steps.items ≡ noted s.steps.items n (other_step o) = there ∙ ap (noted s.steps.items n) (is_other c.of.result a o c.of.ensures c.in-Other.is) in
     let after : Keeps c.step_other.new.self.program (start c.step_other.new.self.program s.mode) c.keep_next.new.locals.items c.push_reserved-in-Other.new.self.items c.note-in-Other.new.steps.items c.step_other.new.self.world =
-    rw (own, pushed, kept, c.in_ok-done-in-Other.ensures.program)
-    (keeps_apart s.core.program (start s.core.program s.mode) s.locals.items s.others.items s.steps.items s.core.world c.step_other.new.self.world u o c.self.invariant room c.in_ok-done-in-Other.ensures.ok
-    c.in_ok-done-in-Other.ensures.back c.in_ok-done-in-Other.ensures.can c.in_ok-done-in-Other.ensures.recorded) in
+    rw (own, pushed, kept, c.in_ok-done-in-Other.ensures.stepped.program)
+    (keeps_apart s.core.program (start s.core.program s.mode) s.locals.items s.others.items s.steps.items s.core.world c.step_other.new.self.world u o c.self.invariant room c.in_ok-done-in-Other.ensures.stepped.ok
+    c.in_ok-done-in-Other.ensures.stepped.back c.in_ok-done-in-Other.ensures.stepped.can c.in_ok-done-in-Other.ensures.stepped.recorded) in
     keeps_reached _ c.keep_next.new.locals.items c.push_reserved-in-Other.new.self.items refl after

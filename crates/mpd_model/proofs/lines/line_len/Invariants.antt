@@ -1,6 +1,6 @@
 use Rattle.std.proofs.Common.{◌≡◌, ◌+◌, ◌≤◌, length, drop}
-use Rattle.mpd_names.specs.Cuts.{line_len}
-use Rattle.mpd_names.proofs.lines.line_len.Given as goal
+use Rattle.mpd_model.specs.texts.Lines.{line_len}
+use Rattle.mpd_model.proofs.lines.line_len.Given as goal
 
 abbrev pub invariant-loop-i : goal.invariant-loop-i
 invariant-loop-i l = record { value : l.i + line_len (drop l.i l.text) ≡ line_len l.text; bound : l.i ≤ length l.text }

@@ -5,7 +5,7 @@ use std::marker::Model;
 use std::mem;
 use std::snapshot::Snapshot;
 
-// Steps, one after another. A link is made for a moment only, so that a snapshot can remember how many there were.
+// Ticks, one after another. A link is made for a moment only, so that a snapshot can remember how many there were.
 #[derive(Drop)]
 struct Chain {
     before: Option<Snapshot<Chain>>,
@@ -16,7 +16,7 @@ impl Model for Chain {
 
     ghost Value = { ℕ };
 
-    ghost use Rattle.mpd_device.specs.Depth.{depth};
+    ghost use Rattle.mpd_counter.specs.Depth.{depth};
 
     ghost view = { depth };
 
@@ -27,36 +27,36 @@ impl Model for Chain {
     ghost size_decreases = { λ a h. Prim.grind arith };
 }
 
-/// How many steps were taken. It takes no bytes, and only `tick` adds to it.
+/// How often something was done, as a write or a look. It takes no bytes, and only `tick` adds to it.
 #[derive(Drop)]
-pub struct Steps {
-    taken: Snapshot<Chain>,
+pub struct Counter {
+    ticks: Snapshot<Chain>,
 }
 
-impl Model for Steps {
+impl Model for Counter {
     ghost use Rattle.std.specs.Prelude.{ℕ};
 
     ghost Value = { ℕ };
 
-    ghost view = { λ s. s.taken.value };
+    ghost view = { λ c. c.ticks.value };
 }
 
-impl Steps {
-    /// No step yet.
-    pub fn new() -> Steps
+impl Counter {
+    /// Nothing was done yet.
+    pub fn new() -> Counter
         ensures { result ≡ 0 }
     {
-        Steps {
-            taken: Snapshot::of(&Chain { before: None }),
+        Counter {
+            ticks: Snapshot::of(&Chain { before: None }),
         }
     }
 
-    /// One step more.
+    /// It was done once more.
     pub fn tick(&mut self)
         ensures { self.new ≡ self.old + 1 }
     {
-        let before = mem::replace(self, Steps::new()).taken;
-        self.taken = Snapshot::of(&Chain {
+        let before = mem::replace(self, Counter::new()).ticks;
+        self.ticks = Snapshot::of(&Chain {
             before: Some(before),
         });
     }

@@ -1,6 +1,6 @@
--- How many steps come after what was before.
+-- How many ticks there were.
 use Rattle.std.specs.Prelude.{ℕ, ◌+◌, Some, None}
-use Rattle.mpd_device.specs.declared.steps.Chain.TheInside.{Inside}
+use Rattle.mpd_counter.specs.declared.counter.Chain.TheInside.{Inside}
 
 abbrev pub depth : Inside → ℕ
 depth c = elim c.before [ None ↦ 0 | Some s ↦ s.value + 1 ]

@@ -1,8 +1,7 @@
 -- A text, line by line, and lines without what ends them.
 use Rattle.std.proofs.Common.{◌≡◌, ℕ, suc, ◌+◌, ◌<◌, Bool, true, false, ◌&&◌, ◌||◌, ◌==◌, if◌then◌else◌, List, [], ◌∷◌, ◌++◌, length, take, drop, refl, ap, sym, ◌∙◌, append_assoc, arith}
 use Rattle.std.proofs.lemmas.Bool.Decides.{nat_tests}
-use Rattle.mpd_model.specs.texts.Lines.{raw_lines, grow, bare, is_ending, is_feed, is_none}
-use Rattle.mpd_names.specs.Cuts.{line_len}
+use Rattle.mpd_model.specs.texts.Lines.{raw_lines, line_len, grow, bare, is_ending, is_feed, is_none}
 
 -- ---- the first line
 
@@ -56,7 +55,7 @@ and_false false q e = refl
 bare_step : (y : ℕ) (l : List ℕ) → is_ending y l ≡ false → bare (y ∷ l) ≡ y ∷ bare l
 bare_step y l e = ap (λ (p : Bool). if p then [] else y ∷ bare l) e
 
-ending_test : (y : ℕ) (l : List ℕ) → is_none l ≡ false → is_feed l ≡ false → is_ending y l ≡ false
+pub ending_test : (y : ℕ) (l : List ℕ) → is_none l ≡ false → is_feed l ≡ false → is_ending y l ≡ false
 ending_test y l e f = or_false (y == 10 && is_none l) (y == 13 && is_feed l) (and_false (y == 10) (is_none l) e) (and_false (y == 13) (is_feed l) f)
 
 -- what has no line feed at its end

@@ -1,0 +1,52 @@
+//! Where calls and ranks stand in a script.
+
+ghost use Rattle.std.specs.Prelude.{◌≡◌, ◌++◌, OnOk, slice_get, string_bytes};
+ghost use Rattle.mpd_model.specs.steps.World.{call_at};
+ghost use Rattle.mpd_names.specs.Placed as spec;
+
+use mpd_core::Core;
+use mpd_model::CallId;
+use std::alloc::AllocError;
+
+/// The line of a statement, 0 where there is none.
+fn statement_line(lines: &[usize], number: Option<usize>) -> usize
+    ensures { result ≡ spec.statement_line lines.now number }
+{
+    match number {
+        None => 0,
+        Some(number) => lines.get(number).copied().unwrap_or(0),
+    }
+}
+
+/// The line of the statement that issued a call.
+pub fn issue_line(core: &Core<'_>, call: CallId) -> usize
+    ensures { result ≡ spec.issue_line core.now.program.lines (call_at core.now.world.board call) }
+{
+    match core.board().call(call) {
+        None => 0,
+        Some(call) => statement_line(core.code().lines(), Some(call.statement)),
+    }
+}
+
+/// The line of the statement that a rank has not got past.
+#[tactic(auto, using(crate::proofs::PlacedLemmas::no_line))]
+pub fn rank_line(core: &Core<'_>, rank: usize) -> usize
+    ensures { result ≡ spec.rank_line core.now.program.lines (slice_get core.now.world.ranks rank) }
+{
+    if rank >= core.rank_count() {
+        return 0;
+    }
+    statement_line(core.code().lines(), core.next_statement(rank))
+}
+
+/// Adds where a call was issued, and what it is.
+pub fn push_placed(core: &Core<'_>, out: &mut String, call: CallId) -> Result<(), AllocError>
+    ensures { OnOk result (string_bytes out.new ≡ string_bytes out.old ++ spec.placed core.now.program core.now.world.board call) }
+{
+    let line = issue_line(core, call);
+    write!(out, "line {line}, {call}")?;
+    if let Some(kind) = core.board().kind(call) {
+        write!(out, " {kind}")?;
+    }
+    Ok(())
+}
