@@ -1,6 +1,4 @@
-pub mod JoinLemmas
 pub mod ListLemmas
-pub mod FollowLemmas
 pub mod TellLemmas
 pub mod PrintLemmas
 pub mod GroupLemmas

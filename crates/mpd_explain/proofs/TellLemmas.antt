@@ -12,16 +12,13 @@ use Rattle.mpd_model.specs.declared.outcome.Outcome.TheVariants.{Done, Leftovers
 use Rattle.mpd_model.specs.script.Program.{Program}
 use Rattle.mpd_model.specs.steps.World.{RankWorld, World, start}
 use Rattle.mpd_model.specs.steps.Next.{next, fold, waits}
-use Rattle.mpd_explore.specs.declared.report.Ending.{Ending}
-use Rattle.mpd_explore.specs.declared.report.Ending.TheVariants.{Ended, Cut}
+use Rattle.mpd_walk.specs.declared.ending.Ending.{Ending}
+use Rattle.mpd_walk.specs.declared.ending.Ending.TheVariants.{Ended, Cut}
 use Rattle.mpd_explore.specs.Report.{is_bad}
 use Rattle.mpd_explain.specs.Requests.{call_of, request_handles}
-use Rattle.mpd_explain.specs.Explained.{rank_line, told_at, explanation}
+use Rattle.mpd_explain.specs.Explained.{told_at, explanation}
 
 -- ---- a rank that isn't there
-
-pub no_line : (lines : List ℕ) (w : World) (p : ℕ) → length w.ranks ≤ p → 0 ≡ rank_line lines (slice_get w.ranks p)
-no_line lines w p h = ap (rank_line lines) (sym (slice_get_past w.ranks p h))
 
 pub no_handles : (a : WaitanyCall) (w : World) (p : ℕ) (calls : List CallId) → length w.ranks ≤ p → calls ≡ calls ++ flat_map (call_of p) (request_handles a (slice_get w.ranks p))
 no_handles a w p calls h = sym (ap (λ hs. calls ++ flat_map (call_of p) hs) (ap (request_handles a) (slice_get_past w.ranks p h)) ∙ append-nil calls)
@@ -83,6 +80,6 @@ told_none s (Some w) (Ended (Trap ranks)) good = cc
 pub untold : (s : Program) (mode : Mode) (steps : List Step) (e : Ending) → is_bad e ≡ false → explanation s mode steps e ≡ []
 untold s mode steps e good = told_none s (fold (start s mode) steps) e good
 
-pub ruleset telling = (no_line, no_handles, at_barrier)
+pub ruleset telling = (no_handles, at_barrier)
 
 pub ruleset handling = (taken_within, dropped_within)

@@ -1,10 +1,9 @@
 -- What is told of a run that ends in a deadlock or a trap: a text of lines that begin with two spaces.
-use Rattle.std.specs.Prelude.{ℕ, if◌then◌else◌, List, [], ◌∷◌, ◌++◌, Option, Some, None, slice_get, slice_index_or, codes}
+use Rattle.std.specs.Prelude.{ℕ, if◌then◌else◌, List, [], ◌∷◌, ◌++◌, Option, Some, None, slice_get, codes}
 use Rattle.std.specs.Fmt.{decimal}
 use Rattle.std.specs.List.{flat_map}
 use Rattle.mpd_model.specs.declared.step.CallId.{CallId}
 use Rattle.mpd_model.specs.declared.step.Step.{Step}
-use Rattle.mpd_model.specs.declared.call.Call.{Call}
 use Rattle.mpd_model.specs.declared.call.CallKind.{CallKind}
 use Rattle.mpd_model.specs.declared.call.CallKind.TheVariants.{Send, Recv, Wait, Waitany, Barrier}
 use Rattle.mpd_model.specs.declared.call.Mode.{Mode}
@@ -13,43 +12,19 @@ use Rattle.mpd_model.specs.declared.call.RecvCall.{RecvCall}
 use Rattle.mpd_model.specs.declared.outcome.TrappedRank.{TrappedRank}
 use Rattle.mpd_model.specs.declared.outcome.Outcome.TheVariants.{Done, Leftovers, Deadlock, Trap}
 use Rattle.mpd_model.specs.script.Program.{Program}
-use Rattle.mpd_model.specs.steps.World.{RankWorld, World, Board, call_at, kind_at, is_barrier, rank_numbers, start}
+use Rattle.mpd_model.specs.steps.World.{RankWorld, World, Board, kind_at, is_barrier, rank_numbers, start}
 use Rattle.mpd_model.specs.steps.Next.{fold, is_at_barrier}
-use Rattle.mpd_model.specs.steps.Outcomes.{first_number, has_ended}
-use Rattle.mpd_model.specs.texts.Texts.{line, id_text, kind_text, trap_name}
-use Rattle.mpd_explore.specs.declared.report.Ending.{Ending}
-use Rattle.mpd_explore.specs.declared.report.Ending.TheVariants.{Ended, Cut}
+use Rattle.mpd_model.specs.steps.Outcomes.{has_ended}
+use Rattle.mpd_model.specs.texts.Texts.{line, trap_name}
+use Rattle.mpd_names.specs.Placed.{rank_line, placed}
+use Rattle.mpd_walk.specs.declared.ending.Ending.{Ending}
+use Rattle.mpd_walk.specs.declared.ending.Ending.TheVariants.{Ended, Cut}
 use Rattle.mpd_explain.specs.declared.near_miss.Miss.{Miss}
 use Rattle.mpd_explain.specs.Requests.{requests}
 use Rattle.mpd_explain.specs.Missed.{nearest, miss_text, taken}
 use Rattle.mpd_explain.specs.Waits.{waits_line, cycle_lines}
 
--- ---- lines of the script
-
--- the line of a statement, 0 where there is none
-abbrev pub statement_line : List ℕ → Option ℕ → ℕ
-statement_line lines None = 0
-statement_line lines (Some number) = slice_index_or lines number 0
-
--- the line of the statement that issued a call
-abbrev pub issue_line : List ℕ → Option Call → ℕ
-issue_line lines None = 0
-issue_line lines (Some c) = statement_line lines (Some c.statement)
-
--- the line of the statement that a rank has not got past
-abbrev pub rank_line : List ℕ → Option RankWorld → ℕ
-rank_line lines None = 0
-rank_line lines (Some r) = statement_line lines (first_number r.rest)
-
--- ---- calls
-
-abbrev pub kind_words : Option CallKind → List ℕ
-kind_words None = []
-kind_words (Some kind) = 32 ∷ kind_text kind
-
--- `line 9, 0.1 recv from 1 tag 2`
-abbrev pub placed : Program → Board → CallId → List ℕ
-placed s b c = codes "line " ++ decimal (issue_line s.lines (call_at b c)) ++ codes ", " ++ id_text c ++ kind_words (kind_at b c)
+-- ---- what calls wait for
 
 -- what a send and a receive wait for
 abbrev pub send_wish : ℕ → SendCall → List ℕ

@@ -2,7 +2,6 @@ pub mod Requests
 pub mod Missed
 pub mod Waits
 pub mod Explained
-pub mod Follow
 pub mod Explanations
 pub mod Told
 pub mod ExplainedRows

@@ -1,4 +1,5 @@
-//! The explanation of a leaf of a report: its run is made again, and what is told is read off its end.
+//! The explanation of a leaf of a report: its run is made again, along the schedule that it was listed by, and what is told is read off its
+//! end.
 
 ghost use Rattle.std.specs.Prelude.{◌≡◌, ◌+◌, ◌≤◌, ◌<◌, ◌++◌, IfOk, OnErr, IsSome, Some, IsTrue, length, map, string_bytes};
 ghost use Rattle.std.specs.List.{AllByRecursion};
@@ -6,52 +7,52 @@ ghost use Rattle.mpd_model.specs.steps.Next.{fold};
 ghost use Rattle.mpd_model.specs.runs.Trail.{done_steps, IsReached};
 ghost use Rattle.mpd_trail.specs.Views.{standing_of};
 ghost use Rattle.mpd_explore.specs.Report.{is_bad};
-ghost use Rattle.mpd_explore.specs.Walk.{run_at, steps_by};
+ghost use Rattle.mpd_walk.specs.Walk.{run_by, steps_by};
 ghost use Rattle.mpd_explore.specs.Witness.{HasWitness};
 ghost use Rattle.mpd_explain.specs.Explained.{told_at};
 ghost use Rattle.mpd_explain.specs.Explanations.{explanation_of, explanations};
-ghost use Rattle.mpd_explain.specs.Follow.{Stays};
+ghost use Rattle.mpd_walk.specs.Walks.{Beyond};
 
-use crate::follow::{follow, put_back};
 use crate::list::push_text;
 use crate::sentences::told;
 use mpd_explore::{Leaf, Report};
 use mpd_model::STEPS_MAX;
 use mpd_trail::Debugger;
+use mpd_walk::{Schedule, follow, put_back};
 use std::alloc::{AllocError, Global};
 
-/// Goes along the run of a leaf, and tells how it has ended. The debugger is left anywhere above the base.
-fn retell(
+/// Goes along the run of a leaf, and tells how it has ended. The debugger is left anywhere beyond where it stood.
+fn retell<S: Schedule>(
     alloc: Global,
+    schedule: &S,
     debugger: &mut Debugger<'_>,
-    base: usize,
     fuel: usize,
     leaf: &Leaf,
 ) -> Result<String, AllocError>
-    requires above { base ≤ debugger.old.trail.depth }
     requires fits { debugger.old.trail.depth + fuel ≤ STEPS_MAX }
-    requires listed { IsSome (run_at fuel leaf.now.choices debugger.old.world) }
-    ensures text { IfOk result (λ t. string_bytes t ≡ told_at debugger.old.trail.program (fold debugger.old.world (steps_by (run_at fuel leaf.now.choices debugger.old.world))) leaf.now.ending) }
-    ensures stays { Stays base (standing_of debugger.old) (standing_of debugger.new) }
+    requires listed { IsSome (run_by S.decides fuel leaf.now.choices debugger.old.world) }
+    ensures text { IfOk result (λ t. string_bytes t ≡ told_at debugger.old.trail.program (fold debugger.old.world (steps_by (run_by S.decides fuel leaf.now.choices debugger.old.world))) leaf.now.ending) }
+    ensures beyond { Beyond (standing_of debugger.old) (standing_of debugger.new) }
 {
-    follow(alloc, debugger, base, fuel, &leaf.choices.items)?;
+    follow(alloc, schedule, debugger, fuel, &leaf.choices.items)?;
     told(alloc, debugger.core(), &leaf.ending)
 }
 
-/// The explanation of a leaf that `explore` listed, where that is a deadlock or a trap: its run is made again from where the debugger
-/// stands, and what is told is read off its end. Of any other leaf it is the empty text. The fuel is the one of that exploration. The
-/// debugger is left as found, also where memory is refused, which is what an `Err` says; that comes only where the leaf is a deadlock
+/// The explanation of a leaf that was listed along a schedule, where that is a deadlock or a trap: its run is made again from where the
+/// debugger stands, and what is told is read off its end. Of any other leaf it is the empty text. The fuel is the one of that exploration.
+/// The debugger is left as found, also where memory is refused, which is what an `Err` says; that comes only where the leaf is a deadlock
 /// or a trap.
-pub fn explain(
+pub fn explain<S: Schedule>(
     alloc: Global,
+    schedule: &S,
     debugger: &mut Debugger<'_>,
     leaf: &Leaf,
     fuel: usize,
 ) -> Result<String, AllocError>
     requires clean { length debugger.old.trail.steps ≡ debugger.old.trail.depth }
     requires fits { debugger.old.trail.depth + fuel ≤ STEPS_MAX }
-    requires listed { IsSome (run_at fuel leaf.now.choices debugger.old.world) }
-    ensures text { IfOk result (λ t. string_bytes t ≡ explanation_of debugger.old.trail.program debugger.old.trail.mode (done_steps debugger.old.trail) fuel debugger.old.world leaf.now) }
+    requires listed { IsSome (run_by S.decides fuel leaf.now.choices debugger.old.world) }
+    ensures text { IfOk result (λ t. string_bytes t ≡ explanation_of S.decides debugger.old.trail.program debugger.old.trail.mode (done_steps debugger.old.trail) fuel debugger.old.world leaf.now) }
     ensures trail { debugger.new.trail ≡ debugger.old.trail }
     ensures world { debugger.new.world ≡ debugger.old.world }
     ensures reached { IsReached (standing_of debugger.new) }
@@ -62,23 +63,24 @@ pub fn explain(
         return Ok(String::new(alloc));
     }
     let base = debugger.depth();
-    let text = retell(alloc, debugger, base, fuel, leaf);
+    let text = retell(alloc, schedule, debugger, fuel, leaf);
     put_back(debugger, base);
     text
 }
 
-/// The explanations of all leaves of a report that `explore` made with this fuel from where the debugger stands, one for each. The
-/// debugger is left as found, also where memory is refused, which is what an `Err` says; that comes only where there is a leaf.
-pub fn explain_all(
+/// The explanations of all leaves of a report that was made along a schedule with this fuel from where the debugger stands, one for each.
+/// The debugger is left as found, also where memory is refused, which is what an `Err` says; that comes only where there is a leaf.
+pub fn explain_all<S: Schedule>(
     alloc: Global,
+    schedule: &S,
     debugger: &mut Debugger<'_>,
     report: &Report,
     fuel: usize,
 ) -> Result<Vec<String>, AllocError>
     requires clean { length debugger.old.trail.steps ≡ debugger.old.trail.depth }
     requires fits { debugger.old.trail.depth + fuel ≤ STEPS_MAX }
-    requires listed { AllByRecursion (HasWitness debugger.old.trail.program debugger.old.trail.mode (done_steps debugger.old.trail) fuel debugger.old.world) report.now.leaves.items }
-    ensures texts { IfOk result (λ texts. map string_bytes texts.items ≡ explanations debugger.old.trail.program debugger.old.trail.mode (done_steps debugger.old.trail) fuel debugger.old.world report.now.leaves.items) }
+    requires listed { AllByRecursion (HasWitness S.decides debugger.old.trail.program debugger.old.trail.mode (done_steps debugger.old.trail) fuel debugger.old.world) report.now.leaves.items }
+    ensures texts { IfOk result (λ texts. map string_bytes texts.items ≡ explanations S.decides debugger.old.trail.program debugger.old.trail.mode (done_steps debugger.old.trail) fuel debugger.old.world report.now.leaves.items) }
     ensures trail { debugger.new.trail ≡ debugger.old.trail }
     ensures world { debugger.new.world ≡ debugger.old.world }
     ensures reached { IsReached (standing_of debugger.new) }
@@ -87,7 +89,7 @@ pub fn explain_all(
     debugger.state_is_reached();
     let mut texts = Vec::new(alloc);
     for leaf in &report.leaves {
-        push_text(&mut texts, explain(alloc, debugger, leaf, fuel)?)?;
+        push_text(&mut texts, explain(alloc, schedule, debugger, leaf, fuel)?)?;
     }
     Ok(texts)
 }

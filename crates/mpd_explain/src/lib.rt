@@ -2,7 +2,6 @@
 #![tactic(auto)]
 
 pub mod explanation;
-mod follow;
 pub mod laws;
 mod list;
 mod near_miss;
@@ -15,6 +14,4 @@ pub use explanation::{explain, explain_all};
 pub use laws::calls_name_their_statements;
 pub use print::print_explained;
 pub use request_calls::requests;
-pub use sentences::{
-    issue_line, push_all_absent, push_helps, push_placed, push_told, push_wish, rank_line,
-};
+pub use sentences::{push_all_absent, push_helps, push_told, push_wish};

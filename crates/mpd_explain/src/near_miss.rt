@@ -1,11 +1,12 @@
 //! What nearly fits a call that waits, and what would have fitted it.
 
 ghost use Rattle.std.specs.Prelude.{◌≡◌, ◌++◌, ◌<◌, IfOk, OnOk, length};
-ghost use Rattle.mpd_model.specs.steps.World.{is_any_or as any_or, fits as fits_on};
+ghost use Rattle.mpd_model.specs.steps.World.{fits as fits_on};
 ghost use Rattle.mpd_model.specs.steps.Why.{or_else};
 ghost use Rattle.mpd_explain.specs.Missed as missed;
 
 use mpd_core::Core;
+use mpd_match::is_any_or;
 use mpd_model::{CallId, CallKind, MatchSet};
 use std::alloc::{AllocError, Global};
 
@@ -15,16 +16,6 @@ pub(crate) enum Miss {
     Tag,
     Source,
     Destination,
-}
-
-/// Whether it is any number, or this one.
-fn is_any_or(wanted: Option<usize>, number: usize) -> bool
-    ensures { result ≡ any_or wanted number }
-{
-    match wanted {
-        None => true,
-        Some(wanted) => wanted == number,
-    }
 }
 
 /// What is not so, where exactly one of three isn't.

@@ -125,12 +125,9 @@ fn times(text: &str, ends: &[String]) -> usize
 fn has_end(text: &str, ends: &[String], numbers: &[usize]) -> bool
     ensures { result ≡ list_any (told.same_at (map string_bytes ends.now) text.now) numbers.now }
 {
-    for number in numbers {
-        if is_same(text, text_at(ends, *number)) {
-            return true;
-        }
-    }
-    false
+    numbers
+        .iter()
+        .any(|number| is_same(text, text_at(ends, *number)))
 }
 
 /// The numbers of the ends that are the first of their kind. Each is compared with those that were found, and with no others.

@@ -1,9 +1,11 @@
 //! What is told of calls that are blocked and of ranks that are trapped (docs/FORMATS.md, "Explanations").
 
-ghost use Rattle.std.specs.Prelude.{◌≡◌, ◌++◌, IfOk, OnOk, codes, slice_get, string_bytes};
+ghost use Rattle.std.specs.Prelude.{◌≡◌, ◌++◌, IfOk, OnOk, OnErr, IsTrue, codes, slice_get, string_bytes};
 ghost use Rattle.std.specs.Fmt.{decimal};
 ghost use Rattle.std.specs.List.{flat_map};
 ghost use Rattle.mpd_model.specs.steps.World.{call_at, kind_at, rank_numbers};
+ghost use Rattle.mpd_names.specs.Placed as placed;
+ghost use Rattle.mpd_explore.specs.Report.{is_bad};
 ghost use Rattle.mpd_explain.specs.Explained as explained;
 ghost use Rattle.mpd_explain.specs.Waits.{waits_line};
 
@@ -13,50 +15,8 @@ use crate::waits::{push_cycle_lines, push_waits_line};
 use mpd_core::Core;
 use mpd_explore::Ending;
 use mpd_model::{CallId, CallKind, Outcome, RecvCall, SendCall, TrappedRank, is_barrier};
+use mpd_names::{push_placed, rank_line};
 use std::alloc::{AllocError, Global};
-
-/// The line of a statement, 0 where there is none.
-fn statement_line(lines: &[usize], number: Option<usize>) -> usize
-    ensures { result ≡ explained.statement_line lines.now number }
-{
-    match number {
-        None => 0,
-        Some(number) => lines.get(number).copied().unwrap_or(0),
-    }
-}
-
-/// The line of the statement that issued a call.
-pub fn issue_line(core: &Core<'_>, call: CallId) -> usize
-    ensures { result ≡ explained.issue_line core.now.program.lines (call_at core.now.world.board call) }
-{
-    match core.board().call(call) {
-        None => 0,
-        Some(call) => statement_line(core.code().lines(), Some(call.statement)),
-    }
-}
-
-/// The line of the statement that a rank has not got past.
-#[tactic(auto, using(crate::proofs::TellLemmas::telling))]
-pub fn rank_line(core: &Core<'_>, rank: usize) -> usize
-    ensures { result ≡ explained.rank_line core.now.program.lines (slice_get core.now.world.ranks rank) }
-{
-    if rank >= core.rank_count() {
-        return 0;
-    }
-    statement_line(core.code().lines(), core.next_statement(rank))
-}
-
-/// Adds where a call was issued, and what it is.
-pub fn push_placed(core: &Core<'_>, out: &mut String, call: CallId) -> Result<(), AllocError>
-    ensures { OnOk result (string_bytes out.new ≡ string_bytes out.old ++ explained.placed core.now.program core.now.world.board call) }
-{
-    let line = issue_line(core, call);
-    write!(out, "line {line}, {call}")?;
-    if let Some(kind) = core.board().kind(call) {
-        write!(out, " {kind}")?;
-    }
-    Ok(())
-}
 
 /// Adds a text and a number. It is inlined, so that the length of the text is known where it is added.
 #[inline(always)]
@@ -119,7 +79,7 @@ pub fn push_wish(out: &mut String, rank: usize, kind: Option<CallKind>) -> Resul
 
 /// Adds where a call was issued, what it is and what it waits for, and ends the line.
 fn push_placed_wish(core: &Core<'_>, out: &mut String, call: CallId) -> Result<(), AllocError>
-    ensures { OnOk result (string_bytes out.new ≡ string_bytes out.old ++ (explained.placed core.now.program core.now.world.board call ++ codes ": " ++ explained.wish call.rank (kind_at core.now.world.board call) ++ codes "\n")) }
+    ensures { OnOk result (string_bytes out.new ≡ string_bytes out.old ++ (placed.placed core.now.program core.now.world.board call ++ codes ": " ++ explained.wish call.rank (kind_at core.now.world.board call) ++ codes "\n")) }
 {
     push_placed(core, out, call)?;
     out.push_str(": ")?;
@@ -365,14 +325,16 @@ fn push_traps(core: &Core<'_>, out: &mut String, traps: &[TrappedRank]) -> Resul
     Ok(())
 }
 
-/// Adds what is told of a run that ends so in this state.
+/// Adds what is told of a run that ends so in this state. An `Err` is want of memory, and comes only where it ends in a deadlock or with a
+/// trap: of other ends nothing is told.
 pub fn push_told(
     alloc: Global,
     core: &Core<'_>,
     out: &mut String,
     ending: &Ending,
 ) -> Result<(), AllocError>
-    ensures { OnOk result (string_bytes out.new ≡ string_bytes out.old ++ explained.told core.now.program core.now.world ending.now) }
+    ensures text { OnOk result (string_bytes out.new ≡ string_bytes out.old ++ explained.told core.now.program core.now.world ending.now) }
+    ensures memory { OnErr result (IsTrue (is_bad ending.now)) }
 {
     match ending {
         Ending::Ended(Outcome::Deadlock(calls)) => push_deadlock(alloc, core, out, &calls.items),

@@ -38,12 +38,7 @@ fn is_partner(rank: usize, kind: Option<CallKind>, other: usize) -> bool
 fn is_partner_of_any(core: &Core<'_>, calls: &[CallId], other: usize) -> bool
     ensures { result ≡ list_any (λ d. waits.is_partner d.rank (kind_at core.now.world.board d) other) calls.now }
 {
-    for call in calls {
-        if is_partner(call.rank, core.board().kind(*call), other) {
-            return true;
-        }
-    }
-    false
+    calls.iter().any(|call| is_partner(call.rank, core.board().kind(*call), other))
 }
 
 /// Whether a call, or one of those that it is for, is.
@@ -217,10 +212,7 @@ fn after(next: &[Option<usize>], rank: usize, count: usize) -> Option<usize>
 fn is_number(number: Option<usize>, wanted: usize) -> bool
     ensures { result ≡ same_number number wanted }
 {
-    match number {
-        None => false,
-        Some(number) => number == wanted,
-    }
+    number == Some(wanted)
 }
 
 /// By how many such steps at least one comes back to a rank.
@@ -267,12 +259,7 @@ fn ring(
 fn is_lowest(rank: usize, ranks: &[usize]) -> bool
     ensures { result ≡ waits.is_lowest rank ranks.now }
 {
-    for other in ranks {
-        if *other < rank {
-            return false;
-        }
-    }
-    true
+    ranks.iter().all(|other| *other >= rank)
 }
 
 /// Adds ranks, each with a comma and a space behind it.

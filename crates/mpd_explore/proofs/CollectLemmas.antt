@@ -1,18 +1,13 @@
 -- All that is to come is the walk; and a debugger is left as found.
 use Rattle.std.proofs.Common.{◌≡◌, ℕ, zero, suc, ◌<◌, ◌≤◌, ◌+◌, ◌-◌, List, [], ◌∷◌, ◌++◌, length, take, map, reverse, get_or, Some, refl, sym, ap, ◌∙◌, arith, append-nil}
-use Rattle.std.proofs.lemmas.List.{length-map, take_more, take_all, reverse-append}
+use Rattle.std.proofs.lemmas.List.{take_more, take_all, reverse-append}
 use Rattle.mpd_model.specs.declared.step.Step.{Step}
 use Rattle.mpd_model.specs.steps.World.{World}
 use Rattle.mpd_model.specs.runs.Trail.{Trail, Standing, IsReached, done_steps, world_of, gone_back, forgotten}
 use Rattle.mpd_explore.specs.declared.search.Open.{Open}
-use Rattle.mpd_explore.specs.declared.search.Bounds.{Bounds}
-use Rattle.mpd_explore.specs.Walk.{Run, prefixed}
-use Rattle.mpd_explore.specs.Sleeping.{awake_walk}
-use Rattle.mpd_explore.specs.Search.{picked}
+use Rattle.mpd_walk.specs.Walk.{Run, prefixed}
+use Rattle.mpd_explore.specs.Search.{Search, picked, runs_from, come}
 use Rattle.mpd_explore.specs.Report.{shown}
-use Rattle.mpd_explore.specs.Gathered.{to_find}
-use Rattle.mpd_explore.proofs.AwakeLemmas.{awake_some}
-use Rattle.mpd_explore.proofs.WitnessLemmas.{AllFollow}
 
 -- the candidates of one more open choice
 pub picked_more : (stack : List Open) (i : ℕ) (x : Open) (so_far now : List ℕ) → i < length stack → x ≡ get_or stack i x → so_far ≡ picked (reverse (take i stack)) → now ≡ so_far ++ x.index ∷ [] → now ≡ picked (reverse (take (i + 1) stack))
@@ -26,24 +21,12 @@ none_prefixed : (path : List Step) (rs : List Run) → map shown (map (prefixed 
 none_prefixed path [] = refl
 none_prefixed path (r ∷ rs) = ap (λ ls. shown r ∷ ls) (none_prefixed path rs)
 
-pub to_find_is : (b : Bounds) (above : List Step) (d : Standing) (n : ℕ) → b.limit - length (done_steps d.trail) ≡ n → to_find b above d ≡ map (prefixed [] (done_steps d.trail)) (awake_walk b.sleeps n above d.world)
-to_find_is b above d n left =
-    append-nil (map (prefixed [] (done_steps d.trail)) (awake_walk b.sleeps (b.limit - length (done_steps d.trail)) above d.world)) ∙ ap (λ m. map (prefixed [] (done_steps d.trail)) (awake_walk b.sleeps m above d.world)) left
+pub come_is : (s : Search) (asleep : List Step) (d : Standing) (n : ℕ) → s.limit - length (done_steps d.trail) ≡ n → come s [] asleep d ≡ map (prefixed [] (done_steps d.trail)) (runs_from s n asleep d.world)
+come_is s asleep d n left =
+    append-nil (map (prefixed [] (done_steps d.trail)) (runs_from s (s.limit - length (done_steps d.trail)) asleep d.world)) ∙ ap (λ m. map (prefixed [] (done_steps d.trail)) (runs_from s m asleep d.world)) left
 
-pub found_shown : (b : Bounds) (above : List Step) (d : Standing) (n : ℕ) → b.limit - length (done_steps d.trail) ≡ n → map shown (to_find b above d) ≡ map shown (awake_walk b.sleeps n above d.world)
-found_shown b above d n left = ap (map shown) (to_find_is b above d n left) ∙ none_prefixed (done_steps d.trail) (awake_walk b.sleeps n above d.world)
-
--- and where nothing is asleep, that is some
-pub some_to_find : (b : Bounds) (above : List Step) (d : Standing) → AllFollow → above ≡ [] → 0 < length (to_find b above d)
-some_to_find b above d law none =
-    let n : ℕ = b.limit - length (done_steps d.trail) in
-    omega (
-      arith,
-      ap length (to_find_is b above d n refl),
-      length-map (awake_walk b.sleeps n above d.world) (prefixed [] (done_steps d.trail)),
-      ap (λ (s : List Step). length (awake_walk b.sleeps n s d.world)) none,
-      awake_some b.sleeps n d.world law,
-    )
+pub come_shown : (s : Search) (asleep : List Step) (d : Standing) (n : ℕ) → s.limit - length (done_steps d.trail) ≡ n → map shown (come s [] asleep d) ≡ map shown (runs_from s n asleep d.world)
+come_shown s asleep d n left = ap (map shown) (come_is s asleep d n left) ∙ none_prefixed (done_steps d.trail) (runs_from s n asleep d.world)
 
 -- ---- as found
 

@@ -1,26 +1,23 @@
 -- One leaf more is gathered, and what is gathered in the end is what is to be listed.
-use Rattle.std.proofs.Common.{◌≡◌, ℕ, zero, suc, ◌<◌, ◌≤◌, ◌+◌, ◌-◌, ◌&&◌, if◌then◌else◌, Bool, true, false, true≢false, List, [], ◌∷◌, ◌++◌, length, take, map, Option, Some, None, IsTrue, refl, sym, ap, subst, ◌∙◌, arith, append_assoc, append-nil}
+use Rattle.std.proofs.Common.{◌≡◌, ℕ, ◌<◌, ◌≤◌, ◌+◌, ◌-◌, ◌&&◌, if◌then◌else◌, Bool, true, false, true≢false, List, [], ◌∷◌, ◌++◌, length, take, map, Option, Some, None, IsTrue, refl, sym, ap, subst, ◌∙◌, arith, append_assoc, append-nil}
 use Rattle.std.proofs.lemmas.List.{length-append, length-map, take_all}
 use Rattle.std.proofs.Math.Seq.{take-append_seam}
 use Rattle.mpd_model.specs.declared.step.Step.{Step}
+use Rattle.mpd_model.specs.declared.decision.Decision.{Decision}
 use Rattle.mpd_model.specs.steps.World.{World}
+use Rattle.mpd_model.specs.runs.Decisions.{CanFollow}
 use Rattle.mpd_model.specs.runs.Trail.{Standing, done_steps}
 use Rattle.mpd_explore.specs.declared.report.Leaf.{Leaf}
 use Rattle.mpd_explore.specs.declared.report.Limits.{Limits}
 use Rattle.mpd_explore.specs.declared.search.Open.{Open}
-use Rattle.mpd_explore.specs.declared.search.Bounds.{Bounds}
-use Rattle.mpd_explore.specs.Walk.{Run, prefixed, here}
-use Rattle.mpd_explore.specs.Sleeping.{awake_walk}
-use Rattle.mpd_explore.specs.Asleep.{asleep_below}
-use Rattle.mpd_explore.specs.Search.{picked, later, to_come, At, Advanced}
+use Rattle.mpd_walk.specs.Walk.{Run, prefixed, here}
+use Rattle.mpd_explore.specs.Search.{Search, picked, runs_from, come, after, At, Advanced}
 use Rattle.mpd_explore.specs.Report.{shown, is_bad, any_bad, up_to_bad, ended_by, listed}
 use Rattle.mpd_explore.specs.Witness.{witness_by}
 use Rattle.mpd_explore.specs.WitnessTexts.{behind_number, witness_text, witness_texts}
 use Rattle.mpd_explore.specs.Gathered.{run_text, run_texts, Gathered, Lists, IsMore, FoundLeaf}
 use Rattle.mpd_explore.proofs.RunLemmas.{prefixed_here}
-use Rattle.mpd_explore.proofs.AsleepLemmas.{below_none}
 use Rattle.mpd_explore.proofs.AwakeLemmas.{awake_some}
-use Rattle.mpd_explore.proofs.WitnessLemmas.{AllFollow}
 use Rattle.mpd_explore.proofs.ListedLemmas.{both_true, not_both, bad_last, good_last, up_last, up_none, up_taken, ended_same, none_out, some_out}
 
 map_joins : {A B : Type 0} (f : A → B) (xs ys : List A) → map f (xs ++ ys) ≡ map f xs ++ map f ys
@@ -48,43 +45,35 @@ gathered_run asked all before rest old leaves texts now r g split pushed added =
       texts_are = added ∙ ap (λ ts. ts ++ (if asked then run_text r ∷ [] else [])) g.texts_are ∙ sym (texts_last asked g.found r);
     }
 
--- the leaf at which the debugger stands, with what is behind it
-pub gathered_leaf : (asked : Bool) (first : World) (b : Bounds) (above : List Step) (gs : List Open) (m : Standing) (x : Leaf) (all before rest : List Run) (old leaves : List Leaf) (texts now : List (List ℕ))
-    → Gathered asked all before old texts → before ≡ prefixed (picked gs) (done_steps m.trail) (here x.ending) ∷ later first b above gs (done_steps m.trail) → x.choices ≡ picked gs → leaves ≡ old ++ x ∷ []
-    → now ≡ texts ++ (if asked then behind_number (witness_by (done_steps m.trail) x.ending) ∷ [] else []) → later first b above gs (done_steps m.trail) ≡ rest → Gathered asked all rest leaves now
-gathered_leaf asked first b above gs m x all before rest old leaves texts now g found chosen pushed added behind =
+-- the leaf at which the debugger stands, with what is after it
+pub gathered_leaf : (asked : Bool) (s : Search) (gs : List Open) (m : Standing) (x : Leaf) (all before rest : List Run) (old leaves : List Leaf) (texts now : List (List ℕ))
+    → Gathered asked all before old texts → before ≡ prefixed (picked gs) (done_steps m.trail) (here x.ending) ∷ after s gs m → x.choices ≡ picked gs → leaves ≡ old ++ x ∷ []
+    → now ≡ texts ++ (if asked then behind_number (witness_by (done_steps m.trail) x.ending) ∷ [] else []) → after s gs m ≡ rest → Gathered asked all rest leaves now
+gathered_leaf asked s gs m x all before rest old leaves texts now g found chosen pushed added left =
     let r : Run = record { choices = x.choices; steps = done_steps m.trail; ending = x.ending } in
     let same : prefixed (picked gs) (done_steps m.trail) (here x.ending) ≡ r = prefixed_here (picked gs) (done_steps m.trail) x.ending ∙ ap (λ cs. record { choices = cs; steps = done_steps m.trail; ending = x.ending }) (sym chosen) in
-    let split : before ≡ r ∷ rest = found ∙ ap (λ (q : Run). q ∷ later first b above gs (done_steps m.trail)) same ∙ ap (λ rs. r ∷ rs) behind in
+    let split : before ≡ r ∷ rest = found ∙ ap (λ (q : Run). q ∷ after s gs m) same ∙ ap (λ rs. r ∷ rs) left in
     gathered_run asked all before rest old leaves texts now r g split pushed added
 
 -- the next candidate was taken
-pub goes_on : (first own : World) (b : Bounds) (above : List Step) (gs hs : List Open) (path : List Step) (e : Standing) (more : Bool) → own ≡ first → more ≡ true → Advanced own b above gs path more hs e → later first b above gs path ≡ to_come first b above hs (done_steps e.trail) e.world
-goes_on first own b above gs hs path e more own_is is advanced = let h : Advanced first b above gs path true hs e = rw (own_is, is) at advanced in h.1
-
-pub goes_at : (first own : World) (b : Bounds) (above : List Step) (gs hs : List Open) (path : List Step) (e : Standing) (more : Bool) → own ≡ first → more ≡ true → Advanced own b above gs path more hs e → At first b hs e
-goes_at first own b above gs hs path e more own_is is advanced = let h : Advanced first b above gs path true hs e = rw (own_is, is) at advanced in h.0
+pub goes_on : (s mine : Search) (gs hs : List Open) (there : List Step) (d e : Standing) (more : Bool) → mine ≡ s → more ≡ true → Advanced mine gs d more hs there e → At s hs e × (after s gs d ≡ come s hs there e)
+goes_on s mine gs hs there d e more own is advanced = let h : Advanced s gs d true hs there e = rw (own, is) at advanced in (h.0, h.1)
 
 -- none is left
-pub goes_nowhere : (first own : World) (b : Bounds) (above : List Step) (gs hs : List Open) (path : List Step) (e : Standing) (more : Bool) → own ≡ first → more ≡ false → Advanced own b above gs path more hs e → later first b above gs path ≡ []
-goes_nowhere first own b above gs hs path e more own_is is advanced = let h : Advanced first b above gs path false hs e = rw (own_is, is) at advanced in h
+pub goes_nowhere : (s mine : Search) (gs hs : List Open) (there : List Step) (d e : Standing) (more : Bool) → mine ≡ s → more ≡ false → Advanced mine gs d more hs there e → after s gs d ≡ []
+goes_nowhere s mine gs hs there d e more own is advanced = let h : Advanced s gs d false hs there e = rw (own, is) at advanced in h
 
--- where nothing sleeps, there is a run to come
-pub some_to_come : (first : World) (b : Bounds) (above : List Step) (fs : List Open) (path : List Step) (w : World) → AllFollow → b.sleeps ≡ false → above ≡ [] → 0 < length (to_come first b above fs path w)
-some_to_come first b above fs path w law off none =
-    let n : ℕ = b.limit - length path in
-    let s : List Step = asleep_below b.sleeps above fs in
-    let clear : s ≡ [] = ap (λ c. asleep_below c above fs) off ∙ below_none above fs ∙ none in
+-- where nothing is asleep, there is a run to come
+pub is_some : (s : Search) (fs : List Open) (asleep : List Step) (d : Standing) → ((v : World) → CanFollow v (s.decides v)) → ((u : World) (a : Step) → s.keeps u a [] ≡ []) → asleep ≡ [] → IsMore true (come s fs asleep d)
+is_some s fs asleep d law none clear =
+    let n : ℕ = s.limit - length (done_steps d.trail) in
     omega (
       arith,
-      length-append (map (prefixed (picked fs) path) (awake_walk b.sleeps n s w)) (later first b above fs path),
-      length-map (awake_walk b.sleeps n s w) (prefixed (picked fs) path),
-      ap (λ (xs : List Step). length (awake_walk b.sleeps n xs w)) clear,
-      awake_some b.sleeps n w law,
+      length-append (map (prefixed (picked fs) (done_steps d.trail)) (runs_from s n asleep d.world)) (after s fs d),
+      length-map (runs_from s n asleep d.world) (prefixed (picked fs) (done_steps d.trail)),
+      ap (λ (xs : List Step). length (runs_from s n xs d.world)) clear,
+      awake_some s.decides s.same s.keeps s.sleeps n d.world law none,
     )
-
-pub is_some : (first own : World) (b : Bounds) (above : List Step) (fs : List Open) (path : List Step) (w : World) → AllFollow → own ≡ first → (b.sleeps ≡ false) × (above ≡ []) → IsMore true (to_come own b above fs path w)
-is_some first own b above fs path w law own_is clear = some_to_come own b above fs path w law clear.0 clear.1
 
 -- none of those that are gathered is bad, if that ends a list
 pub still_good : (u last : Bool) (old leaves : List Leaf) (x : Leaf) → leaves ≡ old ++ x ∷ [] → last ≡ (u && is_bad x.ending) → last ≡ false → (u ≡ true → any_bad old ≡ false) → u ≡ true → any_bad leaves ≡ false
@@ -148,9 +137,9 @@ lists_full l all rest leaves texts g some long good =
 
 -- ---- the texts of leaves
 
-pub texts_join : (asked : Bool) (path : List Step) (n : ℕ) (w : World) (xs ys : List Leaf) → witness_texts asked path n w (xs ++ ys) ≡ witness_texts asked path n w xs ++ witness_texts asked path n w ys
-texts_join false path n w xs ys = refl
-texts_join true path n w xs ys = map_joins (witness_text path n w) xs ys
+pub texts_join : (decide : World → Decision) (asked : Bool) (path : List Step) (n : ℕ) (w : World) (xs ys : List Leaf) → witness_texts decide asked path n w (xs ++ ys) ≡ witness_texts decide asked path n w xs ++ witness_texts decide asked path n w ys
+texts_join decide false path n w xs ys = refl
+texts_join decide true path n w xs ys = map_joins (witness_text decide path n w) xs ys
 
 -- all are gathered, and none of them ends the list
 pub lists_none : (l : Limits) (all rest : List Run) (leaves : List Leaf) (texts : List (List ℕ)) → Gathered l.witnesses all rest leaves texts → rest ≡ [] → (l.until_bad ≡ true → any_bad leaves ≡ false) → length leaves ≤ l.runs → Lists l all leaves texts false
@@ -177,17 +166,17 @@ lists_asked l all rest leaves texts false g more long good = lists_none l all re
 
 -- ---- what was found, where the first world is told by the debugger
 
-pub leaf_found : (first own : World) (b : Bounds) (above : List Step) (fs gs : List Open) (d m : Standing) (o : Option Leaf) (x : Leaf) → own ≡ first → o ≡ Some x → FoundLeaf own b above fs d o gs m
-    → At first b gs m × (to_come first b above fs (done_steps d.trail) d.world ≡ prefixed (picked gs) (done_steps m.trail) (here x.ending) ∷ later first b above gs (done_steps m.trail)) × (x.choices ≡ picked gs)
-leaf_found first own b above fs gs d m o x own_is is found =
-    let h : FoundLeaf first b above fs d (Some x) gs m = rw (own_is, is) at found in
+pub leaf_found : (s mine : Search) (fs gs : List Open) (asleep : List Step) (d m : Standing) (o : Option Leaf) (x : Leaf) → mine ≡ s → o ≡ Some x → FoundLeaf mine fs asleep d o gs m
+    → At s gs m × (come s fs asleep d ≡ prefixed (picked gs) (done_steps m.trail) (here x.ending) ∷ after s gs m) × (x.choices ≡ picked gs)
+leaf_found s mine fs gs asleep d m o x own is found =
+    let h : FoundLeaf s fs asleep d (Some x) gs m = rw (own, is) at found in
     (h.0.0, h.0.1, h.1)
 
-pub no_leaf : (first own : World) (b : Bounds) (above : List Step) (fs gs : List Open) (d m : Standing) (o : Option Leaf) → own ≡ first → o ≡ None → FoundLeaf own b above fs d o gs m → to_come first b above fs (done_steps d.trail) d.world ≡ []
-no_leaf first own b above fs gs d m o own_is is found = let h : FoundLeaf first b above fs d None gs m = rw (own_is, is) at found in h
+pub no_leaf : (s mine : Search) (fs gs : List Open) (asleep : List Step) (d m : Standing) (o : Option Leaf) → mine ≡ s → o ≡ None → FoundLeaf mine fs asleep d o gs m → come s fs asleep d ≡ []
+no_leaf s mine fs gs asleep d m o own is found = let h : FoundLeaf s fs asleep d None gs m = rw (own, is) at found in h
 
-pub more_of : (first own : World) (b : Bounds) (above : List Step) (fs : List Open) (path : List Step) (w : World) (more : Bool) → own ≡ first → IsMore more (to_come own b above fs path w) → IsMore more (to_come first b above fs path w)
-more_of first own b above fs path w more own_is h = subst (λ (u : World). IsMore more (to_come u b above fs path w)) own_is h
+pub more_of : (s mine : Search) (fs : List Open) (asleep : List Step) (d : Standing) (more : Bool) → mine ≡ s → IsMore more (come mine fs asleep d) → IsMore more (come s fs asleep d)
+more_of s mine fs asleep d more own h = subst (λ (u : Search). IsMore more (come u fs asleep d)) own h
 
 -- nothing is asked for
 pub lists_nothing : (l : Limits) (all : List Run) (leaves : List Leaf) (texts : List (List ℕ)) (more : Bool) → l.runs ≡ 0 → 0 < length all → leaves ≡ [] → texts ≡ [] → IsTrue more → Lists l all leaves texts more

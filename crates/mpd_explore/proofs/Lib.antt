@@ -2,12 +2,12 @@ pub mod RunLemmas
 pub mod ListLemmas
 pub mod AsleepLemmas
 pub mod StateLemmas
+pub mod MoveLemmas
 pub mod SearchLemmas
 pub mod CollectLemmas
 pub mod VerifyLemmas
 pub mod WitnessLemmas
 pub mod AwakeLemmas
-pub mod FollowLemmas
 pub mod ListedLemmas
 pub mod GatherLemmas
 pub mod PrintLemmas

@@ -6,11 +6,12 @@ use Rattle.std.proofs.lemmas.Bool.Decides.{nat_tests}
 use Rattle.std.proofs.lemmas.List.{length-append, length-map}
 use Rattle.std.proofs.lemmas.Option.{slice_get-map, slice_get_read, slice_get_past}
 use Rattle.mpd_model.specs.declared.step.Step.{Step}
+use Rattle.mpd_model.specs.declared.decision.Decision.{Decision}
 use Rattle.mpd_model.specs.steps.World.{World}
 use Rattle.mpd_model.specs.texts.Texts.{line, steps_text}
 use Rattle.mpd_explore.specs.declared.report.Leaf.{Leaf}
 use Rattle.mpd_explore.specs.declared.report.Witness.{Witness}
-use Rattle.mpd_explore.specs.Walk.{steps_by, run_at}
+use Rattle.mpd_walk.specs.Walk.{steps_by, run_by}
 use Rattle.mpd_explore.specs.Witness.{witness_by}
 use Rattle.mpd_explore.specs.ReportText.{leaf_line, witness_lines, witness_part, leaves_text, more_text, report_text}
 use Rattle.mpd_explore.specs.WitnessTexts.{behind_number, witness_text, witness_texts}
@@ -38,34 +39,35 @@ some_at v xs n x within read = slice_get-map v xs n ∙ ap (option_map v) (slice
 
 -- ---- all texts
 
-plain : (before : List Step) (fuel : ℕ) (w : World) (n : ℕ) (leaves : List Leaf) → lines_told [] n leaves ≡ leaves_text false before fuel w n leaves
-plain before fuel w n [] = refl
-plain before fuel w n (l ∷ leaves) = ap (λ ls. (leaf_line n l ++ []) ++ ls) (plain before fuel w (suc n) leaves)
-
 at_seam : (front behind : List (List ℕ)) (text : List ℕ) (n : ℕ) → length front ≡ n → slice_get (front ++ text ∷ behind) n ≡ Some text
 at_seam [] behind text zero e = refl
 at_seam [] behind text (suc n) e = absurd (omega (arith, e))
 at_seam (x ∷ front) behind text zero e = absurd (omega (arith, e))
 at_seam (x ∷ front) behind text (suc n) e = at_seam front behind text n (omega (arith, e))
 
-with_texts : (before : List Step) (fuel : ℕ) (w : World) (n : ℕ) (front texts : List (List ℕ)) (leaves : List Leaf) → length front ≡ n → texts ≡ front ++ map (witness_text before fuel w) leaves → lines_told texts n leaves ≡ leaves_text true before fuel w n leaves
-with_texts before fuel w n front texts [] long are = refl
-with_texts before fuel w n front texts (l ∷ leaves) long are =
-    let own : List ℕ = witness_text before fuel w l in
-    let here : slice_get texts n ≡ Some own = ap (λ ts. slice_get ts n) are ∙ at_seam front (map (witness_text before fuel w) leaves) own n long in
-    let line_is : numbered_at n (slice_get texts n) ≡ witness_part before fuel w n l = ap (numbered_at n) here ∙ numbered_is n (witness_by (before ++ steps_by (run_at fuel l.choices w)) l.ending) in
-    ap (λ ls. (leaf_line n l ++ ls) ++ lines_told texts (suc n) leaves) line_is
-    ∙ ap (λ ls. (leaf_line n l ++ witness_part before fuel w n l) ++ ls)
-    (with_texts before fuel w (suc n) (front ++ own ∷ []) texts leaves (omega (arith, length-append front (own ∷ []), long)) (are ∙ sym (append_assoc front (own ∷ []) (map (witness_text before fuel w) leaves))))
+module _ (decide : World → Decision) where
+  plain : (before : List Step) (fuel : ℕ) (w : World) (n : ℕ) (leaves : List Leaf) → lines_told [] n leaves ≡ leaves_text decide false before fuel w n leaves
+  plain before fuel w n [] = refl
+  plain before fuel w n (l ∷ leaves) = ap (λ ls. (leaf_line n l ++ []) ++ ls) (plain before fuel w (suc n) leaves)
 
-lines_are : (asked : Bool) (before : List Step) (fuel : ℕ) (w : World) (texts : List (List ℕ)) (leaves : List Leaf) → texts ≡ witness_texts asked before fuel w leaves → lines_told texts 0 leaves ≡ leaves_text asked before fuel w 0 leaves
-lines_are false before fuel w texts leaves are = ap (λ ts. lines_told ts 0 leaves) are ∙ plain before fuel w 0 leaves
-lines_are true before fuel w texts leaves are = with_texts before fuel w 0 [] texts leaves refl are
+  with_texts : (before : List Step) (fuel : ℕ) (w : World) (n : ℕ) (front texts : List (List ℕ)) (leaves : List Leaf) → length front ≡ n → texts ≡ front ++ map (witness_text decide before fuel w) leaves → lines_told texts n leaves ≡ leaves_text decide true before fuel w n leaves
+  with_texts before fuel w n front texts [] long are = refl
+  with_texts before fuel w n front texts (l ∷ leaves) long are =
+      let own : List ℕ = witness_text decide before fuel w l in
+      let here : slice_get texts n ≡ Some own = ap (λ ts. slice_get ts n) are ∙ at_seam front (map (witness_text decide before fuel w) leaves) own n long in
+      let line_is : numbered_at n (slice_get texts n) ≡ witness_part decide before fuel w n l = ap (numbered_at n) here ∙ numbered_is n (witness_by (before ++ steps_by (run_by decide fuel l.choices w)) l.ending) in
+      ap (λ ls. (leaf_line n l ++ ls) ++ lines_told texts (suc n) leaves) line_is
+      ∙ ap (λ ls. (leaf_line n l ++ witness_part decide before fuel w n l) ++ ls)
+      (with_texts before fuel w (suc n) (front ++ own ∷ []) texts leaves (omega (arith, length-append front (own ∷ []), long)) (are ∙ sym (append_assoc front (own ∷ []) (map (witness_text decide before fuel w) leaves))))
 
-told_is : (asked : Bool) (before : List Step) (fuel : ℕ) (w : World) (texts : List (List ℕ)) (leaves : List Leaf) (more : Bool) → texts ≡ witness_texts asked before fuel w leaves → told_text texts leaves more ≡ report_text asked before fuel w leaves more
-told_is asked before fuel w texts leaves more are = ap (λ ls. ls ++ line (codes "leaves " ++ decimal (length leaves) ++ codes " more " ++ more_text more)) (lines_are asked before fuel w texts leaves are)
+  lines_are : (asked : Bool) (before : List Step) (fuel : ℕ) (w : World) (texts : List (List ℕ)) (leaves : List Leaf) → texts ≡ witness_texts decide asked before fuel w leaves → lines_told texts 0 leaves ≡ leaves_text decide asked before fuel w 0 leaves
+  lines_are false before fuel w texts leaves are = ap (λ ts. lines_told ts 0 leaves) are ∙ plain before fuel w 0 leaves
+  lines_are true before fuel w texts leaves are = with_texts before fuel w 0 [] texts leaves refl are
 
-pub told_reports : {A E : Type 0} (r : Result A E) (text_of : A → List ℕ) (asked : Bool) (before : List Step) (fuel : ℕ) (w : World) (texts : List (List ℕ)) (leaves : List Leaf) (more : Bool) → IfOk r (λ t. text_of t ≡ told_text texts leaves more) → texts ≡ witness_texts asked before fuel w leaves
-    → IfOk r (λ t. text_of t ≡ report_text asked before fuel w leaves more)
-told_reports (Ok t) text_of asked before fuel w texts leaves more is are = is ∙ told_is asked before fuel w texts leaves more are
-told_reports (Err e) text_of asked before fuel w texts leaves more is are = tt
+  told_is : (asked : Bool) (before : List Step) (fuel : ℕ) (w : World) (texts : List (List ℕ)) (leaves : List Leaf) (more : Bool) → texts ≡ witness_texts decide asked before fuel w leaves → told_text texts leaves more ≡ report_text decide asked before fuel w leaves more
+  told_is asked before fuel w texts leaves more are = ap (λ ls. ls ++ line (codes "leaves " ++ decimal (length leaves) ++ codes " more " ++ more_text more)) (lines_are asked before fuel w texts leaves are)
+
+  pub told_reports : {A E : Type 0} (r : Result A E) (text_of : A → List ℕ) (asked : Bool) (before : List Step) (fuel : ℕ) (w : World) (texts : List (List ℕ)) (leaves : List Leaf) (more : Bool) → IfOk r (λ t. text_of t ≡ told_text texts leaves more) → texts ≡ witness_texts decide asked before fuel w leaves
+      → IfOk r (λ t. text_of t ≡ report_text decide asked before fuel w leaves more)
+  told_reports (Ok t) text_of asked before fuel w texts leaves more is are = is ∙ told_is asked before fuel w texts leaves more are
+  told_reports (Err e) text_of asked before fuel w texts leaves more is are = tt

@@ -1,69 +1,32 @@
--- What one step of the search makes of the runs to come, and of how many states are.
-use Rattle.std.proofs.Common.{◌≡◌, ℕ, zero, suc, ◌<◌, ◌≤◌, ◌+◌, ◌-◌, Bool, true, false, List, [], ◌∷◌, ◌++◌, length, take, drop, map, get_or, Option, Some, None, refl, sym, ap, ◌∙◌, arith, append_assoc}
-use Rattle.std.proofs.lemmas.List.{length-append, length-take, take-append-le, drop_all}
-use Rattle.std.proofs.Math.Seq.{take-append_seam}
-use Rattle.mpd_model.specs.declared.outcome.Outcome.{Outcome}
+-- Where a search stands after each of its moves.
+use Rattle.std.proofs.Common.{◌≡◌, ℕ, zero, suc, ◌<◌, ◌≤◌, ◌+◌, ◌-◌, Bool, true, List, [], ◌∷◌, ◌++◌, length, take, map, reverse, slice_get, Option, Some, None, IsSome, refl, sym, ap, subst, ◌∙◌, arith, append_assoc, append-nil}
+use Rattle.std.proofs.lemmas.List.{length-append, length-take, take-append-le}
+use Rattle.std.proofs.lemmas.Option.{slice_get_within, get_or_from_slice_get}
 use Rattle.mpd_model.specs.declared.step.Step.{Step}
 use Rattle.mpd_model.specs.declared.decision.Decision.{Decision}
 use Rattle.mpd_model.specs.declared.decision.Decision.TheVariants.{Forced, Choice, Leaf}
 use Rattle.mpd_model.specs.steps.World.{World, start}
 use Rattle.mpd_model.specs.steps.Next.{next, fold}
+use Rattle.mpd_model.specs.runs.Decisions.{CanFollow}
 use Rattle.mpd_model.specs.runs.Trail.{Trail, Standing, IsReached, done_steps}
-use Rattle.mpd_model.specs.runs.Decisions.{decision}
 use Rattle.mpd_trail.specs.Run.{first_of}
-use Rattle.mpd_explore.specs.declared.report.Ending.{Ending}
-use Rattle.mpd_explore.specs.declared.report.Ending.TheVariants.{Ended}
-use Rattle.mpd_explore.specs.Walk.{Run, here, stepped, chosen, prefixed, runs_of, stopped}
-use Rattle.mpd_explore.proofs.RunLemmas.{map_stepped, map_chosen, map_join}
-use Rattle.mpd_explore.specs.Sleeping.{is_asleep, awake_branches, followed_awake, awake_walk, put_off}
+use Rattle.mpd_walk.specs.declared.ending.Ending.{Ending}
+use Rattle.mpd_walk.specs.declared.ending.Ending.TheVariants as ending_is
+use Rattle.mpd_walk.specs.declared.along.Stop.{Stop}
+use Rattle.mpd_walk.specs.declared.along.Stop.TheVariants.{Ended, Fuel, Untaken}
+use Rattle.mpd_walk.specs.Walk.{here as run_here, prefixed, stopped, ending_by}
+use Rattle.mpd_walk.specs.Walked.{Walked}
+use Rattle.mpd_walk.specs.Walked.Walked.{here, forced, chosen}
+use Rattle.mpd_walk.specs.Walks.{Beyond, Walks, ending_after}
+use Rattle.mpd_walk.proofs.WalkLemmas.{length-done_steps}
+use Rattle.mpd_walk.proofs.ChoiceLemmas.{within_limit}
 use Rattle.mpd_explore.specs.declared.search.Open.{Open}
-use Rattle.mpd_explore.specs.declared.search.Bounds.{Bounds}
-use Rattle.mpd_explore.specs.declared.search.Stop.{Stop}
-use Rattle.mpd_explore.specs.declared.search.Stop.TheVariants as stop
-use Rattle.mpd_explore.specs.Asleep.{asleep_below, Skips}
-use Rattle.mpd_explore.specs.States.{states_of, states_by, states}
-use Rattle.mpd_explore.specs.Search.{picked, branches_from, others, later, to_come, states_beside, states_later, states_to_come, AllEnabled, EnabledAt, Stands, At, stopped_at, Moved, Tried, Advanced, Safe}
-use Rattle.mpd_explore.proofs.ListLemmas.{drop_at}
-use Rattle.mpd_explore.proofs.AsleepLemmas.{branch_awake}
-use Rattle.mpd_explore.proofs.StateLemmas.{states_is, some_states, states_fewer, states_split}
-
--- ---- the walk, by the decision
-
-pub awake_is : (sleeps : Bool) (n : ℕ) (asleep : List Step) (w : World) (d : Decision) → decision w ≡ d → awake_walk sleeps (suc n) asleep w ≡ followed_awake sleeps (awake_walk sleeps n) asleep w d
-unfolding awake_walk
-awake_is sleeps n asleep w d h = ap (followed_awake sleeps (awake_walk sleeps n) asleep w) h
-
-pub awake_empty : (sleeps : Bool) (asleep : List Step) (w : World) (d : Decision) → decision w ≡ d → awake_walk sleeps zero asleep w ≡ stopped d
-unfolding awake_walk
-awake_empty sleeps asleep w d h = ap stopped h
-
--- ---- a longer path
-
-take_pushed : (n : ℕ) (path : List Step) (a : Step) → n ≤ length path → take n (path ++ a ∷ []) ≡ take n path
-take_pushed n path a h = take-append-le n path (a ∷ []) h
-
-stands_pushed : (first : World) (b : Bounds) (fs : List Open) (path : List Step) (a : Step) → Stands first b fs path → Stands first b fs (path ++ a ∷ [])
-stands_pushed first b [] path a h = omega (arith, length-append path (a ∷ []), h)
-stands_pushed first b (f ∷ fs) path a h =
-    let e : take f.depth (path ++ a ∷ []) ≡ take f.depth path = take_pushed f.depth path a (omega (arith, h.0)) in
-    (omega (arith, length-append path (a ∷ []), h.0), h.1, h.2, rw e h.3, rw e h.4)
-
-later_pushed : (first : World) (b : Bounds) (above : List Step) (fs : List Open) (path : List Step) (a : Step) → Stands first b fs path → later first b above fs (path ++ a ∷ []) ≡ later first b above fs path
-later_pushed first b above [] path a h = refl
-later_pushed first b above (f ∷ fs) path a h =
-    let e : take f.depth (path ++ a ∷ []) ≡ take f.depth path = take_pushed f.depth path a (omega (arith, h.0)) in
-    ap (λ (p : List Step). map (prefixed (picked fs) p) (others b.sleeps (b.limit - suc f.depth) (asleep_below b.sleeps above fs) (fold first p) f) ++ later first b above fs p) e
-
-states_pushed : (first : World) (b : Bounds) (fs : List Open) (path : List Step) (a : Step) → Stands first b fs path → states_later first b fs (path ++ a ∷ []) ≡ states_later first b fs path
-states_pushed first b [] path a h = refl
-states_pushed first b (f ∷ fs) path a h =
-    let e : take f.depth (path ++ a ∷ []) ≡ take f.depth path = take_pushed f.depth path a (omega (arith, h.0)) in
-    ap (λ (p : List Step). states_beside (b.limit - suc f.depth) (fold first p) f + states_later first b fs p) e
-
--- nothing below the base goes
-base_within : (first : World) (b : Bounds) (fs : List Open) (path : List Step) → Stands first b fs path → b.base ≤ length path
-base_within first b [] path h = h
-base_within first b (f ∷ fs) path h = omega (arith, base_within first b fs (take f.depth path) h.4, length-take f.depth path)
+use Rattle.mpd_explore.specs.declared.search.Frontier.{Frontier}
+use Rattle.mpd_explore.specs.Asleep.{Skips}
+use Rattle.mpd_explore.specs.Sleeping.{put_off}
+use Rattle.mpd_explore.specs.Search.{Search, picked, runs_from, later, to_come, to_choose, states_to_come, states_to_choose, AllEnabled, EnabledAt, Stands, At, after, states_left, Opens, OpensNone, Tried, Stopped, Advanced, Safe, takes_awake, leaves_asleep, passes_on}
+use Rattle.mpd_explore.proofs.ListLemmas.{reverse_pushed}
+use Rattle.mpd_explore.proofs.MoveLemmas.{runs_empty, stands_pushed, fold_pushed, forced_moved, forced_fewer, choice_moved, choice_fewer, passed_moved, none_moved, Taken, candidate_taken, back_moved, back_states, leaf_here, some_left}
 
 -- ---- of a debugger
 
@@ -87,264 +50,289 @@ pub record Came (d : Standing) (n : ℕ) (e : Standing) : Type 0 where
 first_same : (t u : Trail) → u.program ≡ t.program → u.mode ≡ t.mode → first_of u ≡ first_of t
 first_same t u program mode = λ i. start (program i) (mode i)
 
-pub length-done_steps : (d : Standing) → IsReached d → length (done_steps d.trail) ≡ d.trail.depth
-length-done_steps d h = omega (arith, length-take d.trail.depth d.trail.steps, h.within)
+at_length : (s : Search) (fs : List Open) (d : Standing) → At s fs d → length (done_steps d.trail) ≡ d.trail.depth
+at_length s fs d h = length-done_steps d h.reached
 
-at_length : (first : World) (b : Bounds) (fs : List Open) (d : Standing) → At first b fs d → length (done_steps d.trail) ≡ d.trail.depth
-at_length first b fs d h = length-done_steps d h.reached
+at_world : (s : Search) (fs : List Open) (d : Standing) → At s fs d → fold s.first (done_steps d.trail) ≡ Some d.world
+at_world s fs d h = ap (λ w. fold w (done_steps d.trail)) (sym h.first_is) ∙ h.reached.world
 
-at_world : (first : World) (b : Bounds) (fs : List Open) (d : Standing) → At first b fs d → fold first (done_steps d.trail) ≡ Some d.world
-at_world first b fs d h = ap (λ w. fold w (done_steps d.trail)) (sym h.first_is) ∙ h.reached.world
+-- ---- a way down
 
--- with fuel left, by how much of it is left behind a step
-come_is : (first : World) (b : Bounds) (above : List Step) (fs : List Open) (d : Standing) (n : ℕ) → b.limit - length (done_steps d.trail) ≡ n → to_come first b above fs (done_steps d.trail) d.world ≡ map (prefixed (picked fs) (done_steps d.trail)) (awake_walk b.sleeps n (asleep_below b.sleeps above fs) d.world) ++ later first b above fs (done_steps d.trail)
-come_is first b above fs d n left = ap (λ m. map (prefixed (picked fs) (done_steps d.trail)) (awake_walk b.sleeps m (asleep_below b.sleeps above fs) d.world) ++ later first b above fs (done_steps d.trail)) left
+-- the runs to come are the same
+record Moved (s : Search) (fs : List Open) (asleep p : List Step) (w : World) (gs : List Open) (there q : List Step) (v : World) : Type 0 where
+  pub stands : Stands s gs q
+  pub leads : fold s.first q ≡ Some v
+  pub same : to_come s fs asleep p w ≡ to_come s gs there q v
+  pub fewer : states_to_come s gs q v ≤ states_to_come s fs p w
 
-states_come : (first : World) (b : Bounds) (fs : List Open) (d : Standing) (n : ℕ) → b.limit - length (done_steps d.trail) ≡ n → states_to_come first b fs (done_steps d.trail) d.world ≡ states n d.world + states_later first b fs (done_steps d.trail)
-states_come first b fs d n left = ap (λ m. states m d.world + states_later first b fs (done_steps d.trail)) left
+moved_then : (s : Search) (fs gs hs : List Open) (asleep there far p q r : List Step) (w v u : World) → Moved s fs asleep p w gs there q v → Moved s gs there q v hs far r u → Moved s fs asleep p w hs far r u
+moved_then s fs gs hs asleep there far p q r w v u x y =
+    let one = x.fewer in
+    let two = y.fewer in
+    record { stands = y.stands; leads = y.leads; same = x.same ∙ y.same; fewer = omega (arith, one, two) }
 
-left_some : (first : World) (b : Bounds) (fs : List Open) (d : Standing) → At first b fs d → d.trail.depth < b.limit → b.limit - length (done_steps d.trail) ≡ suc (b.limit - suc d.trail.depth)
-left_some first b fs d at room = omega (arith, at_length first b fs d at)
+moved_forced : (s : Search) (fs : List Open) (asleep p : List Step) (w v : World) (a : Step) → Stands s fs p → fold s.first p ≡ Some w → length p < s.limit → s.decides w ≡ Forced a → next w a ≡ Some v → Moved s fs asleep p w fs (s.keeps w a asleep) (p ++ a ∷ []) v
+moved_forced s fs asleep p w v a stands leads room is step =
+    let less = forced_fewer s fs p w v a stands room is step in
+    record { stands = stands_pushed s fs p a stands; leads = fold_pushed s.first w v p a leads step; same = forced_moved s fs asleep p w v a stands room is step; fewer = omega (arith, less) }
 
--- ---- where a way stops
+moved_chosen : (s : Search) (fs : List Open) (asleep p : List Step) (w v : World) (n i : ℕ) (a : Step) (candidates : List Step) → s.decides w ≡ Choice candidates → length p < s.limit → Taken s (record { depth = n; candidates = candidates; index = 0; asleep = asleep }) fs p w i a v
+    → Moved s fs asleep p w (record { depth = n; candidates = candidates; index = i; asleep = asleep } ∷ fs) (s.keeps w a (put_off s.sleeps i candidates asleep)) (p ++ a ∷ []) v
+moved_chosen s fs asleep p w v n i a candidates is room t =
+    let less = choice_fewer s fs p w candidates room is in
+    let few = t.fewer in
+    record { stands = t.stands; leads = t.leads; same = choice_moved s fs asleep p w candidates room is ∙ t.same; fewer = omega (arith, less, few) }
 
-stop_at : (first : World) (b : Bounds) (above : List Step) (fs : List Open) (d : Standing) (s : Stop) (rs : List Run) → At first b fs d → awake_walk b.sleeps (b.limit - length (done_steps d.trail)) (asleep_below b.sleeps above fs) d.world ≡ rs → map (prefixed (picked fs) (done_steps d.trail)) rs ≡ stopped_at fs (done_steps d.trail) s
-    → Moved first b above fs d (Some s) fs d
-stop_at first b above fs d s rs at is shown = (
-  at,
-  ap (λ xs. map (prefixed (picked fs) (done_steps d.trail)) xs ++ later first b above fs (done_steps d.trail)) is ∙ ap (λ xs. xs ++ later first b above fs (done_steps d.trail)) shown,
-  omega (arith, some_states (b.limit - length (done_steps d.trail)) d.world),
-)
+stopped_one : (d : Decision) → stopped d ≡ run_here (ending_by d) ∷ []
+stopped_one (Forced a) = refl
+stopped_one (Choice candidates) = refl
+stopped_one (Leaf o) = refl
 
--- a leaf
-pub leaf_end : (first : World) (b : Bounds) (above : List Step) (fs : List Open) (d : Standing) (o : Outcome) → At first b fs d → d.trail.depth < b.limit → decision d.world ≡ Leaf o → Moved first b above fs d (Some (stop.Run (Ended o))) fs d
-leaf_end first b above fs d o at room leaf =
-    let n : ℕ = b.limit - suc d.trail.depth in
-    stop_at first b above fs d (stop.Run (Ended o)) (here (Ended o) ∷ []) at (ap (λ m. awake_walk b.sleeps m (asleep_below b.sleeps above fs) d.world) (left_some first b fs d at room) ∙ awake_is b.sleeps n (asleep_below b.sleeps above fs) d.world (Leaf o) leaf) refl
+module _ (s : Search) {C N : Type 0} (sleeps : C → Bool) (frontier : C → Frontier) (name : C → N) where
+  abbrev opened : C → List Open
+  opened c = reverse (frontier c).stack.items
 
--- no fuel
-pub fuel_end : (first : World) (b : Bounds) (above : List Step) (fs : List Open) (d : Standing) (c : Decision) (e : Ending) → At first b fs d → d.trail.depth ≡ b.limit → decision d.world ≡ c → stopped c ≡ here e ∷ [] → Moved first b above fs d (Some (stop.Run e)) fs d
-fuel_end first b above fs d c e at empty is stops =
-    let none : b.limit - length (done_steps d.trail) ≡ zero = omega (arith, at_length first b fs d at) in
-    stop_at first b above fs d (stop.Run e) (here e ∷ []) at (ap (λ m. awake_walk b.sleeps m (asleep_below b.sleeps above fs) d.world) none ∙ awake_empty b.sleeps (asleep_below b.sleeps above fs) d.world c is ∙ stops) refl
+  abbrev Takes : C → ℕ → World → List Step → ℕ → C → Type 0
+  Takes = takes_awake s.same s.keeps sleeps frontier name
 
-choice_is : (first : World) (b : Bounds) (above : List Step) (fs : List Open) (d : Standing) (candidates : List Step) → At first b fs d → d.trail.depth < b.limit → decision d.world ≡ Choice candidates
-    → awake_walk b.sleeps (b.limit - length (done_steps d.trail)) (asleep_below b.sleeps above fs) d.world ≡ branches_from b.sleeps (b.limit - suc d.trail.depth) d.world (asleep_below b.sleeps above fs) candidates 0
-choice_is first b above fs d candidates at room choice =
-    ap (λ m. awake_walk b.sleeps m (asleep_below b.sleeps above fs) d.world) (left_some first b fs d at room) ∙ awake_is b.sleeps (b.limit - suc d.trail.depth) (asleep_below b.sleeps above fs) d.world (Choice candidates) choice
+  abbrev Leaves : C → ℕ → World → List Step → C → Type 0
+  Leaves = leaves_asleep s.same sleeps frontier name
 
--- a choice whose candidates are all asleep
-pub choice_end : (first : World) (b : Bounds) (above : List Step) (fs gs : List Open) (d e : Standing) (candidates : List Step) (taken : Bool) → At first b fs d → d.trail.depth < b.limit → decision d.world ≡ Choice candidates → taken ≡ false → Tried first b above fs d candidates 0 taken gs e
-    → Moved first b above fs d (Some stop.Asleep) gs e
-choice_end first b above fs gs d e candidates taken at room choice off tried =
-    let t : Tried first b above fs d candidates 0 false gs e = rw off at tried in
-    let m : Moved first b above fs d (Some stop.Asleep) fs d = stop_at first b above fs d stop.Asleep [] at (choice_is first b above fs d candidates at room choice ∙ t.2) refl in
-    rw (t.0, t.1) m
+  abbrev Passes : C → ℕ → World → Step → C → Type 0
+  Passes = passes_on s.keeps sleeps frontier name
 
--- ---- a step forward
+  -- where a way leads, what it is lent stays the same place
+  record Leads (c : C) (p : List Step) (w : World) (e : C) (q : List Step) (v : World) : Type 0 where
+    pub moved : Moved s (opened c) (frontier c).asleep p w (opened e) (frontier e).asleep q v
+    pub sleeps_are : sleeps e ≡ s.sleeps
+    pub named : name e ≡ name c
 
-pub at_pushed : (first : World) (b : Bounds) (fs : List Open) (d e : Standing) (a : Step) → At first b fs d → d.trail.depth < b.limit → Went d a e → At first b fs e
-at_pushed first b fs d e a at room went =
-    record {
-      first_is = first_same d.trail e.trail went.program went.mode ∙ at.first_is;
-      reached = went.reached;
-      within = omega (arith, went.depth);
-      stands = rw went.done_steps_are (stands_pushed first b fs (done_steps d.trail) a at.stands);
-    }
+  leads_none : (c : C) (p : List Step) (w : World) → sleeps c ≡ s.sleeps → Stands s (opened c) p → fold s.first p ≡ Some w → Leads c p w c (p ++ []) w
+  leads_none c p w on stands leads =
+      subst (λ (q : List Step). Leads c p w c q w) (sym (append-nil p)) (record { moved = record { stands = stands; leads = leads; same = refl; fewer = omega arith }; sleeps_are = on; named = refl })
 
-fuel_after : (first : World) (b : Bounds) (fs : List Open) (d e : Standing) (a : Step) → At first b fs d → Went d a e → b.limit - length (done_steps e.trail) ≡ b.limit - suc d.trail.depth
-fuel_after first b fs d e a at went = omega (arith, length-done_steps e went.reached, went.depth)
+  leads_then : (c d e : C) (p q r t : List Step) (w u v : World) → Leads c p w d q u → r ≡ t → Leads d q u e r v → Leads c p w e t v
+  leads_then c d e p q r t w u v x is y =
+      subst (λ (z : List Step). Leads c p w e z v) is
+      (record {
+        moved = moved_then s (opened c) (opened d) (opened e) (frontier c).asleep (frontier d).asleep (frontier e).asleep p q r w u v x.moved y.moved;
+        sleeps_are = y.sleeps_are;
+        named = y.named ∙ x.named;
+      })
 
--- a forced step
-pub forced_moved : (first : World) (b : Bounds) (above : List Step) (fs : List Open) (d e : Standing) (a : Step) → At first b fs d → d.trail.depth < b.limit → decision d.world ≡ Forced a → Went d a e → Moved first b above fs d None fs e
-forced_moved first b above fs d e a at room forced went =
-    let n : ℕ = b.limit - suc d.trail.depth in
-    let s : List Step = asleep_below b.sleeps above fs in
-    let left : b.limit - length (done_steps d.trail) ≡ suc n = left_some first b fs d at room in
-    let after : b.limit - length (done_steps e.trail) ≡ n = fuel_after first b fs d e a at went in
-    let now : awake_walk b.sleeps (suc n) s d.world ≡ map (stepped a) (awake_walk b.sleeps n s e.world) = awake_is b.sleeps n s d.world (Forced a) forced ∙ ap (λ o. map (stepped a) (runs_of (awake_walk b.sleeps n s) o)) went.world in
-    let count : states (suc n) d.world ≡ suc (states n e.world) = states_is n d.world (Forced a) forced ∙ ap (λ o. suc (states_of (states n) o)) went.world in
-    let stay : states_later first b fs (done_steps e.trail) ≡ states_later first b fs (done_steps d.trail) = ap (states_later first b fs) went.done_steps_are ∙ states_pushed first b fs (done_steps d.trail) a at.stands in (
-      at_pushed first b fs d e a at room went,
-      omega (arith, went.depth),
-      come_is first b above fs d (suc n) left
-          ∙ ap (λ rs. map (prefixed (picked fs) (done_steps d.trail)) rs ++ later first b above fs (done_steps d.trail)) now
-          ∙ ap (λ rs. rs ++ later first b above fs (done_steps d.trail)) (map_stepped (picked fs) (done_steps d.trail) a (awake_walk b.sleeps n s e.world))
-          ∙ ap (λ rs. map (prefixed (picked fs) (done_steps d.trail ++ a ∷ [])) (awake_walk b.sleeps n s e.world) ++ rs) (sym (later_pushed first b above fs (done_steps d.trail) a at.stands))
-          ∙ ap (λ p. map (prefixed (picked fs) p) (awake_walk b.sleeps n s e.world) ++ later first b above fs p) (sym went.done_steps_are)
-          ∙ sym (come_is first b above fs e n after),
-      omega (arith, states_come first b fs d (suc n) left, states_come first b fs e n after, count, stay),
-    )
-
--- ---- a candidate is taken
-
--- an open choice at the end of a path, seen from behind its candidate
-later_open : (first : World) (b : Bounds) (above : List Step) (f : Open) (fs : List Open) (d : Standing) (a : Step) → At first b fs d → f.depth ≡ d.trail.depth
-    → later first b above (f ∷ fs) (done_steps d.trail ++ a ∷ []) ≡ map (prefixed (picked fs) (done_steps d.trail)) (branches_from b.sleeps (b.limit - suc d.trail.depth) d.world (asleep_below b.sleeps above fs) f.candidates (suc f.index)) ++ later first b above fs (done_steps d.trail)
-later_open first b above f fs d a at depth =
-    let path : List Step = done_steps d.trail in
-    let cut : take f.depth (path ++ a ∷ []) ≡ path = ap (λ m. take m (path ++ a ∷ [])) (depth ∙ sym (at_length first b fs d at)) ∙ take-append_seam path (a ∷ []) in
-    ap (λ (p : List Step). map (prefixed (picked fs) p) (others b.sleeps (b.limit - suc f.depth) (asleep_below b.sleeps above fs) (fold first p) f) ++ later first b above fs p) cut
-    ∙ ap (λ o. map (prefixed (picked fs) path) (others b.sleeps (b.limit - suc f.depth) (asleep_below b.sleeps above fs) o f) ++ later first b above fs path) (at_world first b fs d at)
-    ∙ ap (λ m. map (prefixed (picked fs) path) (branches_from b.sleeps (b.limit - suc m) d.world (asleep_below b.sleeps above fs) f.candidates (suc f.index)) ++ later first b above fs path) depth
-
-states_open : (first : World) (b : Bounds) (f : Open) (fs : List Open) (d : Standing) (a : Step) → At first b fs d → f.depth ≡ d.trail.depth
-    → states_later first b (f ∷ fs) (done_steps d.trail ++ a ∷ []) ≡ states_by (states (b.limit - suc d.trail.depth)) d.world (drop (suc f.index) f.candidates) + states_later first b fs (done_steps d.trail)
-states_open first b f fs d a at depth =
-    let path : List Step = done_steps d.trail in
-    let cut : take f.depth (path ++ a ∷ []) ≡ path = ap (λ m. take m (path ++ a ∷ [])) (depth ∙ sym (at_length first b fs d at)) ∙ take-append_seam path (a ∷ []) in
-    ap (λ (p : List Step). states_beside (b.limit - suc f.depth) (fold first p) f + states_later first b fs p) cut
-    ∙ ap (λ o. states_beside (b.limit - suc f.depth) o f + states_later first b fs path) (at_world first b fs d at)
-    ∙ ap (λ m. states_by (states (b.limit - suc m)) d.world (drop (suc f.index) f.candidates) + states_later first b fs path) depth
-
-stands_open : (first : World) (b : Bounds) (f : Open) (fs : List Open) (path : List Step) (w : World) (a : Step) → Stands first b fs path → f.depth ≡ length path → f.depth < b.limit → f.index < length f.candidates → fold first path ≡ Some w → AllEnabled w f.candidates → Stands first b (f ∷ fs) (path ++ a ∷ [])
-stands_open first b f fs path w a stands depth room within reached all =
-    let cut : take f.depth (path ++ a ∷ []) ≡ path = ap (λ m. take m (path ++ a ∷ [])) depth ∙ take-append_seam path (a ∷ []) in
-    (omega (arith, length-append path (a ∷ [])), room, within, rw (cut, reached) all, rw cut stands)
-
--- the candidate at which an open choice stands is taken, and it is awake
-entered : (first : World) (b : Bounds) (above : List Step) (f : Open) (fs : List Open) (d e : Standing) (a : Step) → At first b fs d → f.depth ≡ d.trail.depth → drop f.index f.candidates ≡ a ∷ drop (suc f.index) f.candidates → is_asleep (put_off b.sleeps f.index f.candidates (asleep_below b.sleeps above fs)) a ≡ false → Went d a e
-    → map (prefixed (picked fs) (done_steps d.trail)) (branches_from b.sleeps (b.limit - suc d.trail.depth) d.world (asleep_below b.sleeps above fs) f.candidates f.index) ++ later first b above fs (done_steps d.trail) ≡ to_come first b above (f ∷ fs) (done_steps e.trail) e.world
-entered first b above f fs d e a at depth split wakes went =
-    let n : ℕ = b.limit - suc d.trail.depth in
-    let path : List Step = done_steps d.trail in
-    let cs : List ℕ = picked fs in
-    let mine : List Run = awake_walk b.sleeps n (asleep_below b.sleeps above (f ∷ fs)) e.world in
-    let rest : List Run = branches_from b.sleeps n d.world (asleep_below b.sleeps above fs) f.candidates (suc f.index) in
-    ap (λ rs. map (prefixed cs path) rs ++ later first b above fs path) (branch_awake b.sleeps (awake_walk b.sleeps n) d.world e.world (asleep_below b.sleeps above fs) f.candidates f.index a split wakes went.world)
-    ∙ ap (λ rs. rs ++ later first b above fs path) (map_join (prefixed cs path) (map (chosen f.index a) mine) rest)
-    ∙ ap (λ rs. (rs ++ map (prefixed cs path) rest) ++ later first b above fs path) (map_chosen cs path f.index a mine)
-    ∙ append_assoc (map (prefixed (cs ++ f.index ∷ []) (path ++ a ∷ [])) mine) (map (prefixed cs path) rest) (later first b above fs path)
-    ∙ ap (λ rs. map (prefixed (cs ++ f.index ∷ []) (path ++ a ∷ [])) mine ++ rs) (sym (later_open first b above f fs d a at depth))
-    ∙ ap (λ p. map (prefixed (picked (f ∷ fs)) p) mine ++ later first b above (f ∷ fs) p) (sym went.done_steps_are)
-    ∙ sym (come_is first b above (f ∷ fs) e n (fuel_after first b fs d e a at went))
-
-entered_states : (first : World) (b : Bounds) (f : Open) (fs : List Open) (d e : Standing) (a : Step) → At first b fs d → f.depth ≡ d.trail.depth → drop f.index f.candidates ≡ a ∷ drop (suc f.index) f.candidates → Went d a e
-    → states_to_come first b (f ∷ fs) (done_steps e.trail) e.world ≡ states_by (states (b.limit - suc d.trail.depth)) d.world (drop f.index f.candidates) + states_later first b fs (done_steps d.trail)
-entered_states first b f fs d e a at depth split went =
-    let n : ℕ = b.limit - suc d.trail.depth in
-    let more : ℕ = states_by (states n) d.world (drop (suc f.index) f.candidates) in
-    omega (
-      arith,
-      states_come first b (f ∷ fs) e n (fuel_after first b fs d e a at went),
-      ap (states_later first b (f ∷ fs)) went.done_steps_are,
-      states_open first b f fs d a at depth,
-      states_split (states n) d.world e.world a (drop f.index f.candidates) (drop (suc f.index) f.candidates) split went.world,
-    )
-
-pub candidate_taken : (first : World) (b : Bounds) (above : List Step) (f : Open) (fs : List Open) (d e : Standing) (from : ℕ) (a : Step) → At first b fs d → d.trail.depth < b.limit → AllEnabled d.world f.candidates → f.depth ≡ d.trail.depth → Skips b.sleeps (asleep_below b.sleeps above fs) f.candidates from f.index
-    → f.index < length f.candidates → a ≡ get_or f.candidates f.index a → Went d a e → Tried first b above fs d f.candidates from true (f ∷ fs) e
-candidate_taken first b above f fs d e from a at room all depth skips within read went =
-    let n : ℕ = b.limit - suc d.trail.depth in
-    let split : drop f.index f.candidates ≡ a ∷ drop (suc f.index) f.candidates = drop_at f.candidates f.index a within read in
-    let long : f.depth ≡ length (done_steps d.trail) = depth ∙ sym (at_length first b fs d at) in (
+  leads_forced : (c d : C) (p : List Step) (w u : World) (a : Step) (n : ℕ) → sleeps c ≡ s.sleeps → Stands s (opened c) p → fold s.first p ≡ Some w → length p < s.limit → s.decides w ≡ Forced a → Passes c n w a d → next w a ≡ Some u → Leads c p w d (p ++ a ∷ []) u
+  leads_forced c d p w u a n on stands leads room is passed step =
+      let same : opened c ≡ opened d = ap reverse (sym passed.0) in
+      let base = moved_forced s (opened c) (frontier c).asleep p w u a stands leads room is step in
       record {
-        first_is = first_same d.trail e.trail went.program went.mode ∙ at.first_is;
-        reached = went.reached;
-        within = omega (arith, went.depth);
-        stands = rw went.done_steps_are (stands_open first b f fs (done_steps d.trail) d.world a at.stands long (omega (arith, depth)) within (at_world first b fs d at) all);
-      },
-      omega (arith, went.depth),
-      ap (λ rs. map (prefixed (picked fs) (done_steps d.trail)) rs ++ later first b above fs (done_steps d.trail)) (skips.passes.same (awake_walk b.sleeps n) d.world)
-          ∙ entered first b above f fs d e a at depth split (skips.awake a within read) went,
-      omega (arith, entered_states first b f fs d e a at depth split went, states_fewer (states n) d.world from f.index f.candidates skips.passes.low),
-    )
+        moved = subst (λ (fs : List Open). Moved s (opened c) (frontier c).asleep p w fs (frontier d).asleep (p ++ a ∷ []) u) same
+            (subst (λ (z : List Step). Moved s (opened c) (frontier c).asleep p w (opened c) z (p ++ a ∷ []) u) (sym passed.1) base);
+        sleeps_are = passed.2 ∙ on;
+        named = passed.3;
+      }
 
-no_branches : (sleeps : Bool) (n : ℕ) (w : World) (asleep candidates : List Step) (i : ℕ) → i ≡ length candidates → branches_from sleeps n w asleep candidates i ≡ []
-no_branches sleeps n w asleep candidates i all = ap (awake_branches sleeps (awake_walk sleeps n) w (put_off sleeps i candidates asleep) i) (drop_all i candidates (omega (arith, all)))
+  leads_chosen : (c d : C) (p : List Step) (w u : World) (a : Step) (n i : ℕ) (candidates : List Step) → CanFollow w (Choice candidates) → sleeps c ≡ s.sleeps → length p ≡ n → Stands s (opened c) p → fold s.first p ≡ Some w → length p < s.limit → s.decides w ≡ Choice candidates
+      → slice_get candidates i ≡ Some a → Takes c n w candidates i d → next w a ≡ Some u → Leads c p w d (p ++ a ∷ []) u
+  leads_chosen c d p w u a n i candidates follows on long stands leads room is read taken step =
+      let choice : Open = record { depth = n; candidates = candidates; index = 0; asleep = (frontier c).asleep } in
+      let f : Open = record { depth = n; candidates = candidates; index = i; asleep = (frontier c).asleep } in
+      let opens : Opens s.same s.keeps s.sleeps w choice (frontier c) i (frontier d) = subst (λ (b : Bool). Opens s.same s.keeps b w choice (frontier c) i (frontier d)) on taken.0 in
+      let t = candidate_taken s choice (opened c) p w u i a stands leads (sym long) room follows.1 opens.skips read step in
+      let base = moved_chosen s (opened c) (frontier c).asleep p w u n i a candidates is room t in
+      let same : f ∷ opened c ≡ opened d = sym (reverse_pushed (frontier c).stack.items (frontier d).stack.items f opens.stack) in
+      record {
+        moved = subst (λ (fs : List Open). Moved s (opened c) (frontier c).asleep p w fs (frontier d).asleep (p ++ a ∷ []) u) same
+            (subst (λ (z : List Step). Moved s (opened c) (frontier c).asleep p w (f ∷ opened c) z (p ++ a ∷ []) u) (sym (opens.asleep a read)) base);
+        sleeps_are = taken.1 ∙ on;
+        named = taken.2;
+      }
 
--- all are asleep
-pub none_taken : (first : World) (b : Bounds) (above : List Step) (fs : List Open) (d : Standing) (candidates : List Step) (from i : ℕ) → Skips b.sleeps (asleep_below b.sleeps above fs) candidates from i → i ≡ length candidates → Tried first b above fs d candidates from false fs d
-none_taken first b above fs d candidates from i skips all =
-    let n : ℕ = b.limit - suc d.trail.depth in
-    (refl, refl, skips.passes.same (awake_walk b.sleeps n) d.world ∙ no_branches b.sleeps n d.world (asleep_below b.sleeps above fs) candidates i all)
+  along : ((w : World) → CanFollow w (s.decides w)) → (c e : C) (n : ℕ) (w v : World) (cs : List ℕ) (path p : List Step) → sleeps c ≡ s.sleeps → length p ≡ n → n + length path ≤ s.limit → fold s.first p ≡ Some w → Stands s (opened c) p
+      → Walked s.decides Takes Passes c n w cs path v e → Leads c p w e (p ++ path) v
+  along law c e n w v cs path p on long within leads stands (here _ _ _) = leads_none c p w on stands leads
+  along law c e n w v cs path p on long within leads stands (forced _ d _ _ _ u _ a _ rest is passed step h) =
+      let first = leads_forced c d p w u a n on stands leads (omega (arith, within, long)) is passed step in
+      leads_then c d e p (p ++ a ∷ []) ((p ++ a ∷ []) ++ rest) (p ++ a ∷ rest) w u v first (append_assoc p (a ∷ []) rest)
+      (along law d e (suc n) u v cs rest (p ++ a ∷ []) first.sleeps_are (omega (arith, long, length-append p (a ∷ []))) (omega (arith, within)) first.moved.leads first.moved.stands h)
+  along law c e n w v cs path p on long within leads stands (chosen _ d _ _ i _ u _ a candidates bs rest is read taken step h) =
+      let follows : CanFollow w (Choice candidates) = subst (CanFollow w) is (law w) in
+      let first = leads_chosen c d p w u a n i candidates follows on long stands leads (omega (arith, within, long)) is read taken step in
+      leads_then c d e p (p ++ a ∷ []) ((p ++ a ∷ []) ++ rest) (p ++ a ∷ rest) w u v first (append_assoc p (a ∷ []) rest)
+      (along law d e (suc n) u v bs rest (p ++ a ∷ []) first.sleeps_are (omega (arith, long, length-append p (a ∷ []))) (omega (arith, within)) first.moved.leads first.moved.stands h)
 
--- a choice is entered
-pub choice_moved : (first : World) (b : Bounds) (above : List Step) (fs gs : List Open) (d e : Standing) (candidates : List Step) (taken : Bool) → At first b fs d → d.trail.depth < b.limit → decision d.world ≡ Choice candidates → taken ≡ true → Tried first b above fs d candidates 0 taken gs e
-    → Moved first b above fs d None gs e
-choice_moved first b above fs gs d e candidates taken at room choice on tried =
-    let t : Tried first b above fs d candidates 0 true gs e = rw on at tried in
-    let n : ℕ = b.limit - suc d.trail.depth in (
-      t.0,
-      t.1,
-      ap (λ rs. map (prefixed (picked fs) (done_steps d.trail)) rs ++ later first b above fs (done_steps d.trail)) (choice_is first b above fs d candidates at room choice) ∙ t.2,
-      omega (arith, t.3, states_come first b fs d (suc n) (left_some first b fs d at room), states_is n d.world (Choice candidates) choice),
-    )
+  -- ---- and where it stops
+
+  abbrev Walking : Standing → C → Stop → Standing → C → Type 0
+  Walking d c stop e f = Walks s.decides Takes Leaves Passes s.limit d c stop e f
+
+  walk_leads : ((w : World) → CanFollow w (s.decides w)) → (d e : Standing) (c f : C) (stop : Stop) → At s (opened c) d → sleeps c ≡ s.sleeps → (h : Walking d c stop e f) → Leads c (done_steps d.trail) d.world h.middle (done_steps e.trail) e.world
+  walk_leads law d e c f stop at on h =
+      let deep = h.gone.depth in
+      let most = within_limit s.decides Takes Leaves Passes s.limit d e c f stop h in
+      subst (λ (q : List Step). Leads c (done_steps d.trail) d.world h.middle q e.world) (sym h.gone.done_steps_are)
+      (along law c h.middle d.trail.depth d.world e.world h.gone.choices h.gone.path (done_steps d.trail) on (at_length s (opened c) d at) (omega (arith, deep, most)) (at_world s (opened c) d at) at.stands h.gone.walked)
+
+  stop_at : (d e : Standing) (c m : C) → At s (opened c) d → Beyond d e → e.trail.depth ≤ s.limit → Leads c (done_steps d.trail) d.world m (done_steps e.trail) e.world → At s (opened m) e
+  stop_at d e c m at beyond within l =
+      record { first_is = first_same d.trail e.trail beyond.program beyond.mode ∙ at.first_is; reached = beyond.reached; within = within; stands = l.moved.stands }
+
+  run_ended : (d e : Standing) (c m : C) (end : Ending) → At s (opened m) e → Leads c (done_steps d.trail) d.world m (done_steps e.trail) e.world → runs_from s (s.limit - length (done_steps e.trail)) (frontier m).asleep e.world ≡ run_here end ∷ []
+      → Stopped s (opened c) (frontier c).asleep d (Some end) (opened m) e
+  run_ended d e c m end at l is =
+      let less = some_left s (opened m) (done_steps e.trail) e.world in
+      let few = l.moved.fewer in
+      (at, l.moved.same ∙ ap (λ rs. map (prefixed (picked (opened m)) (done_steps e.trail)) rs ++ later s (opened m) (done_steps e.trail)) is, omega (arith, less, few))
+
+  all_asleep : (d e : Standing) (c m : C) (candidates : List Step) (n : ℕ) → At s (opened m) e → Leads c (done_steps d.trail) d.world m (done_steps e.trail) e.world → e.trail.depth < s.limit → s.decides e.world ≡ Choice candidates
+      → OpensNone s.same s.sleeps (record { depth = n; candidates = candidates; index = 0; asleep = (frontier m).asleep }) (frontier m) (frontier m) → Stopped s (opened c) (frontier c).asleep d None (opened m) e
+  all_asleep d e c m candidates n at l room is none =
+      let less = some_left s (opened m) (done_steps e.trail) e.world in
+      let few = l.moved.fewer in
+      let short : length (done_steps e.trail) < s.limit = (let long = at_length s (opened m) e at in omega (arith, long, room)) in (
+        at,
+        l.moved.same ∙ choice_moved s (opened m) (frontier m).asleep (done_steps e.trail) e.world candidates short is
+            ∙ passed_moved s (opened m) (done_steps e.trail) e.world (frontier m).asleep candidates 0 (length candidates) none.skips
+            ∙ none_moved s (opened m) (done_steps e.trail) e.world (frontier m).asleep candidates (length candidates) (omega arith),
+        omega (arith, less, few),
+      )
+
+  stop_by : ((w : World) → CanFollow w (s.decides w)) → (d e : Standing) (c f : C) (stop : Stop) → At s (opened c) d → sleeps c ≡ s.sleeps → Beyond d e → Walking d c stop e f → Stopped s (opened c) (frontier c).asleep d (ending_after s.decides stop e.world) (opened f) e
+  stop_by law d e c f (Ended o) at on beyond h =
+      let l = walk_leads law d e c f (Ended o) at on h in
+      let room = h.stops.2 in
+      let here = stop_at d e c h.middle at beyond (omega (arith, room)) l in
+      let long = at_length s (opened h.middle) e here in
+      subst (λ (x : C). Stopped s (opened c) (frontier c).asleep d (Some (ending_is.Ended o)) (opened x) e) (sym h.stops.0)
+      (run_ended d e c h.middle (ending_is.Ended o) here l (leaf_here s (frontier h.middle).asleep (done_steps e.trail) e.world o (omega (arith, long, room)) h.stops.1))
+  stop_by law d e c f Fuel at on beyond h =
+      let l = walk_leads law d e c f Fuel at on h in
+      let spent = h.stops.1 in
+      let here = stop_at d e c h.middle at beyond (omega (arith, spent)) l in
+      let long = at_length s (opened h.middle) e here in
+      let none : s.limit - length (done_steps e.trail) ≡ zero = omega (arith, long, spent) in
+      subst (λ (x : C). Stopped s (opened c) (frontier c).asleep d (Some (ending_by (s.decides e.world))) (opened x) e) (sym h.stops.0)
+      (run_ended d e c h.middle (ending_by (s.decides e.world)) here l (ap (λ n. runs_from s n (frontier h.middle).asleep e.world) none ∙ runs_empty s (frontier h.middle).asleep e.world ∙ stopped_one (s.decides e.world)))
+  stop_by law d e c f Untaken at on beyond h =
+      let l = walk_leads law d e c f Untaken at on h in
+      let room = h.stops.1 in
+      let u = h.stops.0 in
+      let here = stop_at d e c h.middle at beyond (omega (arith, room)) l in
+      let left = u.left in
+      let asleep : OpensNone s.same s.sleeps (record { depth = e.trail.depth; candidates = u.candidates; index = 0; asleep = (frontier h.middle).asleep }) (frontier h.middle) (frontier h.middle) =
+      record { skips = subst (λ (b : Bool). Skips s.same b (frontier h.middle).asleep u.candidates 0 (length u.candidates)) l.sleeps_are left.0.skips; stack = refl } in
+      subst (λ (fs : List Open). Stopped s (opened c) (frontier c).asleep d None fs e) (ap reverse (sym left.0.stack))
+      (all_asleep d e c h.middle u.candidates e.trail.depth here l room u.choice asleep)
+
+  -- the same, with how it ends as the code tells it
+  pub stops : ((w : World) → CanFollow w (s.decides w)) → (d e : Standing) (c f : C) (stop : Stop) (o : Option Ending) → At s (opened c) d → sleeps c ≡ s.sleeps → Beyond d e → Walking d c stop e f → o ≡ ending_after s.decides stop e.world
+      → Stopped s (opened c) (frontier c).asleep d o (opened f) e
+  stops law d e c f stop o at on beyond h is = subst (λ (x : Option Ending). Stopped s (opened c) (frontier c).asleep d x (opened f) e) (sym is) (stop_by law d e c f stop at on beyond h)
+
+  named_along : (c e : C) (n : ℕ) (w v : World) (cs : List ℕ) (path : List Step) → Walked s.decides Takes Passes c n w cs path v e → name e ≡ name c
+  named_along c e n w v cs path (here _ _ _) = refl
+  named_along c e n w v cs path (forced _ d _ _ _ u _ a _ rest is passed step h) = named_along d e (suc n) u v cs rest h ∙ passed.3
+  named_along c e n w v cs path (chosen _ d _ _ i _ u _ a candidates bs rest is read taken step h) = named_along d e (suc n) u v bs rest h ∙ taken.2
+
+  -- what it is lent stays the same place
+  pub same_place : (limit : ℕ) (d e : Standing) (c f : C) (stop : Stop) → Walks s.decides Takes Leaves Passes limit d c stop e f → name f ≡ name c
+  same_place limit d e c f (Ended o) h = ap name h.stops.0 ∙ named_along c h.middle d.trail.depth d.world e.world h.gone.choices h.gone.path h.gone.walked
+  same_place limit d e c f Fuel h = ap name h.stops.0 ∙ named_along c h.middle d.trail.depth d.world e.world h.gone.choices h.gone.path h.gone.walked
+  same_place limit d e c f Untaken h = h.stops.0.left.2 ∙ named_along c h.middle d.trail.depth d.world e.world h.gone.choices h.gone.path h.gone.walked
 
 -- ---- back to a choice
 
-pub at_popped : (first : World) (b : Bounds) (f : Open) (fs : List Open) (d e : Standing) → At first b (f ∷ fs) d → Came d f.depth e → At first b fs e
-at_popped first b f fs d e at came =
+pub at_popped : (s : Search) (f : Open) (fs : List Open) (d e : Standing) → At s (f ∷ fs) d → Came d f.depth e → At s fs e
+at_popped s f fs d e at came =
     record { first_is = first_same d.trail e.trail came.program came.mode ∙ at.first_is; reached = came.reached; within = omega (arith, came.depth, at.stands.1); stands = rw came.done_steps_are at.stands.4 }
 
 enabled_by : (o : Option World) (w : World) (candidates : List Step) → o ≡ Some w → EnabledAt o candidates → AllEnabled w candidates
 enabled_by o w candidates e h = rw e at h
 
-pub popped_enabled : (first : World) (b : Bounds) (f : Open) (fs : List Open) (d e : Standing) → At first b (f ∷ fs) d → Came d f.depth e → AllEnabled e.world f.candidates
-popped_enabled first b f fs d e at came =
-    enabled_by (fold first (take f.depth (done_steps d.trail))) e.world f.candidates (ap (fold first) (sym came.done_steps_are) ∙ at_world first b fs e (at_popped first b f fs d e at came)) at.stands.3
+popped_leads : (s : Search) (f : Open) (fs : List Open) (d e : Standing) → At s (f ∷ fs) d → Came d f.depth e → fold s.first (take f.depth (done_steps d.trail)) ≡ Some e.world
+popped_leads s f fs d e at came = ap (fold s.first) (sym came.done_steps_are) ∙ at_world s fs e (at_popped s f fs d e at came)
 
-popped_later : (first : World) (b : Bounds) (above : List Step) (f : Open) (fs : List Open) (d e : Standing) → At first b (f ∷ fs) d → Came d f.depth e
-    → later first b above (f ∷ fs) (done_steps d.trail) ≡ map (prefixed (picked fs) (done_steps e.trail)) (branches_from b.sleeps (b.limit - suc e.trail.depth) e.world (asleep_below b.sleeps above fs) f.candidates (suc f.index)) ++ later first b above fs (done_steps e.trail)
-popped_later first b above f fs d e at came =
-    ap (λ (p : List Step). map (prefixed (picked fs) p) (others b.sleeps (b.limit - suc f.depth) (asleep_below b.sleeps above fs) (fold first p) f) ++ later first b above fs p) (sym came.done_steps_are)
-    ∙ ap (λ o. map (prefixed (picked fs) (done_steps e.trail)) (others b.sleeps (b.limit - suc f.depth) (asleep_below b.sleeps above fs) o f) ++ later first b above fs (done_steps e.trail)) (at_world first b fs e (at_popped first b f fs d e at came))
-    ∙ ap (λ m. map (prefixed (picked fs) (done_steps e.trail)) (branches_from b.sleeps (b.limit - suc m) e.world (asleep_below b.sleeps above fs) f.candidates (suc f.index)) ++ later first b above fs (done_steps e.trail)) (sym came.depth)
+popped_enabled : (s : Search) (f : Open) (fs : List Open) (d e : Standing) → At s (f ∷ fs) d → Came d f.depth e → AllEnabled e.world f.candidates
+popped_enabled s f fs d e at came = enabled_by (fold s.first (take f.depth (done_steps d.trail))) e.world f.candidates (popped_leads s f fs d e at came) at.stands.3
 
-popped_states : (first : World) (b : Bounds) (f : Open) (fs : List Open) (d e : Standing) → At first b (f ∷ fs) d → Came d f.depth e
-    → states_later first b (f ∷ fs) (done_steps d.trail) ≡ states_by (states (b.limit - suc e.trail.depth)) e.world (drop (suc f.index) f.candidates) + states_later first b fs (done_steps e.trail)
-popped_states first b f fs d e at came =
-    ap (λ (p : List Step). states_beside (b.limit - suc f.depth) (fold first p) f + states_later first b fs p) (sym came.done_steps_are)
-    ∙ ap (λ o. states_beside (b.limit - suc f.depth) o f + states_later first b fs (done_steps e.trail)) (at_world first b fs e (at_popped first b f fs d e at came))
-    ∙ ap (λ m. states_by (states (b.limit - suc m)) e.world (drop (suc f.index) f.candidates) + states_later first b fs (done_steps e.trail)) (sym came.depth)
+popped_after : (s : Search) (f : Open) (fs : List Open) (d e : Standing) → At s (f ∷ fs) d → Came d f.depth e → after s (f ∷ fs) d ≡ to_choose s fs (done_steps e.trail) e.world f.asleep f.candidates (suc f.index)
+popped_after s f fs d e at came =
+    back_moved s f fs (done_steps d.trail) e.world (popped_leads s f fs d e at came) at.stands.0 ∙ ap (λ p. to_choose s fs p e.world f.asleep f.candidates (suc f.index)) (sym came.done_steps_are)
+
+popped_states : (s : Search) (f : Open) (fs : List Open) (d e : Standing) → At s (f ∷ fs) d → Came d f.depth e → states_left s (f ∷ fs) d ≡ states_to_choose s fs (done_steps e.trail) e.world f.candidates (suc f.index)
+popped_states s f fs d e at came =
+    back_states s f fs (done_steps d.trail) e.world (popped_leads s f fs d e at came) at.stands.0 ∙ ap (λ p. states_to_choose s fs p e.world f.candidates (suc f.index)) (sym came.done_steps_are)
+
+-- what was found at a choice
+pub tried_some : (s : Search) (w : World) (choice : Open) (o : Option Step) (a : Step) (f g : Frontier) → o ≡ Some a → Tried s.same s.keeps s.sleeps w choice f o g → (i : ℕ) × (slice_get choice.candidates i ≡ Some a) × Opens s.same s.keeps s.sleeps w choice f i g
+tried_some s w choice o a f g is h = let t : Tried s.same s.keeps s.sleeps w choice f (Some a) g = rw is at h in t
+
+pub tried_none : (s : Search) (w : World) (choice : Open) (o : Option Step) (f g : Frontier) → ((a : Step) → o ≡ Some a → ⊥) → Tried s.same s.keeps s.sleeps w choice f o g → OpensNone s.same s.sleeps choice f g
+tried_none s w choice None f g never h = h
+tried_none s w choice (Some a) f g never h = absurd (never a refl)
+
+-- a candidate that was found can be taken
+pub next_enabled : (s : Search) (f : Open) (fs : List Open) (d e : Standing) (a : Step) (i : ℕ) → At s (f ∷ fs) d → Came d f.depth e → slice_get f.candidates i ≡ Some a → IsSome (next e.world a)
+next_enabled s f fs d e a i at came read =
+    let all = popped_enabled s f fs d e at came in
+    subst (λ (b : Step). IsSome (next e.world b)) (get_or_from_slice_get f.candidates i a a read) (all i a (slice_get_within f.candidates i a read))
 
 -- the next candidate that is awake is taken, seen from further back
-pub retaken : (first : World) (b : Bounds) (above : List Step) (f : Open) (before fs gs : List Open) (path : List Step) (d c e : Standing) (from : ℕ) (taken : Bool) → At first b (f ∷ fs) d → Came d f.depth c → from ≡ suc f.index → taken ≡ true → Tried first b above fs c f.candidates from taken gs e
-    → later first b above before path ≡ later first b above (f ∷ fs) (done_steps d.trail) → states_later first b (f ∷ fs) (done_steps d.trail) ≤ states_later first b before path → Advanced first b above before path true gs e
-retaken first b above f before fs gs path d c e from taken at came next on tried same less =
-    let t : Tried first b above fs c f.candidates (suc f.index) true gs e = rw (next, on) at tried in
-    (t.0, same ∙ popped_later first b above f fs d c at came ∙ t.2, omega (arith, t.3, popped_states first b f fs d c at came, less))
+pub retaken : (s : Search) (f : Open) (before fs : List Open) (g : Frontier) (old : Frontier) (d0 d e n : Standing) (a : Step) (from i : ℕ) → At s (f ∷ fs) d → Came d f.depth e → from ≡ suc f.index → fs ≡ reverse old.stack.items → slice_get f.candidates i ≡ Some a
+    → Opens s.same s.keeps s.sleeps e.world (record { depth = f.depth; candidates = f.candidates; index = from; asleep = f.asleep }) old i g → Went e a n → after s before d0 ≡ after s (f ∷ fs) d → states_left s (f ∷ fs) d ≤ states_left s before d0
+    → Advanced s before d0 true (reverse g.stack.items) g.asleep n
+retaken s f before fs g old d0 d e n a from i at came next fs_are read opens went same less =
+    let choice : Open = record { depth = f.depth; candidates = f.candidates; index = from; asleep = f.asleep } in
+    let now : Open = record { depth = f.depth; candidates = f.candidates; index = i; asleep = f.asleep } in
+    let here = at_popped s f fs d e at came in
+    let long = at_length s fs e here in
+    let deep = came.depth in
+    let most = at.stands.1 in
+    let room : length (done_steps e.trail) < s.limit = omega (arith, long, deep, most) in
+    let t = candidate_taken s choice fs (done_steps e.trail) e.world n.world i a here.stands (at_world s fs e here) (omega (arith, long, deep)) room (popped_enabled s f fs d e at came) opens.skips read went.world in
+    let few = t.fewer in
+    let left : states_left s (f ∷ fs) d ≡ states_to_choose s fs (done_steps e.trail) e.world f.candidates from = popped_states s f fs d e at came ∙ ap (states_to_choose s fs (done_steps e.trail) e.world f.candidates) (sym next) in
+    let runs : after s (f ∷ fs) d ≡ to_choose s fs (done_steps e.trail) e.world f.asleep f.candidates from = popped_after s f fs d e at came ∙ ap (to_choose s fs (done_steps e.trail) e.world f.asleep f.candidates) (sym next) in
+    let gs : reverse g.stack.items ≡ now ∷ fs = reverse_pushed old.stack.items g.stack.items now opens.stack ∙ ap (λ xs. now ∷ xs) (sym fs_are) in
+    let path : done_steps n.trail ≡ done_steps e.trail ++ a ∷ [] = went.done_steps_are in
+    let below : List Step = s.keeps e.world a (put_off s.sleeps i f.candidates f.asleep) in
+    let deeper = went.depth in
+    let base : Advanced s before d0 true (now ∷ fs) below n = (
+      record { first_is = first_same e.trail n.trail went.program went.mode ∙ here.first_is; reached = went.reached; within = omega (arith, deeper, long, room); stands = rw path t.stands },
+      same ∙ runs ∙ t.same ∙ ap (λ p. to_come s (now ∷ fs) below p n.world) (sym path),
+      omega (arith, few, left, less, ap (λ p. states_to_come s (now ∷ fs) p n.world) path),
+    ) in
+    subst (λ (xs : List Open). Advanced s before d0 true xs g.asleep n) (sym gs) (subst (λ (z : List Step). Advanced s before d0 true (now ∷ fs) z n) (sym (opens.asleep a read)) base)
 
 -- none is left
-pub exhausted : (first : World) (b : Bounds) (above : List Step) (f : Open) (fs gs : List Open) (d c e : Standing) (from : ℕ) (taken : Bool) → At first b (f ∷ fs) d → Came d f.depth c → from ≡ suc f.index → taken ≡ false → Tried first b above fs c f.candidates from taken gs e
-    → later first b above (f ∷ fs) (done_steps d.trail) ≡ later first b above gs (done_steps e.trail)
-exhausted first b above f fs gs d c e from taken at came next off tried =
-    let t : Tried first b above fs c f.candidates (suc f.index) false gs e = rw (next, off) at tried in
-    popped_later first b above f fs d c at came ∙ ap (λ rs. map (prefixed (picked fs) (done_steps c.trail)) rs ++ later first b above fs (done_steps c.trail)) t.2
-    ∙ ap (λ hs. later first b above hs (done_steps c.trail)) (sym t.0) ∙ ap (λ (s : Standing). later first b above gs (done_steps s.trail)) (sym t.1)
-
-pub exhausted_states : (first : World) (b : Bounds) (above : List Step) (f : Open) (fs gs : List Open) (d c e : Standing) (from : ℕ) (taken : Bool) → At first b (f ∷ fs) d → Came d f.depth c → taken ≡ false → Tried first b above fs c f.candidates from taken gs e
-    → states_later first b gs (done_steps e.trail) ≤ states_later first b (f ∷ fs) (done_steps d.trail)
-exhausted_states first b above f fs gs d c e from taken at came off tried =
-    let t : Tried first b above fs c f.candidates from false gs e = rw off at tried in
-    let same : states_later first b gs (done_steps e.trail) ≡ states_later first b fs (done_steps c.trail) = ap (λ hs. states_later first b hs (done_steps e.trail)) t.0 ∙ ap (λ (s : Standing). states_later first b fs (done_steps s.trail)) t.1 in
-    omega (arith, same, popped_states first b f fs d c at came)
-
-pub exhausted_at : (first : World) (b : Bounds) (above : List Step) (f : Open) (fs gs : List Open) (d c e : Standing) (from : ℕ) (taken : Bool) → At first b (f ∷ fs) d → Came d f.depth c → taken ≡ false → Tried first b above fs c f.candidates from taken gs e → At first b gs e
-exhausted_at first b above f fs gs d c e from taken at came off tried =
-    let t : Tried first b above fs c f.candidates from false gs e = rw off at tried in
-    rw (t.0, t.1) (at_popped first b f fs d c at came)
-
--- all three of them, where the first world is told by the debugger
-pub passed_back : (first own : World) (b : Bounds) (above : List Step) (f : Open) (fs gs : List Open) (d c e : Standing) (from : ℕ) (taken : Bool) → own ≡ first → At first b (f ∷ fs) d → Came d f.depth c → from ≡ suc f.index → taken ≡ false → Tried own b above fs c f.candidates from taken gs e
-    → At first b gs e × (later first b above (f ∷ fs) (done_steps d.trail) ≡ later first b above gs (done_steps e.trail)) × (states_later first b gs (done_steps e.trail) ≤ states_later first b (f ∷ fs) (done_steps d.trail))
-passed_back first own b above f fs gs d c e from taken own_is at came next off tried =
-    let t : Tried first b above fs c f.candidates from taken gs e = rw own_is at tried in (
-      exhausted_at first b above f fs gs d c e from taken at came off t,
-      exhausted first b above f fs gs d c e from taken at came next off t,
-      exhausted_states first b above f fs gs d c e from taken at came off t,
-    )
+pub exhausted : (s : Search) (f : Open) (fs : List Open) (g old : Frontier) (d e : Standing) (from : ℕ) → At s (f ∷ fs) d → Came d f.depth e → from ≡ suc f.index → fs ≡ reverse old.stack.items
+    → OpensNone s.same s.sleeps (record { depth = f.depth; candidates = f.candidates; index = from; asleep = f.asleep }) old g
+    → At s (reverse g.stack.items) e × (after s (f ∷ fs) d ≡ after s (reverse g.stack.items) e) × (states_left s (reverse g.stack.items) e ≤ states_left s (f ∷ fs) d)
+exhausted s f fs g old d e from at came next fs_are none =
+    let gs : fs ≡ reverse g.stack.items = fs_are ∙ ap reverse (sym none.stack) in
+    let left = popped_states s f fs d e at came in
+    let path : List Step = done_steps e.trail in
+    let base : At s fs e × (after s (f ∷ fs) d ≡ after s fs e) × (states_left s fs e ≤ states_left s (f ∷ fs) d) = (
+      at_popped s f fs d e at came,
+      popped_after s f fs d e at came ∙ ap (to_choose s fs path e.world f.asleep f.candidates) (sym next) ∙ passed_moved s fs path e.world f.asleep f.candidates from (length f.candidates) none.skips
+          ∙ none_moved s fs path e.world f.asleep f.candidates (length f.candidates) (omega arith),
+      omega (arith, left),
+    ) in
+    subst (λ (xs : List Open). At s xs e × (after s (f ∷ fs) d ≡ after s xs e) × (states_left s xs e ≤ states_left s (f ∷ fs) d)) gs base
 
 -- ---- what is below the base stays
 
-pub safe_pushed : (first : World) (b : Bounds) (fs : List Open) (d e : Standing) (a : Step) → At first b fs d → Went d a e → Safe b.base d e
-safe_pushed first b fs d e a at went =
-    record {
-      program = went.program;
-      mode = went.mode;
-      reached = went.reached;
-      below = ap (take b.base) went.done_steps_are ∙ take_pushed b.base (done_steps d.trail) a (base_within first b fs (done_steps d.trail) at.stands);
-    }
+-- nothing below the base goes
+base_within : (s : Search) (fs : List Open) (path : List Step) → Stands s fs path → s.base ≤ length path
+base_within s [] path h = h
+base_within s (f ∷ fs) path h = omega (arith, base_within s fs (take f.depth path) h.4, length-take f.depth path)
+
+pub safe_beyond : (s : Search) (fs : List Open) (d e : Standing) → At s fs d → Beyond d e → Safe s.base d e
+safe_beyond s fs d e at beyond =
+    record { program = beyond.program; mode = beyond.mode; reached = beyond.reached; below = ap (take s.base) beyond.done_steps_are ∙ take-append-le s.base (done_steps d.trail) beyond.path (base_within s fs (done_steps d.trail) at.stands) }
+
+pub safe_pushed : (s : Search) (fs : List Open) (d e : Standing) (a : Step) → At s fs d → Went d a e → Safe s.base d e
+safe_pushed s fs d e a at went =
+    record { program = went.program; mode = went.mode; reached = went.reached; below = ap (take s.base) went.done_steps_are ∙ take-append-le s.base (done_steps d.trail) (a ∷ []) (base_within s fs (done_steps d.trail) at.stands) }
 
 take_lower : (m n : ℕ) (xs : List Step) → m ≤ n → take m (take n xs) ≡ take m xs
 take_lower zero n xs h = refl
@@ -352,25 +340,13 @@ take_lower (suc m) zero xs h = absurd (omega arith)
 take_lower (suc m) (suc n) [] h = refl
 take_lower (suc m) (suc n) (x ∷ xs) h = ap (λ ys. x ∷ ys) (take_lower m n xs (omega arith))
 
-pub safe_popped : (first : World) (b : Bounds) (f : Open) (fs : List Open) (d e : Standing) → At first b (f ∷ fs) d → Came d f.depth e → Safe b.base d e
-safe_popped first b f fs d e at came =
-    let low : b.base ≤ f.depth = omega (arith, base_within first b fs (take f.depth (done_steps d.trail)) at.stands.4, length-take f.depth (done_steps d.trail)) in
-    record { program = came.program; mode = came.mode; reached = came.reached; below = ap (take b.base) came.done_steps_are ∙ take_lower b.base f.depth (done_steps d.trail) low }
+pub safe_popped : (s : Search) (f : Open) (fs : List Open) (d e : Standing) → At s (f ∷ fs) d → Came d f.depth e → Safe s.base d e
+safe_popped s f fs d e at came =
+    let low : s.base ≤ f.depth = omega (arith, base_within s fs (take f.depth (done_steps d.trail)) at.stands.4, length-take f.depth (done_steps d.trail)) in
+    record { program = came.program; mode = came.mode; reached = came.reached; below = ap (take s.base) came.done_steps_are ∙ take_lower s.base f.depth (done_steps d.trail) low }
 
 pub safe_same : (base : ℕ) (d e : Standing) → e.trail ≡ d.trail → IsReached e → Safe base d e
 safe_same base d e same reached = record { program = ap (λ (t : Trail). t.program) same; mode = ap (λ (t : Trail). t.mode) same; reached = reached; below = ap (λ (t : Trail). take base (done_steps t)) same }
 
 pub safe_then : (base : ℕ) (c d e : Standing) → Safe base c d → Safe base d e → Safe base c e
 safe_then base c d e x y = record { program = y.program ∙ x.program; mode = y.mode ∙ x.mode; reached = y.reached; below = y.below ∙ x.below }
-
-pub safe_first : (base : ℕ) (c d : Standing) → Safe base c d → first_of d.trail ≡ first_of c.trail
-safe_first base c d x = first_same c.trail d.trail x.program x.mode
-
--- the same seen from further back
-pub moved_then : (first own : World) (b : Bounds) (above : List Step) (fs0 fs gs : List Open) (d0 d : Standing) (s : Stop) → own ≡ first → gs ≡ fs → to_come first b above fs0 (done_steps d0.trail) d0.world ≡ to_come first b above fs (done_steps d.trail) d.world
-    → states_to_come first b fs (done_steps d.trail) d.world ≤ states_to_come first b fs0 (done_steps d0.trail) d0.world → Moved own b above gs d (Some s) gs d → Moved first b above fs0 d0 (Some s) fs d
-moved_then first own b above fs0 fs gs d0 d s own_is gs_is same less m =
-    let n : Moved first b above fs d (Some s) fs d = rw (own_is, gs_is) at m in
-    (n.0, same ∙ n.1, omega (arith, n.2, less))
-
-pub ruleset searching = (leaf_end, safe_same)

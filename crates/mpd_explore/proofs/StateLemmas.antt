@@ -4,17 +4,16 @@ use Rattle.mpd_model.specs.declared.step.Step.{Step}
 use Rattle.mpd_model.specs.declared.decision.Decision.{Decision}
 use Rattle.mpd_model.specs.steps.World.{World}
 use Rattle.mpd_model.specs.steps.Next.{next}
-use Rattle.mpd_model.specs.runs.Decisions.{decision}
-use Rattle.mpd_explore.specs.States.{states_of, states_by, states_behind, states}
+use Rattle.mpd_explore.specs.States.{states_of, states_by, states_after, states}
 
-pub states_is : (n : ℕ) (w : World) (d : Decision) → decision w ≡ d → states (suc n) w ≡ suc (states_behind (states n) w d)
+pub states_is : (decide : World → Decision) (n : ℕ) (w : World) (d : Decision) → decide w ≡ d → states decide (suc n) w ≡ suc (states_after (states decide n) w d)
 unfolding states
-states_is n w d e = ap (λ c. suc (states_behind (states n) w c)) e
+states_is decide n w d e = ap (λ c. suc (states_after (states decide n) w c)) e
 
-pub some_states : (n : ℕ) (w : World) → 0 < states n w
+pub some_states : (decide : World → Decision) (n : ℕ) (w : World) → 0 < states decide n w
 unfolding states
-some_states zero w = omega arith
-some_states (suc n) w = omega arith
+some_states decide zero w = omega arith
+some_states decide (suc n) w = omega arith
 
 fewer : (count : World → ℕ) (w : World) (j : ℕ) (steps : List Step) → states_by count w (drop j steps) ≤ states_by count w steps
 fewer count w zero steps = omega arith

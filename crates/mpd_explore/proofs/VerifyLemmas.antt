@@ -17,7 +17,7 @@ use Rattle.mpd_trail.proofs.KeptLemmas.{fold-append}
 use Rattle.mpd_explore.specs.declared.report.Witness.{Witness}
 use Rattle.mpd_explore.specs.declared.verifier.WitnessFault.{WitnessFault}
 use Rattle.mpd_explore.specs.declared.verifier.WitnessFault.TheVariants.{NoSuchStep, NotStuck, WrongBlocked, Memory}
-use Rattle.mpd_explore.specs.Stops.{StopsAt, WantsMemory}
+use Rattle.mpd_explore.specs.Stops.{StopsAt, IsLeft, WantsMemory}
 use Rattle.mpd_explore.specs.Witness.{IsWitnessFrom, HasFault, FaultAtEnd, FaultBy}
 
 -- ---- calls that are one
@@ -75,6 +75,32 @@ wants_at_end first v steps leads some = record {
   before = ap (fold first) (take_all (length steps) steps (omega arith)) ∙ leads;
   wants = rw (slice_get_past steps (length steps) (omega arith)) some;
 }
+
+-- ---- where it is left
+
+same_place : (i j : ℕ) → NoSuchStep i ≡ NoSuchStep j → i ≡ j
+same_place i j e = cc
+
+pub left_here : (first w v : World) (i : ℕ) (steps : List Step) (e : WitnessFault) → fold first (take i steps) ≡ Some w → v ≡ w → (e ≢ Memory → e ≡ NoSuchStep i) → IsLeft first steps v e
+left_here first w v i steps (NoSuchStep j) there same is = rw (same_place j i (is (λ k. cc))) (there ∙ ap Some (sym same))
+left_here first w v i steps NotStuck there same is = let e : NotStuck ≡ NoSuchStep i = is (λ k. cc) in cc
+left_here first w v i steps WrongBlocked there same is = let e : WrongBlocked ≡ NoSuchStep i = is (λ k. cc) in cc
+left_here first w v i steps Memory there same is = tt
+
+no_place_at_end : (o : Option Outcome) (blocked : List CallId) (i : ℕ) → FaultAtEnd o blocked (NoSuchStep i) → ⊥
+no_place_at_end None blocked i h = cc
+no_place_at_end (Some Done) blocked i h = cc
+no_place_at_end (Some (Leftovers calls)) blocked i h = cc
+no_place_at_end (Some (Trap ranks)) blocked i h = cc
+no_place_at_end (Some (Deadlock calls)) blocked i h = let e : NoSuchStep i ≡ WrongBlocked = h.0 in cc
+
+pub left_at_end : (w last : World) (steps given : List Step) (told : List CallId) (r : Result Unit WitnessFault) → given ≡ steps → fold w given ≡ Some last
+    → IfErr r (λ e. e ≢ Memory → FaultAtEnd (outcome last) told e) → IfErr r (IsLeft w steps last)
+left_at_end w last steps given told (Ok u) same leads h = tt
+left_at_end w last steps given told (Err (NoSuchStep i)) same leads h = absurd (no_place_at_end (outcome last) told i (h (λ k. cc)))
+left_at_end w last steps given told (Err NotStuck) same leads h = rw (← same) leads
+left_at_end w last steps given told (Err WrongBlocked) same leads h = rw (← same) leads
+left_at_end w last steps given told (Err Memory) same leads h = tt
 
 -- ---- where it stops is its fault
 

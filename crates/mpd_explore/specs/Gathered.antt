@@ -1,22 +1,15 @@
 -- What a search has gathered, and what it lists in the end.
 use Rattle.std.specs.Prelude.{◌≡◌, ◌<◌, ℕ, Bool, true, false, List, [], ◌++◌, map, length, take, Option, Some, None}
 use Rattle.mpd_model.specs.declared.step.Step.{Step}
-use Rattle.mpd_model.specs.steps.World.{World}
-use Rattle.mpd_model.specs.runs.Trail.{Standing, done_steps}
-use Rattle.mpd_trail.specs.Run.{first_of}
+use Rattle.mpd_model.specs.runs.Trail.{Standing}
 use Rattle.mpd_explore.specs.declared.report.Leaf.{Leaf}
 use Rattle.mpd_explore.specs.declared.report.Limits.{Limits}
-use Rattle.mpd_explore.specs.declared.search.Bounds.{Bounds}
-use Rattle.mpd_explore.specs.Walk.{Run}
+use Rattle.mpd_walk.specs.Walk.{Run}
 use Rattle.mpd_explore.specs.declared.search.Open.{Open}
-use Rattle.mpd_explore.specs.Search.{picked, to_come, Found}
+use Rattle.mpd_explore.specs.Search.{Search, picked, Found}
 use Rattle.mpd_explore.specs.Report.{shown, listed, left_out}
 use Rattle.mpd_explore.specs.Witness.{witness_by}
 use Rattle.mpd_explore.specs.WitnessTexts.{behind_number}
-
--- what is to come from where a debugger stands, with no open choice
-abbrev pub to_find : Bounds → List Step → Standing → List Run
-to_find b above d = to_come (first_of d.trail) b above [] (done_steps d.trail) d.world
 
 -- whether there are any
 abbrev pub IsMore : Bool → List Run → Type 0
@@ -24,9 +17,9 @@ IsMore true runs = 0 < length runs
 IsMore false runs = runs ≡ []
 
 -- the leaf of the first run to come, which ends here, or there is none
-abbrev pub FoundLeaf : World → Bounds → List Step → List Open → Standing → Option Leaf → List Open → Standing → Type 0
-FoundLeaf first b above fs d None gs e = Found first b above fs d None gs e
-FoundLeaf first b above fs d (Some l) gs e = Found first b above fs d (Some l.ending) gs e × (l.choices ≡ picked gs)
+abbrev pub FoundLeaf : Search → List Open → List Step → Standing → Option Leaf → List Open → Standing → Type 0
+FoundLeaf s fs asleep d None gs e = Found s fs asleep d None gs e
+FoundLeaf s fs asleep d (Some l) gs e = Found s fs asleep d (Some l.ending) gs e × (l.choices ≡ picked gs)
 
 -- the text of the witness of a run that has all steps from the start of the script: empty where it is no deadlock
 abbrev pub run_text : Run → List ℕ

@@ -1,4 +1,3 @@
-pub mod Walk
 pub mod Sleeping
 pub mod Report
 pub mod Asleep

@@ -3,13 +3,14 @@ use Rattle.std.specs.Prelude.{ℕ, suc, Bool, true, false, if◌then◌else◌, 
 use Rattle.std.specs.Fmt.{decimal}
 use Rattle.std.specs.List.{flat_map}
 use Rattle.mpd_model.specs.declared.step.Step.{Step}
+use Rattle.mpd_model.specs.declared.decision.Decision.{Decision}
 use Rattle.mpd_model.specs.steps.World.{World}
 use Rattle.mpd_model.specs.texts.Texts.{line, steps_text, outcome_text}
-use Rattle.mpd_explore.specs.declared.report.Ending.{Ending}
-use Rattle.mpd_explore.specs.declared.report.Ending.TheVariants.{Ended, Cut}
+use Rattle.mpd_walk.specs.declared.ending.Ending.{Ending}
+use Rattle.mpd_walk.specs.declared.ending.Ending.TheVariants.{Ended, Cut}
 use Rattle.mpd_explore.specs.declared.report.Leaf.{Leaf}
 use Rattle.mpd_explore.specs.declared.report.Witness.{Witness}
-use Rattle.mpd_explore.specs.Walk.{run_at, steps_by}
+use Rattle.mpd_walk.specs.Walk.{run_by, steps_by}
 use Rattle.mpd_explore.specs.Witness.{witness_by}
 
 -- numbers of candidates, with one space between two
@@ -38,17 +39,17 @@ witness_lines n None = []
 witness_lines n (Some x) = witness_line n x
 
 -- the witness of a leaf behind some steps, where it is a deadlock
-abbrev pub witness_part : List Step → ℕ → World → ℕ → Leaf → List ℕ
-witness_part before fuel w n l = witness_lines n (witness_by (before ++ steps_by (run_at fuel l.choices w)) l.ending)
+abbrev pub witness_part : (World → Decision) → List Step → ℕ → World → ℕ → Leaf → List ℕ
+witness_part decide before fuel w n l = witness_lines n (witness_by (before ++ steps_by (run_by decide fuel l.choices w)) l.ending)
 
-abbrev pub leaves_text : Bool → List Step → ℕ → World → ℕ → List Leaf → List ℕ
-leaves_text witnesses before fuel w n [] = []
-leaves_text witnesses before fuel w n (l ∷ ls) = leaf_line n l ++ (if witnesses then witness_part before fuel w n l else []) ++ leaves_text witnesses before fuel w (suc n) ls
+abbrev pub leaves_text : (World → Decision) → Bool → List Step → ℕ → World → ℕ → List Leaf → List ℕ
+leaves_text decide witnesses before fuel w n [] = []
+leaves_text decide witnesses before fuel w n (l ∷ ls) = leaf_line n l ++ (if witnesses then witness_part decide before fuel w n l else []) ++ leaves_text decide witnesses before fuel w (suc n) ls
 
 abbrev pub more_text : Bool → List ℕ
 more_text true = codes "yes"
 more_text false = codes "no"
 
 -- all leaves, numbered from 0, and whether there are more
-abbrev pub report_text : Bool → List Step → ℕ → World → List Leaf → Bool → List ℕ
-report_text witnesses before fuel w leaves more = leaves_text witnesses before fuel w 0 leaves ++ line (codes "leaves " ++ decimal (length leaves) ++ codes " more " ++ more_text more)
+abbrev pub report_text : (World → Decision) → Bool → List Step → ℕ → World → List Leaf → Bool → List ℕ
+report_text decide witnesses before fuel w leaves more = leaves_text decide witnesses before fuel w 0 leaves ++ line (codes "leaves " ++ decimal (length leaves) ++ codes " more " ++ more_text more)

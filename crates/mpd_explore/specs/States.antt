@@ -5,7 +5,6 @@ use Rattle.mpd_model.specs.declared.decision.Decision.{Decision}
 use Rattle.mpd_model.specs.declared.decision.Decision.TheVariants.{Forced, Choice, Leaf}
 use Rattle.mpd_model.specs.steps.World.{World}
 use Rattle.mpd_model.specs.steps.Next.{next}
-use Rattle.mpd_model.specs.runs.Decisions.{decision}
 
 abbrev pub states_of : (World → ℕ) → Option World → ℕ
 states_of count None = 0
@@ -16,12 +15,12 @@ abbrev pub states_by : (World → ℕ) → World → List Step → ℕ
 states_by count w [] = 0
 states_by count w (a ∷ more) = states_of count (next w a) + states_by count w more
 
-abbrev pub states_behind : (World → ℕ) → World → Decision → ℕ
-states_behind count w (Forced a) = states_of count (next w a)
-states_behind count w (Choice candidates) = states_by count w candidates
-states_behind count w (Leaf o) = 0
+abbrev pub states_after : (World → ℕ) → World → Decision → ℕ
+states_after count w (Forced a) = states_of count (next w a)
+states_after count w (Choice candidates) = states_by count w candidates
+states_after count w (Leaf o) = 0
 
 -- the states of all runs from one, itself with them, with so much fuel
-unfoldable pub states : ℕ → World → ℕ
-states zero w = 1
-states (suc n) w = suc (states_behind (states n) w (decision w))
+unfoldable pub states : (World → Decision) → ℕ → World → ℕ
+states decide zero w = 1
+states decide (suc n) w = suc (states_after (states decide n) w (decide w))

@@ -6,7 +6,7 @@ use Rattle.mpd_model.specs.steps.Next.{next, fold}
 use Rattle.mpd_model.specs.steps.Outcomes.{outcome}
 use Rattle.mpd_core.specs.Listed.{listed}
 use Rattle.mpd_explore.specs.declared.verifier.WitnessFault.{WitnessFault}
-use Rattle.mpd_explore.specs.declared.verifier.WitnessFault.TheVariants.{NoSuchStep}
+use Rattle.mpd_explore.specs.declared.verifier.WitnessFault.TheVariants.{NoSuchStep, NotStuck, WrongBlocked, Memory}
 
 -- The first step that is not enabled, with its place: those before it can be taken, and with it they can't.
 pub record StopsAt (w : World) (steps : List Step) (e : WitnessFault) : Type 0 where
@@ -14,6 +14,14 @@ pub record StopsAt (w : World) (steps : List Step) (e : WitnessFault) : Type 0 w
   pub is : e ≡ NoSuchStep place
   pub before : IsSome (fold w (take place steps))
   pub refused : fold w (take (suc place) steps) ≡ None
+
+-- Where a core is left that has taken steps, by what is wrong with them: behind those before the one that isn't enabled, else behind all.
+-- Where memory was refused, `WantsMemory` tells it.
+abbrev pub IsLeft : World → List Step → World → WitnessFault → Type 0
+IsLeft w steps v (NoSuchStep place) = fold w (take place steps) ≡ Some v
+IsLeft w steps v NotStuck = fold w steps ≡ Some v
+IsLeft w steps v WrongBlocked = fold w steps ≡ Some v
+IsLeft w steps v Memory = Unit {0}
 
 -- what wants memory in a world: the step that is next, where it is enabled, or behind the last one what lists how the run has ended
 abbrev pub WantsNext : World → Option Step → Type 0

@@ -1,23 +1,20 @@
 -- What a witness is, and what is wrong with what is none.
-use Rattle.std.specs.Prelude.{◌≡◌, ◌≤◌, ◌-◌, ℕ, suc, List, [], ◌∷◌, ◌++◌, length, drop, Option, Some, None, IsSome}
+use Rattle.std.specs.Prelude.{◌≡◌, ℕ, suc, List, [], ◌∷◌, ◌++◌, Option, Some, None}
 use Rattle.mpd_model.specs.declared.call.Mode.{Mode}
 use Rattle.mpd_model.specs.declared.step.CallId.{CallId}
 use Rattle.mpd_model.specs.declared.step.Step.{Step}
+use Rattle.mpd_model.specs.declared.decision.Decision.{Decision}
 use Rattle.mpd_model.specs.declared.outcome.Outcome.{Outcome}
 use Rattle.mpd_model.specs.declared.outcome.Outcome.TheVariants.{Done, Leftovers, Deadlock, Trap}
 use Rattle.mpd_model.specs.script.Program.{Program}
 use Rattle.mpd_model.specs.steps.World.{World, start}
 use Rattle.mpd_model.specs.steps.Next.{next, fold}
 use Rattle.mpd_model.specs.steps.Outcomes.{outcome}
-use Rattle.mpd_model.specs.runs.Trail.{Standing, done_steps}
-use Rattle.mpd_trail.specs.Run.{first_of}
-use Rattle.mpd_explore.specs.declared.report.Ending.{Ending}
-use Rattle.mpd_explore.specs.declared.report.Ending.TheVariants.{Ended, Cut}
+use Rattle.mpd_walk.specs.declared.ending.Ending.{Ending}
+use Rattle.mpd_walk.specs.declared.ending.Ending.TheVariants.{Ended, Cut}
 use Rattle.mpd_explore.specs.declared.report.Leaf as leaf
 use Rattle.mpd_explore.specs.declared.report.Witness.{Witness}
-use Rattle.mpd_explore.specs.declared.search.Bounds.{Bounds}
-use Rattle.mpd_explore.specs.Walk.{Run, run_at, steps_by}
-use Rattle.mpd_explore.specs.Search.{At}
+use Rattle.mpd_walk.specs.Walk.{Run, run_by}
 use Rattle.mpd_explore.specs.declared.verifier.WitnessFault.{WitnessFault}
 use Rattle.mpd_explore.specs.declared.verifier.WitnessFault.TheVariants.{NoSuchStep, NotStuck, WrongBlocked}
 
@@ -65,9 +62,9 @@ IsDeadlock Cut = ⊥
 
 -- Its choices tell one run from the state that some steps lead to, which ends as it says; where that is a deadlock, these steps and
 -- those of the run are a witness of it.
-pub record HasWitness (s : Program) (mode : Mode) (before : List Step) (n : ℕ) (w : World) (l : leaf.Leaf) : Type 0 where
+pub record HasWitness (decide : World → Decision) (s : Program) (mode : Mode) (before : List Step) (n : ℕ) (w : World) (l : leaf.Leaf) : Type 0 where
   pub run : Run
-  pub by : run_at n l.choices w ≡ Some run
+  pub by : run_by decide n l.choices w ≡ Some run
   pub ending : run.ending ≡ l.ending
   pub witness : WitnessBy s mode (before ++ run.steps) l.ending
 
@@ -78,21 +75,3 @@ witness_by steps (Ended Done) = None
 witness_by steps (Ended (Leftovers calls)) = None
 witness_by steps (Ended (Trap ranks)) = None
 witness_by steps (Ended (Deadlock blocked)) = Some (record { steps = steps; blocked = blocked })
-
--- ---- a run is made again
-
--- the run by some choices from where a debugger stands
-abbrev pub ahead : Bounds → List ℕ → Standing → Option Run
-ahead b left d = run_at (b.limit - d.trail.depth) left d.world
-
--- One step along some choices, of which so many were taken, or the end of the run.
-pub record Followed (b : Bounds) (left : List ℕ) (d : Standing) (taken : ℕ) (e : Standing) : Type 0 where
-  pub at_end : At (first_of d.trail) b [] e
-  pub depth : e.trail.depth ≡ suc d.trail.depth
-  pub few : taken ≤ length left
-  pub some : IsSome (ahead b (drop taken left) e)
-  pub same : done_steps d.trail ++ steps_by (ahead b left d) ≡ done_steps e.trail ++ steps_by (ahead b (drop taken left) e)
-
-abbrev pub Follows : Bounds → List ℕ → Standing → Option ℕ → Standing → Type 0
-Follows b left d None e = done_steps e.trail ≡ done_steps d.trail ++ steps_by (ahead b left d)
-Follows b left d (Some taken) e = Followed b left d taken e

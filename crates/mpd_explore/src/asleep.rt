@@ -1,89 +1,95 @@
-//! What sleeps: some matches from the outset, and where candidates that were tried fall asleep, those of open choices that were tried before
-//! the one that is taken.
+//! What is asleep at the candidates of a choice, and the first of them that is awake.
 
-ghost use Rattle.std.specs.Prelude.{◌≡◌, ◌≤◌, ◌&&◌, ◌||◌, length, take, reverse};
+ghost use Rattle.std.specs.Prelude.{◌≡◌, ◌≤◌, ◌&&◌, ◌||◌, ◌++◌, if◌then◌else◌, IfOk, length, reverse, take};
 ghost use Rattle.std.specs.List.{list_any};
-ghost use Rattle.mpd_explore.specs.Sleeping.{same_match};
-ghost use Rattle.mpd_explore.specs.Asleep.{asleep_below, was_tried, Skips};
+ghost use Rattle.mpd_explore.specs.Sleeping.{put_off};
+ghost use Rattle.mpd_explore.specs.Asleep.{Skips};
 
-use crate::search::Open;
-use mpd_model::Step;
+use mpd_model::{Step, StepList};
+use mpd_walk::Schedule;
+use std::alloc::{AllocError, Global};
 
-/// Whether two steps are one match.
-fn is_same_match(a: Step, b: Step) -> bool
-    ensures { result ≡ same_match a b }
+/// Whether a candidate is one of some steps that are asleep.
+pub fn is_asleep<S: Schedule>(schedule: &S, asleep: &[Step], candidate: Step) -> bool
+    ensures { result ≡ list_any (S.same candidate) asleep.now }
 {
-    match (a, b) {
-        (Step::Match(send, receive), Step::Match(other_send, other_receive)) => {
-            send == other_send && receive == other_receive
-        }
-        _ => false,
-    }
-}
-
-/// Whether a match is one of some steps.
-fn has_match(steps: &[Step], step: Step) -> bool
-    ensures { result ≡ list_any (same_match step) steps.now }
-{
-    for other in steps {
-        if is_same_match(step, *other) {
+    for step in asleep {
+        if schedule.is_same(candidate, *step) {
             return true;
         }
     }
     false
 }
 
-/// The candidates of an open choice that were tried before the one that is taken.
-fn tried(choice: &Open) -> &[Step]
-    ensures { result.now ≡ take choice.now.index choice.now.candidates }
+/// Whether a candidate is asleep: as one of these steps, or, where those that were tried fall asleep, as one of the candidates before it.
+fn dozes<S: Schedule>(
+    schedule: &S,
+    sleeps: bool,
+    asleep: &[Step],
+    before: &[Step],
+    candidate: Step,
+) -> bool
+    ensures { result ≡ (list_any (S.same candidate) asleep.now || (sleeps && list_any (S.same candidate) before.now)) }
 {
-    let count = choice.index.min(choice.candidates.items.len());
-    let (before, _) = choice.candidates.items.split_at(count);
-    before
-}
-
-/// Whether a match was tried at one of some open choices.
-fn is_tried(stack: &[Open], step: Step) -> bool
-    ensures { result ≡ list_any (was_tried step) stack.now }
-{
-    for open in stack {
-        if has_match(tried(open), step) {
-            return true;
-        }
-    }
-    false
-}
-
-/// Whether a match was tried: as one of these candidates of the next choice, or at one of some open choices.
-fn was_tried_before(stack: &[Open], before: &[Step], step: Step) -> bool
-    ensures { result ≡ (list_any (same_match step) before.now || list_any (was_tried step) stack.now) }
-{
-    has_match(before, step) || is_tried(stack, step)
-}
-
-/// Whether a match is asleep: from the outset, or where those that were tried fall asleep, as one of these.
-fn is_asleep(sleeps: bool, asleep: &[Step], stack: &[Open], before: &[Step], step: Step) -> bool
-    ensures { result ≡ (list_any (same_match step) asleep.now || (sleeps && (list_any (same_match step) before.now || list_any (was_tried step) stack.now))) }
-{
-    has_match(asleep, step) || (sleeps && was_tried_before(stack, before, step))
+    is_asleep(schedule, asleep, candidate) || (sleeps && is_asleep(schedule, before, candidate))
 }
 
 /// The first candidate that is awake, from one on; how many there are where none is.
-pub(crate) fn first_awake(
+pub(crate) fn first_awake<S: Schedule>(
+    schedule: &S,
     sleeps: bool,
     asleep: &[Step],
-    stack: &[Open],
     candidates: &[Step],
     from: usize,
 ) -> usize
     requires { from ≤ length candidates.now }
-    ensures { Skips sleeps (asleep_below sleeps asleep.now (reverse stack.now)) candidates.now from result }
+    ensures { Skips S.same sleeps asleep.now candidates.now from result }
 {
     for index in from..candidates.len() {
         let (before, _) = candidates.split_at(index);
-        if !is_asleep(sleeps, asleep, stack, before, candidates[index]) {
+        if !dozes(schedule, sleeps, asleep, before, candidates[index]) {
             return index;
         }
     }
     candidates.len()
+}
+
+/// Candidates that were tried, the last first, in front of other steps.
+fn fallen(alloc: Global, tried: &[Step], asleep: &[Step]) -> Result<Vec<Step>, AllocError>
+    ensures { IfOk result (λ v. v.items ≡ reverse tried.now ++ asleep.now) }
+{
+    if tried.is_empty() && asleep.is_empty() {
+        return Ok(Vec::new(alloc));
+    }
+    let mut items = Vec::with_capacity(alloc, tried.len().saturating_add(asleep.len()))?;
+    items.extend_from_slice(tried)?;
+    items.reverse();
+    items.extend_from_slice(asleep)?;
+    Ok(items)
+}
+
+/// The candidates before one, where those that were tried fall asleep.
+fn tried(sleeps: bool, candidates: &[Step], index: usize) -> &[Step]
+    requires { index ≤ length candidates.now }
+    ensures { result.now ≡ take (if sleeps then index else 0) candidates.now }
+{
+    let count = if sleeps { index } else { 0 };
+    let (before, _) = candidates.split_at(count);
+    before
+}
+
+/// What is asleep at a candidate of a choice: what was asleep there, and, where those that were tried fall asleep, the candidates before it.
+/// An `Err` is want of memory.
+pub fn asleep_at(
+    alloc: Global,
+    sleeps: bool,
+    asleep: &[Step],
+    candidates: &[Step],
+    index: usize,
+) -> Result<StepList, AllocError>
+    requires { index ≤ length candidates.now }
+    ensures { IfOk result (λ l. l ≡ put_off sleeps index candidates.now asleep.now) }
+{
+    let items = fallen(alloc, tried(sleeps, candidates, index), asleep)?;
+    Ok(StepList { items })
 }

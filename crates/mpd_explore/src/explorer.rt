@@ -1,24 +1,24 @@
 //! Exploring from where a debugger stands.
 
-ghost use Rattle.std.specs.Prelude.{◌≡◌, ◌+◌, ◌<◌, ◌≤◌, ◌&&◌, ◌⊎◌, true, false, [], ◌∷◌, ◌++◌, if◌then◌else◌, map, IfOk, OnOk, OnErr, IsTrue, length, reverse, string_bytes};
+ghost use Rattle.std.specs.Prelude.{◌≡◌, ◌+◌, ◌<◌, ◌≤◌, ◌⊎◌, true, false, [], ◌∷◌, ◌++◌, if◌then◌else◌, map, IfOk, OnOk, OnErr, IsTrue, length, reverse, string_bytes};
 ghost use Rattle.std.specs.List.{AllByRecursion};
-ghost use Rattle.mpd_model.specs.runs.Trail.{done_steps, gone_back, forgotten, IsReached};
+ghost use Rattle.mpd_model.specs.runs.Trail.{done_steps, IsReached};
 ghost use Rattle.mpd_trail.specs.Run.{first_of};
 ghost use Rattle.mpd_trail.specs.Views.{standing_of};
-ghost use Rattle.mpd_explore.specs.Report.{shown, is_bad, listed, left_out};
-ghost use Rattle.mpd_explore.specs.Gathered.{FoundLeaf, IsMore, Lists, to_find};
+ghost use Rattle.mpd_explore.specs.Report.{shown, listed, left_out};
+ghost use Rattle.mpd_explore.specs.Gathered.{FoundLeaf, IsMore, Lists};
 ghost use Rattle.mpd_explore.specs.Witness.{HasWitness, witness_by};
 ghost use Rattle.mpd_explore.specs.WitnessTexts.{behind_number, witness_texts};
-ghost use Rattle.mpd_explore.specs.Sleeping.{awake_walk, walk_of};
-ghost use Rattle.mpd_explore.specs.Search.{At, Safe, picked, to_come};
+ghost use Rattle.mpd_explore.specs.Sleeping.{awake_by, decides_by, walk_of};
+ghost use Rattle.mpd_explore.specs.Search.{At, Safe, come, picked, search_by};
 
-use crate::print::witness_text;
+use crate::print::witness_here;
 use crate::report::{ChoiceList, Ending, Leaf, Limits, Report};
-use crate::search::{Bounds, Open, advance, go_back, seek};
+use crate::search::{Bounds, Frontier, Open, advance, seek};
 use crate::watch::Watch;
-use mpd_model::{STEPS_MAX, Step};
-use mpd_policy::decisions_can_be_followed;
+use mpd_model::{STEPS_MAX, Step, StepList};
 use mpd_trail::Debugger;
+use mpd_walk::{Plain, Schedule, Wide, put_back};
 use std::alloc::{AllocError, Global};
 
 /// The candidates that are taken at the open choices.
@@ -46,91 +46,70 @@ fn leaf_here(alloc: Global, stack: &[Open], ending: Ending) -> Result<Leaf, Allo
 }
 
 /// The first leaf from here: the candidates that its run takes, and how it ends; none where there is no run any more.
-fn next_leaf(
+fn next_leaf<S: Schedule>(
     alloc: Global,
+    schedule: &S,
     debugger: &mut Debugger<'_>,
     bounds: Bounds,
-    asleep: &[Step],
-    stack: &mut Vec<Open>,
+    frontier: &mut Frontier,
 ) -> Result<Option<Leaf>, AllocError>
-    requires at { At (first_of debugger.old.trail) bounds (reverse stack.old.items) (standing_of debugger.old) }
+    requires at { At (search_by S.decides S.same S.keeps bounds (first_of debugger.old.trail)) (reverse frontier.old.stack.items) (standing_of debugger.old) }
     requires few { bounds.limit ≤ STEPS_MAX }
-    ensures found { IfOk result (λ o. FoundLeaf (first_of debugger.old.trail) bounds asleep.now (reverse stack.old.items) (standing_of debugger.old) o (reverse stack.new.items) (standing_of debugger.new)) }
+    ensures found { IfOk result (λ o. FoundLeaf (search_by S.decides S.same S.keeps bounds (first_of debugger.old.trail)) (reverse frontier.old.stack.items) frontier.old.asleep (standing_of debugger.old) o (reverse frontier.new.stack.items) (standing_of debugger.new)) }
     ensures safe { Safe bounds.base (standing_of debugger.old) (standing_of debugger.new) }
 {
-    let Some(ending) = seek(alloc, debugger, bounds, asleep, stack)? else {
+    let Some(ending) = seek(alloc, schedule, debugger, bounds, frontier)? else {
         return Ok(None);
     };
-    let leaf = leaf_here(alloc, stack, ending)?;
+    let leaf = leaf_here(alloc, &frontier.stack, ending)?;
     Ok(Some(leaf))
 }
 
 /// Whether there is a run from here.
-fn is_more(
+fn is_more<S: Schedule>(
     alloc: Global,
+    schedule: &S,
     debugger: &mut Debugger<'_>,
     bounds: Bounds,
-    asleep: &[Step],
-    stack: &mut Vec<Open>,
+    frontier: &mut Frontier,
 ) -> Result<bool, AllocError>
-    requires at { At (first_of debugger.old.trail) bounds (reverse stack.old.items) (standing_of debugger.old) }
+    requires at { At (search_by S.decides S.same S.keeps bounds (first_of debugger.old.trail)) (reverse frontier.old.stack.items) (standing_of debugger.old) }
     requires few { bounds.limit ≤ STEPS_MAX }
-    ensures more { IfOk result (λ b. IsMore b (to_come (first_of debugger.old.trail) bounds asleep.now (reverse stack.old.items) (done_steps debugger.old.trail) debugger.old.world)) }
+    ensures more { IfOk result (λ b. IsMore b (come (search_by S.decides S.same S.keeps bounds (first_of debugger.old.trail)) (reverse frontier.old.stack.items) frontier.old.asleep (standing_of debugger.old))) }
     ensures safe { Safe bounds.base (standing_of debugger.old) (standing_of debugger.new) }
 {
-    let Some(ending) = seek(alloc, debugger, bounds, asleep, stack)? else {
+    let Some(ending) = seek(alloc, schedule, debugger, bounds, frontier)? else {
         return Ok(false);
     };
     drop(ending);
     Ok(true)
 }
 
-/// Whether nothing is asleep from the outset, and nothing falls asleep.
-fn nothing_sleeps(bounds: Bounds, asleep: &[Step]) -> bool
-    ensures { result ≡ true → (bounds.sleeps ≡ false) × (asleep.now ≡ []) }
+/// Whether these are no steps.
+fn is_none(steps: &StepList) -> bool
+    ensures { result ≡ true → steps.now ≡ [] }
 {
-    !bounds.sleeps && asleep.is_empty()
+    steps.items.is_empty()
 }
 
-/// Whether there is a run from here. Where nothing sleeps, there is.
-fn is_left(
+/// Whether there is a run from here. Where nothing is asleep, there is.
+fn is_left<S: Schedule>(
     alloc: Global,
+    schedule: &S,
     debugger: &mut Debugger<'_>,
     bounds: Bounds,
-    asleep: &[Step],
-    stack: &mut Vec<Open>,
+    frontier: &mut Frontier,
 ) -> Result<bool, AllocError>
-    requires at { At (first_of debugger.old.trail) bounds (reverse stack.old.items) (standing_of debugger.old) }
+    requires at { At (search_by S.decides S.same S.keeps bounds (first_of debugger.old.trail)) (reverse frontier.old.stack.items) (standing_of debugger.old) }
     requires few { bounds.limit ≤ STEPS_MAX }
-    ensures more { IfOk result (λ b. IsMore b (to_come (first_of debugger.old.trail) bounds asleep.now (reverse stack.old.items) (done_steps debugger.old.trail) debugger.old.world)) }
+    ensures more { IfOk result (λ b. IsMore b (come (search_by S.decides S.same S.keeps bounds (first_of debugger.old.trail)) (reverse frontier.old.stack.items) frontier.old.asleep (standing_of debugger.old))) }
     ensures safe { Safe bounds.base (standing_of debugger.old) (standing_of debugger.new) }
 {
-    decisions_can_be_followed();
-    if nothing_sleeps(bounds, asleep) {
+    schedule.can_be_followed();
+    if is_none(&frontier.asleep) {
         return Ok(true);
     }
-    is_more(alloc, debugger, bounds, asleep, stack)
-}
-
-/// Whether a list ends with a leaf, whatever is behind it.
-fn ends_with(limits: Limits, leaf: &Leaf) -> bool
-    ensures { result ≡ (limits.until_bad && is_bad leaf.now.ending) }
-{
-    limits.until_bad && leaf.is_bad()
-}
-
-/// The text of the witness of a run that ends here so: empty where that is no deadlock.
-fn witness_here(
-    alloc: Global,
-    debugger: &Debugger<'_>,
-    ending: &Ending,
-) -> Result<String, AllocError>
-    ensures { IfOk result (λ t. string_bytes t ≡ behind_number (witness_by (done_steps debugger.now.trail) ending.now)) }
-{
-    debugger.state_is_reached();
-    let depth = debugger.depth();
-    let (steps, _) = debugger.steps().split_at(depth);
-    witness_text(alloc, steps, ending)
+    is_more(alloc, schedule, debugger, bounds, frontier)
 }
 
 /// Adds the text of the witness of a run that ends here so, where texts are asked for.
@@ -172,60 +151,64 @@ fn list_leaf(
 
 /// Gathers the leaves from here that are to be listed, each told as it is found, where none is gathered and no choice is open. It
 /// answers whether there are others. The debugger is left anywhere above the base.
-fn gather<W: Watch>(
+fn gather<S: Schedule, W: Watch>(
     alloc: Global,
+    schedule: &S,
     debugger: &mut Debugger<'_>,
     bounds: Bounds,
-    asleep: &[Step],
     limits: Limits,
-    stack: &mut Vec<Open>,
+    frontier: &mut Frontier,
     report: &mut Report,
     watch: &mut W,
 ) -> Result<bool, AllocError>
-    requires at { At (first_of debugger.old.trail) bounds [] (standing_of debugger.old) }
+    requires at { At (search_by S.decides S.same S.keeps bounds (first_of debugger.old.trail)) [] (standing_of debugger.old) }
     requires few { bounds.limit ≤ STEPS_MAX }
-    requires none_open { stack.old.items ≡ [] }
+    requires none_open { frontier.old.stack.items ≡ [] }
     requires none_told { report.old.leaves.items ≡ [] }
     requires none_written { report.old.witnesses.items ≡ [] }
-    ensures lists { IfOk result (λ more. Lists limits (to_find bounds asleep.now (standing_of debugger.old)) report.new.leaves.items (map string_bytes report.new.witnesses.items) more) }
+    ensures lists { IfOk result (λ more. Lists limits (come (search_by S.decides S.same S.keeps bounds (first_of debugger.old.trail)) [] frontier.old.asleep (standing_of debugger.old)) report.new.leaves.items (map string_bytes report.new.witnesses.items) more) }
     ensures safe { Safe bounds.base (standing_of debugger.old) (standing_of debugger.new) }
 {
     for turn in 0..limits.runs {
-        let Some(leaf) = next_leaf(alloc, debugger, bounds, asleep, stack)? else {
+        let Some(leaf) = next_leaf(alloc, schedule, debugger, bounds, frontier)? else {
             return Ok(false);
         };
-        let is_last = ends_with(limits, &leaf);
+        let is_last = limits.ends_with(&leaf);
         list_leaf(alloc, debugger, limits.witnesses, leaf, report)?;
         watch.leaf(turn + 1);
-        let has_next = advance(debugger, bounds, asleep, stack)?;
+        let has_next = advance(alloc, schedule, debugger, bounds, frontier)?;
         if !has_next {
             return Ok(false);
         }
         if is_last {
-            let is_left = is_left(alloc, debugger, bounds, asleep, stack)?;
+            let is_left = is_left(alloc, schedule, debugger, bounds, frontier)?;
             return Ok(is_left);
         }
     }
-    let is_left = is_left(alloc, debugger, bounds, asleep, stack)?;
+    let is_left = is_left(alloc, schedule, debugger, bounds, frontier)?;
     Ok(is_left)
 }
 
-/// The leaves from here that are to be listed, one at least, each told as it is found, and whether there are others. The debugger is
-/// left anywhere above the base.
-fn collect<W: Watch>(
+/// The leaves from here that are to be listed, while these steps are asleep, one at least, each told as it is found, and whether there are
+/// others. The debugger is left anywhere above the base.
+fn collect<S: Schedule, W: Watch>(
     alloc: Global,
+    schedule: &S,
     debugger: &mut Debugger<'_>,
     bounds: Bounds,
-    asleep: &[Step],
+    asleep: StepList,
     limits: Limits,
     watch: &mut W,
 ) -> Result<Report, AllocError>
-    requires at { At (first_of debugger.old.trail) bounds [] (standing_of debugger.old) }
+    requires at { At (search_by S.decides S.same S.keeps bounds (first_of debugger.old.trail)) [] (standing_of debugger.old) }
     requires few { bounds.limit ≤ STEPS_MAX }
-    ensures lists { IfOk result (λ r. Lists limits (to_find bounds asleep.now (standing_of debugger.old)) r.leaves.items (map string_bytes r.witnesses.items) r.more) }
+    ensures lists { IfOk result (λ r. Lists limits (come (search_by S.decides S.same S.keeps bounds (first_of debugger.old.trail)) [] asleep (standing_of debugger.old)) r.leaves.items (map string_bytes r.witnesses.items) r.more) }
     ensures safe { Safe bounds.base (standing_of debugger.old) (standing_of debugger.new) }
 {
-    let mut stack = Vec::new(alloc);
+    let mut frontier = Frontier {
+        stack: Vec::new(alloc),
+        asleep,
+    };
     let mut report = Report {
         leaves: Vec::new(alloc),
         more: false,
@@ -233,15 +216,15 @@ fn collect<W: Watch>(
     };
     let gathered = gather(
         alloc,
+        schedule,
         debugger,
         bounds,
-        asleep,
         limits,
-        &mut stack,
+        &mut frontier,
         &mut report,
         watch,
     );
-    drop(stack);
+    drop(frontier);
     match gathered {
         Ok(more) => {
             report.more = more;
@@ -252,6 +235,14 @@ fn collect<W: Watch>(
             Err(fault)
         }
     }
+}
+
+/// Some steps.
+fn copied(alloc: Global, steps: &[Step]) -> Result<StepList, AllocError>
+    ensures { IfOk result (λ l. l ≡ steps.now) }
+{
+    let items = Vec::from_slice(alloc, steps)?;
+    Ok(StepList { items })
 }
 
 /// The report that lists no leaf: there are others, since from each state there is a run.
@@ -277,45 +268,38 @@ fn is_idle(limits: Limits, asleep: &[Step]) -> bool
 
 /// The leaves from here that are to be listed, each told as it is found, and whether there are others. The debugger is left anywhere
 /// above the base.
-fn find<W: Watch>(
+fn find<S: Schedule, W: Watch>(
     alloc: Global,
+    schedule: &S,
     debugger: &mut Debugger<'_>,
     bounds: Bounds,
     asleep: &[Step],
     limits: Limits,
     watch: &mut W,
 ) -> Result<Report, AllocError>
-    requires at { At (first_of debugger.old.trail) bounds [] (standing_of debugger.old) }
+    requires at { At (search_by S.decides S.same S.keeps bounds (first_of debugger.old.trail)) [] (standing_of debugger.old) }
     requires few { bounds.limit ≤ STEPS_MAX }
-    ensures lists { IfOk result (λ r. Lists limits (to_find bounds asleep.now (standing_of debugger.old)) r.leaves.items (map string_bytes r.witnesses.items) r.more) }
+    ensures lists { IfOk result (λ r. Lists limits (come (search_by S.decides S.same S.keeps bounds (first_of debugger.old.trail)) [] asleep.now (standing_of debugger.old)) r.leaves.items (map string_bytes r.witnesses.items) r.more) }
     ensures safe { Safe bounds.base (standing_of debugger.old) (standing_of debugger.new) }
     ensures memory { OnErr result ((0 < limits.runs) ⊎ (0 < length asleep.now)) }
 {
-    decisions_can_be_followed();
+    schedule.can_be_followed();
     if is_idle(limits, asleep) {
         let report = nothing_listed(alloc);
         return Ok(report);
     }
-    let report = collect(alloc, debugger, bounds, asleep, limits, watch)?;
+    let own = copied(alloc, asleep)?;
+    let report = collect(alloc, schedule, debugger, bounds, own, limits, watch)?;
     Ok(report)
 }
 
-/// Takes steps back down to a depth, and keeps no undone step.
-pub(crate) fn put_back(debugger: &mut Debugger<'_>, base: usize)
-    requires { base ≤ debugger.old.trail.depth }
-    ensures trail { debugger.new.trail ≡ forgotten (gone_back debugger.old.trail base) }
-    ensures reached { IsReached (standing_of debugger.new) }
-{
-    go_back(debugger, base);
-    debugger.forget_undone();
-}
-
-/// The first leaves of the runs from here, while some matches are asleep, and whether there are others. It is as `explore` in all else;
-/// where what was tried falls asleep (`ends`), so do these, and no run takes one of them (docs/DEFINITIONS.md, "What a walk says of all
-/// runs"). There may be no run, and then none is listed. An `Err` is want of memory, which comes only where a leaf is asked for, or a
-/// match is asleep.
-pub fn explore_asleep<W: Watch>(
+/// The first leaves of the runs from here along a schedule, while some steps are asleep, and whether there are others. It is as `explore`
+/// in all else; no choice takes one of these before it wakes, whether what was tried falls asleep too (`ends`) or not, and a forced step is
+/// taken all the same (docs/DEFINITIONS.md, "What a walk says of all runs"). There may be no run, and then none is listed. An `Err` is want
+/// of memory, which comes only where a leaf is asked for, or a step is asleep.
+pub fn explore_with<S: Schedule, W: Watch>(
     alloc: Global,
+    schedule: &S,
     debugger: &mut Debugger<'_>,
     asleep: &[Step],
     limits: Limits,
@@ -323,16 +307,16 @@ pub fn explore_asleep<W: Watch>(
 ) -> Result<Report, AllocError>
     requires clean { length debugger.old.trail.steps ≡ debugger.old.trail.depth }
     requires fits { debugger.old.trail.depth + limits.fuel ≤ STEPS_MAX }
-    ensures leaves { IfOk result (λ r. r.leaves.items ≡ listed limits (map shown (awake_walk limits.ends limits.fuel asleep.now debugger.old.world))) }
-    ensures more { IfOk result (λ r. r.more ≡ left_out limits (map shown (awake_walk limits.ends limits.fuel asleep.now debugger.old.world))) }
-    ensures witnesses { IfOk result (λ r. AllByRecursion (HasWitness debugger.old.trail.program debugger.old.trail.mode (done_steps debugger.old.trail) limits.fuel debugger.old.world) r.leaves.items) }
-    ensures texts { IfOk result (λ r. map string_bytes r.witnesses.items ≡ witness_texts limits.witnesses (done_steps debugger.old.trail) limits.fuel debugger.old.world r.leaves.items) }
+    ensures leaves { IfOk result (λ r. r.leaves.items ≡ listed limits (map shown (awake_by S.decides S.same S.keeps limits.ends limits.fuel asleep.now debugger.old.world))) }
+    ensures more { IfOk result (λ r. r.more ≡ left_out limits (map shown (awake_by S.decides S.same S.keeps limits.ends limits.fuel asleep.now debugger.old.world))) }
+    ensures witnesses { IfOk result (λ r. AllByRecursion (HasWitness S.decides debugger.old.trail.program debugger.old.trail.mode (done_steps debugger.old.trail) limits.fuel debugger.old.world) r.leaves.items) }
+    ensures texts { IfOk result (λ r. map string_bytes r.witnesses.items ≡ witness_texts S.decides limits.witnesses (done_steps debugger.old.trail) limits.fuel debugger.old.world r.leaves.items) }
     ensures trail { debugger.new.trail ≡ debugger.old.trail }
     ensures world { debugger.new.world ≡ debugger.old.world }
     ensures reached { IsReached (standing_of debugger.new) }
     ensures memory { OnErr result ((0 < limits.runs) ⊎ (0 < length asleep.now)) }
 {
-    decisions_can_be_followed();
+    schedule.can_be_followed();
     debugger.state_is_reached();
     let base = debugger.depth();
     let bounds = Bounds {
@@ -340,19 +324,20 @@ pub fn explore_asleep<W: Watch>(
         limit: base + limits.fuel,
         sleeps: limits.ends,
     };
-    let found = find(alloc, debugger, bounds, asleep, limits, watch);
+    let found = find(alloc, schedule, debugger, bounds, asleep, limits, watch);
     put_back(debugger, base);
     found
 }
 
-/// The first leaves of the runs from here, in the order of their choices, and whether there are others (docs/DEFINITIONS.md, "Runs of
-/// a script"): so many at most, and where that is asked for up to the first deadlock or trap, behind which nothing is looked for but
-/// whether there is another. Where each end is looked for once (`ends`), two steps that share no call are taken in one order alone
-/// ("What a walk says of all runs" there), and a leaf's choices are still numbers of candidates among all of a choice. Fuel counts from
-/// here. The debugger is left as found, also where memory is refused, which is what an `Err` says; that comes only where a leaf is asked
-/// for. No undone step is kept, and the depth and the fuel are at most 1,000,000 steps together. Each leaf has a run, and each deadlock a
-/// witness, which `witness_of` makes and `verify` accepts; where witnesses are wanted, their texts are made as the leaves are found.
-/// `watch` is told of each leaf as it is found: once, in order, with how many there are so far; nothing else depends on it.
+/// The first leaves of the runs from here, in the order of their choices, and whether there are others (docs/DEFINITIONS.md, "Runs of a
+/// script"): so many at most, and where that is asked for up to the first deadlock or trap, behind which nothing is looked for but whether
+/// there is another. Where each end is looked for once (`ends`), the runs are those of the wide walk, of which two steps that do not
+/// conflict are taken in one order alone ("What a walk says of all runs" there), and a leaf's choices are numbers of candidates among all
+/// of a wide choice, also of those that are asleep. Fuel counts from here. The debugger is left as found, also where memory is refused,
+/// which is what an `Err` says; that comes only where a leaf is asked for. No undone step is kept, and the depth and the fuel are at most
+/// 1,000,000 steps together. Each leaf has a run, and each deadlock a witness, which `witness_of` makes and `verify` accepts; where
+/// witnesses are wanted, their texts are made as the leaves are found. `watch` is told of each leaf as it is found: once, in order, with
+/// how many there are so far; nothing else depends on it.
 pub fn explore<W: Watch>(
     alloc: Global,
     debugger: &mut Debugger<'_>,
@@ -363,12 +348,15 @@ pub fn explore<W: Watch>(
     requires fits { debugger.old.trail.depth + limits.fuel ≤ STEPS_MAX }
     ensures leaves { IfOk result (λ r. r.leaves.items ≡ listed limits (map shown (walk_of limits debugger.old.world))) }
     ensures more { IfOk result (λ r. r.more ≡ left_out limits (map shown (walk_of limits debugger.old.world))) }
-    ensures witnesses { IfOk result (λ r. AllByRecursion (HasWitness debugger.old.trail.program debugger.old.trail.mode (done_steps debugger.old.trail) limits.fuel debugger.old.world) r.leaves.items) }
-    ensures texts { IfOk result (λ r. map string_bytes r.witnesses.items ≡ witness_texts limits.witnesses (done_steps debugger.old.trail) limits.fuel debugger.old.world r.leaves.items) }
+    ensures witnesses { IfOk result (λ r. AllByRecursion (HasWitness (decides_by limits.ends) debugger.old.trail.program debugger.old.trail.mode (done_steps debugger.old.trail) limits.fuel debugger.old.world) r.leaves.items) }
+    ensures texts { IfOk result (λ r. map string_bytes r.witnesses.items ≡ witness_texts (decides_by limits.ends) limits.witnesses (done_steps debugger.old.trail) limits.fuel debugger.old.world r.leaves.items) }
     ensures trail { debugger.new.trail ≡ debugger.old.trail }
     ensures world { debugger.new.world ≡ debugger.old.world }
     ensures reached { IsReached (standing_of debugger.new) }
     ensures memory { OnErr result (0 < limits.runs) }
 {
-    explore_asleep(alloc, debugger, &[], limits, watch)
+    if limits.ends {
+        return explore_with(alloc, &Wide, debugger, &[], limits, watch);
+    }
+    explore_with(alloc, &Plain, debugger, &[], limits, watch)
 }

@@ -3,7 +3,9 @@
 ghost use Rattle.std.specs.Prelude.{◌≡◌, ◌<◌, ◌+◌, ◌^◌, ◌∷◌, ◌++◌, ℕ, Bool, List, IfOk, OnOk, length, map, slice_get, string_bytes};
 ghost use Rattle.std.specs.Fmt.{decimal};
 ghost use Rattle.mpd_model.specs.declared.step.Step.{Step};
+ghost use Rattle.mpd_model.specs.declared.decision.Decision.{Decision};
 ghost use Rattle.mpd_model.specs.steps.World.{World};
+ghost use Rattle.mpd_model.specs.runs.Trail.{done_steps};
 ghost use Rattle.mpd_model.specs.texts.Texts.{step_text, steps_text};
 ghost use Rattle.mpd_explore.specs.Witness.{witness_by};
 ghost use Rattle.mpd_explore.specs.ReportText.{choices_text, ending_text, leaf_line, leaf_text, report_text};
@@ -12,6 +14,7 @@ ghost use Rattle.mpd_explore.specs.Printed.{numbered, numbered_at, lines_told, t
 
 use crate::report::{Ending, Leaf, Report};
 use mpd_model::{Outcome, Step, print_outcome};
+use mpd_trail::Debugger;
 use std::alloc::{AllocError, Global};
 
 /// Adds a number. Most ranks and choices have one digit, which is added as it is.
@@ -122,11 +125,7 @@ fn push_steps(out: &mut String, steps: &[Step]) -> Result<(), AllocError>
 
 /// The text of the witness that these steps are of a run that ends so: what its line has behind the number, with the line feed, and
 /// nothing where the run ends in no deadlock.
-pub(crate) fn witness_text(
-    alloc: Global,
-    steps: &[Step],
-    ending: &Ending,
-) -> Result<String, AllocError>
+fn witness_text(alloc: Global, steps: &[Step], ending: &Ending) -> Result<String, AllocError>
     ensures { IfOk result (λ t. string_bytes t ≡ behind_number (witness_by steps.now ending.now)) }
 {
     let Ending::Ended(Outcome::Deadlock(_)) = ending else {
@@ -137,6 +136,21 @@ pub(crate) fn witness_text(
     push_steps(&mut out, steps)?;
     out.push('\n')?;
     Ok(out)
+}
+
+/// The text of the witness of a run that ends so where a debugger stands, as a line of a report has it after its number, with the line
+/// feed: empty where that is no deadlock. An `Err` is want of memory.
+pub fn witness_here(
+    alloc: Global,
+    debugger: &Debugger<'_>,
+    ending: &Ending,
+) -> Result<String, AllocError>
+    ensures { IfOk result (λ t. string_bytes t ≡ behind_number (witness_by (done_steps debugger.now.trail) ending.now)) }
+{
+    debugger.state_is_reached();
+    let depth = debugger.depth();
+    let (steps, _) = debugger.steps().split_at(depth);
+    witness_text(alloc, steps, ending)
 }
 
 /// Adds the line of a witness by its text, unless that is empty.
@@ -203,7 +217,8 @@ fn told(alloc: Global, report: &Report) -> Result<String, AllocError>
 /// A report as text: a line for each leaf, behind each deadlock a line with its witness, where the report has their texts, and at last
 /// how many leaves there are, and whether there are others. An `Err` is want of memory.
 pub fn print_report(alloc: Global, report: &Report) -> Result<String, AllocError>
-    ensures { (asked : Bool) (before : List Step) (fuel : ℕ) (w : World) → map string_bytes report.now.witnesses.items ≡ witness_texts asked before fuel w report.now.leaves.items → IfOk result (λ t. string_bytes t ≡ report_text asked before fuel w report.now.leaves.items report.now.more) }
+    ensures told { IfOk result (λ t. string_bytes t ≡ told_text (map string_bytes report.now.witnesses.items) report.now.leaves.items report.now.more) }
+    ensures text { (decide : World → Decision) (asked : Bool) (before : List Step) (fuel : ℕ) (w : World) → map string_bytes report.now.witnesses.items ≡ witness_texts decide asked before fuel w report.now.leaves.items → IfOk result (λ t. string_bytes t ≡ report_text decide asked before fuel w report.now.leaves.items report.now.more) }
 {
     told(alloc, report)
 }

@@ -1,9 +1,10 @@
 //! What an exploration answers.
 
-ghost use Rattle.std.specs.Prelude.{◌≡◌};
+ghost use Rattle.std.specs.Prelude.{◌≡◌, ◌&&◌};
 ghost use Rattle.mpd_explore.specs.Report.{is_bad, any_bad};
 
 use mpd_model::{CallList, Outcome, StepList};
+pub use mpd_walk::Ending;
 use std::marker::Model;
 
 /// How far an exploration goes, and what is listed.
@@ -17,7 +18,8 @@ pub struct Limits {
     pub witnesses: bool,
     /// Whether the list ends with the first leaf that is a deadlock or a trap.
     pub until_bad: bool,
-    /// Whether each end is looked for once: of runs that differ only in the order of choices that share no call, one is listed.
+    /// Whether the ends are looked for: along the wide walk, and of runs that differ only in the order of steps that don't conflict, one
+    /// is listed.
     pub ends: bool,
 }
 
@@ -33,15 +35,6 @@ impl Model for ChoiceList {
     ghost Value = { List ℕ };
 
     ghost view = { λ l. l.items.items };
-}
-
-/// How a run ends.
-#[derive(Drop)]
-pub enum Ending {
-    /// No step is enabled, and this is what the state is.
-    Ended(Outcome),
-    /// The fuel is used up, and a step is still enabled.
-    Cut,
 }
 
 /// A run: the candidates that it takes at its choices, and how it ends. Its steps follow from its choices, and are not kept.
@@ -93,6 +86,22 @@ impl Report {
         ensures { result ≡ any_bad self.now.leaves.items }
     {
         any_bad(&self.leaves)
+    }
+}
+
+impl Limits {
+    /// Whether a list ends with a leaf, whatever comes after it.
+    pub fn ends_with(self, leaf: &Leaf) -> bool
+        ensures { result ≡ (self.until_bad && is_bad leaf.now.ending) }
+    {
+        self.until_bad && leaf.is_bad()
+    }
+
+    /// Whether a list of reports ends with one, whatever comes after it.
+    pub fn ends_with_report(self, report: &Report) -> bool
+        ensures { result ≡ (self.until_bad && any_bad report.now.leaves.items) }
+    {
+        self.until_bad && report.has_bad()
     }
 }
 

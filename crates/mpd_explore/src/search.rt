@@ -1,27 +1,26 @@
 //! The search: open choices on a stack, the debugger going forward and back.
 
-ghost use Rattle.std.specs.Prelude.{◌≡◌, true, ◌+◌, ◌<◌, ◌≤◌, [], ◌∷◌, IfOk, OnOk, IsSome, Some, None, length, take, reverse};
-ghost use Rattle.mpd_model.specs.steps.Next.{next};
-ghost use Rattle.mpd_model.specs.runs.Decisions.{decision, CanFollow};
+ghost use Rattle.std.specs.Prelude.{◌≡◌, ◌+◌, ◌<◌, ◌≤◌, [], ◌∷◌, IfOk, OnOk, length, take, reverse};
 ghost use Rattle.mpd_model.specs.runs.Trail.{done_steps, gone_back, IsReached};
 ghost use Rattle.mpd_trail.specs.Run.{first_of};
 ghost use Rattle.mpd_trail.specs.Views.{standing_of};
-ghost use Rattle.mpd_explore.specs.Search.{AllEnabled, At, Moved, Advanced, Tried, Found, Safe};
+ghost use Rattle.mpd_explore.specs.Search.{At, Tried, Stopped, Advanced, Found, Safe, search_by, takes_awake, leaves_asleep, passes_on};
 
-use crate::asleep::first_awake;
+use crate::asleep::{asleep_at, first_awake};
 use crate::report::Ending;
-use mpd_model::{Decision, STEPS_MAX, Step, StepList};
-use mpd_policy::{decide, decisions_can_be_followed};
+use mpd_model::{STEPS_MAX, Step, StepList};
 use mpd_trail::Debugger;
+use mpd_walk::{Chooser, Schedule, ending_of, walk};
 use std::alloc::{AllocError, Global};
+use std::mem;
 
-/// A choice that is open: the depth where it is, its candidates, and the one that is taken. Where candidates that were tried fall asleep,
-/// those before it are asleep below it.
+/// A choice that is open: the depth where it is, its candidates, the one that is taken, and what was asleep there.
 #[derive(Drop)]
 pub(crate) struct Open {
     pub(crate) depth: usize,
     pub(crate) candidates: StepList,
     pub(crate) index: usize,
+    pub(crate) asleep: StepList,
 }
 
 /// The depth where a search begins, the one where its fuel ends, and whether the candidates that were tried fall asleep.
@@ -32,17 +31,107 @@ pub(crate) struct Bounds {
     pub(crate) sleeps: bool,
 }
 
-/// Where a way down stops.
+/// What is still to be tried: the open choices, the innermost last, and what is asleep where the debugger stands.
 #[derive(Drop)]
-pub(crate) enum Stop {
-    /// A run ends so.
-    Run(Ending),
-    /// All candidates of a choice are asleep.
-    Asleep,
+pub(crate) struct Frontier {
+    pub(crate) stack: Vec<Open>,
+    pub(crate) asleep: StepList,
+}
+
+/// Takes what is asleep out of a frontier.
+fn take_asleep(alloc: Global, frontier: &mut Frontier) -> StepList
+    ensures asleep { result ≡ frontier.old.asleep }
+    ensures stack { frontier.new.stack ≡ frontier.old.stack }
+{
+    let none = StepList {
+        items: Vec::new(alloc),
+    };
+    mem::replace(&mut frontier.asleep, none)
+}
+
+/// Opens a choice, at which the debugger stands, at its first candidate that is awake, from the one that it names on, and answers that
+/// candidate; none where all these are asleep. An `Err` is want of memory.
+fn open_choice<S: Schedule>(
+    alloc: Global,
+    schedule: &S,
+    debugger: &Debugger<'_>,
+    sleeps: bool,
+    frontier: &mut Frontier,
+    choice: Open,
+) -> Result<Option<Step>, AllocError>
+    requires { choice.index ≤ length choice.candidates }
+    ensures { IfOk result (λ o. Tried S.same S.keeps sleeps debugger.now.world choice frontier.old o frontier.new) }
+{
+    let Open {
+        depth,
+        candidates,
+        index: from,
+        asleep,
+    } = choice;
+    let index = first_awake(schedule, sleeps, &asleep.items, &candidates.items, from);
+    if index == candidates.items.len() {
+        return Ok(None);
+    }
+    let step = candidates.items[index];
+    let mut below = asleep_at(alloc, sleeps, &asleep.items, &candidates.items, index)?;
+    schedule.keep_asleep(debugger, step, &mut below);
+    frontier.asleep = below;
+    frontier.stack.push(Open {
+        depth,
+        candidates,
+        index,
+        asleep,
+    })?;
+    Ok(Some(step))
+}
+
+/// Takes the first candidate that is awake, and keeps the choice open.
+#[derive(Drop)]
+struct Untried<'a, S: Schedule> {
+    alloc: Global,
+    schedule: &'a S,
+    sleeps: bool,
+    frontier: &'a mut Frontier,
+}
+
+impl<'a, S: Schedule> Chooser for Untried<'a, S> {
+    ghost takes = { takes_awake S.same S.keeps (λ c. c.sleeps) (λ c. c.frontier.now) (λ c. c.frontier.ghost_name) };
+
+    ghost leaves = { leaves_asleep S.same (λ c. c.sleeps) (λ c. c.frontier.now) (λ c. c.frontier.ghost_name) };
+
+    ghost passes = { passes_on S.keeps (λ c. c.sleeps) (λ c. c.frontier.now) (λ c. c.frontier.ghost_name) };
+
+    fn choose(
+        &mut self,
+        debugger: &Debugger<'_>,
+        candidates: StepList,
+    ) -> Result<Option<Step>, AllocError> {
+        let asleep = take_asleep(self.alloc, self.frontier);
+        let choice = Open {
+            depth: debugger.depth(),
+            candidates,
+            index: 0,
+            asleep,
+        };
+        open_choice(
+            self.alloc,
+            self.schedule,
+            debugger,
+            self.sleeps,
+            self.frontier,
+            choice,
+        )
+    }
+
+    fn pass(&mut self, debugger: &Debugger<'_>, step: Step) -> Result<(), AllocError> {
+        let asleep = &mut self.frontier.asleep;
+        self.schedule.keep_asleep(debugger, step, asleep);
+        Ok(())
+    }
 }
 
 /// Takes steps back to a depth.
-pub(crate) fn go_back(debugger: &mut Debugger<'_>, depth: usize)
+fn go_back(debugger: &mut Debugger<'_>, depth: usize)
     requires { depth ≤ debugger.old.trail.depth }
     ensures trail { debugger.new.trail ≡ gone_back debugger.old.trail depth }
     ensures steps { done_steps debugger.new.trail ≡ take depth (done_steps debugger.old.trail) }
@@ -51,156 +140,61 @@ pub(crate) fn go_back(debugger: &mut Debugger<'_>, depth: usize)
     let _ = debugger.undo_to(depth);
 }
 
-/// Opens a choice, at which the debugger stands, and takes the first candidate that is awake, from one on; false where none is.
-#[tactic(auto, using(crate::proofs::SearchLemmas::searching))]
-fn take_from(
-    debugger: &mut Debugger<'_>,
-    bounds: Bounds,
-    asleep: &[Step],
-    stack: &mut Vec<Open>,
-    candidates: StepList,
-    from: usize,
-) -> Result<bool, AllocError>
-    requires at { At (first_of debugger.old.trail) bounds (reverse stack.old.items) (standing_of debugger.old) }
-    requires room { debugger.old.trail.depth < bounds.limit }
-    requires few { bounds.limit ≤ STEPS_MAX }
-    requires within { from ≤ length candidates }
-    requires follow { AllEnabled debugger.old.world candidates }
-    ensures tried { IfOk result (λ b. Tried (first_of debugger.old.trail) bounds asleep.now (reverse stack.old.items) (standing_of debugger.old) candidates from b (reverse stack.new.items) (standing_of debugger.new)) }
-    ensures safe { Safe bounds.base (standing_of debugger.old) (standing_of debugger.new) }
-{
-    let index = first_awake(bounds.sleeps, asleep, stack, &candidates.items, from);
-    if index == candidates.items.len() {
-        return Ok(false);
-    }
-    let step = candidates.items[index];
-    let depth = debugger.depth();
-    stack.push(Open {
-        depth,
-        candidates,
-        index,
-    })?;
-    debugger.forward(step)?;
-    Ok(true)
-}
-
-/// Goes on at a choice: where all its candidates are asleep, the way stops.
-#[tactic(auto, using(crate::proofs::SearchLemmas::searching))]
-fn enter(
-    debugger: &mut Debugger<'_>,
-    bounds: Bounds,
-    asleep: &[Step],
-    stack: &mut Vec<Open>,
-    candidates: StepList,
-) -> Result<Option<Stop>, AllocError>
-    requires at { At (first_of debugger.old.trail) bounds (reverse stack.old.items) (standing_of debugger.old) }
-    requires room { debugger.old.trail.depth < bounds.limit }
-    requires few { bounds.limit ≤ STEPS_MAX }
-    requires choice { decision debugger.old.world ≡ Decision.Choice candidates }
-    requires follow { CanFollow debugger.old.world (Decision.Choice candidates) }
-    ensures moved { IfOk result (λ o. Moved (first_of debugger.old.trail) bounds asleep.now (reverse stack.old.items) (standing_of debugger.old) o (reverse stack.new.items) (standing_of debugger.new)) }
-    ensures safe { Safe bounds.base (standing_of debugger.old) (standing_of debugger.new) }
-{
-    let is_taken = take_from(debugger, bounds, asleep, stack, candidates, 0)?;
-    if is_taken {
-        return Ok(None);
-    }
-    Ok(Some(Stop::Asleep))
-}
-
-/// Goes on by one step, or answers where the way stops.
-#[tactic(auto, using(crate::proofs::SearchLemmas::searching))]
-fn go_down(
+/// Goes on to the end of a run from here; none where it comes to a choice whose candidates are all asleep.
+fn descend<S: Schedule>(
     alloc: Global,
+    schedule: &S,
     debugger: &mut Debugger<'_>,
     bounds: Bounds,
-    asleep: &[Step],
-    stack: &mut Vec<Open>,
-) -> Result<Option<Stop>, AllocError>
-    requires at { At (first_of debugger.old.trail) bounds (reverse stack.old.items) (standing_of debugger.old) }
-    requires room { debugger.old.trail.depth < bounds.limit }
+    frontier: &mut Frontier,
+) -> Result<Option<Ending>, AllocError>
+    requires at { At (search_by S.decides S.same S.keeps bounds (first_of debugger.old.trail)) (reverse frontier.old.stack.items) (standing_of debugger.old) }
     requires few { bounds.limit ≤ STEPS_MAX }
-    ensures moved { IfOk result (λ o. Moved (first_of debugger.old.trail) bounds asleep.now (reverse stack.old.items) (standing_of debugger.old) o (reverse stack.new.items) (standing_of debugger.new)) }
+    ensures stopped { IfOk result (λ o. Stopped (search_by S.decides S.same S.keeps bounds (first_of debugger.old.trail)) (reverse frontier.old.stack.items) frontier.old.asleep (standing_of debugger.old) o (reverse frontier.new.stack.items) (standing_of debugger.new)) }
     ensures safe { Safe bounds.base (standing_of debugger.old) (standing_of debugger.new) }
 {
-    decisions_can_be_followed();
-    match decide(alloc, debugger.core())? {
-        Decision::Leaf(outcome) => Ok(Some(Stop::Run(Ending::Ended(outcome)))),
-        Decision::Forced(step) => {
-            debugger.forward(step)?;
-            Ok(None)
-        }
-        Decision::Choice(candidates) => {
-            let stop = enter(debugger, bounds, asleep, stack, candidates)?;
-            Ok(stop)
-        }
-    }
-}
-
-/// How a run ends whose fuel is used up.
-#[tactic(auto, using(crate::proofs::SearchLemmas::searching))]
-fn end_of_fuel(
-    alloc: Global,
-    debugger: &Debugger<'_>,
-    bounds: Bounds,
-    asleep: &[Step],
-    stack: &[Open],
-) -> Result<Ending, AllocError>
-    requires at { At (first_of debugger.now.trail) bounds (reverse stack.now) (standing_of debugger.now) }
-    requires empty { debugger.now.trail.depth ≡ bounds.limit }
-    ensures { IfOk result (λ e. Moved (first_of debugger.now.trail) bounds asleep.now (reverse stack.now) (standing_of debugger.now) (Some (Stop.Run e)) (reverse stack.now) (standing_of debugger.now)) }
-{
-    match decide(alloc, debugger.core())? {
-        Decision::Leaf(outcome) => Ok(Ending::Ended(outcome)),
-        Decision::Forced(_) => Ok(Ending::Cut),
-        Decision::Choice(_) => Ok(Ending::Cut),
-    }
-}
-
-/// Goes on to the end of a run from here, or to a choice whose candidates are all asleep.
-fn descend(
-    alloc: Global,
-    debugger: &mut Debugger<'_>,
-    bounds: Bounds,
-    asleep: &[Step],
-    stack: &mut Vec<Open>,
-) -> Result<Stop, AllocError>
-    requires at { At (first_of debugger.old.trail) bounds (reverse stack.old.items) (standing_of debugger.old) }
-    requires few { bounds.limit ≤ STEPS_MAX }
-    ensures moved { IfOk result (λ s. Moved (first_of debugger.old.trail) bounds asleep.now (reverse stack.old.items) (standing_of debugger.old) (Some s) (reverse stack.new.items) (standing_of debugger.new)) }
-    ensures safe { Safe bounds.base (standing_of debugger.old) (standing_of debugger.new) }
-{
-    let begun = debugger.depth();
-    for depth in begun..bounds.limit {
-        if let Some(stop) = go_down(alloc, debugger, bounds, asleep, stack)? {
-            return Ok(stop);
-        }
-    }
-    let last = end_of_fuel(alloc, debugger, bounds, asleep, stack)?;
-    Ok(Stop::Run(last))
+    schedule.can_be_followed();
+    let mut untried = Untried {
+        alloc,
+        schedule,
+        sleeps: bounds.sleeps,
+        frontier,
+    };
+    let stop = walk(alloc, schedule, debugger, bounds.limit, &mut untried)?;
+    let ending = ending_of(alloc, schedule, debugger, stop)?;
+    Ok(ending)
 }
 
 /// Goes back to the innermost open choice with a candidate left that is awake, and takes that; false where there is none.
-pub(crate) fn advance(
+pub(crate) fn advance<S: Schedule>(
+    alloc: Global,
+    schedule: &S,
     debugger: &mut Debugger<'_>,
     bounds: Bounds,
-    asleep: &[Step],
-    stack: &mut Vec<Open>,
+    frontier: &mut Frontier,
 ) -> Result<bool, AllocError>
-    requires at { At (first_of debugger.old.trail) bounds (reverse stack.old.items) (standing_of debugger.old) }
+    requires at { At (search_by S.decides S.same S.keeps bounds (first_of debugger.old.trail)) (reverse frontier.old.stack.items) (standing_of debugger.old) }
     requires few { bounds.limit ≤ STEPS_MAX }
-    ensures advanced { IfOk result (λ b. Advanced (first_of debugger.old.trail) bounds asleep.now (reverse stack.old.items) (done_steps debugger.old.trail) b (reverse stack.new.items) (standing_of debugger.new)) }
+    ensures advanced { IfOk result (λ b. Advanced (search_by S.decides S.same S.keeps bounds (first_of debugger.old.trail)) (reverse frontier.old.stack.items) (standing_of debugger.old) b (reverse frontier.new.stack.items) frontier.new.asleep (standing_of debugger.new)) }
     ensures safe { Safe bounds.base (standing_of debugger.old) (standing_of debugger.new) }
 {
-    while let Some(top) = stack.pop() {
+    while let Some(top) = frontier.stack.pop() {
         let Open {
             depth,
             candidates,
             index,
+            asleep,
         } = top;
         go_back(debugger, depth);
-        let is_taken = take_from(debugger, bounds, asleep, stack, candidates, index + 1)?;
-        if is_taken {
+        let next = Open {
+            depth,
+            candidates,
+            index: index + 1,
+            asleep,
+        };
+        let taken = open_choice(alloc, schedule, debugger, bounds.sleeps, frontier, next)?;
+        if let Some(step) = taken {
+            debugger.forward(step)?;
             return Ok(true);
         }
     }
@@ -208,23 +202,23 @@ pub(crate) fn advance(
 }
 
 /// Goes on to the end of the first run from here; none where there is no run any more.
-pub(crate) fn seek(
+pub(crate) fn seek<S: Schedule>(
     alloc: Global,
+    schedule: &S,
     debugger: &mut Debugger<'_>,
     bounds: Bounds,
-    asleep: &[Step],
-    stack: &mut Vec<Open>,
+    frontier: &mut Frontier,
 ) -> Result<Option<Ending>, AllocError>
-    requires at { At (first_of debugger.old.trail) bounds (reverse stack.old.items) (standing_of debugger.old) }
+    requires at { At (search_by S.decides S.same S.keeps bounds (first_of debugger.old.trail)) (reverse frontier.old.stack.items) (standing_of debugger.old) }
     requires few { bounds.limit ≤ STEPS_MAX }
-    ensures found { IfOk result (λ o. Found (first_of debugger.old.trail) bounds asleep.now (reverse stack.old.items) (standing_of debugger.old) o (reverse stack.new.items) (standing_of debugger.new)) }
+    ensures found { IfOk result (λ o. Found (search_by S.decides S.same S.keeps bounds (first_of debugger.old.trail)) (reverse frontier.old.stack.items) frontier.old.asleep (standing_of debugger.old) o (reverse frontier.new.stack.items) (standing_of debugger.new)) }
     ensures safe { Safe bounds.base (standing_of debugger.old) (standing_of debugger.new) }
 {
     loop {
-        if let Stop::Run(ending) = descend(alloc, debugger, bounds, asleep, stack)? {
+        if let Some(ending) = descend(alloc, schedule, debugger, bounds, frontier)? {
             return Ok(Some(ending));
         }
-        let is_taken = advance(debugger, bounds, asleep, stack)?;
+        let is_taken = advance(alloc, schedule, debugger, bounds, frontier)?;
         if !is_taken {
             return Ok(None);
         }

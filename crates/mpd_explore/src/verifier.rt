@@ -5,7 +5,7 @@ ghost use Rattle.mpd_model.specs.steps.World.{start};
 ghost use Rattle.mpd_model.specs.steps.Next.{next, fold};
 ghost use Rattle.mpd_model.specs.steps.Outcomes.{outcome};
 ghost use Rattle.mpd_core.specs.Listed.{listed};
-ghost use Rattle.mpd_explore.specs.Stops.{StopsAt, WantsMemory};
+ghost use Rattle.mpd_explore.specs.Stops.{StopsAt, IsLeft, WantsMemory};
 ghost use Rattle.mpd_explore.specs.Witness.{IsWitness, IsWitnessFrom, HasFault, FaultAtEnd};
 ghost use Rattle.mpd_explore.specs.Faults.{witness_fault_number, witness_fault_name};
 
@@ -119,6 +119,7 @@ fn take_steps(core: &mut Core<'_>, steps: &[Step]) -> Result<(), WitnessFault>
     ensures ok { OnOk result (fold core.old.world steps.now ≡ Some core.new.world) }
     ensures fault { IfErr result (λ e. e ≢ WitnessFault.Memory → StopsAt core.old.world steps.now e) }
     ensures memory { IsErrOf result WitnessFault.Memory → WantsMemory core.old.world steps.now core.new.world }
+    ensures left { IfErr result (IsLeft core.old.world steps.now core.new.world) }
 {
     for place in 0..steps.len() {
         take_step(core, steps[place], place)?;
@@ -126,8 +127,9 @@ fn take_steps(core: &mut Core<'_>, steps: &[Step]) -> Result<(), WitnessFault>
     Ok(())
 }
 
-/// The same as `verify`, from where a core stands, which is left where the steps have led. `Memory` comes only where the step that is
-/// next there is one that the relation of steps has, or where none is left and how the run has ended lists something.
+/// The same as `verify`, from where a core stands, which is left where the steps have led: behind those before the one that isn't
+/// enabled (32), else behind all. `Memory` comes only where the step that is next there is one that the relation of steps has, or where
+/// none is left and how the run has ended lists something.
 pub fn verify_from(
     alloc: Global,
     core: &mut Core<'_>,
@@ -137,6 +139,7 @@ pub fn verify_from(
     ensures fault { IfErr result (λ e. e ≢ WitnessFault.Memory → HasFault core.old.world 0 witness.now.steps witness.now.blocked e) }
     ensures accepted { IsWitnessFrom core.old.world witness.now → IfErr result (λ e. e ≡ WitnessFault.Memory) }
     ensures memory { IsErrOf result WitnessFault.Memory → WantsMemory core.old.world witness.now.steps core.new.world }
+    ensures left { IfErr result (IsLeft core.old.world witness.now.steps core.new.world) }
 {
     take_steps(core, &witness.steps.items)?;
     check_end(alloc, core, &witness.blocked.items)

@@ -1,28 +1,26 @@
--- What is behind some choices, told from where these begin.
-use Rattle.std.proofs.Common.{◌≡◌, ℕ, zero, suc, ◌<◌, ◌≤◌, ◌+◌, nat_lt, Bool, true, false, if◌then◌else◌, List, [], ◌∷◌, ◌++◌, length, take, drop, map, get_or, refl, sym, ap, subst, ◌∙◌, arith, append_assoc, append-nil, Option, Some, None, reverse}
+-- What comes after some choices, told from where these begin.
+use Rattle.std.proofs.Common.{◌≡◌, ℕ, zero, suc, ◌<◌, ◌≤◌, ◌+◌, nat_lt, Bool, true, false, if◌then◌else◌, List, [], ◌∷◌, ◌++◌, length, take, drop, map, get_or, refl, sym, ap, subst, ◌∙◌, arith, append_assoc, append-nil, Option, Some, None}
 use Rattle.std.specs.Option.{option_map}
 use Rattle.std.specs.List.{AllByRecursion}
 use Rattle.std.proofs.lemmas.List.{length-map, take-map, take_all, drop_all}
 use Rattle.std.proofs.Math.ListN.{set}
 use Rattle.mpd_model.specs.declared.call.Mode.{Mode}
 use Rattle.mpd_model.specs.declared.step.Step.{Step}
+use Rattle.mpd_model.specs.declared.decision.Decision.{Decision}
 use Rattle.mpd_model.specs.script.Program.{Program}
 use Rattle.mpd_model.specs.steps.World.{World}
-use Rattle.mpd_model.specs.runs.Trail.{Trail, Standing, IsReached, done_steps, gone_back, forgotten}
+use Rattle.mpd_model.specs.runs.Trail.{Trail, Standing, IsReached, done_steps, forgotten}
 use Rattle.mpd_explore.specs.declared.report.Leaf as leaf
 use Rattle.mpd_explore.specs.declared.report.Limits.{Limits}
-use Rattle.mpd_explore.specs.Walk.{Run, prefixed, run_at, steps_by}
-use Rattle.mpd_explore.specs.Sleeping.{awake_walk}
+use Rattle.mpd_walk.specs.Walk.{Run, prefixed, run_by, steps_by}
+use Rattle.mpd_explore.specs.Sleeping.{Rules, walk_with}
 use Rattle.mpd_explore.specs.Report.{shown, is_bad, up_to_bad, ended_by, listed, left_out}
 use Rattle.mpd_explore.specs.Witness.{WitnessBy, HasWitness, witness_by}
 use Rattle.mpd_explore.specs.WitnessTexts.{behind_number, witness_text, witness_texts}
-use Rattle.mpd_explore.proofs.CollectLemmas.{as_found}
 use Rattle.mpd_explore.proofs.ListedLemmas.{none_out}
-use Rattle.mpd_pieces.specs.Pieces.{walk_from, walk_at, part, part_left, behind}
-use Rattle.mpd_pieces.specs.Along.{runs_on, Beyond, Going}
-use Rattle.mpd_pieces.specs.Slept.{asleep_there}
-use Rattle.mpd_pieces.specs.declared.sleep.Sleep.{Sleep}
-use Rattle.mpd_pieces.proofs.AlongLemmas.{walk_whole, beyond_below, beyond_depth}
+use Rattle.mpd_pieces.specs.Pieces.{walk_from, behind}
+use Rattle.mpd_pieces.specs.Along.{runs_on, Going}
+use Rattle.mpd_pieces.proofs.AlongLemmas.{walk_whole}
 
 -- ---- choices in front of each of a list
 
@@ -45,16 +43,6 @@ shown_behind : (cs : List ℕ) (p : List Step) (rs : List Run) → map (behind c
 shown_behind cs p [] = refl
 shown_behind cs p (r ∷ rs) = ap (λ ls. shown (prefixed cs p r) ∷ ls) (shown_behind cs p rs)
 
--- all choices are made
-all_made : (sleeps : Bool) (near far : Option (List Step)) (fuel : ℕ) (choices : List ℕ) (d e : Standing) (h : Going sleeps fuel choices near d [] far e) → h.taken ≡ choices
-all_made sleeps near far fuel choices d e h = sym (append-nil h.taken) ∙ h.joined
-
-walk_behind : (sleeps : Bool) (far : Option (List Step)) (fuel n : ℕ) (choices : List ℕ) (d e : Standing) (h : Going sleeps fuel choices (Some []) d [] far e) → h.rest ≡ n → walk_from sleeps fuel choices [] d.world ≡ map (prefixed choices h.beyond.path) (runs_on sleeps n far [] e.world)
-walk_behind sleeps far fuel n choices d e h left =
-    ap (λ cs. walk_from sleeps fuel cs [] d.world) (sym h.joined) ∙ h.along.walks []
-    ∙ ap (λ cs. map (prefixed cs h.beyond.path) (runs_on sleeps h.rest far [] e.world)) (all_made sleeps (Some []) far fuel choices d e h)
-    ∙ ap (λ m. map (prefixed choices h.beyond.path) (runs_on sleeps m far [] e.world)) left
-
 -- so much fuel is left
 abbrev pub with_fuel : Limits → ℕ → Limits
 with_fuel l n = record { runs = l.runs; fuel = n; witnesses = l.witnesses; until_bad = l.until_bad; ends = l.ends }
@@ -71,31 +59,8 @@ ended_behind : (cs : List ℕ) (b : Bool) (xs : List leaf.Leaf) → ended_by b (
 ended_behind cs false xs = refl
 ended_behind cs true xs = up_behind cs xs
 
-walk_shown : (n : ℕ) (l : Limits) (choices : List ℕ) (asleep : List Step) (d e : Standing) (h : Going l.ends l.fuel choices (Some []) d [] (Some asleep) e) → h.rest ≡ n → map (behind choices) (map shown (awake_walk l.ends n asleep e.world)) ≡ map shown (walk_at l choices d.world)
-walk_shown n l choices asleep d e h left =
-    shown_behind choices h.beyond.path (awake_walk l.ends n asleep e.world)
-    ∙ ap (λ rs. map shown (map (prefixed choices h.beyond.path) rs)) (sym (walk_whole l.ends n asleep e.world))
-    ∙ ap (map shown) (sym (walk_behind l.ends (Some asleep) l.fuel n choices d e h left))
-
-pub part_is : (n : ℕ) (l : Limits) (choices : List ℕ) (asleep : List Step) (d e : Standing) (h : Going l.ends l.fuel choices (Some []) d [] (Some asleep) e) → h.rest ≡ n → map (behind choices) (listed (with_fuel l n) (map shown (awake_walk l.ends n asleep e.world))) ≡ part l choices d.world
-part_is n l choices asleep d e h left =
-    sym (ended_behind choices l.until_bad (take l.runs (map shown (awake_walk l.ends n asleep e.world))))
-    ∙ ap (ended_by l.until_bad) (sym (take-map (behind choices) l.runs (map shown (awake_walk l.ends n asleep e.world))) ∙ ap (take l.runs) (walk_shown n l choices asleep d e h left))
-
 left_same : (b : Bool) (runs x y m n : ℕ) → x ≡ y → m ≡ n → (if b then nat_lt x m else nat_lt runs m) ≡ (if b then nat_lt y n else nat_lt runs n)
 left_same b runs x y m n e f = ap (λ z. if b then nat_lt z m else nat_lt runs m) e ∙ ap (λ z. if b then nat_lt y z else nat_lt runs z) f
-
-pub left_is : (n : ℕ) (l : Limits) (choices : List ℕ) (asleep : List Step) (d e : Standing) (h : Going l.ends l.fuel choices (Some []) d [] (Some asleep) e) → h.rest ≡ n → left_out (with_fuel l n) (map shown (awake_walk l.ends n asleep e.world)) ≡ part_left l choices d.world
-left_is n l choices asleep d e h left =
-    let here : List leaf.Leaf = listed (with_fuel l n) (map shown (awake_walk l.ends n asleep e.world)) in
-    left_same l.until_bad l.runs (length here) (length (part l choices d.world)) (length (map shown (awake_walk l.ends n asleep e.world))) (length (map shown (walk_at l choices d.world)))
-    (sym (length-map here (behind choices)) ∙ ap length (part_is n l choices asleep d e h left))
-    (sym (length-map (map shown (awake_walk l.ends n asleep e.world)) (behind choices)) ∙ ap length (walk_shown n l choices asleep d e h left))
-
--- ---- where one of the choices is asleep, there is none
-
-no_walk : (l : Limits) (choices : List ℕ) (d e : Standing) → Going l.ends l.fuel choices (Some []) d [] None e → walk_at l choices d.world ≡ []
-no_walk l choices d e h = walk_behind l.ends None l.fuel h.rest choices d e h refl
 
 take_none : (n : ℕ) → ◌≡◌ {A = List leaf.Leaf} (take n []) []
 take_none zero = refl
@@ -108,104 +73,132 @@ ended_none true = refl
 none_listed : (l : Limits) → listed l [] ≡ []
 none_listed l = ap (ended_by l.until_bad) (take_none l.runs) ∙ ended_none l.until_bad
 
-pub no_part : (l : Limits) (choices : List ℕ) (d e : Standing) → Going l.ends l.fuel choices (Some []) d [] None e → part l choices d.world ≡ []
-no_part l choices d e h = ap (λ (rs : List Run). listed l (map shown rs)) (no_walk l choices d e h) ∙ none_listed l
+blank_texts : (decide : World → Decision) (asked : Bool) (path : List Step) (n : ℕ) (w : World) → [] ≡ witness_texts decide asked path n w []
+blank_texts decide false path n w = refl
+blank_texts decide true path n w = refl
 
-pub none_left_out : (l : Limits) (choices : List ℕ) (d e : Standing) → Going l.ends l.fuel choices (Some []) d [] None e → part_left l choices d.world ≡ false
-none_left_out l choices d e h = ap (λ (rs : List Run). left_out l (map shown rs)) (no_walk l choices d e h) ∙ none_out l [] (omega arith) (omega arith)
+module _ (r : Rules) where
+  -- all choices are made
+  all_made : (near far : Option (List Step)) (fuel : ℕ) (choices : List ℕ) (d e : Standing) (h : Going r fuel choices near d [] far e) → h.taken ≡ choices
+  all_made near far fuel choices d e h = sym (append-nil h.taken) ∙ h.joined
 
-pub no_witnesses : (d : Standing) (fuel : ℕ) (ls : List leaf.Leaf) → ls ≡ [] → AllByRecursion (HasWitness d.trail.program d.trail.mode (done_steps d.trail) fuel d.world) ls
-no_witnesses d fuel ls none = rw none tt
+  walk_behind : (far : Option (List Step)) (fuel n : ℕ) (choices : List ℕ) (d e : Standing) (h : Going r fuel choices (Some []) d [] far e) → h.rest ≡ n → walk_from r fuel choices [] d.world ≡ map (prefixed choices h.beyond.path) (runs_on r n far [] e.world)
+  walk_behind far fuel n choices d e h left =
+      ap (λ cs. walk_from r fuel cs [] d.world) (sym h.joined) ∙ h.along.walks []
+      ∙ ap (λ cs. map (prefixed cs h.beyond.path) (runs_on r h.rest far [] e.world)) (all_made (Some []) far fuel choices d e h)
+      ∙ ap (λ m. map (prefixed choices h.beyond.path) (runs_on r m far [] e.world)) left
 
-blank_texts : (asked : Bool) (path : List Step) (n : ℕ) (w : World) → [] ≡ witness_texts asked path n w []
-blank_texts false path n w = refl
-blank_texts true path n w = refl
+  walk_shown : (n : ℕ) (l : Limits) (choices : List ℕ) (asleep : List Step) (d e : Standing) (h : Going r l.fuel choices (Some []) d [] (Some asleep) e) → h.rest ≡ n → map (behind choices) (map shown (walk_with r n asleep e.world)) ≡ map shown (walk_from r l.fuel choices [] d.world)
+  walk_shown n l choices asleep d e h left =
+      shown_behind choices h.beyond.path (walk_with r n asleep e.world)
+      ∙ ap (λ rs. map shown (map (prefixed choices h.beyond.path) rs)) (sym (walk_whole r n asleep e.world))
+      ∙ ap (map shown) (sym (walk_behind (Some asleep) l.fuel n choices d e h left))
 
-pub no_texts : (asked : Bool) (d : Standing) (fuel : ℕ) (ls : List leaf.Leaf) (texts : List (List ℕ)) → ls ≡ [] → texts ≡ [] → texts ≡ witness_texts asked (done_steps d.trail) fuel d.world ls
-no_texts asked d fuel ls texts none empty = empty ∙ blank_texts asked (done_steps d.trail) fuel d.world ∙ ap (witness_texts asked (done_steps d.trail) fuel d.world) (sym none)
+  part_is : (n : ℕ) (l : Limits) (choices : List ℕ) (asleep : List Step) (d e : Standing) (h : Going r l.fuel choices (Some []) d [] (Some asleep) e) → h.rest ≡ n → map (behind choices) (listed (with_fuel l n) (map shown (walk_with r n asleep e.world))) ≡ listed l (map shown (walk_from r l.fuel choices [] d.world))
+  part_is n l choices asleep d e h left =
+      sym (ended_behind choices l.until_bad (take l.runs (map shown (walk_with r n asleep e.world))))
+      ∙ ap (ended_by l.until_bad) (sym (take-map (behind choices) l.runs (map shown (walk_with r n asleep e.world))) ∙ ap (take l.runs) (walk_shown n l choices asleep d e h left))
 
--- ---- and their witnesses
+  left_is : (n : ℕ) (l : Limits) (choices : List ℕ) (asleep : List Step) (d e : Standing) (h : Going r l.fuel choices (Some []) d [] (Some asleep) e) → h.rest ≡ n → left_out (with_fuel l n) (map shown (walk_with r n asleep e.world)) ≡ left_out l (map shown (walk_from r l.fuel choices [] d.world))
+  left_is n l choices asleep d e h left =
+      let here : List leaf.Leaf = listed (with_fuel l n) (map shown (walk_with r n asleep e.world)) in
+      left_same l.until_bad l.runs (length here) (length (listed l (map shown (walk_from r l.fuel choices [] d.world)))) (length (map shown (walk_with r n asleep e.world))) (length (map shown (walk_from r l.fuel choices [] d.world)))
+      (sym (length-map here (behind choices)) ∙ ap length (part_is n l choices asleep d e h left))
+      (sym (length-map (map shown (walk_with r n asleep e.world)) (behind choices)) ∙ ap length (walk_shown n l choices asleep d e h left))
 
-run_behind : (sleeps : Bool) (near far : Option (List Step)) (fuel n : ℕ) (choices x : List ℕ) (d e : Standing) (h : Going sleeps fuel choices near d [] far e) → h.rest ≡ n → run_at fuel (choices ++ x) d.world ≡ option_map (prefixed choices h.beyond.path) (run_at n x e.world)
-run_behind sleeps near far fuel n choices x d e h left =
-    ap (λ cs. run_at fuel (cs ++ x) d.world) (sym (all_made sleeps near far fuel choices d e h)) ∙ h.along.runs x
-    ∙ ap (λ cs. option_map (prefixed cs h.beyond.path) (run_at h.rest x e.world)) (all_made sleeps near far fuel choices d e h)
-    ∙ ap (λ m. option_map (prefixed choices h.beyond.path) (run_at m x e.world)) left
+  -- the same of what was found there, with the choices put in front
+  pub part_found : (n : ℕ) (l : Limits) (choices : List ℕ) (asleep : List Step) (d e : Standing) (found now : List leaf.Leaf) (h : Going r l.fuel choices (Some []) d [] (Some asleep) e) → h.rest ≡ n → found ≡ listed (with_fuel l n) (map shown (walk_with r n asleep e.world)) → now ≡ map (behind choices) found
+      → now ≡ listed l (map shown (walk_from r l.fuel choices [] d.world))
+  part_found n l choices asleep d e found now h left is front = front ∙ ap (map (behind choices)) is ∙ part_is n l choices asleep d e h left
 
-witness_behind : (sleeps : Bool) (near far : Option (List Step)) (fuel n : ℕ) (choices : List ℕ) (d e : Standing) (s : Program) (mode : Mode) (l : leaf.Leaf) (h : Going sleeps fuel choices near d [] far e) → h.rest ≡ n → HasWitness s mode (done_steps e.trail) n e.world l → HasWitness s mode (done_steps d.trail) fuel d.world (behind choices l)
-witness_behind sleeps near far fuel n choices d e s mode l h left x =
-    record {
-      run = prefixed choices h.beyond.path x.run;
-      by = run_behind sleeps near far fuel n choices l.choices d e h left ∙ ap (option_map (prefixed choices h.beyond.path)) x.by;
-      ending = x.ending;
-      witness = subst (λ (p : List Step). WitnessBy s mode p l.ending) (ap (λ p. p ++ x.run.steps) h.beyond.done_steps_are ∙ append_assoc (done_steps d.trail) h.beyond.path x.run.steps) x.witness;
-    }
+  pub left_found : (n : ℕ) (l : Limits) (choices : List ℕ) (asleep : List Step) (d e : Standing) (more : Bool) (h : Going r l.fuel choices (Some []) d [] (Some asleep) e) → h.rest ≡ n → more ≡ left_out (with_fuel l n) (map shown (walk_with r n asleep e.world))
+      → more ≡ left_out l (map shown (walk_from r l.fuel choices [] d.world))
+  left_found n l choices asleep d e more h left is = is ∙ left_is n l choices asleep d e h left
 
-all_behind : (sleeps : Bool) (near far : Option (List Step)) (fuel n : ℕ) (choices : List ℕ) (d e : Standing) (s : Program) (mode : Mode) (ls : List leaf.Leaf) (h : Going sleeps fuel choices near d [] far e) → h.rest ≡ n → AllByRecursion (HasWitness s mode (done_steps e.trail) n e.world) ls → AllByRecursion (HasWitness s mode (done_steps d.trail) fuel d.world) (map (behind choices) ls)
-all_behind sleeps near far fuel n choices d e s mode [] h left x = tt
-all_behind sleeps near far fuel n choices d e s mode (l ∷ ls) h left x = (witness_behind sleeps near far fuel n choices d e s mode l h left x.0, all_behind sleeps near far fuel n choices d e s mode ls h left x.1)
+  -- ---- where one of the choices is asleep, there is none
 
-pub witnesses_behind : (sleeps : Bool) (near far : Option (List Step)) (fuel n : ℕ) (choices : List ℕ) (d e : Standing) (ls now : List leaf.Leaf) (h : Going sleeps fuel choices near d [] far e) → h.rest ≡ n → now ≡ map (behind choices) ls → AllByRecursion (HasWitness e.trail.program e.trail.mode (done_steps e.trail) n e.world) ls
-    → AllByRecursion (HasWitness d.trail.program d.trail.mode (done_steps d.trail) fuel d.world) now
-witnesses_behind sleeps near far fuel n choices d e ls now h left is x =
-    let own : AllByRecursion (HasWitness d.trail.program d.trail.mode (done_steps e.trail) n e.world) ls = rw (h.beyond.program, h.beyond.mode) at x in
-    rw is (all_behind sleeps near far fuel n choices d e d.trail.program d.trail.mode ls h left own)
+  no_walk : (l : Limits) (choices : List ℕ) (d e : Standing) → Going r l.fuel choices (Some []) d [] None e → walk_from r l.fuel choices [] d.world ≡ []
+  no_walk l choices d e h = walk_behind None l.fuel h.rest choices d e h refl
 
--- ---- and the texts of these
+  pub no_part : (l : Limits) (choices : List ℕ) (d e : Standing) → Going r l.fuel choices (Some []) d [] None e → listed l (map shown (walk_from r l.fuel choices [] d.world)) ≡ []
+  no_part l choices d e h = ap (λ (rs : List Run). listed l (map shown rs)) (no_walk l choices d e h) ∙ none_listed l
 
-text_behind : (sleeps : Bool) (near far : Option (List Step)) (fuel n : ℕ) (choices : List ℕ) (d e : Standing) (s : Program) (mode : Mode) (l : leaf.Leaf) (h : Going sleeps fuel choices near d [] far e) → h.rest ≡ n → HasWitness s mode (done_steps e.trail) n e.world l → witness_text (done_steps e.trail) n e.world l ≡ witness_text (done_steps d.trail) fuel d.world (behind choices l)
-text_behind sleeps near far fuel n choices d e s mode l h left x =
-    let here : done_steps e.trail ++ steps_by (run_at n l.choices e.world) ≡ done_steps d.trail ++ (h.beyond.path ++ x.run.steps) =
-    ap (λ o. done_steps e.trail ++ steps_by o) x.by ∙ ap (λ p. p ++ x.run.steps) h.beyond.done_steps_are ∙ append_assoc (done_steps d.trail) h.beyond.path x.run.steps in
-    let there : steps_by (run_at fuel (choices ++ l.choices) d.world) ≡ h.beyond.path ++ x.run.steps = ap steps_by (run_behind sleeps near far fuel n choices l.choices d e h left ∙ ap (option_map (prefixed choices h.beyond.path)) x.by) in
-    ap (λ p. behind_number (witness_by p l.ending)) (here ∙ ap (λ p. done_steps d.trail ++ p) (sym there))
+  pub none_left_out : (l : Limits) (choices : List ℕ) (d e : Standing) → Going r l.fuel choices (Some []) d [] None e → left_out l (map shown (walk_from r l.fuel choices [] d.world)) ≡ false
+  none_left_out l choices d e h = ap (λ (rs : List Run). left_out l (map shown rs)) (no_walk l choices d e h) ∙ none_out l [] (omega arith) (omega arith)
 
-each_behind : (sleeps : Bool) (near far : Option (List Step)) (fuel n : ℕ) (choices : List ℕ) (d e : Standing) (s : Program) (mode : Mode) (ls : List leaf.Leaf) (h : Going sleeps fuel choices near d [] far e) → h.rest ≡ n → AllByRecursion (HasWitness s mode (done_steps e.trail) n e.world) ls
-    → map (witness_text (done_steps e.trail) n e.world) ls ≡ map (witness_text (done_steps d.trail) fuel d.world) (map (behind choices) ls)
-each_behind sleeps near far fuel n choices d e s mode [] h left x = refl
-each_behind sleeps near far fuel n choices d e s mode (l ∷ ls) h left x = λ i. text_behind sleeps near far fuel n choices d e s mode l h left x.0 i ∷ each_behind sleeps near far fuel n choices d e s mode ls h left x.1 i
+  pub no_witnesses : (d : Standing) (fuel : ℕ) (ls : List leaf.Leaf) → ls ≡ [] → AllByRecursion (HasWitness r.decides d.trail.program d.trail.mode (done_steps d.trail) fuel d.world) ls
+  no_witnesses d fuel ls none = rw none tt
 
-texts_by : (sleeps : Bool) (near far : Option (List Step)) (asked : Bool) (fuel n : ℕ) (choices : List ℕ) (d e : Standing) (s : Program) (mode : Mode) (ls : List leaf.Leaf) (h : Going sleeps fuel choices near d [] far e) → h.rest ≡ n → AllByRecursion (HasWitness s mode (done_steps e.trail) n e.world) ls
-    → witness_texts asked (done_steps e.trail) n e.world ls ≡ witness_texts asked (done_steps d.trail) fuel d.world (map (behind choices) ls)
-texts_by sleeps near far false fuel n choices d e s mode ls h left x = refl
-texts_by sleeps near far true fuel n choices d e s mode ls h left x = each_behind sleeps near far fuel n choices d e s mode ls h left x
+  pub no_texts : (asked : Bool) (d : Standing) (fuel : ℕ) (ls : List leaf.Leaf) (texts : List (List ℕ)) → ls ≡ [] → texts ≡ [] → texts ≡ witness_texts r.decides asked (done_steps d.trail) fuel d.world ls
+  no_texts asked d fuel ls texts none empty = empty ∙ blank_texts r.decides asked (done_steps d.trail) fuel d.world ∙ ap (witness_texts r.decides asked (done_steps d.trail) fuel d.world) (sym none)
 
-pub texts_behind : (sleeps : Bool) (near far : Option (List Step)) (asked : Bool) (fuel n : ℕ) (choices : List ℕ) (d e : Standing) (s : Program) (mode : Mode) (ls now : List leaf.Leaf) (texts : List (List ℕ)) (h : Going sleeps fuel choices near d [] far e) → h.rest ≡ n → now ≡ map (behind choices) ls
-    → AllByRecursion (HasWitness s mode (done_steps e.trail) n e.world) ls → texts ≡ witness_texts asked (done_steps e.trail) n e.world ls → texts ≡ witness_texts asked (done_steps d.trail) fuel d.world now
-texts_behind sleeps near far asked fuel n choices d e s mode ls now texts h left is x told =
-    told ∙ texts_by sleeps near far asked fuel n choices d e s mode ls h left x ∙ ap (witness_texts asked (done_steps d.trail) fuel d.world) (sym is)
+  -- ---- and their witnesses
 
-forgotten_on : (sleeps : Bool) (near far : Option (List Step)) (fuel : ℕ) (choices : List ℕ) (d e f : Standing) → Going sleeps fuel choices near d [] far e → f.trail ≡ forgotten e.trail → f.world ≡ e.world → done_steps f.trail ≡ done_steps e.trail → IsReached f → Going sleeps fuel choices near d [] far f
-forgotten_on sleeps near far fuel choices d e f h trail world same reached =
-    record {
-      beyond = record { program = ap (λ (t : Trail). t.program) trail ∙ h.beyond.program; mode = ap (λ (t : Trail). t.mode) trail ∙ h.beyond.mode; reached = reached; path = h.beyond.path; done_steps_are = same ∙ h.beyond.done_steps_are };
-      taken = h.taken;
-      joined = h.joined;
-      rest = h.rest;
-      spent = ap (λ (t : Trail). t.depth + h.rest) trail ∙ h.spent;
-      along = rw world h.along;
-      reaches = rw world h.reaches;
-    }
+  run_behind : (near far : Option (List Step)) (fuel n : ℕ) (choices x : List ℕ) (d e : Standing) (h : Going r fuel choices near d [] far e) → h.rest ≡ n → run_by r.decides fuel (choices ++ x) d.world ≡ option_map (prefixed choices h.beyond.path) (run_by r.decides n x e.world)
+  run_behind near far fuel n choices x d e h left =
+      ap (λ cs. run_by r.decides fuel (cs ++ x) d.world) (sym (all_made near far fuel choices d e h)) ∙ h.along.runs x
+      ∙ ap (λ cs. option_map (prefixed cs h.beyond.path) (run_by r.decides h.rest x e.world)) (all_made near far fuel choices d e h)
+      ∙ ap (λ m. option_map (prefixed choices h.beyond.path) (run_by r.decides m x e.world)) left
 
--- the same where undone steps are forgotten
-pub going_forgotten : (sleeps : Bool) (near far : Option (List Step)) (fuel m : ℕ) (choices : List ℕ) (d e f : Standing) → m ≡ fuel → Going sleeps m choices near d [] far e → f.trail ≡ forgotten e.trail → f.world ≡ e.world → done_steps f.trail ≡ done_steps e.trail → IsReached f → Going sleeps fuel choices near d [] far f
-going_forgotten sleeps near far fuel m choices d e f is h trail world same reached = forgotten_on sleeps near far fuel choices d e f (rw is at h) trail world same reached
+  witness_behind : (near far : Option (List Step)) (fuel n : ℕ) (choices : List ℕ) (d e : Standing) (s : Program) (mode : Mode) (l : leaf.Leaf) (h : Going r fuel choices near d [] far e) → h.rest ≡ n → HasWitness r.decides s mode (done_steps e.trail) n e.world l → HasWitness r.decides s mode (done_steps d.trail) fuel d.world (behind choices l)
+  witness_behind near far fuel n choices d e s mode l h left x =
+      record {
+        run = prefixed choices h.beyond.path x.run;
+        by = run_behind near far fuel n choices l.choices d e h left ∙ ap (option_map (prefixed choices h.beyond.path)) x.by;
+        ending = x.ending;
+        witness = subst (λ (p : List Step). WitnessBy s mode p l.ending) (ap (λ p. p ++ x.run.steps) h.beyond.done_steps_are ∙ append_assoc (done_steps d.trail) h.beyond.path x.run.steps) x.witness;
+      }
 
--- ---- as found
+  all_behind : (near far : Option (List Step)) (fuel n : ℕ) (choices : List ℕ) (d e : Standing) (s : Program) (mode : Mode) (ls : List leaf.Leaf) (h : Going r fuel choices near d [] far e) → h.rest ≡ n → AllByRecursion (HasWitness r.decides s mode (done_steps e.trail) n e.world) ls → AllByRecursion (HasWitness r.decides s mode (done_steps d.trail) fuel d.world) (map (behind choices) ls)
+  all_behind near far fuel n choices d e s mode [] h left x = tt
+  all_behind near far fuel n choices d e s mode (l ∷ ls) h left x = (witness_behind near far fuel n choices d e s mode l h left x.0, all_behind near far fuel n choices d e s mode ls h left x.1)
 
-pub trail_found : (d m e : Standing) → IsReached d → length d.trail.steps ≡ d.trail.depth → Beyond d m → e.trail ≡ forgotten (gone_back m.trail d.trail.depth) → e.trail ≡ d.trail
-trail_found d m e reached clean h is = as_found d.trail m.trail e.trail clean (beyond_depth d m reached h) h.program h.mode (beyond_below d m reached h) is
+  pub witnesses_behind : (near far : Option (List Step)) (fuel n : ℕ) (choices : List ℕ) (d e : Standing) (ls now : List leaf.Leaf) (h : Going r fuel choices near d [] far e) → h.rest ≡ n → now ≡ map (behind choices) ls → AllByRecursion (HasWitness r.decides e.trail.program e.trail.mode (done_steps e.trail) n e.world) ls
+      → AllByRecursion (HasWitness r.decides d.trail.program d.trail.mode (done_steps d.trail) fuel d.world) now
+  witnesses_behind near far fuel n choices d e ls now h left is x =
+      let own : AllByRecursion (HasWitness r.decides d.trail.program d.trail.mode (done_steps e.trail) n e.world) ls = rw (h.beyond.program, h.beyond.mode) at x in
+      rw is (all_behind near far fuel n choices d e d.trail.program d.trail.mode ls h left own)
 
--- ---- what is asleep, as the code notes it
+  -- ---- and the texts of these
 
-pub going_there : (sleeps : Bool) (s near t far : Option (List Step)) (fuel : ℕ) (choices left : List ℕ) (d e : Standing) → s ≡ near → t ≡ far → Going sleeps fuel choices s d left t e → Going sleeps fuel choices near d left far e
-going_there sleeps s near t far fuel choices left d e is there h = rw (is, there) at h
+  text_behind : (near far : Option (List Step)) (fuel n : ℕ) (choices : List ℕ) (d e : Standing) (s : Program) (mode : Mode) (l : leaf.Leaf) (h : Going r fuel choices near d [] far e) → h.rest ≡ n → HasWitness r.decides s mode (done_steps e.trail) n e.world l → witness_text r.decides (done_steps e.trail) n e.world l ≡ witness_text r.decides (done_steps d.trail) fuel d.world (behind choices l)
+  text_behind near far fuel n choices d e s mode l h left x =
+      let here : done_steps e.trail ++ steps_by (run_by r.decides n l.choices e.world) ≡ done_steps d.trail ++ (h.beyond.path ++ x.run.steps) =
+      ap (λ o. done_steps e.trail ++ steps_by o) x.by ∙ ap (λ p. p ++ x.run.steps) h.beyond.done_steps_are ∙ append_assoc (done_steps d.trail) h.beyond.path x.run.steps in
+      let there : steps_by (run_by r.decides fuel (choices ++ l.choices) d.world) ≡ h.beyond.path ++ x.run.steps = ap steps_by (run_behind near far fuel n choices l.choices d e h left ∙ ap (option_map (prefixed choices h.beyond.path)) x.by) in
+      ap (λ p. behind_number (witness_by p l.ending)) (here ∙ ap (λ p. done_steps d.trail ++ p) (sym there))
 
-pub none_there : (s : Sleep) → s.steps.items ≡ [] → s.is_passed ≡ false → asleep_there s ≡ Some []
-none_there s none awake = ap (λ (b : Bool). if b then None else Some (reverse s.steps.items)) awake ∙ ap (λ (xs : List Step). Some (reverse xs)) none
+  each_behind : (near far : Option (List Step)) (fuel n : ℕ) (choices : List ℕ) (d e : Standing) (s : Program) (mode : Mode) (ls : List leaf.Leaf) (h : Going r fuel choices near d [] far e) → h.rest ≡ n → AllByRecursion (HasWitness r.decides s mode (done_steps e.trail) n e.world) ls
+      → map (witness_text r.decides (done_steps e.trail) n e.world) ls ≡ map (witness_text r.decides (done_steps d.trail) fuel d.world) (map (behind choices) ls)
+  each_behind near far fuel n choices d e s mode [] h left x = refl
+  each_behind near far fuel n choices d e s mode (l ∷ ls) h left x = λ i. text_behind near far fuel n choices d e s mode l h left x.0 i ∷ each_behind near far fuel n choices d e s mode ls h left x.1 i
 
-pub passed_there : (s : Sleep) → s.is_passed ≡ true → asleep_there s ≡ None
-passed_there s passed = ap (λ (b : Bool). if b then None else Some (reverse s.steps.items)) passed
+  texts_by : (near far : Option (List Step)) (asked : Bool) (fuel n : ℕ) (choices : List ℕ) (d e : Standing) (s : Program) (mode : Mode) (ls : List leaf.Leaf) (h : Going r fuel choices near d [] far e) → h.rest ≡ n → AllByRecursion (HasWitness r.decides s mode (done_steps e.trail) n e.world) ls
+      → witness_texts r.decides asked (done_steps e.trail) n e.world ls ≡ witness_texts r.decides asked (done_steps d.trail) fuel d.world (map (behind choices) ls)
+  texts_by near far false fuel n choices d e s mode ls h left x = refl
+  texts_by near far true fuel n choices d e s mode ls h left x = each_behind near far fuel n choices d e s mode ls h left x
 
-pub awake_there : (s : Sleep) (now : List Step) → s.is_passed ≡ false → now ≡ reverse s.steps.items → asleep_there s ≡ Some now
-awake_there s now awake turned = ap (λ (b : Bool). if b then None else Some (reverse s.steps.items)) awake ∙ ap Some (sym turned)
+  pub texts_behind : (near far : Option (List Step)) (asked : Bool) (fuel n : ℕ) (choices : List ℕ) (d e : Standing) (s : Program) (mode : Mode) (ls now : List leaf.Leaf) (texts : List (List ℕ)) (h : Going r fuel choices near d [] far e) → h.rest ≡ n → now ≡ map (behind choices) ls
+      → AllByRecursion (HasWitness r.decides s mode (done_steps e.trail) n e.world) ls → texts ≡ witness_texts r.decides asked (done_steps e.trail) n e.world ls → texts ≡ witness_texts r.decides asked (done_steps d.trail) fuel d.world now
+  texts_behind near far asked fuel n choices d e s mode ls now texts h left is x told =
+      told ∙ texts_by near far asked fuel n choices d e s mode ls h left x ∙ ap (witness_texts r.decides asked (done_steps d.trail) fuel d.world) (sym is)
+
+  forgotten_on : (near far : Option (List Step)) (fuel : ℕ) (choices : List ℕ) (d e f : Standing) → Going r fuel choices near d [] far e → f.trail ≡ forgotten e.trail → f.world ≡ e.world → done_steps f.trail ≡ done_steps e.trail → IsReached f → Going r fuel choices near d [] far f
+  forgotten_on near far fuel choices d e f h trail world same reached =
+      record {
+        beyond = record { program = ap (λ (t : Trail). t.program) trail ∙ h.beyond.program; mode = ap (λ (t : Trail). t.mode) trail ∙ h.beyond.mode; reached = reached; path = h.beyond.path; done_steps_are = same ∙ h.beyond.done_steps_are };
+        taken = h.taken;
+        joined = h.joined;
+        rest = h.rest;
+        spent = ap (λ (t : Trail). t.depth + h.rest) trail ∙ h.spent;
+        along = rw world h.along;
+        reaches = rw world h.reaches;
+      }
+
+  -- the same where undone steps are forgotten
+  pub going_forgotten : (near far : Option (List Step)) (fuel m : ℕ) (choices : List ℕ) (d e f : Standing) → m ≡ fuel → Going r m choices near d [] far e → f.trail ≡ forgotten e.trail → f.world ≡ e.world → done_steps f.trail ≡ done_steps e.trail → IsReached f → Going r fuel choices near d [] far f
+  going_forgotten near far fuel m choices d e f is h trail world same reached = forgotten_on near far fuel choices d e f (rw is at h) trail world same reached
+
+  -- the same with what is asleep told in other words
+  pub going_there : (near there far : Option (List Step)) (fuel : ℕ) (choices left : List ℕ) (d e : Standing) → there ≡ far → Going r fuel choices near d left there e → Going r fuel choices near d left far e
+  going_there near there far fuel choices left d e is h = rw is at h

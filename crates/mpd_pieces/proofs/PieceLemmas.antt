@@ -10,17 +10,16 @@ use Rattle.mpd_model.specs.declared.decision.Decision.{Decision}
 use Rattle.mpd_model.specs.declared.decision.Decision.TheVariants.{Forced, Choice, Leaf}
 use Rattle.mpd_model.specs.steps.World.{World}
 use Rattle.mpd_model.specs.steps.Next.{next}
-use Rattle.mpd_model.specs.runs.Decisions.{decision, CanFollow}
+use Rattle.mpd_model.specs.runs.Decisions.{CanFollow}
 use Rattle.mpd_explore.specs.declared.report.Leaf as leaf
 use Rattle.mpd_explore.specs.declared.report.Limits.{Limits}
-use Rattle.mpd_explore.specs.Walk.{Run, stepped, chosen, runs_of}
-use Rattle.mpd_explore.specs.Sleeping.{is_asleep, put_off, put_to_sleep, awake_runs, awake_branches, followed_awake, awake_walk, walk_of}
+use Rattle.mpd_walk.specs.Walk.{Run, stepped, chosen, runs_of}
+use Rattle.mpd_explore.specs.Sleeping.{put_off, put_to_sleep, awake_runs, branches_by, followed_by, Rules, rules_by, decides_by, walk_with, walk_of}
 use Rattle.mpd_explore.specs.Search.{AllEnabled}
 use Rattle.mpd_explore.specs.Report.{shown, up_to_bad, ended_by, listed, left_out}
 use Rattle.mpd_explore.proofs.AsleepLemmas.{put_off_more}
 use Rattle.mpd_explore.proofs.AwakeLemmas.{walk_by_is}
-use Rattle.mpd_explore.proofs.SearchLemmas.{awake_is}
-use Rattle.mpd_explore.proofs.WitnessLemmas.{AllFollow}
+use Rattle.mpd_explore.proofs.MoveLemmas.{awake_is}
 use Rattle.mpd_explore.proofs.ListedLemmas.{neither, not_less, up_few, up_whole, listed_few, listed_whole, ended_twice}
 use Rattle.mpd_pieces.specs.Pieces.{led_by, branched, cut_by, pieces, numbered, walk_from, walk_at, InState, ByCandidate, BeginsSo, Reaches, part, split_report, split_more}
 use Rattle.mpd_pieces.specs.Along.{counted, longer, runs_on, sleeping_behind, Adds, choices_of}
@@ -49,69 +48,61 @@ drop_read [] ys (suc i) a e = cc
 drop_read (x ∷ xs) ys zero a e = cc
 drop_read (x ∷ xs) ys (suc i) a e = drop_read xs ys i a e
 
-pub pieces_none : (n : ℕ) (w : World) → pieces 0 n w ≡ [] ∷ []
-unfolding pieces
-pieces_none zero w = refl
-pieces_none (suc n) w = refl
-
 one_list : {A : Type 0} (f : List ℕ → List A) → flat_map f ([] ∷ []) ≡ f []
 one_list f = append-nil (f [])
 
--- ---- one choice more
+module _ (decide : World → Decision) where
+  pub pieces_none : (n : ℕ) (w : World) → pieces decide 0 n w ≡ [] ∷ []
+  unfolding pieces
+  pieces_none zero w = refl
+  pieces_none (suc n) w = refl
 
-longer_state : (k n : ℕ) (w : World) (a : Step) (o : Option World) → decision w ≡ Forced a → next w a ≡ o → ((v : World) → flat_map (λ cs. longer n cs v) (pieces (suc k) n v) ≡ pieces (suc (suc k)) n v)
-    → flat_map (λ cs. longer (suc n) cs w) (runs_of (pieces (suc k) n) o) ≡ runs_of (pieces (suc (suc k)) n) o
-longer_state k n w a None forced e all = refl
-longer_state k n w a (Some v) forced e all = (λ i. flat_map (λ cs. longer_forced n cs w v a forced e i) (pieces (suc k) n v)) ∙ all v
+  -- ---- one choice more
 
-longer_candidate : (k n c : ℕ) (w : World) (candidates : List Step) (a : Step) (o : Option World) → decision w ≡ Choice candidates → slice_get candidates c ≡ Some a → next w a ≡ o → ((v : World) → flat_map (λ cs. longer n cs v) (pieces k n v) ≡ pieces (suc k) n v)
-    → flat_map (λ cs. longer (suc n) cs w) (led_by c (runs_of (pieces k n) o)) ≡ led_by c (runs_of (pieces (suc k) n) o)
-longer_candidate k n c w candidates a None choice read e all = refl
-longer_candidate k n c w candidates a (Some v) choice read e all =
-    flat_map-map (λ cs. longer (suc n) cs w) (λ cs. c ∷ cs) (pieces k n v)
-    ∙ (λ i. flat_map (λ cs. longer_chosen n c cs w v candidates a choice read e i) (pieces k n v))
-    ∙ map_all (λ cs. c ∷ cs) (λ cs. longer n cs v) (pieces k n v)
-    ∙ ap (led_by c) (all v)
+  longer_state : (k n : ℕ) (w : World) (a : Step) (o : Option World) → decide w ≡ Forced a → next w a ≡ o → ((v : World) → flat_map (λ cs. longer decide n cs v) (pieces decide (suc k) n v) ≡ pieces decide (suc (suc k)) n v)
+      → flat_map (λ cs. longer decide (suc n) cs w) (runs_of (pieces decide (suc k) n) o) ≡ runs_of (pieces decide (suc (suc k)) n) o
+  longer_state k n w a None forced e all = refl
+  longer_state k n w a (Some v) forced e all = (λ i. flat_map (λ cs. longer_forced decide n cs w v a forced e i) (pieces decide (suc k) n v)) ∙ all v
 
-longer_branched : (k n i : ℕ) (w : World) (candidates more : List Step) → decision w ≡ Choice candidates → drop i candidates ≡ more → ((v : World) → flat_map (λ cs. longer n cs v) (pieces k n v) ≡ pieces (suc k) n v)
-    → flat_map (λ cs. longer (suc n) cs w) (branched (pieces k n) w i more) ≡ branched (pieces (suc k) n) w i more
-longer_branched k n i w candidates [] choice e all = refl
-longer_branched k n i w candidates (a ∷ more) choice e all =
-    flat_map-append (λ cs. longer (suc n) cs w) (led_by i (runs_of (pieces k n) (next w a))) (branched (pieces k n) w (suc i) more)
-    ∙ ap (λ xs. xs ++ flat_map (λ cs. longer (suc n) cs w) (branched (pieces k n) w (suc i) more)) (longer_candidate k n i w candidates a (next w a) choice (drop_read candidates more i a e) refl all)
-    ∙ ap (λ xs. led_by i (runs_of (pieces (suc k) n) (next w a)) ++ xs) (longer_branched k n (suc i) w candidates more choice (drop_next candidates more i a e) all)
+  longer_candidate : (k n c : ℕ) (w : World) (candidates : List Step) (a : Step) (o : Option World) → decide w ≡ Choice candidates → slice_get candidates c ≡ Some a → next w a ≡ o → ((v : World) → flat_map (λ cs. longer decide n cs v) (pieces decide k n v) ≡ pieces decide (suc k) n v)
+      → flat_map (λ cs. longer decide (suc n) cs w) (led_by c (runs_of (pieces decide k n) o)) ≡ led_by c (runs_of (pieces decide (suc k) n) o)
+  longer_candidate k n c w candidates a None choice read e all = refl
+  longer_candidate k n c w candidates a (Some v) choice read e all =
+      flat_map-map (λ cs. longer decide (suc n) cs w) (λ cs. c ∷ cs) (pieces decide k n v)
+      ∙ (λ i. flat_map (λ cs. longer_chosen decide n c cs w v candidates a choice read e i) (pieces decide k n v))
+      ∙ map_all (λ cs. c ∷ cs) (λ cs. longer decide n cs v) (pieces decide k n v)
+      ∙ ap (led_by c) (all v)
 
-longer_cut : (k n : ℕ) (w : World) (d : Decision) → decision w ≡ d → ((v : World) → flat_map (λ cs. longer n cs v) (pieces (suc k) n v) ≡ pieces (suc (suc k)) n v) → ((v : World) → flat_map (λ cs. longer n cs v) (pieces k n v) ≡ pieces (suc k) n v)
-    → flat_map (λ cs. longer (suc n) cs w) (cut_by (pieces (suc k) n) (pieces k n) w d) ≡ cut_by (pieces (suc (suc k)) n) (pieces (suc k) n) w d
-longer_cut k n w (Forced a) e same less = longer_state k n w a (next w a) e refl same
-longer_cut k n w (Choice candidates) e same less = longer_branched k n 0 w candidates candidates e refl less
-longer_cut k n w (Leaf o) e same less = one_list (λ cs. longer (suc n) cs w) ∙ longer_none (suc n) w ∙ pieces_is 0 n w (Leaf o) e
+  longer_branched : (k n i : ℕ) (w : World) (candidates more : List Step) → decide w ≡ Choice candidates → drop i candidates ≡ more → ((v : World) → flat_map (λ cs. longer decide n cs v) (pieces decide k n v) ≡ pieces decide (suc k) n v)
+      → flat_map (λ cs. longer decide (suc n) cs w) (branched (pieces decide k n) w i more) ≡ branched (pieces decide (suc k) n) w i more
+  longer_branched k n i w candidates [] choice e all = refl
+  longer_branched k n i w candidates (a ∷ more) choice e all =
+      flat_map-append (λ cs. longer decide (suc n) cs w) (led_by i (runs_of (pieces decide k n) (next w a))) (branched (pieces decide k n) w (suc i) more)
+      ∙ ap (λ xs. xs ++ flat_map (λ cs. longer decide (suc n) cs w) (branched (pieces decide k n) w (suc i) more)) (longer_candidate k n i w candidates a (next w a) choice (drop_read candidates more i a e) refl all)
+      ∙ ap (λ xs. led_by i (runs_of (pieces decide (suc k) n) (next w a)) ++ xs) (longer_branched k n (suc i) w candidates more choice (drop_next candidates more i a e) all)
 
--- the pieces of one choice more are what each piece becomes
-pub all_longer_are : (n k : ℕ) (w : World) → flat_map (λ cs. longer n cs w) (pieces k n w) ≡ pieces (suc k) n w
-unfolding pieces longer
-all_longer_are zero zero w = refl
-all_longer_are zero (suc k) w = refl
-all_longer_are (suc n) zero w = one_list (λ cs. longer (suc n) cs w)
-all_longer_are (suc n) (suc k) w = longer_cut k n w (decision w) refl (λ v. all_longer_are n (suc k) v) (λ v. all_longer_are n k v)
+  longer_cut : (k n : ℕ) (w : World) (d : Decision) → decide w ≡ d → ((v : World) → flat_map (λ cs. longer decide n cs v) (pieces decide (suc k) n v) ≡ pieces decide (suc (suc k)) n v) → ((v : World) → flat_map (λ cs. longer decide n cs v) (pieces decide k n v) ≡ pieces decide (suc k) n v)
+      → flat_map (λ cs. longer decide (suc n) cs w) (cut_by (pieces decide (suc k) n) (pieces decide k n) w d) ≡ cut_by (pieces decide (suc (suc k)) n) (pieces decide (suc k) n) w d
+  longer_cut k n w (Forced a) e same less = longer_state k n w a (next w a) e refl same
+  longer_cut k n w (Choice candidates) e same less = longer_branched k n 0 w candidates candidates e refl less
+  longer_cut k n w (Leaf o) e same less = one_list (λ cs. longer decide (suc n) cs w) ∙ longer_none decide (suc n) w ∙ pieces_is decide 0 n w (Leaf o) e
 
--- where a choice more makes no difference, none does
-pub never_longer : (fuel k j : ℕ) (w : World) → pieces (suc k) fuel w ≡ pieces k fuel w → pieces (k + j) fuel w ≡ pieces k fuel w
-never_longer fuel k zero w e = ap (λ m. pieces m fuel w) (omega arith)
-never_longer fuel k (suc j) w e =
-    let more : k + suc j ≡ suc (k + j) = omega arith in
-    ap (λ m. pieces m fuel w) more ∙ sym (all_longer_are fuel (k + j) w) ∙ ap (flat_map (λ cs. longer fuel cs w)) (never_longer fuel k j w e) ∙ all_longer_are fuel k w ∙ e
+  -- the pieces of one choice more are what each piece becomes
+  pub all_longer_are : (n k : ℕ) (w : World) → flat_map (λ cs. longer decide n cs w) (pieces decide k n w) ≡ pieces decide (suc k) n w
+  unfolding pieces longer
+  all_longer_are zero zero w = refl
+  all_longer_are zero (suc k) w = refl
+  all_longer_are (suc n) zero w = one_list (λ cs. longer decide (suc n) cs w)
+  all_longer_are (suc n) (suc k) w = longer_cut k n w (decide w) refl (λ v. all_longer_are n (suc k) v) (λ v. all_longer_are n k v)
+
+  -- where a choice more makes no difference, none does
+  pub never_longer : (fuel k j : ℕ) (w : World) → pieces decide (suc k) fuel w ≡ pieces decide k fuel w → pieces decide (k + j) fuel w ≡ pieces decide k fuel w
+  never_longer fuel k zero w e = ap (λ m. pieces decide m fuel w) (omega arith)
+  never_longer fuel k (suc j) w e =
+      let more : k + suc j ≡ suc (k + j) = omega arith in
+      ap (λ m. pieces decide m fuel w) more ∙ sym (all_longer_are fuel (k + j) w) ∙ ap (flat_map (λ cs. longer decide fuel cs w)) (never_longer fuel k j w e) ∙ all_longer_are fuel k w ∙ e
 
 -- ---- all pieces joined
-
-abbrev AllJoin : Bool → ℕ → ℕ → Type 0
-AllJoin sleeps k n = (asleep : List Step) (v : World) → flat_map (λ cs. walk_from sleeps n cs asleep v) (pieces k n v) ≡ awake_walk sleeps n asleep v
-
-walk_state : (sleeps : Bool) (k n : ℕ) (asleep : List Step) (w : World) (a : Step) (o : Option World) → decision w ≡ Forced a → next w a ≡ o → AllJoin sleeps (suc k) n
-    → flat_map (λ cs. walk_from sleeps (suc n) cs asleep w) (runs_of (pieces (suc k) n) o) ≡ map (stepped a) (runs_of (awake_walk sleeps n asleep) o)
-walk_state sleeps k n asleep w a None forced e all = refl
-walk_state sleeps k n asleep w a (Some v) forced e all =
-    (λ i. flat_map (λ cs. walk_forced sleeps n cs asleep w v a forced e i) (pieces (suc k) n v)) ∙ map_all (stepped a) (λ cs. walk_from sleeps n cs asleep v) (pieces (suc k) n v) ∙ ap (map (stepped a)) (all asleep v)
 
 none_all : {A : Type 0} (xs : List A) → ◌≡◌ {A = List Run} (flat_map (λ (x : A). []) xs) []
 none_all [] = refl
@@ -121,50 +112,68 @@ none_by : (c : ℕ) (a : Step) (b : Bool) (runs : World → List Run) → [] ≡
 none_by c a true runs = refl
 none_by c a false runs = refl
 
-walks_behind : (sleeps : Bool) (k n : ℕ) (b : Bool) (s : List Step) (v : World) → AllJoin sleeps k n → flat_map (λ cs. runs_on sleeps n (if b then None else Some s) cs v) (pieces k n v) ≡ awake_runs b (awake_walk sleeps n s) (Some v)
-walks_behind sleeps k n true s v all = none_all (pieces k n v)
-walks_behind sleeps k n false s v all = all s v
+module _ (r : Rules) where
+  abbrev cuts : ℕ → ℕ → World → List (List ℕ)
+  cuts k n w = pieces r.decides k n w
 
-walk_candidate : (sleeps : Bool) (k n c : ℕ) (asleep : List Step) (w : World) (candidates : List Step) (a : Step) (o : Option World) → decision w ≡ Choice candidates → slice_get candidates c ≡ Some a → next w a ≡ o → AllJoin sleeps k n
-    → flat_map (λ cs. walk_from sleeps (suc n) cs asleep w) (led_by c (runs_of (pieces k n) o)) ≡ map (chosen c a) (awake_runs (is_asleep (put_off sleeps c candidates asleep) a) (awake_walk sleeps n (put_off sleeps c candidates asleep)) o)
-walk_candidate sleeps k n c asleep w candidates a None choice read e all = none_by c a (is_asleep (put_off sleeps c candidates asleep) a) (awake_walk sleeps n (put_off sleeps c candidates asleep))
-walk_candidate sleeps k n c asleep w candidates a (Some v) choice read e all =
-    let s : List Step = put_off sleeps c candidates asleep in
-    flat_map-map (λ cs. walk_from sleeps (suc n) cs asleep w) (λ cs. c ∷ cs) (pieces k n v)
-    ∙ (λ i. flat_map (λ cs. walk_chosen sleeps n c cs asleep w v candidates a choice read e i) (pieces k n v))
-    ∙ map_all (chosen c a) (λ cs. runs_on sleeps n (sleeping_behind sleeps candidates c a (Some asleep)) cs v) (pieces k n v)
-    ∙ ap (map (chosen c a)) (walks_behind sleeps k n (is_asleep s a) s v all)
+  abbrev AllJoin : ℕ → ℕ → Type 0
+  AllJoin k n = (asleep : List Step) (v : World) → flat_map (λ cs. walk_from r n cs asleep v) (cuts k n v) ≡ walk_with r n asleep v
 
-walk_branched : (sleeps : Bool) (k n i : ℕ) (asleep : List Step) (w : World) (candidates more : List Step) → decision w ≡ Choice candidates → drop i candidates ≡ more → AllJoin sleeps k n
-    → flat_map (λ cs. walk_from sleeps (suc n) cs asleep w) (branched (pieces k n) w i more) ≡ awake_branches sleeps (awake_walk sleeps n) w (put_off sleeps i candidates asleep) i more
-walk_branched sleeps k n i asleep w candidates [] choice e all = refl
-walk_branched sleeps k n i asleep w candidates (a ∷ more) choice e all =
-    let s : List Step = put_off sleeps i candidates asleep in
-    let rest : drop (suc i) candidates ≡ more = drop_next candidates more i a e in
-    let fallen : put_off sleeps (suc i) candidates asleep ≡ put_to_sleep sleeps a s = put_off_more sleeps i candidates asleep a (e ∙ ap (λ xs. a ∷ xs) (sym rest)) in
-    flat_map-append (λ cs. walk_from sleeps (suc n) cs asleep w) (led_by i (runs_of (pieces k n) (next w a))) (branched (pieces k n) w (suc i) more)
-    ∙ ap (λ xs. xs ++ flat_map (λ cs. walk_from sleeps (suc n) cs asleep w) (branched (pieces k n) w (suc i) more)) (walk_candidate sleeps k n i asleep w candidates a (next w a) choice (drop_read candidates more i a e) refl all)
-    ∙ ap (λ xs. map (chosen i a) (awake_runs (is_asleep s a) (awake_walk sleeps n s) (next w a)) ++ xs) (walk_branched sleeps k n (suc i) asleep w candidates more choice rest all ∙ ap (λ z. awake_branches sleeps (awake_walk sleeps n) w z (suc i) more) fallen)
+  walk_state : (k n : ℕ) (asleep : List Step) (w : World) (a : Step) (o : Option World) → r.decides w ≡ Forced a → next w a ≡ o → AllJoin (suc k) n
+      → flat_map (λ cs. walk_from r (suc n) cs asleep w) (runs_of (cuts (suc k) n) o) ≡ map (stepped a) (runs_of (walk_with r n (r.keeps w a asleep)) o)
+  walk_state k n asleep w a None forced e all = refl
+  walk_state k n asleep w a (Some v) forced e all =
+      let kept : List Step = r.keeps w a asleep in
+      (λ i. flat_map (λ cs. walk_forced r n cs asleep w v a forced e i) (cuts (suc k) n v)) ∙ map_all (stepped a) (λ cs. walk_from r n cs kept v) (cuts (suc k) n v) ∙ ap (map (stepped a)) (all kept v)
 
-walk_cut : (sleeps : Bool) (k n : ℕ) (asleep : List Step) (w : World) (d : Decision) → decision w ≡ d → AllJoin sleeps (suc k) n → AllJoin sleeps k n
-    → flat_map (λ cs. walk_from sleeps (suc n) cs asleep w) (cut_by (pieces (suc k) n) (pieces k n) w d) ≡ followed_awake sleeps (awake_walk sleeps n) asleep w d
-walk_cut sleeps k n asleep w (Forced a) e same less = walk_state sleeps k n asleep w a (next w a) e refl same
-walk_cut sleeps k n asleep w (Choice candidates) e same less = walk_branched sleeps k n 0 asleep w candidates candidates e refl less
-walk_cut sleeps k n asleep w (Leaf o) e same less = one_list (λ cs. walk_from sleeps (suc n) cs asleep w) ∙ walk_whole sleeps (suc n) asleep w ∙ awake_is sleeps n asleep w (Leaf o) e
+  walks_behind : (k n : ℕ) (b : Bool) (s : List Step) (v : World) → AllJoin k n → flat_map (λ cs. runs_on r n (if b then None else Some s) cs v) (cuts k n v) ≡ awake_runs b (walk_with r n s) (Some v)
+  walks_behind k n true s v all = none_all (cuts k n v)
+  walks_behind k n false s v all = all s v
 
-walks_joined : (sleeps : Bool) (n k : ℕ) → AllJoin sleeps k n
-unfolding pieces
-walks_joined sleeps zero zero = λ asleep w. one_list (λ cs. walk_from sleeps 0 cs asleep w) ∙ walk_whole sleeps 0 asleep w
-walks_joined sleeps zero (suc k) = λ asleep w. one_list (λ cs. walk_from sleeps 0 cs asleep w) ∙ walk_whole sleeps 0 asleep w
-walks_joined sleeps (suc n) zero = λ asleep w. one_list (λ cs. walk_from sleeps (suc n) cs asleep w) ∙ walk_whole sleeps (suc n) asleep w
-walks_joined sleeps (suc n) (suc k) = λ asleep w. walk_cut sleeps k n asleep w (decision w) refl (walks_joined sleeps n (suc k)) (walks_joined sleeps n k) ∙ sym (awake_is sleeps n asleep w (decision w) refl)
+  walk_candidate : (k n c : ℕ) (asleep : List Step) (w : World) (candidates : List Step) (a : Step) (o : Option World) → r.decides w ≡ Choice candidates → slice_get candidates c ≡ Some a → next w a ≡ o → AllJoin k n
+      → flat_map (λ cs. walk_from r (suc n) cs asleep w) (led_by c (runs_of (cuts k n) o))
+      ≡ map (chosen c a) (awake_runs (list_any (r.same a) (put_off r.sleeps c candidates asleep)) (walk_with r n (r.keeps w a (put_off r.sleeps c candidates asleep))) o)
+  walk_candidate k n c asleep w candidates a None choice read e all =
+      let s : List Step = put_off r.sleeps c candidates asleep in
+      none_by c a (list_any (r.same a) s) (walk_with r n (r.keeps w a s))
+  walk_candidate k n c asleep w candidates a (Some v) choice read e all =
+      let s : List Step = put_off r.sleeps c candidates asleep in
+      flat_map-map (λ cs. walk_from r (suc n) cs asleep w) (λ cs. c ∷ cs) (cuts k n v)
+      ∙ (λ i. flat_map (λ cs. walk_chosen r n c cs asleep w v candidates a choice read e i) (cuts k n v))
+      ∙ map_all (chosen c a) (λ cs. runs_on r n (sleeping_behind r w candidates c a (Some asleep)) cs v) (cuts k n v)
+      ∙ ap (map (chosen c a)) (walks_behind k n (list_any (r.same a) s) (r.keeps w a s) v all)
+
+  walk_branched : (k n i : ℕ) (asleep : List Step) (w : World) (candidates more : List Step) → r.decides w ≡ Choice candidates → drop i candidates ≡ more → AllJoin k n
+      → flat_map (λ cs. walk_from r (suc n) cs asleep w) (branched (cuts k n) w i more) ≡ branches_by r.same r.keeps r.sleeps (walk_with r n) w (put_off r.sleeps i candidates asleep) i more
+  walk_branched k n i asleep w candidates [] choice e all = refl
+  walk_branched k n i asleep w candidates (a ∷ more) choice e all =
+      let s : List Step = put_off r.sleeps i candidates asleep in
+      let rest : drop (suc i) candidates ≡ more = drop_next candidates more i a e in
+      let fallen : put_off r.sleeps (suc i) candidates asleep ≡ put_to_sleep r.sleeps a s = put_off_more r.sleeps i candidates asleep a (e ∙ ap (λ xs. a ∷ xs) (sym rest)) in
+      flat_map-append (λ cs. walk_from r (suc n) cs asleep w) (led_by i (runs_of (cuts k n) (next w a))) (branched (cuts k n) w (suc i) more)
+      ∙ ap (λ xs. xs ++ flat_map (λ cs. walk_from r (suc n) cs asleep w) (branched (cuts k n) w (suc i) more)) (walk_candidate k n i asleep w candidates a (next w a) choice (drop_read candidates more i a e) refl all)
+      ∙ ap (λ xs. map (chosen i a) (awake_runs (list_any (r.same a) s) (walk_with r n (r.keeps w a s)) (next w a)) ++ xs)
+      (walk_branched k n (suc i) asleep w candidates more choice rest all ∙ ap (λ z. branches_by r.same r.keeps r.sleeps (walk_with r n) w z (suc i) more) fallen)
+
+  walk_cut : (k n : ℕ) (asleep : List Step) (w : World) (d : Decision) → r.decides w ≡ d → AllJoin (suc k) n → AllJoin k n
+      → flat_map (λ cs. walk_from r (suc n) cs asleep w) (cut_by (cuts (suc k) n) (cuts k n) w d) ≡ followed_by r.same r.keeps r.sleeps (walk_with r n) asleep w d
+  walk_cut k n asleep w (Forced a) e same less = walk_state k n asleep w a (next w a) e refl same
+  walk_cut k n asleep w (Choice candidates) e same less = walk_branched k n 0 asleep w candidates candidates e refl less
+  walk_cut k n asleep w (Leaf o) e same less = one_list (λ cs. walk_from r (suc n) cs asleep w) ∙ walk_whole r (suc n) asleep w ∙ awake_is r.decides r.same r.keeps r.sleeps n asleep w (Leaf o) e
+
+  walks_joined : (n k : ℕ) → AllJoin k n
+  unfolding pieces
+  walks_joined zero zero = λ asleep w. one_list (λ cs. walk_from r 0 cs asleep w) ∙ walk_whole r 0 asleep w
+  walks_joined zero (suc k) = λ asleep w. one_list (λ cs. walk_from r 0 cs asleep w) ∙ walk_whole r 0 asleep w
+  walks_joined (suc n) zero = λ asleep w. one_list (λ cs. walk_from r (suc n) cs asleep w) ∙ walk_whole r (suc n) asleep w
+  walks_joined (suc n) (suc k) = λ asleep w. walk_cut k n asleep w (r.decides w) refl (walks_joined n (suc k)) (walks_joined n k) ∙ sym (awake_is r.decides r.same r.keeps r.sleeps n asleep w (r.decides w) refl)
 
 -- of the walk that is asked for
 pub whole_at : (l : Limits) (w : World) → walk_at l [] w ≡ walk_of l w
-whole_at l w = walk_whole l.ends l.fuel [] w ∙ walk_by_is l.ends l.fuel w
+whole_at l w = walk_whole (rules_by l.ends) l.fuel [] w ∙ walk_by_is l.ends l.fuel w
 
-pub pieces_join : (k : ℕ) (l : Limits) (w : World) → flat_map (λ cs. walk_at l cs w) (pieces k l.fuel w) ≡ walk_of l w
-pieces_join k l w = walks_joined l.ends l.fuel k [] w ∙ walk_by_is l.ends l.fuel w
+pub pieces_join : (k : ℕ) (l : Limits) (w : World) → flat_map (λ cs. walk_at l cs w) (pieces (decides_by l.ends) k l.fuel w) ≡ walk_of l w
+pieces_join k l w = walks_joined (rules_by l.ends) l.fuel k [] w ∙ walk_by_is l.ends l.fuel w
 
 -- ---- some run begins with the choices of each
 
@@ -173,18 +182,6 @@ into_state P o v e h = rw e h
 
 into_candidate : (P : World → Type 0) (w : World) (o : Option Step) (a : Step) → o ≡ Some a → InState P (next w a) → ByCandidate P w o
 into_candidate P w o a e h = rw e h
-
-into_reaches : (n c : ℕ) (cs : List ℕ) (w : World) (d : Decision) → decision w ≡ d → BeginsSo (Reaches n) w c cs d → Reaches (suc n) (c ∷ cs) w
-unfolding Reaches
-into_reaches n c cs w d is h = rw is h
-
-reached_forced : (n : ℕ) (cs : List ℕ) (w v : World) (a : Step) → decision w ≡ Forced a → next w a ≡ Some v → Reaches n cs v → Reaches (suc n) cs w
-reached_forced n [] w v a forced step h = reaches_none (suc n) w
-reached_forced n (c ∷ cs) w v a forced step h = into_reaches n c cs w (Forced a) forced (into_state (Reaches n (c ∷ cs)) (next w a) v step h)
-
-reached_chosen : (n c : ℕ) (cs : List ℕ) (w v : World) (candidates : List Step) (a : Step) → decision w ≡ Choice candidates → slice_get candidates c ≡ Some a → next w a ≡ Some v → Reaches n cs v → Reaches (suc n) (c ∷ cs) w
-reached_chosen n c cs w v candidates a choice read step h =
-    into_reaches n c cs w (Choice candidates) choice (into_candidate (Reaches n cs) w (slice_get candidates c) a read (into_state (Reaches n cs) (next w a) v step h))
 
 all_by : {A : Type 0} (P Q : A → Type 0) (xs : List A) → ((x : A) → P x → Q x) → AllByRecursion P xs → AllByRecursion Q xs
 all_by P Q [] f h = tt
@@ -198,130 +195,144 @@ all_join : {A : Type 0} (P : A → Type 0) (xs ys : List A) → AllByRecursion P
 all_join P [] ys h k = k
 all_join P (x ∷ xs) ys h k = (h.0, all_join P xs ys h.1 k)
 
-AllReached : ℕ → ℕ → World → Type 0
-AllReached k n w = AllByRecursion (λ cs. Reaches n cs w) (pieces k n w)
+module _ (decide : World → Decision) where
+  into_reaches : (n c : ℕ) (cs : List ℕ) (w : World) (d : Decision) → decide w ≡ d → BeginsSo (Reaches decide n) w c cs d → Reaches decide (suc n) (c ∷ cs) w
+  unfolding Reaches
+  into_reaches n c cs w d is h = rw is h
 
-reach_state : (k n : ℕ) (w : World) (a : Step) (o : Option World) → decision w ≡ Forced a → next w a ≡ o → ((v : World) → AllReached (suc k) n v) → AllByRecursion (λ cs. Reaches (suc n) cs w) (runs_of (pieces (suc k) n) o)
-unfolding AllReached
-reach_state k n w a None forced e all = tt
-reach_state k n w a (Some v) forced e all = all_by (λ cs. Reaches n cs v) (λ cs. Reaches (suc n) cs w) (pieces (suc k) n v) (λ cs h. reached_forced n cs w v a forced e h) (all v)
+  reached_forced : (n : ℕ) (cs : List ℕ) (w v : World) (a : Step) → decide w ≡ Forced a → next w a ≡ Some v → Reaches decide n cs v → Reaches decide (suc n) cs w
+  reached_forced n [] w v a forced step h = reaches_none decide (suc n) w
+  reached_forced n (c ∷ cs) w v a forced step h = into_reaches n c cs w (Forced a) forced (into_state (Reaches decide n (c ∷ cs)) (next w a) v step h)
 
-reach_candidate : (k n c : ℕ) (w : World) (candidates : List Step) (a : Step) (o : Option World) → decision w ≡ Choice candidates → slice_get candidates c ≡ Some a → next w a ≡ o → ((v : World) → AllReached k n v)
-    → AllByRecursion (λ cs. Reaches (suc n) cs w) (led_by c (runs_of (pieces k n) o))
-unfolding AllReached
-reach_candidate k n c w candidates a None choice read e all = tt
-reach_candidate k n c w candidates a (Some v) choice read e all =
-    all_led (λ cs. Reaches n cs v) (λ cs. Reaches (suc n) cs w) c (pieces k n v) (λ cs h. reached_chosen n c cs w v candidates a choice read e h) (all v)
+  reached_chosen : (n c : ℕ) (cs : List ℕ) (w v : World) (candidates : List Step) (a : Step) → decide w ≡ Choice candidates → slice_get candidates c ≡ Some a → next w a ≡ Some v → Reaches decide n cs v → Reaches decide (suc n) (c ∷ cs) w
+  reached_chosen n c cs w v candidates a choice read step h =
+      into_reaches n c cs w (Choice candidates) choice (into_candidate (Reaches decide n cs) w (slice_get candidates c) a read (into_state (Reaches decide n cs) (next w a) v step h))
 
-reach_branched : (k n i : ℕ) (w : World) (candidates more : List Step) → decision w ≡ Choice candidates → drop i candidates ≡ more → ((v : World) → AllReached k n v) → AllByRecursion (λ cs. Reaches (suc n) cs w) (branched (pieces k n) w i more)
-reach_branched k n i w candidates [] choice e all = tt
-reach_branched k n i w candidates (a ∷ more) choice e all =
-    all_join (λ cs. Reaches (suc n) cs w) (led_by i (runs_of (pieces k n) (next w a))) (branched (pieces k n) w (suc i) more)
-    (reach_candidate k n i w candidates a (next w a) choice (drop_read candidates more i a e) refl all)
-    (reach_branched k n (suc i) w candidates more choice (drop_next candidates more i a e) all)
+  AllReached : ℕ → ℕ → World → Type 0
+  AllReached k n w = AllByRecursion (λ cs. Reaches decide n cs w) (pieces decide k n w)
 
-reach_cut : (k n : ℕ) (w : World) (d : Decision) → decision w ≡ d → ((v : World) → AllReached (suc k) n v) → ((v : World) → AllReached k n v) → AllByRecursion (λ cs. Reaches (suc n) cs w) (cut_by (pieces (suc k) n) (pieces k n) w d)
-reach_cut k n w (Forced a) e same less = reach_state k n w a (next w a) e refl same
-reach_cut k n w (Choice candidates) e same less = reach_branched k n 0 w candidates candidates e refl less
-reach_cut k n w (Leaf o) e same less = (reaches_none (suc n) w, tt)
+  reach_state : (k n : ℕ) (w : World) (a : Step) (o : Option World) → decide w ≡ Forced a → next w a ≡ o → ((v : World) → AllReached (suc k) n v) → AllByRecursion (λ cs. Reaches decide (suc n) cs w) (runs_of (pieces decide (suc k) n) o)
+  unfolding AllReached
+  reach_state k n w a None forced e all = tt
+  reach_state k n w a (Some v) forced e all = all_by (λ cs. Reaches decide n cs v) (λ cs. Reaches decide (suc n) cs w) (pieces decide (suc k) n v) (λ cs h. reached_forced n cs w v a forced e h) (all v)
 
-all_reached : (n k : ℕ) (w : World) → AllReached k n w
-unfolding pieces AllReached
-all_reached zero zero w = (reaches_none 0 w, tt)
-all_reached zero (suc k) w = (reaches_none 0 w, tt)
-all_reached (suc n) zero w = (reaches_none (suc n) w, tt)
-all_reached (suc n) (suc k) w = reach_cut k n w (decision w) refl (λ v. all_reached n (suc k) v) (λ v. all_reached n k v)
+  reach_candidate : (k n c : ℕ) (w : World) (candidates : List Step) (a : Step) (o : Option World) → decide w ≡ Choice candidates → slice_get candidates c ≡ Some a → next w a ≡ o → ((v : World) → AllReached k n v)
+      → AllByRecursion (λ cs. Reaches decide (suc n) cs w) (led_by c (runs_of (pieces decide k n) o))
+  unfolding AllReached
+  reach_candidate k n c w candidates a None choice read e all = tt
+  reach_candidate k n c w candidates a (Some v) choice read e all =
+      all_led (λ cs. Reaches decide n cs v) (λ cs. Reaches decide (suc n) cs w) c (pieces decide k n v) (λ cs h. reached_chosen n c cs w v candidates a choice read e h) (all v)
 
-pub pieces_reached : (k fuel : ℕ) (w : World) → AllByRecursion (λ cs. Reaches fuel cs w) (pieces k fuel w)
-unfolding AllReached
-pieces_reached k fuel w = all_reached fuel k w
+  reach_branched : (k n i : ℕ) (w : World) (candidates more : List Step) → decide w ≡ Choice candidates → drop i candidates ≡ more → ((v : World) → AllReached k n v) → AllByRecursion (λ cs. Reaches decide (suc n) cs w) (branched (pieces decide k n) w i more)
+  reach_branched k n i w candidates [] choice e all = tt
+  reach_branched k n i w candidates (a ∷ more) choice e all =
+      all_join (λ cs. Reaches decide (suc n) cs w) (led_by i (runs_of (pieces decide k n) (next w a))) (branched (pieces decide k n) w (suc i) more)
+      (reach_candidate k n i w candidates a (next w a) choice (drop_read candidates more i a e) refl all)
+      (reach_branched k n (suc i) w candidates more choice (drop_next candidates more i a e) all)
+
+  reach_cut : (k n : ℕ) (w : World) (d : Decision) → decide w ≡ d → ((v : World) → AllReached (suc k) n v) → ((v : World) → AllReached k n v) → AllByRecursion (λ cs. Reaches decide (suc n) cs w) (cut_by (pieces decide (suc k) n) (pieces decide k n) w d)
+  reach_cut k n w (Forced a) e same less = reach_state k n w a (next w a) e refl same
+  reach_cut k n w (Choice candidates) e same less = reach_branched k n 0 w candidates candidates e refl less
+  reach_cut k n w (Leaf o) e same less = (reaches_none decide (suc n) w, tt)
+
+  all_reached : (n k : ℕ) (w : World) → AllReached k n w
+  unfolding pieces AllReached
+  all_reached zero zero w = (reaches_none decide 0 w, tt)
+  all_reached zero (suc k) w = (reaches_none decide 0 w, tt)
+  all_reached (suc n) zero w = (reaches_none decide (suc n) w, tt)
+  all_reached (suc n) (suc k) w = reach_cut k n w (decide w) refl (λ v. all_reached n (suc k) v) (λ v. all_reached n k v)
+
+  pub pieces_reached : (k fuel : ℕ) (w : World) → AllByRecursion (λ cs. Reaches decide fuel cs w) (pieces decide k fuel w)
+  unfolding AllReached
+  pieces_reached k fuel w = all_reached fuel k w
 
 -- ---- there is one, and never fewer by a choice more
-
-Some_of : ℕ → ℕ → Type 0
-Some_of k n = (w : World) → 0 < length (pieces k n w)
-
-some_state : (k n : ℕ) (o : Option World) → Some_of k n → IsSome o → 0 < length (runs_of (pieces k n) o)
-unfolding Some_of
-some_state k n None all h = cc
-some_state k n (Some v) all h = all v
 
 first_enabled : (w : World) (a : Step) (more : List Step) → AllEnabled w (a ∷ more) → IsSome (next w a)
 first_enabled w a more h = h 0 a (omega arith)
 
-some_cut : (k n : ℕ) (w : World) (d : Decision) → CanFollow w d → Some_of (suc k) n → Some_of k n → 0 < length (cut_by (pieces (suc k) n) (pieces k n) w d)
-some_cut k n w (Forced a) h same less = some_state (suc k) n (next w a) same h
-some_cut k n w (Choice []) h same less = absurd (omega (arith, h.0))
-some_cut k n w (Choice (a ∷ more)) h same less =
-    omega (arith, length-append (led_by 0 (runs_of (pieces k n) (next w a))) (branched (pieces k n) w 1 more), length-map (runs_of (pieces k n) (next w a)) (λ cs. 0 ∷ cs), some_state k n (next w a) less (first_enabled w a more h.1))
-some_cut k n w (Leaf o) h same less = omega arith
-
-pieces_some : (n k : ℕ) → AllFollow → Some_of k n
-unfolding pieces Some_of
-pieces_some zero zero law w = omega arith
-pieces_some zero (suc k) law w = omega arith
-pieces_some (suc n) zero law w = omega arith
-pieces_some (suc n) (suc k) law w = some_cut k n w (decision w) (law w) (pieces_some n (suc k) law) (pieces_some n k law)
-
-some_piece : (n k : ℕ) (w : World) → AllFollow → 0 < length (pieces k n w)
-unfolding Some_of
-some_piece n k w law = pieces_some n k law w
-
-Rises : ℕ → ℕ → Type 0
-Rises k n = (w : World) → length (pieces k n w) ≤ length (pieces (suc k) n w)
-
-rise_state : (k n : ℕ) (o : Option World) → Rises k n → length (runs_of (pieces k n) o) ≤ length (runs_of (pieces (suc k) n) o)
-unfolding Rises
-rise_state k n None all = omega arith
-rise_state k n (Some v) all = all v
-
-rise_branched : (k n i : ℕ) (w : World) (candidates : List Step) → Rises k n → length (branched (pieces k n) w i candidates) ≤ length (branched (pieces (suc k) n) w i candidates)
-rise_branched k n i w [] all = omega arith
-rise_branched k n i w (a ∷ more) all =
-    let xs = runs_of (pieces k n) (next w a) in
-    let ys = runs_of (pieces (suc k) n) (next w a) in
-    omega (
-      arith,
-      length-append (led_by i xs) (branched (pieces k n) w (suc i) more),
-      length-map xs (λ cs. i ∷ cs),
-      length-append (led_by i ys) (branched (pieces (suc k) n) w (suc i) more),
-      length-map ys (λ cs. i ∷ cs),
-      rise_state k n (next w a) all,
-      rise_branched k n (suc i) w more all,
-    )
-
-rise_cut : (k n : ℕ) (w : World) (d : Decision) → Rises (suc k) n → Rises k n → length (cut_by (pieces (suc k) n) (pieces k n) w d) ≤ length (cut_by (pieces (suc (suc k)) n) (pieces (suc k) n) w d)
-rise_cut k n w (Forced a) same less = rise_state (suc k) n (next w a) same
-rise_cut k n w (Choice candidates) same less = rise_branched k n 0 w candidates less
-rise_cut k n w (Leaf o) same less = omega arith
-
-first_rise : (n : ℕ) (w : World) (m : ℕ) → 0 < m → length (pieces 0 n w) ≤ m
-first_rise n w m h = omega (arith, ap length (pieces_none n w))
-
-rises : (n k : ℕ) → AllFollow → Rises k n
-unfolding pieces Rises
-rises zero zero law w = omega arith
-rises zero (suc k) law w = omega arith
-rises (suc n) zero law w = first_rise (suc n) w (length (pieces 1 (suc n) w)) (some_piece (suc n) 1 w law)
-rises (suc n) (suc k) law w = rise_cut k n w (decision w) (rises n (suc k) law) (rises n k law)
-
-rises_by : (fuel k j : ℕ) (w : World) → AllFollow → length (pieces k fuel w) ≤ length (pieces (k + j) fuel w)
-unfolding Rises
-rises_by fuel k zero w law = omega (arith, ap (λ m. length (pieces m fuel w)) (add_none k)) where
-  add_none : (m : ℕ) → m + 0 ≡ m
-  add_none m = omega arith
-rises_by fuel k (suc j) w law =
-    let more : k + suc j ≡ suc (k + j) = omega arith in
-    omega (arith, ap (λ m. length (pieces m fuel w)) more, rises_by fuel k j w law, rises fuel (k + j) law w)
-
 split_sum : (k m : ℕ) → k ≤ m → k + (m - k) ≡ m
 split_sum k m h = omega arith
 
-pub never_fewer : (fuel k m : ℕ) (w : World) → AllFollow → k ≤ m → length (pieces k fuel w) ≤ length (pieces m fuel w)
-never_fewer fuel k m w law h = omega (arith, ap (λ q. length (pieces q fuel w)) (split_sum k m h), rises_by fuel k (m - k) w law)
+module _ (decide : World → Decision) where
+  Some_of : ℕ → ℕ → Type 0
+  Some_of k n = (w : World) → 0 < length (pieces decide k n w)
 
-pub all_the_same : (fuel k m : ℕ) (w : World) → k ≤ m → pieces (suc k) fuel w ≡ pieces k fuel w → pieces m fuel w ≡ pieces k fuel w
-all_the_same fuel k m w h e = ap (λ q. pieces q fuel w) (sym (split_sum k m h)) ∙ never_longer fuel k (m - k) w e
+  some_state : (k n : ℕ) (o : Option World) → Some_of k n → IsSome o → 0 < length (runs_of (pieces decide k n) o)
+  unfolding Some_of
+  some_state k n None all h = cc
+  some_state k n (Some v) all h = all v
+
+  some_cut : (k n : ℕ) (w : World) (d : Decision) → CanFollow w d → Some_of (suc k) n → Some_of k n → 0 < length (cut_by (pieces decide (suc k) n) (pieces decide k n) w d)
+  some_cut k n w (Forced a) h same less = some_state (suc k) n (next w a) same h
+  some_cut k n w (Choice []) h same less = absurd (omega (arith, h.0))
+  some_cut k n w (Choice (a ∷ more)) h same less =
+      omega (arith, length-append (led_by 0 (runs_of (pieces decide k n) (next w a))) (branched (pieces decide k n) w 1 more), length-map (runs_of (pieces decide k n) (next w a)) (λ cs. 0 ∷ cs), some_state k n (next w a) less (first_enabled w a more h.1))
+  some_cut k n w (Leaf o) h same less = omega arith
+
+  pieces_some : (n k : ℕ) → ((v : World) → CanFollow v (decide v)) → Some_of k n
+  unfolding pieces Some_of
+  pieces_some zero zero law w = omega arith
+  pieces_some zero (suc k) law w = omega arith
+  pieces_some (suc n) zero law w = omega arith
+  pieces_some (suc n) (suc k) law w = some_cut k n w (decide w) (law w) (pieces_some n (suc k) law) (pieces_some n k law)
+
+  some_piece : (n k : ℕ) (w : World) → ((v : World) → CanFollow v (decide v)) → 0 < length (pieces decide k n w)
+  unfolding Some_of
+  some_piece n k w law = pieces_some n k law w
+
+  Rises : ℕ → ℕ → Type 0
+  Rises k n = (w : World) → length (pieces decide k n w) ≤ length (pieces decide (suc k) n w)
+
+  rise_state : (k n : ℕ) (o : Option World) → Rises k n → length (runs_of (pieces decide k n) o) ≤ length (runs_of (pieces decide (suc k) n) o)
+  unfolding Rises
+  rise_state k n None all = omega arith
+  rise_state k n (Some v) all = all v
+
+  rise_branched : (k n i : ℕ) (w : World) (candidates : List Step) → Rises k n → length (branched (pieces decide k n) w i candidates) ≤ length (branched (pieces decide (suc k) n) w i candidates)
+  rise_branched k n i w [] all = omega arith
+  rise_branched k n i w (a ∷ more) all =
+      let xs = runs_of (pieces decide k n) (next w a) in
+      let ys = runs_of (pieces decide (suc k) n) (next w a) in
+      omega (
+        arith,
+        length-append (led_by i xs) (branched (pieces decide k n) w (suc i) more),
+        length-map xs (λ cs. i ∷ cs),
+        length-append (led_by i ys) (branched (pieces decide (suc k) n) w (suc i) more),
+        length-map ys (λ cs. i ∷ cs),
+        rise_state k n (next w a) all,
+        rise_branched k n (suc i) w more all,
+      )
+
+  rise_cut : (k n : ℕ) (w : World) (d : Decision) → Rises (suc k) n → Rises k n → length (cut_by (pieces decide (suc k) n) (pieces decide k n) w d) ≤ length (cut_by (pieces decide (suc (suc k)) n) (pieces decide (suc k) n) w d)
+  rise_cut k n w (Forced a) same less = rise_state (suc k) n (next w a) same
+  rise_cut k n w (Choice candidates) same less = rise_branched k n 0 w candidates less
+  rise_cut k n w (Leaf o) same less = omega arith
+
+  first_rise : (n : ℕ) (w : World) (m : ℕ) → 0 < m → length (pieces decide 0 n w) ≤ m
+  first_rise n w m h = omega (arith, ap length (pieces_none decide n w))
+
+  rises : (n k : ℕ) → ((v : World) → CanFollow v (decide v)) → Rises k n
+  unfolding pieces Rises
+  rises zero zero law w = omega arith
+  rises zero (suc k) law w = omega arith
+  rises (suc n) zero law w = first_rise (suc n) w (length (pieces decide 1 (suc n) w)) (some_piece (suc n) 1 w law)
+  rises (suc n) (suc k) law w = rise_cut k n w (decide w) (rises n (suc k) law) (rises n k law)
+
+  rises_by : (fuel k j : ℕ) (w : World) → ((v : World) → CanFollow v (decide v)) → length (pieces decide k fuel w) ≤ length (pieces decide (k + j) fuel w)
+  unfolding Rises
+  rises_by fuel k zero w law = omega (arith, ap (λ m. length (pieces decide m fuel w)) (add_none k)) where
+    add_none : (m : ℕ) → m + 0 ≡ m
+    add_none m = omega arith
+  rises_by fuel k (suc j) w law =
+      let more : k + suc j ≡ suc (k + j) = omega arith in
+      omega (arith, ap (λ m. length (pieces decide m fuel w)) more, rises_by fuel k j w law, rises fuel (k + j) law w)
+
+  pub never_fewer : (fuel k m : ℕ) (w : World) → ((v : World) → CanFollow v (decide v)) → k ≤ m → length (pieces decide k fuel w) ≤ length (pieces decide m fuel w)
+  never_fewer fuel k m w law h = omega (arith, ap (λ q. length (pieces decide q fuel w)) (split_sum k m h), rises_by fuel k (m - k) w law)
+
+  pub all_the_same : (fuel k m : ℕ) (w : World) → k ≤ m → pieces decide (suc k) fuel w ≡ pieces decide k fuel w → pieces decide m fuel w ≡ pieces decide k fuel w
+  all_the_same fuel k m w h e = ap (λ q. pieces decide q fuel w) (sym (split_sum k m h)) ∙ never_longer decide fuel k (m - k) w e
 
 -- ---- cut by no choice
 
@@ -335,7 +346,7 @@ if_same false x y u v e f = f refl
 
 whole_report : (l : Limits) (w : World) → split_report 0 l w ≡ listed l (map shown (walk_of l w))
 whole_report l w =
-    ap (λ cs. ended_by l.until_bad (flat_map (λ x. part l x w) cs)) (pieces_none l.fuel w)
+    ap (λ cs. ended_by l.until_bad (flat_map (λ x. part l x w) cs)) (pieces_none (decides_by l.ends) l.fuel w)
     ∙ ap (ended_by l.until_bad) (one_list (λ x. part l x w))
     ∙ ended_twice l.until_bad (take l.runs (map shown (walk_at l [] w)))
     ∙ ap (λ rs. listed l (map shown rs)) (whole_at l w)
@@ -343,8 +354,8 @@ whole_report l w =
 whole_more : (l : Limits) (w : World) → split_more 0 l w ≡ left_out l (map shown (walk_of l w))
 whole_more l w =
     let long : length (walk_of l w) ≡ length (map shown (walk_of l w)) = sym (length-map (walk_of l w) shown) in
-    let any : list_any (λ cs. nat_lt l.runs (length (walk_at l cs w))) (pieces 0 l.fuel w) ≡ nat_lt l.runs (length (map shown (walk_of l w))) =
-    ap (list_any (λ cs. nat_lt l.runs (length (walk_at l cs w)))) (pieces_none l.fuel w) ∙ or_nothing (nat_lt l.runs (length (walk_at l [] w))) ∙ ap (λ rs. nat_lt l.runs (length rs)) (whole_at l w) ∙ ap (nat_lt l.runs) long in
+    let any : list_any (λ cs. nat_lt l.runs (length (walk_at l cs w))) (pieces (decides_by l.ends) 0 l.fuel w) ≡ nat_lt l.runs (length (map shown (walk_of l w))) =
+    ap (list_any (λ cs. nat_lt l.runs (length (walk_at l cs w)))) (pieces_none (decides_by l.ends) l.fuel w) ∙ or_nothing (nat_lt l.runs (length (walk_at l [] w))) ∙ ap (λ rs. nat_lt l.runs (length rs)) (whole_at l w) ∙ ap (nat_lt l.runs) long in
     if_same l.until_bad _ _ _ _ (ap (λ ls. nat_lt (length ls) (length (walk_of l w))) (whole_report l w) ∙ ap (nat_lt (length (listed l (map shown (walk_of l w))))) long) (λ h. any)
 
 pub no_choice : (l : Limits) (w : World) → (split_report 0 l w ≡ listed l (map shown (walk_of l w))) × (split_more 0 l w ≡ left_out l (map shown (walk_of l w)))
@@ -405,39 +416,40 @@ no_more_by false runs fuel witnesses of xs h = each_taken runs of xs h
 
 pub no_more : (k : ℕ) (l : Limits) (w : World) → split_more k l w ≡ false → split_report k l w ≡ map shown (walk_of l w)
 no_more k l w h =
-    let joined : length (walk_of l w) ≡ length (flat_map (λ cs. walk_at l cs w) (pieces k l.fuel w)) = sym (ap length (pieces_join k l w)) in
-    let more : (if l.until_bad then nat_lt (length (split_report k l w)) (length (flat_map (λ cs. walk_at l cs w) (pieces k l.fuel w))) else list_any (λ cs. nat_lt l.runs (length (walk_at l cs w))) (pieces k l.fuel w)) ≡ false =
-    sym (ap (λ n. if l.until_bad then nat_lt (length (split_report k l w)) n else list_any (λ cs. nat_lt l.runs (length (walk_at l cs w))) (pieces k l.fuel w)) joined) ∙ h in
-    no_more_by l.until_bad l.runs l.fuel l.witnesses (λ cs. walk_at l cs w) (pieces k l.fuel w) more ∙ ap (map shown) (pieces_join k l w)
+    let joined : length (walk_of l w) ≡ length (flat_map (λ cs. walk_at l cs w) (pieces (decides_by l.ends) k l.fuel w)) = sym (ap length (pieces_join k l w)) in
+    let more : (if l.until_bad then nat_lt (length (split_report k l w)) (length (flat_map (λ cs. walk_at l cs w) (pieces (decides_by l.ends) k l.fuel w))) else list_any (λ cs. nat_lt l.runs (length (walk_at l cs w))) (pieces (decides_by l.ends) k l.fuel w)) ≡ false =
+    sym (ap (λ n. if l.until_bad then nat_lt (length (split_report k l w)) n else list_any (λ cs. nat_lt l.runs (length (walk_at l cs w))) (pieces (decides_by l.ends) k l.fuel w)) joined) ∙ h in
+    no_more_by l.until_bad l.runs l.fuel l.witnesses (λ cs. walk_at l cs w) (pieces (decides_by l.ends) k l.fuel w) more ∙ ap (map shown) (pieces_join k l w)
 
 -- ---- the pieces of one choice
 
 enabled_rest : (w : World) (a : Step) (more : List Step) → AllEnabled w (a ∷ more) → AllEnabled w more
 enabled_rest w a more h = λ k d within. h (suc k) d (omega (arith, within))
 
-one_led : (n c : ℕ) (o : Option World) → IsSome o → led_by c (runs_of (pieces 0 n) o) ≡ (c ∷ []) ∷ []
-one_led n c None h = cc
-one_led n c (Some v) h = ap (led_by c) (pieces_none n v)
-
-each_candidate : (n i : ℕ) (w : World) (candidates : List Step) → AllEnabled w candidates → branched (pieces 0 n) w i candidates ≡ map (λ c. c ∷ []) (range_with_len i (length candidates))
-each_candidate n i w [] h = refl
-each_candidate n i w (a ∷ more) h =
-    ap (λ xs. xs ++ branched (pieces 0 n) w (suc i) more) (one_led n i (next w a) (first_enabled w a more h))
-    ∙ ap (λ xs. (i ∷ []) ∷ xs) (each_candidate n (suc i) w more (enabled_rest w a more h) ∙ ap (λ q. map (λ c. c ∷ []) (range_with_len q (length more))) (sym (add-one i)))
-
 pub counted_some : (m : ℕ) → 0 < m → counted m ≡ map (λ c. c ∷ []) (range_with_len 0 m)
 counted_some zero h = absurd (omega (arith, h))
 counted_some (suc m) h = refl
 
-pub choice_counted : (n : ℕ) (w : World) (candidates : List Step) → decision w ≡ Choice candidates → CanFollow w (Choice candidates) → pieces 1 (suc n) w ≡ counted (length candidates)
-choice_counted n w candidates choice h = pieces_is 0 n w (Choice candidates) choice ∙ each_candidate n 0 w candidates h.1 ∙ sym (counted_some (length candidates) h.0)
+module _ (decide : World → Decision) where
+  one_led : (n c : ℕ) (o : Option World) → IsSome o → led_by c (runs_of (pieces decide 0 n) o) ≡ (c ∷ []) ∷ []
+  one_led n c None h = cc
+  one_led n c (Some v) h = ap (led_by c) (pieces_none decide n v)
 
-pub leaf_counted : (n : ℕ) (w : World) (o : Outcome) → decision w ≡ Leaf o → pieces 1 (suc n) w ≡ counted 0
-leaf_counted n w o leaf = pieces_is 0 n w (Leaf o) leaf
+  each_candidate : (n i : ℕ) (w : World) (candidates : List Step) → AllEnabled w candidates → branched (pieces decide 0 n) w i candidates ≡ map (λ c. c ∷ []) (range_with_len i (length candidates))
+  each_candidate n i w [] h = refl
+  each_candidate n i w (a ∷ more) h =
+      ap (λ xs. xs ++ branched (pieces decide 0 n) w (suc i) more) (one_led n i (next w a) (first_enabled w a more h))
+      ∙ ap (λ xs. (i ∷ []) ∷ xs) (each_candidate n (suc i) w more (enabled_rest w a more h) ∙ ap (λ q. map (λ c. c ∷ []) (range_with_len q (length more))) (sym (add-one i)))
 
-pub fuel_counted : (n : ℕ) (w : World) → n ≡ 0 → pieces 1 n w ≡ counted 0
-unfolding pieces
-fuel_counted n w e = ap (λ m. pieces 1 m w) e
+  pub choice_counted : (n : ℕ) (w : World) (candidates : List Step) → decide w ≡ Choice candidates → CanFollow w (Choice candidates) → pieces decide 1 (suc n) w ≡ counted (length candidates)
+  choice_counted n w candidates choice h = pieces_is decide 0 n w (Choice candidates) choice ∙ each_candidate n 0 w candidates h.1 ∙ sym (counted_some (length candidates) h.0)
+
+  pub leaf_counted : (n : ℕ) (w : World) (o : Outcome) → decide w ≡ Leaf o → pieces decide 1 (suc n) w ≡ counted 0
+  leaf_counted n w o leaf = pieces_is decide 0 n w (Leaf o) leaf
+
+  pub fuel_counted : (n : ℕ) (w : World) → n ≡ 0 → pieces decide 1 n w ≡ counted 0
+  unfolding pieces
+  fuel_counted n w e = ap (λ m. pieces decide 1 m w) e
 
 -- ---- pieces are numbered in order
 

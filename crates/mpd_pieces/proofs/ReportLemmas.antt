@@ -13,8 +13,8 @@ use Rattle.mpd_model.specs.steps.Next.{next}
 use Rattle.mpd_model.specs.runs.Decisions.{decision}
 use Rattle.mpd_explore.specs.declared.report.Leaf as leaf
 use Rattle.mpd_explore.specs.declared.report.Limits.{Limits}
-use Rattle.mpd_explore.specs.Walk.{Run, stepped, chosen, runs_of}
-use Rattle.mpd_explore.specs.Sleeping.{is_asleep, put_off, awake_runs, walk_of}
+use Rattle.mpd_walk.specs.Walk.{Run, stepped, chosen, runs_of}
+use Rattle.mpd_explore.specs.Sleeping.{same_match, nothing_wakes, put_off, awake_runs, Rules, rules_by, decides_by, walk_of}
 use Rattle.mpd_explore.specs.Report.{shown, any_bad, up_to_bad, ended_by}
 use Rattle.mpd_explore.specs.WitnessTexts.{witness_texts}
 use Rattle.mpd_explore.proofs.AsleepLemmas.{put_off_none}
@@ -47,16 +47,16 @@ more_next l w ps i p old new within read before added =
     added ∙ ap (λ b. b || part_left l p.choices w) before
     ∙ sym (ap (has_more l w) (take_next ps i p within read) ∙ list_any-append test (take i ps) (p ∷ []) ∙ or_nothing (has_more l w (take i ps)) (test p))
 
-pub texts_next : (asked : Bool) (path : List Step) (n : ℕ) (w : World) (old own new : List leaf.Leaf) (texts now : List (List ℕ)) → new ≡ old ++ own → texts ≡ witness_texts asked path n w old → now ≡ texts ++ witness_texts asked path n w own → now ≡ witness_texts asked path n w new
-texts_next asked path n w old own new texts now added before told =
-    told ∙ ap (λ ts. ts ++ witness_texts asked path n w own) before ∙ sym (ap (witness_texts asked path n w) added ∙ texts_join asked path n w old own)
+pub texts_next : (decide : World → Decision) (asked : Bool) (path : List Step) (n : ℕ) (w : World) (old own new : List leaf.Leaf) (texts now : List (List ℕ)) → new ≡ old ++ own → texts ≡ witness_texts decide asked path n w old → now ≡ texts ++ witness_texts decide asked path n w own → now ≡ witness_texts decide asked path n w new
+texts_next decide asked path n w old own new texts now added before told =
+    told ∙ ap (λ ts. ts ++ witness_texts decide asked path n w own) before ∙ sym (ap (witness_texts decide asked path n w) added ∙ texts_join decide asked path n w old own)
 
-no_texts : (asked : Bool) (path : List Step) (n : ℕ) (w : World) → [] ≡ witness_texts asked path n w []
-no_texts false path n w = refl
-no_texts true path n w = refl
+no_texts : (decide : World → Decision) (asked : Bool) (path : List Step) (n : ℕ) (w : World) → [] ≡ witness_texts decide asked path n w []
+no_texts decide false path n w = refl
+no_texts decide true path n w = refl
 
-pub texts_begun : (asked : Bool) (path : List Step) (n : ℕ) (w : World) (old : List leaf.Leaf) (texts : List (List ℕ)) → old ≡ [] → texts ≡ [] → texts ≡ witness_texts asked path n w old
-texts_begun asked path n w old texts none empty = empty ∙ no_texts asked path n w ∙ ap (witness_texts asked path n w) (sym none)
+pub texts_begun : (decide : World → Decision) (asked : Bool) (path : List Step) (n : ℕ) (w : World) (old : List leaf.Leaf) (texts : List (List ℕ)) → old ≡ [] → texts ≡ [] → texts ≡ witness_texts decide asked path n w old
+texts_begun decide asked path n w old texts none empty = empty ∙ no_texts decide asked path n w ∙ ap (witness_texts decide asked path n w) (sym none)
 
 pub good_next : (u last : Bool) (old own new : List leaf.Leaf) → new ≡ old ++ own → last ≡ (u && any_bad own) → last ≡ false → (u ≡ true → any_bad old ≡ false) → u ≡ true → any_bad new ≡ false
 good_next u last old own new added is off good until = ap any_bad added ∙ bad_behind old own (good until) ∙ not_both u (any_bad own) (sym is ∙ off) until
@@ -67,37 +67,44 @@ some_runs : (runs : World → List Run) (P : World → Type 0) (o : Option World
 some_runs runs P None all h = absurd h
 some_runs runs P (Some v) all h = all v h
 
-abbrev AllBegin : ℕ → Type 0
-AllBegin n = (cs : List ℕ) (v : World) → Reaches n cs v → 0 < length (walk_from false n cs [] v)
+-- the rules where nothing falls asleep
+abbrev plain : Rules
+plain = rules_by false
 
-some_candidate : (n : ℕ) (w : World) (candidates : List Step) (c : ℕ) (cs : List ℕ) (o : Option Step) → AllBegin n → ByCandidate (Reaches n cs) w o → 0 < length (runs_by false (walk_from false n cs) [] w candidates c o)
+abbrev AllBegin : ℕ → Type 0
+AllBegin n = (cs : List ℕ) (v : World) → Reaches decision n cs v → 0 < length (walk_from plain n cs [] v)
+
+some_candidate : (n : ℕ) (w : World) (candidates : List Step) (c : ℕ) (cs : List ℕ) (o : Option Step) → AllBegin n → ByCandidate (Reaches decision n cs) w o → 0 < length (runs_by plain (walk_from plain n cs) [] w candidates c o)
 some_candidate n w candidates c cs None all h = absurd h
 some_candidate n w candidates c cs (Some a) all h =
     let same : put_off false c candidates [] ≡ [] = put_off_none c candidates [] in
-    let runs : List Step → ℕ = λ s. length (map (chosen c a) (awake_runs (is_asleep s a) (walk_from false n cs s) (next w a))) in
-    omega (arith, ap runs same, length-map (runs_of (walk_from false n cs []) (next w a)) (chosen c a), some_runs (walk_from false n cs []) (Reaches n cs) (next w a) (all cs) h)
+    let runs : List Step → ℕ = λ s. length (map (chosen c a) (awake_runs (list_any (same_match a) s) (walk_from plain n cs s) (next w a))) in
+    omega (arith, ap runs same, length-map (runs_of (walk_from plain n cs []) (next w a)) (chosen c a), some_runs (walk_from plain n cs []) (Reaches decision n cs) (next w a) (all cs) h)
 
-some_beginning : (n : ℕ) (w : World) (c : ℕ) (cs : List ℕ) (d : Decision) → AllBegin n → BeginsSo (Reaches n) w c cs d → 0 < length (beginning false (walk_from false n) [] w c cs d)
+some_beginning : (n : ℕ) (w : World) (c : ℕ) (cs : List ℕ) (d : Decision) → AllBegin n → BeginsSo (Reaches decision n) w c cs d → 0 < length (beginning plain (walk_from plain n) [] w c cs d)
 some_beginning n w c cs (Forced a) all h =
-    omega (arith, length-map (runs_of (walk_from false n (c ∷ cs) []) (next w a)) (stepped a), some_runs (walk_from false n (c ∷ cs) []) (Reaches n (c ∷ cs)) (next w a) (all (c ∷ cs)) h)
+    omega (arith, length-map (runs_of (walk_from plain n (c ∷ cs) []) (next w a)) (stepped a), some_runs (walk_from plain n (c ∷ cs) []) (Reaches decision n (c ∷ cs)) (next w a) (all (c ∷ cs)) h)
 some_beginning n w c cs (Choice candidates) all h = some_candidate n w candidates c cs (slice_get candidates c) all h
 some_beginning n w c cs (Leaf o) all h = absurd h
 
--- where nothing falls asleep
-reached_some : (n : ℕ) (cs : List ℕ) (w : World) → AllFollow → Reaches n cs w → 0 < length (walk_from false n cs [] w)
+reached_some : (n : ℕ) (cs : List ℕ) (w : World) → AllFollow → Reaches decision n cs w → 0 < length (walk_from plain n cs [] w)
 unfolding walk_from Reaches
-reached_some zero [] w law h = awake_some false zero w law
-reached_some (suc n) [] w law h = awake_some false (suc n) w law
+reached_some zero [] w law h = awake_some decision same_match nothing_wakes false zero w law (λ u a. refl)
+reached_some (suc n) [] w law h = awake_some decision same_match nothing_wakes false (suc n) w law (λ u a. refl)
 reached_some zero (c ∷ cs) w law h = absurd h
 reached_some (suc n) (c ∷ cs) w law h = some_beginning n w c cs (decision w) (λ xs v k. reached_some n xs v law k) h
 
-plain_some : (l : Limits) (cs : List ℕ) (w : World) → AllFollow → l.ends ≡ false → Reaches l.fuel cs w → 0 < length (walk_at l cs w)
-plain_some l cs w law off h = rw off (reached_some l.fuel cs w law h)
+some_by : (ends : Bool) (n : ℕ) (cs : List ℕ) (w : World) → AllFollow → ends ≡ false → Reaches (decides_by ends) n cs w → 0 < length (walk_from (rules_by ends) n cs [] w)
+some_by true n cs w law off h = let no : ⊥ = cc in absurd no
+some_by false n cs w law off h = reached_some n cs w law h
+
+plain_some : (l : Limits) (cs : List ℕ) (w : World) → AllFollow → l.ends ≡ false → Reaches (decides_by l.ends) l.fuel cs w → 0 < length (walk_at l cs w)
+plain_some l cs w law off h = some_by l.ends l.fuel cs w law off h
 
 abbrev AllSome : Limits → World → List Piece → Type 0
 AllSome l w ps = AllByRecursion (λ (p : Piece). 0 < length (walk_at l p.choices w)) ps
 
-all_some : (l : Limits) (w : World) (ps : List Piece) → AllFollow → l.ends ≡ false → AllByRecursion (λ cs. Reaches l.fuel cs w) (choices_of ps) → AllSome l w ps
+all_some : (l : Limits) (w : World) (ps : List Piece) → AllFollow → l.ends ≡ false → AllByRecursion (λ cs. Reaches (decides_by l.ends) l.fuel cs w) (choices_of ps) → AllSome l w ps
 all_some l w [] law off h = tt
 all_some l w (p ∷ ps) law off h = (plain_some l p.choices w law off h.0, all_some l w ps law off h.1)
 
@@ -143,7 +150,7 @@ none_joined l w (p ∷ back) =
     let d : ℕ = length (walks l w back) in
     ap (λ x. nat_lt 0 b || x) (none_joined l w back) ∙ sum_case (nat_lt 0 b) 0 b 0 d refl (omega arith) (omega arith) ∙ ap (nat_lt 0) (sym (length-append (walk_at l p.choices w) (walks l w back)))
 
--- one of the pieces in front has more, or one behind has a run
+-- one of the pieces in front has more, or one after them has a run
 more_joined : (l : Limits) (w : World) (front back : List Piece) → l.until_bad ≡ true → (has_more l w front || have_run l w back) ≡ nat_lt (length (parts l w front)) (length (walks l w (front ++ back)))
 more_joined l w [] back until = none_joined l w back
 more_joined l w (p ∷ front) back until =
@@ -160,10 +167,10 @@ more_joined l w (p ∷ front) back until =
 
 -- ---- which pieces have a run
 
-pub reached_behind : (fuel : ℕ) (w : World) (n : ℕ) (ps : List Piece) → AllByRecursion (λ cs. Reaches fuel cs w) (choices_of ps) → AllByRecursion (λ cs. Reaches fuel cs w) (choices_of (drop n ps))
-reached_behind fuel w zero ps h = h
-reached_behind fuel w (suc n) [] h = tt
-reached_behind fuel w (suc n) (p ∷ ps) h = reached_behind fuel w n ps h.1
+pub reached_behind : (decide : World → Decision) (fuel : ℕ) (w : World) (n : ℕ) (ps : List Piece) → AllByRecursion (λ cs. Reaches decide fuel cs w) (choices_of ps) → AllByRecursion (λ cs. Reaches decide fuel cs w) (choices_of (drop n ps))
+reached_behind decide fuel w zero ps h = h
+reached_behind decide fuel w (suc n) [] h = tt
+reached_behind decide fuel w (suc n) (p ∷ ps) h = reached_behind decide fuel w n ps h.1
 
 take_drop : (n : ℕ) (ps : List Piece) → take n ps ++ drop n ps ≡ ps
 take_drop zero ps = refl
@@ -198,7 +205,7 @@ pub run_none : (l : Limits) (w : World) (ps : List Piece) (i : ℕ) → length p
 run_none l w ps i long none = sym none ∙ ap (have_run l w) (take_all i ps long)
 
 -- where nothing falls asleep, each piece has one
-pub plain_left : (l : Limits) (w : World) (ps : List Piece) (n : ℕ) → AllFollow → l.ends ≡ false → AllByRecursion (λ cs. Reaches l.fuel cs w) (choices_of ps) → nat_lt n (length ps) ≡ have_run l w (drop n ps)
+pub plain_left : (l : Limits) (w : World) (ps : List Piece) (n : ℕ) → AllFollow → l.ends ≡ false → AllByRecursion (λ cs. Reaches (decides_by l.ends) l.fuel cs w) (choices_of ps) → nat_lt n (length ps) ≡ have_run l w (drop n ps)
 plain_left l w ps n law off reached =
     less_same n (length ps) 0 (length (drop n ps)) (λ h. omega (arith, length-drop n ps, h)) (λ h. omega (arith, length-drop n ps, h)) ∙ some_run l w (drop n ps) (some_behind l w n ps (all_some l w ps law off reached))
 
@@ -227,7 +234,7 @@ all_more l w ps i ls b long is good more =
     ∙ (λ i. nat_lt (length (report i)) (length (walks l w (append-nil ps i)))))
     (λ until. all)
 
--- ---- a report ends behind a piece with a bad leaf
+-- ---- a report ends after a piece with a bad leaf
 
 ended_parts : (l : Limits) (w : World) (ps : List Piece) (n : ℕ) (ls : List leaf.Leaf) → l.until_bad ≡ true → ls ≡ parts l w (take n ps) → any_bad ls ≡ true → up_to_bad ls ≡ ls → ls ≡ report_of l w ps
 ended_parts l w ps n ls until is bad up =
@@ -263,12 +270,12 @@ any_choices l w (p ∷ ps) off =
     ∙ ap (nat_lt l.runs) (length-map (walk_at l p.choices w) shown) in
     ap (λ b. b || has_more l w ps) own ∙ ap (λ b. nat_lt l.runs (length (walk_at l p.choices w)) || b) (any_choices l w ps off)
 
-pub parts_are : (k : ℕ) (l : Limits) (w : World) (ps : List Piece) → ps ≡ numbered 0 (pieces k l.fuel w) → report_of l w ps ≡ split_report k l w
+pub parts_are : (k : ℕ) (l : Limits) (w : World) (ps : List Piece) → ps ≡ numbered 0 (pieces (decides_by l.ends) k l.fuel w) → report_of l w ps ≡ split_report k l w
 parts_are k l w ps made =
-    ap (ended_by l.until_bad) (sym (flat_map-map (λ cs. part l cs w) (λ (p : Piece). p.choices) ps) ∙ ap (flat_map (λ cs. part l cs w)) (choices_are l.fuel k w ps made))
+    ap (ended_by l.until_bad) (sym (flat_map-map (λ cs. part l cs w) (λ (p : Piece). p.choices) ps) ∙ ap (flat_map (λ cs. part l cs w)) (choices_are (decides_by l.ends) l.fuel k w ps made))
 
-pub more_is : (k : ℕ) (l : Limits) (w : World) (ps : List Piece) → ps ≡ numbered 0 (pieces k l.fuel w) → more_of l w ps ≡ split_more k l w
+pub more_is : (k : ℕ) (l : Limits) (w : World) (ps : List Piece) → ps ≡ numbered 0 (pieces (decides_by l.ends) k l.fuel w) → more_of l w ps ≡ split_more k l w
 more_is k l w ps made =
-    let all : walks l w ps ≡ walk_of l w = sym (flat_map-map (λ cs. walk_at l cs w) (λ (p : Piece). p.choices) ps) ∙ ap (flat_map (λ cs. walk_at l cs w)) (choices_are l.fuel k w ps made) ∙ pieces_join k l w in
+    let all : walks l w ps ≡ walk_of l w = sym (flat_map-map (λ cs. walk_at l cs w) (λ (p : Piece). p.choices) ps) ∙ ap (flat_map (λ cs. walk_at l cs w)) (choices_are (decides_by l.ends) l.fuel k w ps made) ∙ pieces_join k l w in
     if_same l.until_bad _ _ _ _ (λ i. nat_lt (length (parts_are k l w ps made i)) (length (all i)))
-    (λ off. any_choices l w ps off ∙ ap (list_any (λ cs. nat_lt l.runs (length (walk_at l cs w)))) (choices_are l.fuel k w ps made))
+    (λ off. any_choices l w ps off ∙ ap (list_any (λ cs. nat_lt l.runs (length (walk_at l cs w)))) (choices_are (decides_by l.ends) l.fuel k w ps made))

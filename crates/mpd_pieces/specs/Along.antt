@@ -7,14 +7,14 @@ use Rattle.mpd_model.specs.declared.decision.Decision.{Decision}
 use Rattle.mpd_model.specs.declared.decision.Decision.TheVariants.{Forced, Choice, Leaf}
 use Rattle.mpd_model.specs.steps.World.{World}
 use Rattle.mpd_model.specs.steps.Next.{next}
-use Rattle.mpd_model.specs.runs.Decisions.{decision}
-use Rattle.mpd_model.specs.runs.Trail.{Standing, done_steps, IsReached}
+use Rattle.mpd_model.specs.runs.Trail.{Standing}
 use Rattle.mpd_explore.specs.declared.report.Leaf as leaf
 use Rattle.mpd_explore.specs.declared.report.Limits.{Limits}
-use Rattle.mpd_explore.specs.Walk.{Run, prefixed, runs_of, run_at}
+use Rattle.mpd_walk.specs.Walk.{Run, prefixed, runs_of, run_by}
+use Rattle.mpd_walk.specs.Walks.{Beyond}
 use Rattle.mpd_explore.specs.Report.{ended_by}
 use Rattle.mpd_pieces.specs.declared.splitter.Piece.{Piece}
-use Rattle.mpd_explore.specs.Sleeping.{is_asleep, put_off}
+use Rattle.mpd_explore.specs.Sleeping.{put_off, Rules}
 use Rattle.mpd_pieces.specs.Pieces.{led_by, pieces, numbered, walk_from, walk_at, Reaches, part, part_left}
 
 -- ---- one choice more
@@ -29,10 +29,10 @@ longer_by lists w c cs (Choice candidates) = lists_by (lists cs) w c (slice_get 
 longer_by lists w c cs (Leaf o) = []
 
 -- What a piece becomes where one choice more is made: a piece for each candidate of the next choice, or itself where there is none.
-unfoldable pub longer : ℕ → List ℕ → World → List (List ℕ)
-longer n [] w = pieces 1 n w
-longer zero (c ∷ cs) w = []
-longer (suc n) (c ∷ cs) w = longer_by (longer n) w c cs (decision w)
+unfoldable pub longer : (World → Decision) → ℕ → List ℕ → World → List (List ℕ)
+longer decide n [] w = pieces decide 1 n w
+longer decide zero (c ∷ cs) w = []
+longer decide (suc n) (c ∷ cs) w = longer_by (longer decide n) w c cs (decide w)
 
 -- the pieces of one choice, by how many candidates it has; none stands for an end before it
 abbrev pub counted : ℕ → List (List ℕ)
@@ -41,58 +41,55 @@ counted (suc m) = map (λ i. i ∷ []) (range_with_len 0 (suc m))
 
 -- ---- along some choices
 
--- What is asleep behind some choices: these steps, or one of the choices is itself of a step that is asleep, and then no run goes there.
-abbrev pub runs_on : Bool → ℕ → Option (List Step) → List ℕ → World → List Run
-runs_on sleeps n None cs w = []
-runs_on sleeps n (Some asleep) cs w = walk_from sleeps n cs asleep w
+-- What is asleep after some choices: these steps, or one of the choices is itself of a step that is asleep, and then no run goes there.
+abbrev pub runs_on : Rules → ℕ → Option (List Step) → List ℕ → World → List Run
+runs_on r n None cs w = []
+runs_on r n (Some asleep) cs w = walk_from r n cs asleep w
 
--- behind one choice more
-abbrev pub sleeping_behind : Bool → List Step → ℕ → Step → Option (List Step) → Option (List Step)
-sleeping_behind sleeps candidates c a None = None
-sleeping_behind sleeps candidates c a (Some asleep) = if is_asleep (put_off sleeps c candidates asleep) a then None else Some (put_off sleeps c candidates asleep)
+-- after a step that nobody has to choose
+abbrev pub sleeping_on : Rules → World → Step → Option (List Step) → Option (List Step)
+sleeping_on r w a asleep = option_map (r.keeps w a) asleep
+
+-- after one choice more
+abbrev pub sleeping_behind : Rules → World → List Step → ℕ → Step → Option (List Step) → Option (List Step)
+sleeping_behind r w candidates c a None = None
+sleeping_behind r w candidates c a (Some asleep) =
+    if list_any (r.same a) (put_off r.sleeps c candidates asleep) then None else Some (r.keeps w a (put_off r.sleeps c candidates asleep))
 
 -- Steps that make some choices lead from one world to another, and so much of the fuel is left: what begins there with whatever choices
 -- is what begins here with those in front. What sleeps here and there is told, too.
-pub record Along (sleeps : Bool) (fuel : ℕ) (here : Option (List Step)) (w : World) (choices : List ℕ) (path : List Step) (rest : ℕ) (there : Option (List Step)) (v : World) : Type 0 where
-  pub walks : (x : List ℕ) → runs_on sleeps fuel here (choices ++ x) w ≡ map (prefixed choices path) (runs_on sleeps rest there x v)
-  pub runs : (x : List ℕ) → run_at fuel (choices ++ x) w ≡ option_map (prefixed choices path) (run_at rest x v)
-  pub lists : (x : List ℕ) → longer fuel (choices ++ x) w ≡ map (λ cs. choices ++ cs) (longer rest x v)
+pub record Along (r : Rules) (fuel : ℕ) (here : Option (List Step)) (w : World) (choices : List ℕ) (path : List Step) (rest : ℕ) (there : Option (List Step)) (v : World) : Type 0 where
+  pub walks : (x : List ℕ) → runs_on r fuel here (choices ++ x) w ≡ map (prefixed choices path) (runs_on r rest there x v)
+  pub runs : (x : List ℕ) → run_by r.decides fuel (choices ++ x) w ≡ option_map (prefixed choices path) (run_by r.decides rest x v)
+  pub lists : (x : List ℕ) → longer r.decides fuel (choices ++ x) w ≡ map (λ cs. choices ++ cs) (longer r.decides rest x v)
 
--- a debugger that stands where another stood, or has gone on from there
-pub record Beyond (d e : Standing) : Type 0 where
-  pub program : e.trail.program ≡ d.trail.program
-  pub mode : e.trail.mode ≡ d.trail.mode
-  pub reached : IsReached e
-  pub path : List Step
-  pub done_steps_are : done_steps e.trail ≡ done_steps d.trail ++ path
-
--- One that has gone on along some choices, of which these are still to be made.
-pub record Going (sleeps : Bool) (fuel : ℕ) (choices : List ℕ) (here : Option (List Step)) (d : Standing) (left : List ℕ) (there : Option (List Step)) (e : Standing) : Type 0 where
+-- A debugger that has gone on along some choices, of which these are still to be made.
+pub record Going (r : Rules) (fuel : ℕ) (choices : List ℕ) (here : Option (List Step)) (d : Standing) (left : List ℕ) (there : Option (List Step)) (e : Standing) : Type 0 where
   pub beyond : Beyond d e
   pub taken : List ℕ
   pub joined : taken ++ left ≡ choices
   pub rest : ℕ
   pub spent : e.trail.depth + rest ≡ d.trail.depth + fuel
-  pub along : Along sleeps fuel here d.world taken beyond.path rest there e.world
-  pub reaches : Reaches rest left e.world
+  pub along : Along r fuel here d.world taken beyond.path rest there e.world
+  pub reaches : Reaches r.decides rest left e.world
 
 -- ---- on to the next choice
 
 -- A forced step was taken, or there is a choice of so many candidates; none stands for the end of a run.
-abbrev pub Looked : Standing → Option ℕ → Standing → Type 0
-Looked d None e = (e.trail.depth ≡ d.trail.depth + 1) × ((n : ℕ) → pieces 1 (suc n) d.world ≡ pieces 1 n e.world)
-Looked d (Some m) e = (n : ℕ) → pieces 1 (suc n) d.world ≡ counted m
+abbrev pub Looked : (World → Decision) → Standing → Option ℕ → Standing → Type 0
+Looked decide d None e = (e.trail.depth ≡ d.trail.depth + 1) × ((n : ℕ) → pieces decide 1 (suc n) d.world ≡ pieces decide 1 n e.world)
+Looked decide d (Some m) e = (n : ℕ) → pieces decide 1 (suc n) d.world ≡ counted m
 
 -- ---- pieces that are added
 
--- These were added, numbered behind those before.
+-- These were added, numbered after those before.
 pub record Adds (old : List Piece) (lists : List (List ℕ)) (new : List Piece) : Type 0 where
   pub numbers : (xs : List (List ℕ)) → old ≡ numbered 0 xs → new ≡ numbered 0 (xs ++ lists)
   pub count : length new ≡ length old + length lists
 
 -- what all of some pieces become
-abbrev pub all_longer : ℕ → World → List Piece → List (List ℕ)
-all_longer fuel w ps = flat_map (λ (p : Piece). longer fuel p.choices w) ps
+abbrev pub all_longer : (World → Decision) → ℕ → World → List Piece → List (List ℕ)
+all_longer decide fuel w ps = flat_map (λ (p : Piece). longer decide fuel p.choices w) ps
 
 abbrev pub choices_of : List Piece → List (List ℕ)
 choices_of ps = map (λ (p : Piece). p.choices) ps

@@ -3,17 +3,17 @@ use Rattle.std.specs.Prelude.{◌≡◌, ℕ, flat_map, map, false}
 use Rattle.std.specs.List.{AllByRecursion}
 use Rattle.mpd_model.specs.steps.World.{World}
 use Rattle.mpd_explore.specs.declared.report.Limits.{Limits}
-use Rattle.mpd_explore.specs.Sleeping.{walk_of}
+use Rattle.mpd_explore.specs.Sleeping.{decides_by, walk_of}
 use Rattle.mpd_explore.specs.Report.{shown, listed, left_out}
 use Rattle.mpd_pieces.specs.Pieces.{pieces, walk_at, Reaches, split_report, split_more}
 
 -- The walks of all pieces, joined in order, are the walk that is asked for: that with every order, or that where each end is once.
 abbrev pub PiecesJoinToTheWalk : Type 0
-PiecesJoinToTheWalk = (k : ℕ) (l : Limits) (w : World) → flat_map (λ cs. walk_at l cs w) (pieces k l.fuel w) ≡ walk_of l w
+PiecesJoinToTheWalk = (k : ℕ) (l : Limits) (w : World) → flat_map (λ cs. walk_at l cs w) (pieces (decides_by l.ends) k l.fuel w) ≡ walk_of l w
 
 -- Some run begins with the choices of each piece.
 abbrev pub EachPieceIsReached : Type 0
-EachPieceIsReached = (k fuel : ℕ) (w : World) → AllByRecursion (λ cs. Reaches fuel cs w) (pieces k fuel w)
+EachPieceIsReached = (k : ℕ) (l : Limits) (w : World) → AllByRecursion (λ cs. Reaches (decides_by l.ends) l.fuel cs w) (pieces (decides_by l.ends) k l.fuel w)
 
 -- Cut by no choice, the report is the whole one.
 abbrev pub NoChoiceIsTheWhole : Type 0

@@ -12,12 +12,12 @@ use Rattle.mpd_model.specs.script.Tree.{Tree, simple, branch, no_more, then_more
 use Rattle.mpd_model.specs.script.Program.{Program}
 use Rattle.mpd_model.specs.steps.World.{World, call_id, start}
 use Rattle.mpd_model.specs.runs.Decisions.{decision}
-use Rattle.mpd_explore.specs.declared.report.Ending.{Ending}
-use Rattle.mpd_explore.specs.declared.report.Ending.TheVariants.{Ended}
+use Rattle.mpd_walk.specs.declared.ending.Ending.{Ending}
+use Rattle.mpd_walk.specs.declared.ending.Ending.TheVariants.{Ended}
 use Rattle.mpd_explore.specs.declared.report.Leaf as leaf
 use Rattle.mpd_explore.specs.declared.report.Limits.{Limits}
-use Rattle.mpd_explore.specs.Walk.{walk}
-use Rattle.mpd_explore.specs.Sleeping.{awake_walk}
+use Rattle.mpd_walk.specs.Walk.{walk}
+use Rattle.mpd_explore.specs.Sleeping.{awake_by}
 use Rattle.mpd_pieces.specs.Pieces.{pieces, walk_from, part, split_report, split_more}
 
 abbrev n : ℕ → Term
@@ -66,7 +66,7 @@ abbrev up_to : Bool → ℕ → Limits
 up_to until_bad runs = record { runs = runs; fuel = 20; witnesses = false; until_bad = until_bad; ends = false }
 
 -- the second receive is there only where the first has taken what rank 1 sent; with a fuel of 5 no choice is come to
-pub row_pieces : map {B = List (List ℕ)} (λ (q : ℕ × ℕ). pieces q.0 q.1 begun) ((0, 20) ∷ (1, 20) ∷ (2, 20) ∷ (3, 20) ∷ (2, 5) ∷ [])
+pub row_pieces : map {B = List (List ℕ)} (λ (q : ℕ × ℕ). pieces decision q.0 q.1 begun) ((0, 20) ∷ (1, 20) ∷ (2, 20) ∷ (3, 20) ∷ (2, 5) ∷ [])
     ≡ ([] ∷ []) ∷ ((0 ∷ []) ∷ (1 ∷ []) ∷ []) ∷ ((0 ∷ 0 ∷ []) ∷ (1 ∷ []) ∷ []) ∷ ((0 ∷ 0 ∷ []) ∷ (1 ∷ []) ∷ []) ∷ ([] ∷ []) ∷ []
 unfolding pieces decision
 row_pieces = refl
@@ -77,19 +77,19 @@ end_of l = (l.choices, l.ending)
 abbrev both : List (List ℕ × Ending)
 both = (0 ∷ 0 ∷ [], Ended o.Done) ∷ (1 ∷ [], Ended (o.Deadlock (call_id 1 0 ∷ []))) ∷ []
 
--- the runs by some choices: there is no third candidate, and none behind a run's end
+-- the runs by some choices: there is no third candidate, and none after a run's end
 pub row_parts : map {B = List (List ℕ × Ending)} (λ (cs : List ℕ). map end_of (part (up_to false 2) cs begun)) ([] ∷ (0 ∷ []) ∷ (1 ∷ []) ∷ (2 ∷ []) ∷ (1 ∷ 0 ∷ []) ∷ [])
     ≡ both ∷ ((0 ∷ 0 ∷ [], Ended o.Done) ∷ []) ∷ ((1 ∷ [], Ended (o.Deadlock (call_id 1 0 ∷ []))) ∷ []) ∷ [] ∷ [] ∷ []
-unfolding walk_from awake_walk decision
+unfolding walk_from awake_by decision
 row_parts = refl
 
 -- a part has as many leaves as are asked for of it, so the parts have more than the whole; and none has more
 pub row_reports : map {B = List (List ℕ × Ending)} (λ (q : ℕ × ℕ). map end_of (split_report q.0 (up_to false q.1) begun)) ((0, 1) ∷ (1, 1) ∷ (2, 1) ∷ (1, 0) ∷ []) ≡ ((0 ∷ 0 ∷ [], Ended o.Done) ∷ []) ∷ both ∷ both ∷ [] ∷ []
-unfolding pieces walk_from awake_walk walk decision
+unfolding pieces walk_from awake_by walk decision
 row_reports = refl
 
 pub row_more : map {B = Bool} (λ (q : ℕ × ℕ). split_more q.0 (up_to false q.1) begun) ((0, 1) ∷ (0, 2) ∷ (1, 1) ∷ (1, 0) ∷ []) ≡ true ∷ false ∷ false ∷ true ∷ []
-unfolding pieces walk_from awake_walk walk decision
+unfolding pieces walk_from awake_by walk decision
 row_more = refl
 
 -- where rank 1 comes first, nobody takes what rank 2 sent; else both are taken
@@ -98,23 +98,23 @@ first_bad = (0 ∷ [], Ended (o.Deadlock (call_id 2 0 ∷ []))) ∷ []
 
 -- up to the first bad leaf, cut by no choice and by one, and each piece of one choice
 pub row_until_bad : map {B = List (List ℕ × Ending)} (λ (q : ℕ × ℕ). map end_of (split_report q.0 (up_to true q.1) turned_begun)) ((0, 2) ∷ (1, 2) ∷ (1, 1) ∷ (1, 0) ∷ []) ≡ first_bad ∷ first_bad ∷ first_bad ∷ [] ∷ []
-unfolding pieces walk_from awake_walk walk decision
+unfolding pieces walk_from awake_by walk decision
 row_until_bad = refl
 
 pub row_until_bad_more : map {B = Bool} (λ (q : ℕ × ℕ). split_more q.0 (up_to true q.1) turned_begun) ((0, 2) ∷ (1, 2) ∷ (1, 0) ∷ []) ≡ true ∷ true ∷ true ∷ []
-unfolding pieces walk_from awake_walk walk decision
+unfolding pieces walk_from awake_by walk decision
 row_until_bad_more = refl
 
 -- the last leaf is the bad one
 pub row_last_bad : map {B = List (List ℕ × Ending)} (λ (q : ℕ × ℕ). map end_of (split_report q.0 (up_to true q.1) begun)) ((0, 2) ∷ (1, 1) ∷ []) ≡ both ∷ both ∷ []
-unfolding pieces walk_from awake_walk walk decision
+unfolding pieces walk_from awake_by walk decision
 row_last_bad = refl
 
 pub row_last_bad_more : map {B = Bool} (λ (q : ℕ × ℕ). split_more q.0 (up_to true q.1) begun) ((0, 1) ∷ (0, 2) ∷ (1, 1) ∷ []) ≡ true ∷ false ∷ false ∷ []
-unfolding pieces walk_from awake_walk walk decision
+unfolding pieces walk_from awake_by walk decision
 row_last_bad_more = refl
 
 -- not up to the first bad leaf
 pub row_all : map {B = List (List ℕ × Ending)} (λ (q : ℕ × ℕ). map end_of (split_report q.0 (up_to false q.1) turned_begun)) ((0, 2) ∷ (1, 2) ∷ []) ≡ (first_bad ++ (1 ∷ 0 ∷ [], Ended o.Done) ∷ []) ∷ (first_bad ++ (1 ∷ 0 ∷ [], Ended o.Done) ∷ []) ∷ []
-unfolding pieces walk_from awake_walk walk decision
+unfolding pieces walk_from awake_by walk decision
 row_all = refl

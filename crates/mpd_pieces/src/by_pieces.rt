@@ -5,6 +5,7 @@ ghost use Rattle.std.specs.List.{AllByRecursion};
 ghost use Rattle.mpd_model.specs.runs.Trail.{done_steps, IsReached};
 ghost use Rattle.mpd_trail.specs.Views.{standing_of};
 ghost use Rattle.mpd_explore.specs.Report.{any_bad};
+ghost use Rattle.mpd_explore.specs.Sleeping.{decides_by};
 ghost use Rattle.mpd_explore.specs.WitnessTexts.{witness_texts};
 ghost use Rattle.mpd_pieces.specs.Pieces.{Reaches, pieces, walk_at, part, part_left, split_report, split_more};
 ghost use Rattle.mpd_pieces.specs.Along.{choices_of, have_run, report_of, more_of};
@@ -16,13 +17,6 @@ use mpd_model::STEPS_MAX;
 use mpd_policy::decisions_can_be_followed;
 use mpd_trail::Debugger;
 use std::alloc::{AllocError, Global};
-
-/// Whether a report is to end behind what was found.
-fn ends_with(limits: Limits, found: &Report) -> bool
-    ensures { result ≡ (limits.until_bad && any_bad found.now.leaves.items) }
-{
-    limits.until_bad && found.has_bad()
-}
 
 /// Adds what was found to a report.
 fn join(report: &mut Report, found: Report) -> Result<(), AllocError>
@@ -52,17 +46,17 @@ fn add_part<W: Watch>(
 ) -> Result<bool, AllocError>
     requires clean { length debugger.old.trail.steps ≡ debugger.old.trail.depth }
     requires fits { debugger.old.trail.depth + limits.fuel ≤ STEPS_MAX }
-    requires reaches { Reaches limits.fuel piece.now.choices debugger.old.world }
+    requires reaches { Reaches (decides_by limits.ends) limits.fuel piece.now.choices debugger.old.world }
     ensures leaves { OnOk result (report.new.leaves.items ≡ report.old.leaves.items ++ part limits piece.now.choices debugger.old.world) }
     ensures more { OnOk result (report.new.more ≡ (report.old.more || part_left limits piece.now.choices debugger.old.world)) }
-    ensures texts { OnOk result (map string_bytes report.new.witnesses.items ≡ map string_bytes report.old.witnesses.items ++ witness_texts limits.witnesses (done_steps debugger.old.trail) limits.fuel debugger.old.world (part limits piece.now.choices debugger.old.world)) }
+    ensures texts { OnOk result (map string_bytes report.new.witnesses.items ≡ map string_bytes report.old.witnesses.items ++ witness_texts (decides_by limits.ends) limits.witnesses (done_steps debugger.old.trail) limits.fuel debugger.old.world (part limits piece.now.choices debugger.old.world)) }
     ensures last { IfOk result (λ last. last ≡ (limits.until_bad && any_bad (part limits piece.now.choices debugger.old.world))) }
     ensures trail { debugger.new.trail ≡ debugger.old.trail }
     ensures world { debugger.new.world ≡ debugger.old.world }
     ensures reached { IsReached (standing_of debugger.new) }
 {
     let found = explore_at(alloc, debugger, &piece.choices.items, limits, watch)?;
-    let is_last = ends_with(limits, &found);
+    let is_last = limits.ends_with_report(&found);
     join(report, found)?;
     Ok(is_last)
 }
@@ -89,7 +83,7 @@ fn has_run(
 ) -> Result<bool, AllocError>
     requires clean { length debugger.old.trail.steps ≡ debugger.old.trail.depth }
     requires fits { debugger.old.trail.depth + limits.fuel ≤ STEPS_MAX }
-    requires reaches { Reaches limits.fuel piece.now.choices debugger.old.world }
+    requires reaches { Reaches (decides_by limits.ends) limits.fuel piece.now.choices debugger.old.world }
     ensures run { IfOk result (λ b. b ≡ nat_lt 0 (length (walk_at limits piece.now.choices debugger.old.world))) }
     ensures trail { debugger.new.trail ≡ debugger.old.trail }
     ensures world { debugger.new.world ≡ debugger.old.world }
@@ -114,7 +108,7 @@ fn have_run(
 ) -> Result<bool, AllocError>
     requires clean { length debugger.old.trail.steps ≡ debugger.old.trail.depth }
     requires fits { debugger.old.trail.depth + limits.fuel ≤ STEPS_MAX }
-    requires reaches { AllByRecursion (λ cs. Reaches limits.fuel cs debugger.old.world) (choices_of pieces.now) }
+    requires reaches { AllByRecursion (λ cs. Reaches (decides_by limits.ends) limits.fuel cs debugger.old.world) (choices_of pieces.now) }
     ensures run { IfOk result (λ b. b ≡ have_run limits debugger.old.world pieces.now) }
     ensures trail { debugger.new.trail ≡ debugger.old.trail }
     ensures world { debugger.new.world ≡ debugger.old.world }
@@ -130,7 +124,7 @@ fn have_run(
     Ok(false)
 }
 
-/// Whether there is a run behind so many of some pieces, at which a report ends. Where not each end is looked for once, each piece has
+/// Whether there is a run after so many of some pieces, at which a report ends. Where not each end is looked for once, each piece has
 /// one. The debugger is left as found.
 pub fn is_left(
     alloc: Global,
@@ -141,7 +135,7 @@ pub fn is_left(
 ) -> Result<bool, AllocError>
     requires clean { length debugger.old.trail.steps ≡ debugger.old.trail.depth }
     requires fits { debugger.old.trail.depth + limits.fuel ≤ STEPS_MAX }
-    requires reaches { AllByRecursion (λ cs. Reaches limits.fuel cs debugger.old.world) (choices_of pieces.now) }
+    requires reaches { AllByRecursion (λ cs. Reaches (decides_by limits.ends) limits.fuel cs debugger.old.world) (choices_of pieces.now) }
     requires within { place ≤ length pieces.now }
     ensures left { IfOk result (λ b. b ≡ have_run limits debugger.old.world (drop place pieces.now)) }
     ensures trail { debugger.new.trail ≡ debugger.old.trail }
@@ -157,7 +151,7 @@ pub fn is_left(
     have_run(alloc, debugger, behind, limits)
 }
 
-/// Whether there is more where a report ends: one of its pieces has more, or there is a run behind them.
+/// Whether there is more where a report ends: one of its pieces has more, or there is a run after them.
 pub fn is_more(more: bool, left: bool) -> bool
     ensures { result ≡ (more || left) }
 {
@@ -174,10 +168,10 @@ fn explore_pieces<W: Watch>(
 ) -> Result<Report, AllocError>
     requires clean { length debugger.old.trail.steps ≡ debugger.old.trail.depth }
     requires fits { debugger.old.trail.depth + limits.fuel ≤ STEPS_MAX }
-    requires reaches { AllByRecursion (λ cs. Reaches limits.fuel cs debugger.old.world) (choices_of pieces.now) }
+    requires reaches { AllByRecursion (λ cs. Reaches (decides_by limits.ends) limits.fuel cs debugger.old.world) (choices_of pieces.now) }
     ensures leaves { IfOk result (λ r. r.leaves.items ≡ report_of limits debugger.old.world pieces.now) }
     ensures more { IfOk result (λ r. r.more ≡ more_of limits debugger.old.world pieces.now) }
-    ensures texts { IfOk result (λ r. map string_bytes r.witnesses.items ≡ witness_texts limits.witnesses (done_steps debugger.old.trail) limits.fuel debugger.old.world r.leaves.items) }
+    ensures texts { IfOk result (λ r. map string_bytes r.witnesses.items ≡ witness_texts (decides_by limits.ends) limits.witnesses (done_steps debugger.old.trail) limits.fuel debugger.old.world r.leaves.items) }
     ensures trail { debugger.new.trail ≡ debugger.old.trail }
     ensures world { debugger.new.world ≡ debugger.old.world }
     ensures reached { IsReached (standing_of debugger.new) }
@@ -201,7 +195,7 @@ fn explore_pieces<W: Watch>(
 }
 
 /// The parts of all pieces of the runs from here, joined in order, and whether one of them has more (docs/DEFINITIONS.md, "Pieces"):
-/// a part has `runs` leaves at most. Where a list ends with the first deadlock or trap, the report does, no piece behind it is explored,
+/// a part has `runs` leaves at most. Where a list ends with the first deadlock or trap, the report does, no piece after it is explored,
 /// and there is more where some run isn't listed. It is refused where there are more than 1,024 pieces (31), or for want of memory. No
 /// undone step is kept, and the depth and the fuel are at most 1,000,000 steps together. The debugger is left as found, also where it is
 /// refused.
@@ -216,14 +210,14 @@ pub fn explore_by_pieces<W: Watch>(
     requires fits { debugger.old.trail.depth + limits.fuel ≤ STEPS_MAX }
     ensures leaves { IfOk result (λ r. r.leaves.items ≡ split_report choices limits debugger.old.world) }
     ensures more { IfOk result (λ r. r.more ≡ split_more choices limits debugger.old.world) }
-    ensures texts { IfOk result (λ r. map string_bytes r.witnesses.items ≡ witness_texts limits.witnesses (done_steps debugger.old.trail) limits.fuel debugger.old.world r.leaves.items) }
-    ensures few { OnOk result (length (pieces choices limits.fuel debugger.old.world) ≤ PIECES_MAX) }
-    ensures many { IsErrOf result SplitFault.TooManyPieces → PIECES_MAX < length (pieces choices limits.fuel debugger.old.world) }
+    ensures texts { IfOk result (λ r. map string_bytes r.witnesses.items ≡ witness_texts (decides_by limits.ends) limits.witnesses (done_steps debugger.old.trail) limits.fuel debugger.old.world r.leaves.items) }
+    ensures few { OnOk result (length (pieces (decides_by limits.ends) choices limits.fuel debugger.old.world) ≤ PIECES_MAX) }
+    ensures many { IsErrOf result SplitFault.TooManyPieces → PIECES_MAX < length (pieces (decides_by limits.ends) choices limits.fuel debugger.old.world) }
     ensures trail { debugger.new.trail ≡ debugger.old.trail }
     ensures world { debugger.new.world ≡ debugger.old.world }
     ensures reached { IsReached (standing_of debugger.new) }
 {
-    match split(alloc, debugger, choices, limits.fuel) {
+    match split(alloc, debugger, choices, limits) {
         Ok(pieces) => {
             let report = explore_pieces(alloc, debugger, &pieces, limits, watch)?;
             Ok(report)

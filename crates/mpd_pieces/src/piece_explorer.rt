@@ -4,16 +4,18 @@ ghost use Rattle.std.specs.Prelude.{◌≡◌, ◌+◌, ◌<◌, ◌≤◌, ◌�
 ghost use Rattle.std.specs.List.{AllByRecursion};
 ghost use Rattle.mpd_model.specs.runs.Trail.{done_steps, IsReached};
 ghost use Rattle.mpd_trail.specs.Views.{standing_of};
+ghost use Rattle.mpd_explore.specs.Report.{shown, listed, left_out};
+ghost use Rattle.mpd_explore.specs.Sleeping.{decides_by};
 ghost use Rattle.mpd_explore.specs.Witness.{HasWitness};
 ghost use Rattle.mpd_explore.specs.WitnessTexts.{witness_texts};
-ghost use Rattle.mpd_pieces.specs.Pieces.{Reaches, part, part_left, behind};
-ghost use Rattle.mpd_pieces.specs.Along.{Beyond};
+ghost use Rattle.mpd_pieces.specs.Pieces.{Reaches, rules_of, walk_from, part, part_left, behind};
+ghost use Rattle.mpd_walk.specs.Walks.{Beyond};
 
-use crate::follow::{follow, put_back};
-use crate::sleep::Sleep;
-use mpd_explore::{ChoiceList, Leaf, Limits, Report, Watch, explore_asleep};
+use crate::follow::follow;
+use mpd_explore::{ChoiceList, Leaf, Limits, Report, Watch, explore_with};
 use mpd_model::STEPS_MAX;
 use mpd_trail::Debugger;
+use mpd_walk::{Plain, Schedule, Wide, put_back};
 use std::alloc::{AllocError, Global};
 
 /// Puts choices in front of those of a leaf.
@@ -52,27 +54,27 @@ fn nothing_found(alloc: Global) -> Report
     }
 }
 
-/// The first leaves of the runs that begin with some choices. The debugger is left anywhere behind where it stood.
-fn explore_behind<W: Watch>(
+/// The first leaves of the runs along a schedule that begin with some choices. The debugger is left anywhere beyond where it stood.
+fn explore_behind<S: Schedule, W: Watch>(
     alloc: Global,
+    schedule: &S,
     debugger: &mut Debugger<'_>,
     choices: &[usize],
     limits: Limits,
     watch: &mut W,
 ) -> Result<Report, AllocError>
     requires fits { debugger.old.trail.depth + limits.fuel ≤ STEPS_MAX }
-    requires reaches { Reaches limits.fuel choices.now debugger.old.world }
-    ensures leaves { IfOk result (λ r. r.leaves.items ≡ part limits choices.now debugger.old.world) }
-    ensures more { IfOk result (λ r. r.more ≡ part_left limits choices.now debugger.old.world) }
-    ensures witnesses { IfOk result (λ r. AllByRecursion (HasWitness debugger.old.trail.program debugger.old.trail.mode (done_steps debugger.old.trail) limits.fuel debugger.old.world) r.leaves.items) }
-    ensures texts { IfOk result (λ r. map string_bytes r.witnesses.items ≡ witness_texts limits.witnesses (done_steps debugger.old.trail) limits.fuel debugger.old.world r.leaves.items) }
+    requires reaches { Reaches S.decides limits.fuel choices.now debugger.old.world }
+    ensures leaves { IfOk result (λ r. r.leaves.items ≡ listed limits (map shown (walk_from (rules_of S.decides S.same S.keeps limits.ends) limits.fuel choices.now [] debugger.old.world))) }
+    ensures more { IfOk result (λ r. r.more ≡ left_out limits (map shown (walk_from (rules_of S.decides S.same S.keeps limits.ends) limits.fuel choices.now [] debugger.old.world))) }
+    ensures witnesses { IfOk result (λ r. AllByRecursion (HasWitness S.decides debugger.old.trail.program debugger.old.trail.mode (done_steps debugger.old.trail) limits.fuel debugger.old.world) r.leaves.items) }
+    ensures texts { IfOk result (λ r. map string_bytes r.witnesses.items ≡ witness_texts S.decides limits.witnesses (done_steps debugger.old.trail) limits.fuel debugger.old.world r.leaves.items) }
     ensures beyond { Beyond (standing_of debugger.old) (standing_of debugger.new) }
     ensures memory { OnErr result ((0 < limits.runs) ⊎ (0 < length choices.now)) }
 {
     let base = debugger.depth();
     let limit = base + limits.fuel;
-    let mut sleep = Sleep::none(alloc);
-    follow(alloc, debugger, limit, choices, limits.ends, &mut sleep)?;
+    let sleep = follow(alloc, schedule, debugger, limit, choices, limits.ends)?;
     debugger.forget_undone();
     if sleep.is_passed {
         let report = nothing_found(alloc);
@@ -85,8 +87,7 @@ fn explore_behind<W: Watch>(
         until_bad: limits.until_bad,
         ends: limits.ends,
     };
-    sleep.steps.reverse();
-    let mut report = explore_asleep(alloc, debugger, &sleep.steps, rest, watch)?;
+    let mut report = explore_with(alloc, schedule, debugger, &sleep.steps.items, rest, watch)?;
     match put_in_front(alloc, &mut report.leaves, choices) {
         Ok(()) => Ok(report),
         Err(fault) => {
@@ -96,11 +97,39 @@ fn explore_behind<W: Watch>(
     }
 }
 
+/// The same, and the debugger is left as found.
+fn explore_piece<S: Schedule, W: Watch>(
+    alloc: Global,
+    schedule: &S,
+    debugger: &mut Debugger<'_>,
+    choices: &[usize],
+    limits: Limits,
+    watch: &mut W,
+) -> Result<Report, AllocError>
+    requires clean { length debugger.old.trail.steps ≡ debugger.old.trail.depth }
+    requires fits { debugger.old.trail.depth + limits.fuel ≤ STEPS_MAX }
+    requires reaches { Reaches S.decides limits.fuel choices.now debugger.old.world }
+    ensures leaves { IfOk result (λ r. r.leaves.items ≡ listed limits (map shown (walk_from (rules_of S.decides S.same S.keeps limits.ends) limits.fuel choices.now [] debugger.old.world))) }
+    ensures more { IfOk result (λ r. r.more ≡ left_out limits (map shown (walk_from (rules_of S.decides S.same S.keeps limits.ends) limits.fuel choices.now [] debugger.old.world))) }
+    ensures witnesses { IfOk result (λ r. AllByRecursion (HasWitness S.decides debugger.old.trail.program debugger.old.trail.mode (done_steps debugger.old.trail) limits.fuel debugger.old.world) r.leaves.items) }
+    ensures texts { IfOk result (λ r. map string_bytes r.witnesses.items ≡ witness_texts S.decides limits.witnesses (done_steps debugger.old.trail) limits.fuel debugger.old.world r.leaves.items) }
+    ensures trail { debugger.new.trail ≡ debugger.old.trail }
+    ensures world { debugger.new.world ≡ debugger.old.world }
+    ensures reached { IsReached (standing_of debugger.new) }
+    ensures memory { OnErr result ((0 < limits.runs) ⊎ (0 < length choices.now)) }
+{
+    debugger.state_is_reached();
+    let base = debugger.depth();
+    let found = explore_behind(alloc, schedule, debugger, choices, limits, watch);
+    put_back(debugger, base);
+    found
+}
+
 /// The first leaves of the runs from here that begin with some choices, and whether there are others of these (docs/DEFINITIONS.md,
 /// "Pieces"). Fuel counts from here, and so do the choices and the text of each leaf, which has a run, and a deadlock a witness, as those
-/// of `explore` do. Some run has these choices, as those of each piece of `split` by that fuel; no undone step is kept, and the depth and the fuel
-/// are at most 1,000,000 steps together. The debugger is left as found, also where memory is refused, which is what an `Err` says; that
-/// comes only where a leaf is asked for, or there is a choice. `watch` is told of each leaf as `explore` tells it, counted from 1.
+/// of `explore` do. Some run has these choices, as those of each piece of `split` by these limits; no undone step is kept, and the depth and
+/// the fuel are at most 1,000,000 steps together. The debugger is left as found, also where memory is refused, which is what an `Err` says;
+/// that comes only where a leaf is asked for, or there is a choice. `watch` is told of each leaf as `explore` tells it, counted from 1.
 pub fn explore_at<W: Watch>(
     alloc: Global,
     debugger: &mut Debugger<'_>,
@@ -110,19 +139,18 @@ pub fn explore_at<W: Watch>(
 ) -> Result<Report, AllocError>
     requires clean { length debugger.old.trail.steps ≡ debugger.old.trail.depth }
     requires fits { debugger.old.trail.depth + limits.fuel ≤ STEPS_MAX }
-    requires reaches { Reaches limits.fuel choices.now debugger.old.world }
+    requires reaches { Reaches (decides_by limits.ends) limits.fuel choices.now debugger.old.world }
     ensures leaves { IfOk result (λ r. r.leaves.items ≡ part limits choices.now debugger.old.world) }
     ensures more { IfOk result (λ r. r.more ≡ part_left limits choices.now debugger.old.world) }
-    ensures witnesses { IfOk result (λ r. AllByRecursion (HasWitness debugger.old.trail.program debugger.old.trail.mode (done_steps debugger.old.trail) limits.fuel debugger.old.world) r.leaves.items) }
-    ensures texts { IfOk result (λ r. map string_bytes r.witnesses.items ≡ witness_texts limits.witnesses (done_steps debugger.old.trail) limits.fuel debugger.old.world r.leaves.items) }
+    ensures witnesses { IfOk result (λ r. AllByRecursion (HasWitness (decides_by limits.ends) debugger.old.trail.program debugger.old.trail.mode (done_steps debugger.old.trail) limits.fuel debugger.old.world) r.leaves.items) }
+    ensures texts { IfOk result (λ r. map string_bytes r.witnesses.items ≡ witness_texts (decides_by limits.ends) limits.witnesses (done_steps debugger.old.trail) limits.fuel debugger.old.world r.leaves.items) }
     ensures trail { debugger.new.trail ≡ debugger.old.trail }
     ensures world { debugger.new.world ≡ debugger.old.world }
     ensures reached { IsReached (standing_of debugger.new) }
     ensures memory { OnErr result ((0 < limits.runs) ⊎ (0 < length choices.now)) }
 {
-    debugger.state_is_reached();
-    let base = debugger.depth();
-    let found = explore_behind(alloc, debugger, choices, limits, watch);
-    put_back(debugger, base);
-    found
+    if limits.ends {
+        return explore_piece(alloc, &Wide, debugger, choices, limits, watch);
+    }
+    explore_piece(alloc, &Plain, debugger, choices, limits, watch)
 }

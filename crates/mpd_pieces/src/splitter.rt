@@ -4,16 +4,17 @@ ghost use Rattle.std.specs.Prelude.{◌≡◌, ◌+◌, ◌-◌, ◌<◌, ◌≤
 ghost use Rattle.std.specs.List.{AllByRecursion, range_with_len};
 ghost use Rattle.mpd_model.specs.runs.Trail.{IsReached};
 ghost use Rattle.mpd_trail.specs.Views.{standing_of};
+ghost use Rattle.mpd_explore.specs.Sleeping.{decides_by};
 ghost use Rattle.mpd_pieces.specs.Pieces.{Reaches, pieces, numbered};
-ghost use Rattle.mpd_pieces.specs.Along.{Beyond, Looked, Adds, counted, longer, all_longer, choices_of};
+ghost use Rattle.mpd_walk.specs.Walks.{Beyond};
+ghost use Rattle.mpd_pieces.specs.Along.{Looked, Adds, counted, longer, all_longer, choices_of};
 ghost use Rattle.mpd_pieces.specs.Faults.{split_fault_number, split_fault_name};
 
-use crate::follow::{follow, put_back};
-use crate::sleep::Sleep;
-use mpd_explore::ChoiceList;
+use crate::follow::follow;
+use mpd_explore::{ChoiceList, Limits};
 use mpd_model::{Decision, STEPS_MAX};
-use mpd_policy::{decide, decisions_can_be_followed};
 use mpd_trail::Debugger;
+use mpd_walk::{Plain, Schedule, Wide, put_back};
 use std::alloc::{AllocError, Global};
 use std::error::Error;
 use std::fmt;
@@ -82,13 +83,17 @@ impl From<AllocError> for SplitFault {
 }
 
 /// Takes a forced step, or answers how many candidates there are to choose from; none of them where the run has ended.
-fn look(alloc: Global, debugger: &mut Debugger<'_>) -> Result<Option<usize>, AllocError>
+fn look<S: Schedule>(
+    alloc: Global,
+    schedule: &S,
+    debugger: &mut Debugger<'_>,
+) -> Result<Option<usize>, AllocError>
     requires { debugger.old.trail.depth < STEPS_MAX }
-    ensures looked { IfOk result (λ o. Looked (standing_of debugger.old) o (standing_of debugger.new)) }
+    ensures looked { IfOk result (λ o. Looked S.decides (standing_of debugger.old) o (standing_of debugger.new)) }
     ensures beyond { Beyond (standing_of debugger.old) (standing_of debugger.new) }
 {
-    decisions_can_be_followed();
-    match decide(alloc, debugger.core())? {
+    schedule.can_be_followed();
+    match schedule.decide(alloc, debugger.core())? {
         Decision::Leaf(_) => Ok(Some(0)),
         Decision::Forced(step) => {
             debugger.forward(step)?;
@@ -99,52 +104,59 @@ fn look(alloc: Global, debugger: &mut Debugger<'_>) -> Result<Option<usize>, All
 }
 
 /// Goes on by forced steps to the next choice, and answers how many candidates it has; 0 where the run ends before it, or its fuel.
-fn look_ahead(alloc: Global, debugger: &mut Debugger<'_>, limit: usize) -> Result<usize, AllocError>
+fn look_ahead<S: Schedule>(
+    alloc: Global,
+    schedule: &S,
+    debugger: &mut Debugger<'_>,
+    limit: usize,
+) -> Result<usize, AllocError>
     requires within { debugger.old.trail.depth ≤ limit }
     requires few { limit ≤ STEPS_MAX }
-    ensures counted { IfOk result (λ m. pieces 1 (limit - debugger.old.trail.depth) debugger.old.world ≡ counted m) }
+    ensures counted { IfOk result (λ m. pieces S.decides 1 (limit - debugger.old.trail.depth) debugger.old.world ≡ counted m) }
     ensures beyond { Beyond (standing_of debugger.old) (standing_of debugger.new) }
 {
     debugger.state_is_reached();
     let begun = debugger.depth();
     for depth in begun..limit {
-        if let Some(count) = look(alloc, debugger)? {
+        if let Some(count) = look(alloc, schedule, debugger)? {
             return Ok(count);
         }
     }
     Ok(0)
 }
 
-/// Goes behind some choices and to the next one, and answers how many candidates that has, as `look_ahead` does.
-fn look_behind(
+/// Goes on after some choices to the next one, and answers how many candidates that has, as `look_ahead` does.
+fn look_behind<S: Schedule>(
     alloc: Global,
+    schedule: &S,
     debugger: &mut Debugger<'_>,
     limit: usize,
     choices: &[usize],
 ) -> Result<usize, AllocError>
     requires within { debugger.old.trail.depth ≤ limit }
     requires few { limit ≤ STEPS_MAX }
-    requires reaches { Reaches (limit - debugger.old.trail.depth) choices.now debugger.old.world }
-    ensures longer { IfOk result (λ m. longer (limit - debugger.old.trail.depth) choices.now debugger.old.world ≡ map (λ cs. choices.now ++ cs) (counted m)) }
+    requires reaches { Reaches S.decides (limit - debugger.old.trail.depth) choices.now debugger.old.world }
+    ensures longer { IfOk result (λ m. longer S.decides (limit - debugger.old.trail.depth) choices.now debugger.old.world ≡ map (λ cs. choices.now ++ cs) (counted m)) }
     ensures beyond { Beyond (standing_of debugger.old) (standing_of debugger.new) }
 {
-    let mut sleep = Sleep::none(alloc);
-    follow(alloc, debugger, limit, choices, false, &mut sleep)?;
-    let count = look_ahead(alloc, debugger, limit)?;
+    let sleep = follow(alloc, schedule, debugger, limit, choices, false)?;
+    drop(sleep);
+    let count = look_ahead(alloc, schedule, debugger, limit)?;
     Ok(count)
 }
 
-/// How many candidates the choice behind some others has, as `look_ahead` says. The debugger is left as found.
-fn candidates_behind(
+/// How many candidates the choice after some others has, as `look_ahead` says. The debugger is left as found.
+fn candidates_behind<S: Schedule>(
     alloc: Global,
+    schedule: &S,
     debugger: &mut Debugger<'_>,
     fuel: usize,
     choices: &[usize],
 ) -> Result<usize, AllocError>
     requires clean { length debugger.old.trail.steps ≡ debugger.old.trail.depth }
     requires fits { debugger.old.trail.depth + fuel ≤ STEPS_MAX }
-    requires reaches { Reaches fuel choices.now debugger.old.world }
-    ensures longer { IfOk result (λ m. longer fuel choices.now debugger.old.world ≡ map (λ cs. choices.now ++ cs) (counted m)) }
+    requires reaches { Reaches S.decides fuel choices.now debugger.old.world }
+    ensures longer { IfOk result (λ m. longer S.decides fuel choices.now debugger.old.world ≡ map (λ cs. choices.now ++ cs) (counted m)) }
     ensures trail { debugger.new.trail ≡ debugger.old.trail }
     ensures world { debugger.new.world ≡ debugger.old.world }
     ensures reached { IsReached (standing_of debugger.new) }
@@ -152,7 +164,7 @@ fn candidates_behind(
     debugger.state_is_reached();
     let base = debugger.depth();
     let limit = base + fuel;
-    let found = look_behind(alloc, debugger, limit, choices);
+    let found = look_behind(alloc, schedule, debugger, limit, choices);
     put_back(debugger, base);
     found
 }
@@ -181,7 +193,7 @@ fn copied(alloc: Global, choices: &[usize]) -> Result<ChoiceList, AllocError>
     Ok(ChoiceList { items })
 }
 
-/// Some choices, and one behind them.
+/// Some choices, and one after them.
 fn with_one_more(alloc: Global, choices: &[usize], choice: usize) -> Result<ChoiceList, AllocError>
     ensures { IfOk result (λ cs. cs ≡ choices.now ++ choice ∷ []) }
 {
@@ -190,7 +202,7 @@ fn with_one_more(alloc: Global, choices: &[usize], choice: usize) -> Result<Choi
     Ok(ChoiceList { items })
 }
 
-/// Adds a piece for each of so many candidates behind some choices.
+/// Adds a piece for each of so many candidates after some choices.
 fn push_each(
     alloc: Global,
     made: &mut Vec<Piece>,
@@ -231,8 +243,9 @@ fn push_longer(
 }
 
 /// Adds what some choices become with one more, and answers whether there was one to be made.
-fn push_grown(
+fn push_grown<S: Schedule>(
     alloc: Global,
+    schedule: &S,
     debugger: &mut Debugger<'_>,
     fuel: usize,
     choices: &[usize],
@@ -240,17 +253,17 @@ fn push_grown(
 ) -> Result<bool, SplitFault>
     requires clean { length debugger.old.trail.steps ≡ debugger.old.trail.depth }
     requires fits { debugger.old.trail.depth + fuel ≤ STEPS_MAX }
-    requires reaches { Reaches fuel choices.now debugger.old.world }
+    requires reaches { Reaches S.decides fuel choices.now debugger.old.world }
     requires few { length made.old.items ≤ PIECES_MAX }
-    ensures ok { OnOk result (Adds made.old.items (longer fuel choices.now debugger.old.world) made.new.items) }
+    ensures ok { OnOk result (Adds made.old.items (longer S.decides fuel choices.now debugger.old.world) made.new.items) }
     ensures few { OnOk result (length made.new.items ≤ PIECES_MAX) }
-    ensures still { IfOk result (λ grows. grows ≡ false → longer fuel choices.now debugger.old.world ≡ choices.now ∷ []) }
-    ensures many { IsErrOf result SplitFault.TooManyPieces → PIECES_MAX < length made.old.items + length (longer fuel choices.now debugger.old.world) }
+    ensures still { IfOk result (λ grows. grows ≡ false → longer S.decides fuel choices.now debugger.old.world ≡ choices.now ∷ []) }
+    ensures many { IsErrOf result SplitFault.TooManyPieces → PIECES_MAX < length made.old.items + length (longer S.decides fuel choices.now debugger.old.world) }
     ensures trail { debugger.new.trail ≡ debugger.old.trail }
     ensures world { debugger.new.world ≡ debugger.old.world }
     ensures reached { IsReached (standing_of debugger.new) }
 {
-    let count = candidates_behind(alloc, debugger, fuel, choices)?;
+    let count = candidates_behind(alloc, schedule, debugger, fuel, choices)?;
     match push_longer(alloc, made, choices, count) {
         Ok(()) => Ok(count > 0),
         Err(fault) => Err(fault),
@@ -272,19 +285,20 @@ struct Level {
 }
 
 /// What pieces become by one choice more.
-fn grown(
+fn grown<S: Schedule>(
     alloc: Global,
+    schedule: &S,
     debugger: &mut Debugger<'_>,
     fuel: usize,
     from: &[Piece],
 ) -> Result<Level, SplitFault>
     requires clean { length debugger.old.trail.steps ≡ debugger.old.trail.depth }
     requires fits { debugger.old.trail.depth + fuel ≤ STEPS_MAX }
-    requires reaches { AllByRecursion (λ cs. Reaches fuel cs debugger.old.world) (choices_of from.now) }
-    ensures ok { IfOk result (λ l. l.made.items ≡ numbered 0 (all_longer fuel debugger.old.world from.now)) }
+    requires reaches { AllByRecursion (λ cs. Reaches S.decides fuel cs debugger.old.world) (choices_of from.now) }
+    ensures ok { IfOk result (λ l. l.made.items ≡ numbered 0 (all_longer S.decides fuel debugger.old.world from.now)) }
     ensures few { IfOk result (λ l. length l.made.items ≤ PIECES_MAX) }
-    ensures still { IfOk result (λ l. l.grows ≡ false → all_longer fuel debugger.old.world from.now ≡ choices_of from.now) }
-    ensures many { IsErrOf result SplitFault.TooManyPieces → PIECES_MAX < length (all_longer fuel debugger.old.world from.now) }
+    ensures still { IfOk result (λ l. l.grows ≡ false → all_longer S.decides fuel debugger.old.world from.now ≡ choices_of from.now) }
+    ensures many { IsErrOf result SplitFault.TooManyPieces → PIECES_MAX < length (all_longer S.decides fuel debugger.old.world from.now) }
     ensures trail { debugger.new.trail ≡ debugger.old.trail }
     ensures world { debugger.new.world ≡ debugger.old.world }
     ensures reached { IsReached (standing_of debugger.new) }
@@ -293,7 +307,14 @@ fn grown(
     let mut made = Vec::new(alloc);
     let mut grows = false;
     for piece in from {
-        match push_grown(alloc, debugger, fuel, &piece.choices.items, &mut made) {
+        match push_grown(
+            alloc,
+            schedule,
+            debugger,
+            fuel,
+            &piece.choices.items,
+            &mut made,
+        ) {
             Ok(more) => grows = either(grows, more),
             Err(fault) => return Err(fault),
         }
@@ -315,30 +336,28 @@ fn first_piece(alloc: Global) -> Result<Vec<Piece>, SplitFault>
     Ok(made)
 }
 
-/// The runs from here cut into pieces by their first choices, so many of them (docs/DEFINITIONS.md, "Pieces"). Fuel counts from here. A
-/// run that ends before that, or whose fuel does, is a piece by the choices that it makes. The pieces are numbered from 0, in order. No
-/// undone step is kept, and the depth and the fuel are at most 1,000,000 steps together. It is refused where there are more than 1,024
-/// pieces (31), or for want of memory. The debugger is left as found, also where it is refused.
-pub fn split(
+/// The runs from here along a schedule, cut into pieces.
+fn split_by<S: Schedule>(
     alloc: Global,
+    schedule: &S,
     debugger: &mut Debugger<'_>,
     choices: usize,
     fuel: usize,
 ) -> Result<Vec<Piece>, SplitFault>
     requires clean { length debugger.old.trail.steps ≡ debugger.old.trail.depth }
     requires fits { debugger.old.trail.depth + fuel ≤ STEPS_MAX }
-    ensures ok { IfOk result (λ v. v.items ≡ numbered 0 (pieces choices fuel debugger.old.world)) }
-    ensures few { OnOk result (length (pieces choices fuel debugger.old.world) ≤ PIECES_MAX) }
-    ensures many { IsErrOf result SplitFault.TooManyPieces → PIECES_MAX < length (pieces choices fuel debugger.old.world) }
+    ensures ok { IfOk result (λ v. v.items ≡ numbered 0 (pieces S.decides choices fuel debugger.old.world)) }
+    ensures few { OnOk result (length (pieces S.decides choices fuel debugger.old.world) ≤ PIECES_MAX) }
+    ensures many { IsErrOf result SplitFault.TooManyPieces → PIECES_MAX < length (pieces S.decides choices fuel debugger.old.world) }
     ensures trail { debugger.new.trail ≡ debugger.old.trail }
     ensures world { debugger.new.world ≡ debugger.old.world }
     ensures reached { IsReached (standing_of debugger.new) }
 {
-    decisions_can_be_followed();
+    schedule.can_be_followed();
     debugger.state_is_reached();
     let mut made = first_piece(alloc)?;
     for choice in 0..choices {
-        let level = match grown(alloc, debugger, fuel, &made) {
+        let level = match grown(alloc, schedule, debugger, fuel, &made) {
             Ok(level) => level,
             Err(fault) => return Err(fault),
         };
@@ -348,4 +367,30 @@ pub fn split(
         }
     }
     Ok(made)
+}
+
+/// The runs from here cut into pieces by their first choices, so many of them (docs/DEFINITIONS.md, "Pieces"): those of the walk, or where
+/// each end is looked for once (`ends`) those of the wide walk. Fuel counts from here, and of the limits nothing else matters. A run that
+/// ends before that, or whose fuel does, is a piece by the choices that it makes. The pieces are numbered from 0, in order. No undone step
+/// is kept, and the depth and the fuel are at most 1,000,000 steps together. It is refused where there are more than 1,024 pieces (31), or
+/// for want of memory. The debugger is left as found, also where it is refused.
+pub fn split(
+    alloc: Global,
+    debugger: &mut Debugger<'_>,
+    choices: usize,
+    limits: Limits,
+) -> Result<Vec<Piece>, SplitFault>
+    requires clean { length debugger.old.trail.steps ≡ debugger.old.trail.depth }
+    requires fits { debugger.old.trail.depth + limits.fuel ≤ STEPS_MAX }
+    ensures ok { IfOk result (λ v. v.items ≡ numbered 0 (pieces (decides_by limits.ends) choices limits.fuel debugger.old.world)) }
+    ensures few { OnOk result (length (pieces (decides_by limits.ends) choices limits.fuel debugger.old.world) ≤ PIECES_MAX) }
+    ensures many { IsErrOf result SplitFault.TooManyPieces → PIECES_MAX < length (pieces (decides_by limits.ends) choices limits.fuel debugger.old.world) }
+    ensures trail { debugger.new.trail ≡ debugger.old.trail }
+    ensures world { debugger.new.world ≡ debugger.old.world }
+    ensures reached { IsReached (standing_of debugger.new) }
+{
+    if limits.ends {
+        return split_by(alloc, &Wide, debugger, choices, limits.fuel);
+    }
+    split_by(alloc, &Plain, debugger, choices, limits.fuel)
 }

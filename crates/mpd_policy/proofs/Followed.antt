@@ -25,16 +25,16 @@ some_is : {A : Type 0} (o : Option A) → is_some o ≡ true → IsSome o
 some_is None e = absurd (cc)
 some_is (Some x) e = refl
 
-abbrev AllOf : (Step → Type 0) → List Step → Type 0
+abbrev pub AllOf : (Step → Type 0) → List Step → Type 0
 AllOf P [] = Unit {0}
 AllOf P (x ∷ xs) = P x × AllOf P xs
 
-all_at : (P : Step → Type 0) (xs : List Step) (k : ℕ) (d : Step) → AllOf P xs → k < length xs → P (get_or xs k d)
+pub all_at : (P : Step → Type 0) (xs : List Step) (k : ℕ) (d : Step) → AllOf P xs → k < length xs → P (get_or xs k d)
 all_at P [] k d all lt = absurd (omega (arith, lt))
 all_at P (x ∷ xs) zero d all lt = all.0
 all_at P (x ∷ xs) (suc k) d all lt = all_at P xs k d all.1 (omega (arith, lt))
 
-all_pass : (t : Step → Bool) (xs : List Step) → AllOf (λ a. t a ≡ true) (filter t xs)
+pub all_pass : (t : Step → Bool) (xs : List Step) → AllOf (λ a. t a ≡ true) (filter t xs)
 all_pass t [] = tt
 all_pass t (x ∷ xs) =
     elim (bool_tells (t x)) [
@@ -42,7 +42,7 @@ all_pass t (x ∷ xs) =
       | inr h ↦ subst (AllOf (λ a. t a ≡ true)) (sym (ap (λ (b : Bool). cond b (x ∷ filter t xs) (filter t xs)) h)) (all_pass t xs)
     ]
 
-all_kept : (P : Step → Type 0) (t : Step → Bool) (xs : List Step) → AllOf P xs → AllOf P (filter t xs)
+pub all_kept : (P : Step → Type 0) (t : Step → Bool) (xs : List Step) → AllOf P xs → AllOf P (filter t xs)
 all_kept P t [] all = tt
 all_kept P t (x ∷ xs) all =
     elim (bool_tells (t x)) [
@@ -55,18 +55,18 @@ all_mapped P Q f [] all = tt
 all_mapped P Q f (x ∷ xs) all = (f x all.0, all_mapped P Q f xs all.1)
 
 -- all enabled steps are
-all_enabled : (w : World) → AllOf (λ a. IsSome (next w a)) (enabled w)
+pub all_enabled : (w : World) → AllOf (λ a. IsSome (next w a)) (enabled w)
 all_enabled w = all_mapped (λ a. is_enabled w a ≡ true) (λ a. IsSome (next w a)) (λ a h. some_is (next w a) h) (enabled w) (all_pass (is_enabled w) (steps_of w))
 
 -- the lowest rank that has a step of a waitany
 abbrev first_rank : World → Option ℕ
 first_rank w = option_and_then any_rank (first_enabled w (λ a. is_some (any_rank a)))
 
-first_holds : (P : Step → Type 0) (xs : List Step) (a : Step) → AllOf P xs → first_in xs ≡ Some a → P a
+pub first_holds : (P : Step → Type 0) (xs : List Step) (a : Step) → AllOf P xs → first_in xs ≡ Some a → P a
 first_holds P [] a all e = absurd (cc)
 first_holds P (x ∷ xs) a all e = let same : x ≡ a = cc in subst P same all.0
 
-either : (P : Type 0) (o p : Option Step) (a : Step) → (o ≡ Some a → P) → (p ≡ Some a → P) → or_else o p ≡ Some a → P
+pub either : (P : Type 0) (o p : Option Step) (a : Step) → (o ≡ Some a → P) → (p ≡ Some a → P) → or_else o p ≡ Some a → P
 either P None p a one two e = two e
 either P (Some x) p a one two e = one e
 
@@ -177,7 +177,7 @@ not_any false e = refl
 pub enabled_where : (w : World) → is_stuck w ≡ true → enabled w ≡ []
 enabled_where w e = any_none (is_enabled w) (steps_of w) (not_any (list_any (is_enabled w) (steps_of w)) e)
 
-ended_where : (w : World) → enabled w ≡ [] → outcome w ≡ Some (ending w)
+pub ended_where : (w : World) → enabled w ≡ [] → outcome w ≡ Some (ending w)
 ended_where w e = ap (λ (b : Bool). cond b (Some (ending w)) None) (stuck_where w e)
 
 -- ---- the law

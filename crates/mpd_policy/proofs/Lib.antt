@@ -1,5 +1,7 @@
 pub mod StepKinds
 pub mod Followed
+pub mod QuietLemmas
+pub mod WideLemmas
 pub mod SingleLemmas
 pub mod NumberLemmas
 pub mod PlaceLemmas

@@ -20,15 +20,15 @@ use Rattle.mpd_policy.specs.Entries.{entries_of}
 
 -- ---- what passes where all do, and where none does
 
-all_mapped : {A : Type 0} (t : Step → Bool) (g : A → Step) → ((x : A) → t (g x) ≡ true) → (xs : List A) → filter t (map g xs) ≡ map g xs
+pub all_mapped : {A : Type 0} (t : Step → Bool) (g : A → Step) → ((x : A) → t (g x) ≡ true) → (xs : List A) → filter t (map g xs) ≡ map g xs
 all_mapped t g each [] = refl
 all_mapped t g each (x ∷ xs) = ap (λ (d : Bool). cond d (g x ∷ filter t (map g xs)) (filter t (map g xs))) (each x) ∙ ap (λ ys. g x ∷ ys) (all_mapped t g each xs)
 
-none_mapped : {A : Type 0} (t : Step → Bool) (g : A → Step) → ((x : A) → t (g x) ≡ false) → (xs : List A) → filter t (map g xs) ≡ []
+pub none_mapped : {A : Type 0} (t : Step → Bool) (g : A → Step) → ((x : A) → t (g x) ≡ false) → (xs : List A) → filter t (map g xs) ≡ []
 none_mapped t g each [] = refl
 none_mapped t g each (x ∷ xs) = ap (λ (d : Bool). cond d (g x ∷ filter t (map g xs)) (filter t (map g xs))) (each x) ∙ none_mapped t g each xs
 
-none_joined : {A : Type 0} (t : Step → Bool) (f : A → List Step) → ((x : A) → filter t (f x) ≡ []) → (xs : List A) → filter t (flat_map f xs) ≡ []
+pub none_joined : {A : Type 0} (t : Step → Bool) (f : A → List Step) → ((x : A) → filter t (f x) ≡ []) → (xs : List A) → filter t (flat_map f xs) ≡ []
 none_joined t f each [] = refl
 none_joined t f each (x ∷ xs) = filter-append t (f x) (flat_map f xs) ∙ ap (λ ys. ys ++ filter t (flat_map f xs)) (each x) ∙ none_joined t f each xs
 
@@ -36,24 +36,24 @@ all_joined : {A : Type 0} (t : Step → Bool) (f : A → List Step) → ((x : A)
 all_joined t f each [] = refl
 all_joined t f each (x ∷ xs) = filter-append t (f x) (flat_map f xs) ∙ ap (λ ys. ys ++ filter t (flat_map f xs)) (each x) ∙ ap (λ ys. f x ++ ys) (all_joined t f each xs)
 
-no_match : (t : Step → Bool) → ((s r : CallId) → t (Match s r) ≡ false) → (b : Board) → filter t (matches_on b) ≡ []
+pub no_match : (t : Step → Bool) → ((s r : CallId) → t (Match s r) ≡ false) → (b : Board) → filter t (matches_on b) ≡ []
 no_match t each b =
     none_joined t (matches_at b) (λ q.
     none_joined t (λ j. matches_with b (call_id q j)) (λ j.
     none_joined t (matches_from b (call_id q j)) (λ p.
     none_mapped t (λ i. Match (call_id p i) (call_id q j)) (λ i. each (call_id p i) (call_id q j)) (filter (λ i. eligible b (call_id p i) (call_id q j)) (call_numbers b p))) (rank_numbers b)) (call_numbers b q)) (rank_numbers b)
 
-one_passes : (t : Step → Bool) (c : Bool) (x : Step) → t x ≡ true → filter t (cond c (x ∷ []) []) ≡ cond c (x ∷ []) []
+pub one_passes : (t : Step → Bool) (c : Bool) (x : Step) → t x ≡ true → filter t (cond c (x ∷ []) []) ≡ cond c (x ∷ []) []
 one_passes t true x e = ap (λ (d : Bool). cond d (x ∷ []) []) e
 one_passes t false x e = refl
 
-one_fails : (t : Step → Bool) (c : Bool) (x : Step) → t x ≡ false → filter t (cond c (x ∷ []) []) ≡ []
+pub one_fails : (t : Step → Bool) (c : Bool) (x : Step) → t x ≡ false → filter t (cond c (x ∷ []) []) ≡ []
 one_fails t true x e = ap (λ (d : Bool). cond d (x ∷ []) []) e
 one_fails t false x e = refl
 
 -- ---- the enabled steps that pass a test, part by part
 
-of_parts : (t : Step → Bool) (w : World) (one two three four five : List Step) → filter t (locals w) ≡ one → filter t (releases w) ≡ two → filter t (wakes w) ≡ three → filter t (any_wakes w) ≡ four → filter t (matches_on w.board) ≡ five
+pub of_parts : (t : Step → Bool) (w : World) (one two three four five : List Step) → filter t (locals w) ≡ one → filter t (releases w) ≡ two → filter t (wakes w) ≡ three → filter t (any_wakes w) ≡ four → filter t (matches_on w.board) ≡ five
     → filter t (enabled w) ≡ one ++ (two ++ (three ++ (four ++ five)))
 of_parts t w one two three four five l r k a m =
     ap (filter t) (enabled_parts w)
@@ -70,7 +70,7 @@ of_parts t w one two three four five l r k a m =
 abbrev local_numbers : World → List ℕ
 local_numbers w = filter (λ p. is_enabled w (Local p)) (rank_numbers w.board)
 
-abbrev wake_numbers : World → List ℕ
+abbrev pub wake_numbers : World → List ℕ
 wake_numbers w = filter (λ p. is_enabled w (Wake p)) (rank_numbers w.board)
 
 -- the indexes of a rank's waitany by which it can go on
@@ -89,7 +89,7 @@ none_at t w p each = ap (filter t) (by_index w p) ∙ none_mapped t (WakeAny p) 
 all_at : (t : Step → Bool) (w : World) (p : ℕ) → ((i : ℕ) → t (WakeAny p i) ≡ true) → filter t (any_wakes_at w p) ≡ any_wakes_at w p
 all_at t w p each = ap (filter t) (by_index w p) ∙ all_mapped t (WakeAny p) each (any_numbers w p) ∙ sym (by_index w p)
 
-no_any : (t : Step → Bool) → ((p i : ℕ) → t (WakeAny p i) ≡ false) → (w : World) → filter t (any_wakes w) ≡ []
+pub no_any : (t : Step → Bool) → ((p i : ℕ) → t (WakeAny p i) ≡ false) → (w : World) → filter t (any_wakes w) ≡ []
 no_any t each w = ap (filter t) (by_rank w) ∙ none_joined t (any_wakes_at w) (λ p. none_at t w p (each p)) (rank_numbers w.board)
 
 pub local_steps : (w : World) → filter is_local (enabled w) ≡ locals w
@@ -359,11 +359,11 @@ decided_none w e = ap (decided w) e
 pub forced_is : (w : World) (o : Option Step) (a : Step) → o ≡ forced_step w → o ≡ Some a → Forced a ≡ decision w
 forced_is w o a is some = sym (decided_some w a (sym is ∙ some))
 
-chosen_some : (w : World) (steps : List Step) → 0 < length steps → chosen_from w steps ≡ Choice steps
+pub chosen_some : (w : World) (steps : List Step) → 0 < length steps → chosen_from w steps ≡ Choice steps
 chosen_some w [] some = absurd (omega (arith, some))
 chosen_some w (a ∷ steps) some = refl
 
-chosen_none : (w : World) (steps : List Step) → length steps ≡ 0 → chosen_from w steps ≡ Leaf (ending w)
+pub chosen_none : (w : World) (steps : List Step) → length steps ≡ 0 → chosen_from w steps ≡ Leaf (ending w)
 chosen_none w [] none = refl
 chosen_none w (a ∷ steps) none = absurd (omega (arith, none))
 

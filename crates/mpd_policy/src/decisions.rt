@@ -30,7 +30,7 @@ fn first_local(core: &Core<'_>) -> Option<Step>
 
 /// The release, where it is enabled.
 #[tactic(auto, using(crate::proofs::StepKinds::releasing))]
-fn release(core: &Core<'_>) -> Option<Step>
+pub(crate) fn release(core: &Core<'_>) -> Option<Step>
     ensures { result ≡ first_enabled core.now.world is_release }
 {
     if core.is_enabled(Step::Release) {
@@ -41,7 +41,7 @@ fn release(core: &Core<'_>) -> Option<Step>
 
 /// The wake of the lowest rank that can be woken.
 
-fn first_wake(core: &Core<'_>) -> Option<Step>
+pub(crate) fn first_wake(core: &Core<'_>) -> Option<Step>
     ensures { result ≡ first_enabled core.now.world is_wake }
 {
     let count = core.rank_count();
@@ -55,7 +55,7 @@ fn first_wake(core: &Core<'_>) -> Option<Step>
 
 /// The first match whose receive names its source.
 #[tactic(auto, using(crate::proofs::StepKinds::naming))]
-fn first_named_match(core: &Core<'_>) -> Option<Step>
+pub(crate) fn first_named_match(core: &Core<'_>) -> Option<Step>
     ensures { result ≡ first_enabled core.now.world (is_named_match core.now.world.board) }
 {
     core.board().first_named_match()

@@ -4,8 +4,12 @@
 pub mod breaks;
 pub mod decisions;
 mod hits;
+pub mod quiet;
 pub mod runs;
+pub mod wide;
 
 pub use breaks::Breaks;
 pub use decisions::{decide, decisions_can_be_followed, forced_step, only_step, sole};
+pub use quiet::{first_quiet, is_quiet};
 pub use runs::{run, run_back, run_on};
+pub use wide::{conflict, wake, wide_decide, wide_decisions_can_be_followed};

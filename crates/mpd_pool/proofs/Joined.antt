@@ -6,6 +6,7 @@ use Rattle.mpd_explore.specs.declared.report.Limits.{Limits}
 use Rattle.mpd_explore.specs.declared.report.Leaf as leaf
 use Rattle.mpd_explore.specs.declared.report.Report.{Report}
 use Rattle.mpd_explore.specs.Report.{any_bad}
+use Rattle.mpd_explore.specs.Sleeping.{decides_by}
 use Rattle.mpd_explore.specs.Witness.{HasWitness}
 use Rattle.mpd_explore.specs.WitnessTexts.{witness_texts}
 use Rattle.mpd_pieces.specs.declared.splitter.Piece.{Piece}
@@ -39,7 +40,7 @@ record Grown (d : Standing) (l : Limits) (ps : List Piece) (n : ℕ) (cs : List 
   witnesses : HaveWitnesses d l ls
   texts_are : HaveTexts d l ls texts
 
-grown : (d : Standing) (l : Limits) (ps : List Piece) (i : ℕ) (old new r : Report) (before now own : List (List ℕ)) (last : Bool) → i < length ps → AtNumber d l ps i r → AreJoined d l (take i ps) old.leaves.items old.more before → own ≡ witness_texts l.witnesses (done_steps d.trail) l.fuel d.world r.leaves.items
+grown : (d : Standing) (l : Limits) (ps : List Piece) (i : ℕ) (old new r : Report) (before now own : List (List ℕ)) (last : Bool) → i < length ps → AtNumber d l ps i r → AreJoined d l (take i ps) old.leaves.items old.more before → own ≡ witness_texts (decides_by l.ends) l.witnesses (done_steps d.trail) l.fuel d.world r.leaves.items
     → new.leaves.items ≡ old.leaves.items ++ r.leaves.items → new.more ≡ (old.more || r.more) → now ≡ before ++ own → last ≡ (l.until_bad && any_bad r.leaves.items)
     → Grown d l ps (i + 1) (get_or ps i none).choices old.leaves.items new.leaves.items last new.more now
 grown d l ps i old new r before now own last within at h texts_of leaves more texts is =
@@ -52,12 +53,12 @@ grown d l ps i old new r before now own last within at h texts_of leaves more te
       added = added;
       more_is = more_next l d.world ps i p old.more new.more within read h.more_is (more ∙ ap (λ b. old.more || b) here.1);
       is_last = is ∙ ap (λ ls. l.until_bad && any_bad ls) here.0;
-      witnesses = subst (λ (ls : List leaf.Leaf). HaveWitnesses d l ls) (sym leaves) (all_join (HasWitness d.trail.program d.trail.mode (done_steps d.trail) l.fuel d.world) old.leaves.items r.leaves.items h.witnesses here.2);
-      texts_are = texts_next l.witnesses (done_steps d.trail) l.fuel d.world old.leaves.items r.leaves.items new.leaves.items before now leaves h.texts_are (texts ∙ ap (λ ts. before ++ ts) texts_of);
+      witnesses = subst (λ (ls : List leaf.Leaf). HaveWitnesses d l ls) (sym leaves) (all_join (HasWitness (decides_by l.ends) d.trail.program d.trail.mode (done_steps d.trail) l.fuel d.world) old.leaves.items r.leaves.items h.witnesses here.2);
+      texts_are = texts_next (decides_by l.ends) l.witnesses (done_steps d.trail) l.fuel d.world old.leaves.items r.leaves.items new.leaves.items before now leaves h.texts_are (texts ∙ ap (λ ts. before ++ ts) texts_of);
     }
 
 -- it goes on
-pub joined_on : (d : Standing) (l : Limits) (ps : List Piece) (i : ℕ) (old new r : Report) (before now own : List (List ℕ)) (last : Bool) → i < length ps → AtNumber d l ps i r → AreJoined d l (take i ps) old.leaves.items old.more before → own ≡ witness_texts l.witnesses (done_steps d.trail) l.fuel d.world r.leaves.items
+pub joined_on : (d : Standing) (l : Limits) (ps : List Piece) (i : ℕ) (old new r : Report) (before now own : List (List ℕ)) (last : Bool) → i < length ps → AtNumber d l ps i r → AreJoined d l (take i ps) old.leaves.items old.more before → own ≡ witness_texts (decides_by l.ends) l.witnesses (done_steps d.trail) l.fuel d.world r.leaves.items
     → new.leaves.items ≡ old.leaves.items ++ r.leaves.items → new.more ≡ (old.more || r.more) → now ≡ before ++ own → last ≡ (l.until_bad && any_bad r.leaves.items) → last ≡ false
     → AreJoined d l (take (i + 1) ps) new.leaves.items new.more now
 joined_on d l ps i old new r before now own last within at h texts_of leaves more texts is off =
@@ -72,7 +73,7 @@ joined_on d l ps i old new r before now own last within at h texts_of leaves mor
 
 -- it ends
 pub joined_last : (d : Standing) (l : Limits) (ps : List Piece) (i : ℕ) (old new r : Report) (before now own : List (List ℕ)) (last left all : Bool) → i < length ps → AtNumber d l ps i r → AreJoined d l (take i ps) old.leaves.items old.more before
-    → own ≡ witness_texts l.witnesses (done_steps d.trail) l.fuel d.world r.leaves.items → new.leaves.items ≡ old.leaves.items ++ r.leaves.items → new.more ≡ (old.more || r.more) → now ≡ before ++ own → last ≡ (l.until_bad && any_bad r.leaves.items) → last ≡ true
+    → own ≡ witness_texts (decides_by l.ends) l.witnesses (done_steps d.trail) l.fuel d.world r.leaves.items → new.leaves.items ≡ old.leaves.items ++ r.leaves.items → new.more ≡ (old.more || r.more) → now ≡ before ++ own → last ≡ (l.until_bad && any_bad r.leaves.items) → last ≡ true
     → left ≡ have_run l d.world (drop (i + 1) ps) → all ≡ (new.more || left) → AreListed d l ps new.leaves.items all now
 joined_last d l ps i old new r before now own last left all within at h texts_of leaves more texts is on some behind =
     let cs : List ℕ = (get_or ps i none).choices in
@@ -85,7 +86,7 @@ joined_last d l ps i old new r before now own last left all within at h texts_of
     }
 
 -- the texts of the report of a piece
-pub texts_at : (d : Standing) (l : Limits) (ps : List Piece) (i : ℕ) (r : Report) → i < length ps → AtNumber d l ps i r → map string_bytes r.witnesses.items ≡ witness_texts l.witnesses (done_steps d.trail) l.fuel d.world r.leaves.items
+pub texts_at : (d : Standing) (l : Limits) (ps : List Piece) (i : ℕ) (r : Report) → i < length ps → AtNumber d l ps i r → map string_bytes r.witnesses.items ≡ witness_texts (decides_by l.ends) l.witnesses (done_steps d.trail) l.fuel d.world r.leaves.items
 texts_at d l ps i r within at = (part_of d l ps i none r within at).3
 
 -- ---- no piece, and all
@@ -96,7 +97,7 @@ joined_none d l ls more texts none_is off empty =
       leaves = none_is;
       more_is = off;
       witnesses = subst (λ (xs : List leaf.Leaf). HaveWitnesses d l xs) (sym none_is) tt;
-      texts_are = texts_begun l.witnesses (done_steps d.trail) l.fuel d.world ls texts none_is empty;
+      texts_are = texts_begun (decides_by l.ends) l.witnesses (done_steps d.trail) l.fuel d.world ls texts none_is empty;
       good = λ h. ap any_bad none_is;
     }
 
@@ -125,14 +126,14 @@ added_last d e l ps n last r same on h = let k : Added e l ps n true r = rw on a
 
 -- ---- all pieces of a plan
 
-pub leaves_are : (d : Standing) (l : Limits) (k : ℕ) (ps : List Piece) (r : Report) → ps ≡ numbered 0 (pieces k l.fuel d.world) → IsReport d l ps r → r.leaves.items ≡ split_report k l d.world
+pub leaves_are : (d : Standing) (l : Limits) (k : ℕ) (ps : List Piece) (r : Report) → ps ≡ numbered 0 (pieces (decides_by l.ends) k l.fuel d.world) → IsReport d l ps r → r.leaves.items ≡ split_report k l d.world
 leaves_are d l k ps r is h = h.leaves ∙ parts_are k l d.world ps is
 
-pub others_are : (d : Standing) (l : Limits) (k : ℕ) (ps : List Piece) (r : Report) → ps ≡ numbered 0 (pieces k l.fuel d.world) → IsReport d l ps r → r.more ≡ split_more k l d.world
+pub others_are : (d : Standing) (l : Limits) (k : ℕ) (ps : List Piece) (r : Report) → ps ≡ numbered 0 (pieces (decides_by l.ends) k l.fuel d.world) → IsReport d l ps r → r.more ≡ split_more k l d.world
 others_are d l k ps r is h = h.more_is ∙ more_is k l d.world ps is
 
-pub can_explore : (d e : Standing) (l : Limits) (k : ℕ) (ps : List Piece) → CanBegin d l → e ≡ d → ps ≡ numbered 0 (pieces k l.fuel d.world) → CanExplore e l ps
-can_explore d e l k ps can same is = subst (λ (x : Standing). CanExplore x l ps) (sym same) (can, level_reached l.fuel k d.world ps is)
+pub can_explore : (d e : Standing) (l : Limits) (k : ℕ) (ps : List Piece) → CanBegin d l → e ≡ d → ps ≡ numbered 0 (pieces (decides_by l.ends) k l.fuel d.world) → CanExplore e l ps
+can_explore d e l k ps can same is = subst (λ (x : Standing). CanExplore x l ps) (sym same) (can, level_reached (decides_by l.ends) l.fuel k d.world ps is)
 
 -- the same of one that was left as found
 pub can_same : (d e : Standing) (l : Limits) (ps : List Piece) → e ≡ d → CanExplore d l ps → CanExplore e l ps

@@ -1,4 +1,4 @@
--- The lines of two lists of leaves, one behind the other.
+-- The lines of two lists of leaves, one after the other.
 use Rattle.std.proofs.Common.{◌≡◌, ℕ, suc, ◌+◌, List, [], ◌∷◌, ◌++◌, length, slice_get, Result, Ok, Err, IfOk, sym, ap, ◌∙◌, arith, append_assoc}
 use Rattle.mpd_explore.specs.declared.report.Leaf.{Leaf}
 use Rattle.mpd_explore.specs.ReportText.{leaf_line}

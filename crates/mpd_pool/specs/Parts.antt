@@ -7,6 +7,7 @@ use Rattle.mpd_explore.specs.declared.report.Limits.{Limits}
 use Rattle.mpd_explore.specs.declared.report.Leaf as leaf
 use Rattle.mpd_explore.specs.declared.report.Report.{Report}
 use Rattle.mpd_explore.specs.Report.{any_bad}
+use Rattle.mpd_explore.specs.Sleeping.{decides_by}
 use Rattle.mpd_explore.specs.Witness.{HasWitness}
 use Rattle.mpd_explore.specs.WitnessTexts.{witness_texts}
 use Rattle.mpd_pieces.specs.declared.splitter.Piece.{Piece}
@@ -21,17 +22,17 @@ CanBegin d l = (length d.trail.steps ≡ d.trail.depth) × (d.trail.depth + l.fu
 
 -- and some run begins with the choices of each piece
 abbrev pub CanExplore : Standing → Limits → List Piece → Type 0
-CanExplore d l ps = CanBegin d l × AllByRecursion (λ cs. Reaches l.fuel cs d.world) (choices_of ps)
+CanExplore d l ps = CanBegin d l × AllByRecursion (λ cs. Reaches (decides_by l.ends) l.fuel cs d.world) (choices_of ps)
 
 -- ---- one piece
 
 -- each leaf has a witness, from where the debugger stands
 abbrev pub HaveWitnesses : Standing → Limits → List leaf.Leaf → Type 0
-HaveWitnesses d l ls = AllByRecursion (HasWitness d.trail.program d.trail.mode (done_steps d.trail) l.fuel d.world) ls
+HaveWitnesses d l ls = AllByRecursion (HasWitness (decides_by l.ends) d.trail.program d.trail.mode (done_steps d.trail) l.fuel d.world) ls
 
 -- and these are their texts, where they are asked for
 abbrev pub HaveTexts : Standing → Limits → List leaf.Leaf → List (List ℕ) → Type 0
-HaveTexts d l ls texts = texts ≡ witness_texts l.witnesses (done_steps d.trail) l.fuel d.world ls
+HaveTexts d l ls texts = texts ≡ witness_texts (decides_by l.ends) l.witnesses (done_steps d.trail) l.fuel d.world ls
 
 -- the report of the runs that begin with these choices
 abbrev pub IsPart : Standing → Limits → List ℕ → Report → Type 0

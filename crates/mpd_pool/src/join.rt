@@ -7,9 +7,9 @@ ghost use Rattle.mpd_pieces.specs.declared.splitter.Piece.{Piece};
 ghost use Rattle.mpd_pool.specs.Parts.{AtNumber, CanExplore, Filled, IsJoined, IsReport, Added};
 
 use crate::gate::Gate;
-use crate::work::{compute, ends_with};
-use mpd_explore::{Limits, Report};
-use mpd_pieces::{Piece, is_left, is_more};
+use crate::work::{Task, compute};
+use mpd_explore::Report;
+use mpd_pieces::{is_left, is_more};
 use mpd_policy::decisions_can_be_followed;
 use mpd_trail::Debugger;
 use std::alloc::{AllocError, Global};
@@ -27,26 +27,24 @@ fn taken(slots: &mut Vec<Option<Report>>, number: usize) -> Option<Report>
 fn report_of<G: Gate>(
     alloc: Global,
     debugger: &mut Debugger<'_>,
-    pieces: &[Piece],
-    limits: Limits,
-    gate: &G,
+    task: Task<'_, G>,
     number: usize,
     slots: &mut Vec<Option<Report>>,
 ) -> Result<Report, AllocError>
-    requires within { number < length pieces.now }
-    requires can { CanExplore (standing_of debugger.old) limits pieces.now }
-    requires filled { Filled (standing_of debugger.old) limits pieces.now slots.old.items }
-    ensures part { IfOk result (λ r. AtNumber (standing_of debugger.old) limits pieces.now number r) }
-    ensures filled { Filled (standing_of debugger.old) limits pieces.now slots.new.items }
+    requires within { number < length task.pieces.now }
+    requires can { CanExplore (standing_of debugger.old) task.limits task.pieces.now }
+    requires filled { Filled (standing_of debugger.old) task.limits task.pieces.now slots.old.items }
+    ensures part { IfOk result (λ r. AtNumber (standing_of debugger.old) task.entry.limits task.entry.pieces.now number r) }
+    ensures filled { Filled (standing_of debugger.old) task.entry.limits task.entry.pieces.now slots.new.items }
     ensures same { standing_of debugger.new ≡ standing_of debugger.old }
 {
     match taken(slots, number) {
         Some(report) => Ok(report),
-        None => compute(alloc, debugger, pieces, limits, gate, number),
+        None => compute(alloc, debugger, task, number),
     }
 }
 
-/// Adds the leaves of a report, and their texts, behind those of another. One of the two has more, or neither.
+/// Adds the leaves of a report, and their texts, after those of another. One of the two has more, or neither.
 fn add(all: &mut Report, report: Report) -> Result<(), AllocError>
     ensures leaves { OnOk result (all.new.leaves.items ≡ all.old.leaves.items ++ report.leaves.items) }
     ensures more { OnOk result (all.new.more ≡ (all.old.more || report.more)) }
@@ -67,29 +65,27 @@ fn add(all: &mut Report, report: Report) -> Result<(), AllocError>
 fn add_piece<G: Gate>(
     alloc: Global,
     debugger: &mut Debugger<'_>,
-    pieces: &[Piece],
-    limits: Limits,
-    gate: &G,
+    task: Task<'_, G>,
     number: usize,
     slots: &mut Vec<Option<Report>>,
     all: &mut Report,
 ) -> Result<bool, AllocError>
-    requires within { number < length pieces.now }
-    requires can { CanExplore (standing_of debugger.old) limits pieces.now }
-    requires filled { Filled (standing_of debugger.old) limits pieces.now slots.old.items }
-    requires joined { IsJoined (standing_of debugger.old) limits (take number pieces.now) all.old }
-    ensures added { IfOk result (λ last. Added (standing_of debugger.old) limits pieces.now (number + 1) last all.new) }
-    ensures filled { Filled (standing_of debugger.old) limits pieces.now slots.new.items }
+    requires within { number < length task.pieces.now }
+    requires can { CanExplore (standing_of debugger.old) task.limits task.pieces.now }
+    requires filled { Filled (standing_of debugger.old) task.limits task.pieces.now slots.old.items }
+    requires joined { IsJoined (standing_of debugger.old) task.limits (take number task.pieces.now) all.old }
+    ensures added { IfOk result (λ last. Added (standing_of debugger.old) task.entry.limits task.entry.pieces.now (number + 1) last all.new) }
+    ensures filled { Filled (standing_of debugger.old) task.entry.limits task.entry.pieces.now slots.new.items }
     ensures same { standing_of debugger.new ≡ standing_of debugger.old }
 {
     decisions_can_be_followed();
-    let report = report_of(alloc, debugger, pieces, limits, gate, number, slots)?;
-    let is_last = ends_with(limits, &report);
+    let report = report_of(alloc, debugger, task, number, slots)?;
+    let is_last = task.limits.ends_with_report(&report);
     add(all, report)?;
     if !is_last {
         return Ok(false);
     }
-    let others = is_left(alloc, debugger, pieces, number + 1, limits)?;
+    let others = is_left(alloc, debugger, task.pieces, number + 1, task.limits)?;
     all.more = is_more(all.more, others);
     Ok(true)
 }
@@ -98,20 +94,18 @@ fn add_piece<G: Gate>(
 fn add_all<G: Gate>(
     alloc: Global,
     debugger: &mut Debugger<'_>,
-    pieces: &[Piece],
-    limits: Limits,
-    gate: &G,
+    task: Task<'_, G>,
     slots: &mut Vec<Option<Report>>,
     all: &mut Report,
 ) -> Result<(), AllocError>
-    requires can { CanExplore (standing_of debugger.old) limits pieces.now }
-    requires filled { Filled (standing_of debugger.old) limits pieces.now slots.old.items }
-    requires joined { IsJoined (standing_of debugger.old) limits [] all.old }
-    ensures report { OnOk result (IsReport (standing_of debugger.old) limits pieces.now all.new) }
+    requires can { CanExplore (standing_of debugger.old) task.limits task.pieces.now }
+    requires filled { Filled (standing_of debugger.old) task.limits task.pieces.now slots.old.items }
+    requires joined { IsJoined (standing_of debugger.old) task.limits [] all.old }
+    ensures report { OnOk result (IsReport (standing_of debugger.old) task.entry.limits task.entry.pieces.now all.new) }
     ensures same { standing_of debugger.new ≡ standing_of debugger.old }
 {
-    for number in 0..pieces.len() {
-        let is_last = add_piece(alloc, debugger, pieces, limits, gate, number, slots, all)?;
+    for number in 0..task.pieces.len() {
+        let is_last = add_piece(alloc, debugger, task, number, slots, all)?;
         if is_last {
             return Ok(());
         }
@@ -124,14 +118,12 @@ fn add_all<G: Gate>(
 pub(crate) fn join_all<G: Gate>(
     alloc: Global,
     debugger: &mut Debugger<'_>,
-    pieces: &[Piece],
-    limits: Limits,
-    gate: &G,
+    task: Task<'_, G>,
     slots: &mut Vec<Option<Report>>,
 ) -> Result<Report, AllocError>
-    requires can { CanExplore (standing_of debugger.old) limits pieces.now }
-    requires filled { Filled (standing_of debugger.old) limits pieces.now slots.old.items }
-    ensures report { IfOk result (λ r. IsReport (standing_of debugger.old) limits pieces.now r) }
+    requires can { CanExplore (standing_of debugger.old) task.limits task.pieces.now }
+    requires filled { Filled (standing_of debugger.old) task.limits task.pieces.now slots.old.items }
+    ensures report { IfOk result (λ r. IsReport (standing_of debugger.old) task.entry.limits task.entry.pieces.now r) }
     ensures same { standing_of debugger.new ≡ standing_of debugger.old }
 {
     let mut all = Report {
@@ -139,7 +131,7 @@ pub(crate) fn join_all<G: Gate>(
         more: false,
         witnesses: Vec::new(alloc),
     };
-    match add_all(alloc, debugger, pieces, limits, gate, slots, &mut all) {
+    match add_all(alloc, debugger, task, slots, &mut all) {
         Ok(()) => Ok(all),
         Err(fault) => {
             drop(all);

@@ -11,5 +11,5 @@ mod work;
 
 pub use deque::{EachOnce, Given, Hand, Owner, Pushed, Taken, Thief, WorkerPass, filled};
 pub use gate::{Gate, Ungated};
-pub use pool::{CheckPlan, PoolFault, WORKERS_MAX, check};
+pub use pool::{CheckPlan, Crew, PoolFault, WORKERS_MAX, check};
 pub use print::print_report;

@@ -4,6 +4,7 @@ ghost use Rattle.std.specs.List.{AllByRecursion};
 ghost use Rattle.crossbeam_deque.specs.Handles.{view, IsPassOf, worker_deque, worker_view, stealer_deque};
 ghost use Rattle.mpd_model.specs.runs.Trail.{done_steps, IsReached};
 ghost use Rattle.mpd_trail.specs.Views.{standing_of};
+ghost use Rattle.mpd_explore.specs.Sleeping.{decides_by};
 ghost use Rattle.mpd_explore.specs.Witness.{HasWitness};
 ghost use Rattle.mpd_explore.specs.WitnessTexts.{witness_texts};
 ghost use Rattle.mpd_pieces.specs.Pieces.{pieces, numbered, split_report, split_more};
@@ -16,7 +17,7 @@ use crate::deque::{Given, Owner, filled};
 use crate::gate::Gate;
 use crate::join::join_all;
 use crate::slots::{collect, no_reports};
-use crate::work::{Batch, Job, work};
+use crate::work::{Batch, Job, Task, work};
 use mpd_explore::{Limits, Report};
 use mpd_model::STEPS_MAX;
 use mpd_pieces::{PIECES_MAX, Piece, SplitFault, split};
@@ -24,12 +25,20 @@ use mpd_trail::Debugger;
 use std::alloc::{AllocError, Global};
 use std::error::Error;
 use std::marker::Sync;
-use std::sync::Wait;
 use std::thread::Threads;
 use std::{fmt, thread};
 
 /// How many workers there are at most.
 pub const WORKERS_MAX: usize = 16;
+
+/// Who works: what starts threads, and how many workers explore at the same time.
+#[derive_where(Clone, Copy)]
+pub struct Crew<'r, R> {
+    /// What starts their threads.
+    pub rt: &'r R,
+    /// How many they are: 1 to 16 are taken.
+    pub workers: usize,
+}
 
 /// By how many choices the runs of a script are cut into pieces, and the limits of each piece.
 #[derive(Clone, Copy)]
@@ -130,20 +139,23 @@ fn jobs<'c>(
 }
 
 /// Has workers explore pieces, and puts what they bring in its places.
-fn explore_by_workers<G: Gate, R: Threads + Wait + Sync>(
-    rt: &R,
+fn explore_by_workers<G: Gate, R: Threads + Sync>(
+    crew: Crew<'_, R>,
     alloc: Global,
     debugger: &Debugger<'_>,
-    pieces: &[Piece],
-    limits: Limits,
-    workers: usize,
-    gate: &G,
+    task: Task<'_, G>,
     slots: &mut Vec<Option<Report>>,
 ) -> Result<(), AllocError>
-    requires can { CanExplore (standing_of debugger.now) limits pieces.now }
-    requires filled { Filled (standing_of debugger.now) limits pieces.now slots.old.items }
-    ensures filled { OnOk result (Filled (standing_of debugger.now) limits pieces.now slots.new.items) }
+    requires can { CanExplore (standing_of debugger.now) task.limits task.pieces.now }
+    requires filled { Filled (standing_of debugger.now) task.limits task.pieces.now slots.old.items }
+    ensures filled { OnOk result (Filled (standing_of debugger.now) task.entry.limits task.entry.pieces.now slots.new.items) }
 {
+    let Crew { rt, workers } = crew;
+    let Task {
+        pieces,
+        limits,
+        gate,
+    } = task;
     let mut owner = filled(alloc, pieces.len())?;
     let stealer = owner.stealer()?;
     let thief = &stealer;
@@ -156,64 +168,63 @@ fn explore_by_workers<G: Gate, R: Threads + Wait + Sync>(
         &|job: Job<'_>| -> Batch
             requires { CanStart (stealer_deque thief.now) limits pieces.now job }
             ensures { IsBatch (stealer_deque thief.entry.now) (standing_of job.entry.debugger) limits pieces.entry.now result }
-        { work(rt, alloc, thief, pieces, limits, gate, job) },
+        {
+            let task = Task {
+                pieces,
+                limits,
+                gate,
+            };
+            work(alloc, thief, task, job)
+        },
     )?;
     collect(&mut owner, batches, slots);
     Ok(())
 }
 
 /// The same, unless there is one worker or one piece: then no thread is started.
-fn share_out<G: Gate, R: Threads + Wait + Sync>(
-    rt: &R,
+fn share_out<G: Gate, R: Threads + Sync>(
+    crew: Crew<'_, R>,
     alloc: Global,
     debugger: &Debugger<'_>,
-    pieces: &[Piece],
-    limits: Limits,
-    workers: usize,
-    gate: &G,
+    task: Task<'_, G>,
     slots: &mut Vec<Option<Report>>,
 ) -> Result<(), AllocError>
-    requires can { CanExplore (standing_of debugger.now) limits pieces.now }
-    requires filled { Filled (standing_of debugger.now) limits pieces.now slots.old.items }
-    ensures filled { OnOk result (Filled (standing_of debugger.now) limits pieces.now slots.new.items) }
+    requires can { CanExplore (standing_of debugger.now) task.limits task.pieces.now }
+    requires filled { Filled (standing_of debugger.now) task.limits task.pieces.now slots.old.items }
+    ensures filled { OnOk result (Filled (standing_of debugger.now) task.entry.limits task.entry.pieces.now slots.new.items) }
 {
-    if workers < 2 || pieces.len() < 2 {
+    if crew.workers < 2 || task.pieces.len() < 2 {
         return Ok(());
     }
-    explore_by_workers(rt, alloc, debugger, pieces, limits, workers, gate, slots)
+    explore_by_workers(crew, alloc, debugger, task, slots)
 }
 
 /// The report of all pieces, whatever the number of workers. The debugger is left as found.
-fn explore_pieces<G: Gate, R: Threads + Wait + Sync>(
-    rt: &R,
+fn explore_pieces<G: Gate, R: Threads + Sync>(
+    crew: Crew<'_, R>,
     alloc: Global,
     debugger: &mut Debugger<'_>,
-    pieces: &[Piece],
-    limits: Limits,
-    workers: usize,
-    gate: &G,
+    task: Task<'_, G>,
 ) -> Result<Report, AllocError>
-    requires can { CanExplore (standing_of debugger.old) limits pieces.now }
-    ensures report { IfOk result (λ r. IsReport (standing_of debugger.old) limits pieces.now r) }
+    requires can { CanExplore (standing_of debugger.old) task.limits task.pieces.now }
+    ensures report { IfOk result (λ r. IsReport (standing_of debugger.old) task.entry.limits task.entry.pieces.now r) }
     ensures same { standing_of debugger.new ≡ standing_of debugger.old }
 {
-    let mut slots = no_reports(alloc, pieces.len())?;
-    share_out(
-        rt, alloc, debugger, pieces, limits, workers, gate, &mut slots,
-    )?;
-    join_all(alloc, debugger, pieces, limits, gate, &mut slots)
+    let mut slots = no_reports(alloc, task.pieces.len())?;
+    share_out(crew, alloc, debugger, task, &mut slots)?;
+    join_all(alloc, debugger, task, &mut slots)
 }
 
 /// The pieces of a plan. The debugger is left as found.
 fn cut(alloc: Global, debugger: &mut Debugger<'_>, plan: CheckPlan) -> Result<Vec<Piece>, PoolFault>
     requires can { CanBegin (standing_of debugger.old) plan.limits }
-    ensures ok { IfOk result (λ v. v.items ≡ numbered 0 (pieces plan.split plan.limits.fuel debugger.old.world)) }
-    ensures few { OnOk result (length (pieces plan.split plan.limits.fuel debugger.old.world) ≤ PIECES_MAX) }
-    ensures many { IsErrOf result PoolFault.TooManyPieces → PIECES_MAX < length (pieces plan.split plan.limits.fuel debugger.old.world) }
+    ensures ok { IfOk result (λ v. v.items ≡ numbered 0 (pieces (decides_by plan.limits.ends) plan.split plan.limits.fuel debugger.old.world)) }
+    ensures few { OnOk result (length (pieces (decides_by plan.limits.ends) plan.split plan.limits.fuel debugger.old.world) ≤ PIECES_MAX) }
+    ensures many { IsErrOf result PoolFault.TooManyPieces → PIECES_MAX < length (pieces (decides_by plan.limits.ends) plan.split plan.limits.fuel debugger.old.world) }
     ensures workers { IsErrOf result PoolFault.BadWorkers → ⊥ }
     ensures same { standing_of debugger.new ≡ standing_of debugger.old }
 {
-    match split(alloc, debugger, plan.split, plan.limits.fuel) {
+    match split(alloc, debugger, plan.split, plan.limits) {
         Ok(pieces) => Ok(pieces),
         Err(SplitFault::TooManyPieces) => Err(PoolFault::TooManyPieces),
         Err(SplitFault::Memory) => Err(PoolFault::Memory),
@@ -221,37 +232,36 @@ fn cut(alloc: Global, debugger: &mut Debugger<'_>, plan: CheckPlan) -> Result<Ve
 }
 
 /// The first leaves of the runs from here, by so many workers: the runs are cut into pieces by their first choices, and the reports of
-/// these are joined in order (docs/DEFINITIONS.md, "Pieces"), whatever the number of workers and whoever comes first. Fuel counts from
-/// here, and `runs` is for each piece; there is more where some piece has more. Where a list ends with the first deadlock or trap, the
-/// report does, and there is more where some run isn't listed; who has found one explores no piece behind it. No undone step is kept, and
-/// the depth and the fuel are at most 1,000,000 steps together. Each leaf has a run, and each deadlock a witness, as those of `explore`
-/// do, with their texts where these are wanted. It is refused where there are to be no workers or more than 16 (35), where there are
-/// more than 1,024 pieces (31), or for want of memory. A worker that wants memory stops, and what it doesn't bring is computed here, as
-/// far as it is listed. The debugger is left as found, also where it is refused. `gate` is told how
-/// many pieces there are, and by whoever computes one of it before and behind that, and of each leaf.
-pub fn check<G: Gate, R: Threads + Wait + Sync>(
-    rt: &R,
+/// these are joined in order (docs/DEFINITIONS.md, "Pieces"), whatever the number of workers and whoever comes first. Where each end is
+/// looked for once (`ends`), the runs are those of the wide walk. Fuel counts from here, and `runs` is for each piece; there is more where
+/// some piece has more. Where a list ends with the first deadlock or trap, the report does, and there is more where some run isn't listed;
+/// who has found one explores no piece after it. No undone step is kept, and the depth and the fuel are at most 1,000,000 steps together.
+/// Each leaf has a run, and each deadlock a witness, as those of `explore` do, with their texts where these are wanted. It is refused where
+/// there are to be no workers or more than 16 (35), where there are more than 1,024 pieces (31), or for want of memory. A worker that wants
+/// memory stops, and what it doesn't bring is computed here, as far as it is listed. The debugger is left as found, also where it is
+/// refused. `gate` is told how many pieces there are, and by whoever computes one of it before and after that, and of each leaf.
+pub fn check<G: Gate, R: Threads + Sync>(
+    crew: Crew<'_, R>,
     alloc: Global,
     debugger: &mut Debugger<'_>,
     plan: CheckPlan,
-    workers: usize,
     gate: &G,
 ) -> Result<Report, PoolFault>
     requires clean { length debugger.old.trail.steps ≡ debugger.old.trail.depth }
     requires fits { debugger.old.trail.depth + plan.limits.fuel ≤ STEPS_MAX }
     ensures leaves { IfOk result (λ r. r.leaves.items ≡ split_report plan.split plan.limits debugger.old.world) }
     ensures more { IfOk result (λ r. r.more ≡ split_more plan.split plan.limits debugger.old.world) }
-    ensures witnesses { IfOk result (λ r. AllByRecursion (HasWitness debugger.old.trail.program debugger.old.trail.mode (done_steps debugger.old.trail) plan.limits.fuel debugger.old.world) r.leaves.items) }
-    ensures texts { IfOk result (λ r. map string_bytes r.witnesses.items ≡ witness_texts plan.limits.witnesses (done_steps debugger.old.trail) plan.limits.fuel debugger.old.world r.leaves.items) }
-    ensures workers { IsErrOf result PoolFault.BadWorkers ↔ ((workers ≡ 0) ⊎ (WORKERS_MAX < workers)) }
-    ensures few { OnOk result (length (pieces plan.split plan.limits.fuel debugger.old.world) ≤ PIECES_MAX) }
-    ensures many { IsErrOf result PoolFault.TooManyPieces → PIECES_MAX < length (pieces plan.split plan.limits.fuel debugger.old.world) }
+    ensures witnesses { IfOk result (λ r. AllByRecursion (HasWitness (decides_by plan.limits.ends) debugger.old.trail.program debugger.old.trail.mode (done_steps debugger.old.trail) plan.limits.fuel debugger.old.world) r.leaves.items) }
+    ensures texts { IfOk result (λ r. map string_bytes r.witnesses.items ≡ witness_texts (decides_by plan.limits.ends) plan.limits.witnesses (done_steps debugger.old.trail) plan.limits.fuel debugger.old.world r.leaves.items) }
+    ensures workers { IsErrOf result PoolFault.BadWorkers ↔ ((crew.entry.workers ≡ 0) ⊎ (WORKERS_MAX < crew.entry.workers)) }
+    ensures few { OnOk result (length (pieces (decides_by plan.limits.ends) plan.split plan.limits.fuel debugger.old.world) ≤ PIECES_MAX) }
+    ensures many { IsErrOf result PoolFault.TooManyPieces → PIECES_MAX < length (pieces (decides_by plan.limits.ends) plan.split plan.limits.fuel debugger.old.world) }
     ensures trail { debugger.new.trail ≡ debugger.old.trail }
     ensures world { debugger.new.world ≡ debugger.old.world }
     ensures reached { IsReached (standing_of debugger.new) }
 {
     debugger.state_is_reached();
-    if workers == 0 || workers > WORKERS_MAX {
+    if crew.workers == 0 || crew.workers > WORKERS_MAX {
         return Err(PoolFault::BadWorkers);
     }
     let pieces = match cut(alloc, debugger, plan) {
@@ -259,7 +269,12 @@ pub fn check<G: Gate, R: Threads + Wait + Sync>(
         Err(fault) => return Err(fault),
     };
     gate.cut(pieces.len());
-    match explore_pieces(rt, alloc, debugger, &pieces, plan.limits, workers, gate) {
+    let task = Task {
+        pieces: &pieces,
+        limits: plan.limits,
+        gate,
+    };
+    match explore_pieces(crew, alloc, debugger, task) {
         Ok(report) => Ok(report),
         Err(_) => Err(PoolFault::Memory),
     }

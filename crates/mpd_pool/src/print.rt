@@ -2,11 +2,13 @@
 ghost use Rattle.std.specs.Prelude.{◌≡◌, ◌<◌, ◌+◌, ◌^◌, ◌++◌, ℕ, Bool, List, length, map, IfOk, string_bytes};
 ghost use Rattle.std.specs.Thread.{IsSync};
 ghost use Rattle.mpd_model.specs.declared.step.Step.{Step};
+ghost use Rattle.mpd_model.specs.declared.decision.Decision.{Decision};
 ghost use Rattle.mpd_model.specs.steps.World.{World};
 ghost use Rattle.mpd_explore.specs.Printed.{lines_told, told_text};
 ghost use Rattle.mpd_explore.specs.ReportText.{report_text};
 ghost use Rattle.mpd_explore.specs.WitnessTexts.{witness_texts};
 
+use crate::pool::Crew;
 use mpd_explore::{Leaf, Report, push_leaves, push_total};
 use std::alloc::{AllocError, Global};
 use std::marker::Sync;
@@ -30,7 +32,7 @@ fn lines_alone(
     Ok(out)
 }
 
-/// One text behind another.
+/// One text after another.
 fn joined(mut front: String, back: &str) -> Result<String, AllocError>
     ensures { IfOk result (λ t. string_bytes t ≡ string_bytes front ++ back.now) }
 {
@@ -74,26 +76,27 @@ fn lines<R: Threads + Sync>(
 
 /// A report as text, by the texts that it has.
 fn told<R: Threads + Sync>(
-    rt: &R,
+    crew: Crew<'_, R>,
     alloc: Global,
     report: &Report,
-    workers: usize,
 ) -> Result<String, AllocError>
     ensures { IfOk result (λ t. string_bytes t ≡ told_text (map string_bytes report.now.witnesses.items) report.now.leaves.items report.now.more) }
 {
+    let Crew { rt, workers } = crew;
     let mut out = lines(rt, alloc, 0, &report.leaves, &report.witnesses, workers)?;
     push_total(&mut out, report)?;
     Ok(out)
 }
 
-/// A report as text, as `print_report` of `mpd_explore` makes it, by so many threads at most. An `Err` is want of memory.
+/// A report as text, as `print_report` of `mpd_explore` makes it, by as many threads at most as there are workers, however few or
+/// many. An `Err` is want of memory.
 pub fn print_report<R: Threads + Sync>(
-    rt: &R,
+    crew: Crew<'_, R>,
     alloc: Global,
     report: &Report,
-    workers: usize,
 ) -> Result<String, AllocError>
-    ensures { (asked : Bool) (before : List Step) (fuel : ℕ) (w : World) → map string_bytes report.now.witnesses.items ≡ witness_texts asked before fuel w report.now.leaves.items → IfOk result (λ t. string_bytes t ≡ report_text asked before fuel w report.now.leaves.items report.now.more) }
+    ensures told { IfOk result (λ t. string_bytes t ≡ told_text (map string_bytes report.now.witnesses.items) report.now.leaves.items report.now.more) }
+    ensures text { (decide : World → Decision) (asked : Bool) (before : List Step) (fuel : ℕ) (w : World) → map string_bytes report.now.witnesses.items ≡ witness_texts decide asked before fuel w report.now.leaves.items → IfOk result (λ t. string_bytes t ≡ report_text decide asked before fuel w report.now.leaves.items report.now.more) }
 {
-    told(rt, alloc, report, workers)
+    told(crew, alloc, report)
 }

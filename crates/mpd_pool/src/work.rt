@@ -1,8 +1,8 @@
 //! What a worker does: it draws numbers of pieces, and explores these.
-ghost use Rattle.std.specs.Prelude.{◌≡◌, ◌<◌, ◌&&◌, true, false, length, IfOk, OnErr, OnOk};
+ghost use Rattle.std.specs.Prelude.{◌≡◌, ◌<◌, true, false, length, IfOk, OnErr, OnOk};
 ghost use Rattle.crossbeam_deque.specs.Handles.{view, IsPassOf, stealer_deque};
 ghost use Rattle.mpd_trail.specs.Views.{standing_of};
-ghost use Rattle.mpd_explore.specs.Report.{any_bad};
+ghost use Rattle.mpd_explore.specs.Sleeping.{decides_by};
 ghost use Rattle.mpd_pieces.specs.Pieces.{Reaches};
 ghost use Rattle.mpd_pool.specs.Numbers.{hand};
 ghost use Rattle.mpd_pool.specs.Parts.{IsPart, AtNumber, CanExplore, CanBegin};
@@ -12,11 +12,14 @@ use crate::deque::{Taken, Thief, WorkerPass};
 use crate::gate::Gate;
 use crossbeam_deque::Steal;
 use mpd_explore::{Limits, Report, Watch};
-use mpd_pieces::{Piece, explore_at};
+use mpd_pieces::{PIECES_MAX, Piece, explore_at};
 use mpd_trail::Debugger;
 use std::alloc::{AllocError, Global};
-use std::sync::Wait;
 use std::thread;
+
+/// How often a worker draws at most. A draw takes a number, or finds that another worker has just taken the one that it saw: either way
+/// one is gone since it looked, and there are 1,024 at most. One draw more finds none.
+const DRAWS_MAX: usize = PIECES_MAX + 1;
 
 /// The report of a piece, and its number.
 #[derive(Drop)]
@@ -39,6 +42,14 @@ pub(crate) struct Batch {
     pub(crate) brought: Vec<Brought>,
 }
 
+/// What is explored: pieces, the limits of each, and the gate that is told how far that is.
+#[derive_where(Clone, Copy)]
+pub(crate) struct Task<'p, G> {
+    pub(crate) pieces: &'p [Piece],
+    pub(crate) limits: Limits,
+    pub(crate) gate: &'p G,
+}
+
 /// Tells a gate of the leaves of a piece.
 #[derive(Drop)]
 struct Leaves<'g, G> {
@@ -53,13 +64,6 @@ impl<'g, G: Gate> Watch for Leaves<'g, G> {
     fn end(&mut self) {}
 }
 
-/// Whether the report of all pieces ends with the report of one.
-pub(crate) fn ends_with(limits: Limits, report: &Report) -> bool
-    ensures { result ≡ (limits.until_bad && any_bad report.now.leaves.items) }
-{
-    limits.until_bad && report.has_bad()
-}
-
 /// Explores a piece. The debugger is left as found.
 fn explore_piece<G: Gate>(
     alloc: Global,
@@ -69,7 +73,7 @@ fn explore_piece<G: Gate>(
     gate: &G,
 ) -> Result<Report, AllocError>
     requires can { CanBegin (standing_of debugger.old) limits }
-    requires reaches { Reaches limits.fuel piece.now.choices debugger.old.world }
+    requires reaches { Reaches (decides_by limits.ends) limits.fuel piece.now.choices debugger.old.world }
     ensures part { IfOk result (λ r. IsPart (standing_of debugger.old) limits piece.now.choices r) }
     ensures same { standing_of debugger.new ≡ standing_of debugger.old }
 {
@@ -86,41 +90,42 @@ fn explore_piece<G: Gate>(
 pub(crate) fn compute<G: Gate>(
     alloc: Global,
     debugger: &mut Debugger<'_>,
-    pieces: &[Piece],
-    limits: Limits,
-    gate: &G,
+    task: Task<'_, G>,
     number: usize,
 ) -> Result<Report, AllocError>
-    requires within { number < length pieces.now }
-    requires can { CanExplore (standing_of debugger.old) limits pieces.now }
-    ensures part { IfOk result (λ r. AtNumber (standing_of debugger.old) limits pieces.now number r) }
+    requires within { number < length task.pieces.now }
+    requires can { CanExplore (standing_of debugger.old) task.limits task.pieces.now }
+    ensures part { IfOk result (λ r. AtNumber (standing_of debugger.old) task.entry.limits task.entry.pieces.now number r) }
     ensures same { standing_of debugger.new ≡ standing_of debugger.old }
 {
+    let Task {
+        pieces,
+        limits,
+        gate,
+    } = task;
     gate.begin(number);
     let found = explore_piece(alloc, debugger, &pieces[number], limits, gate);
     gate.end(number);
     found
 }
 
-/// Adds the report of a piece to those that are brought, and answers whether nothing behind that piece is listed.
+/// Adds the report of a piece to those that are brought, and answers whether nothing after that piece is listed.
 fn bring<G: Gate>(
     alloc: Global,
     debugger: &mut Debugger<'_>,
-    pieces: &[Piece],
-    limits: Limits,
-    gate: &G,
+    task: Task<'_, G>,
     number: usize,
     brought: &mut Vec<Brought>,
 ) -> Result<bool, AllocError>
-    requires within { number < length pieces.now }
-    requires can { CanExplore (standing_of debugger.old) limits pieces.now }
-    requires right { AllRight (standing_of debugger.old) limits pieces.now brought.old.items }
-    ensures right { AllRight (standing_of debugger.old) limits pieces.now brought.new.items }
+    requires within { number < length task.pieces.now }
+    requires can { CanExplore (standing_of debugger.old) task.limits task.pieces.now }
+    requires right { AllRight (standing_of debugger.old) task.limits task.pieces.now brought.old.items }
+    ensures right { AllRight (standing_of debugger.old) task.entry.limits task.entry.pieces.now brought.new.items }
     ensures same { standing_of debugger.new ≡ standing_of debugger.old }
 {
     brought.reserve(1)?;
-    let report = compute(alloc, debugger, pieces, limits, gate, number)?;
-    let is_last = ends_with(limits, &report);
+    let report = compute(alloc, debugger, task, number)?;
+    let is_last = task.limits.ends_with_report(&report);
     brought.push_reserved(Brought {
         piece: number,
         report,
@@ -129,43 +134,34 @@ fn bring<G: Gate>(
 }
 
 /// Does with a number that was drawn what a worker does: it explores the piece, or drops the number. It answers whether it drops the
-/// numbers behind it.
+/// numbers after it.
 fn take_number<G: Gate>(
     alloc: Global,
     debugger: &mut Debugger<'_>,
-    pieces: &[Piece],
-    limits: Limits,
-    gate: &G,
+    task: Task<'_, G>,
     number: usize,
     brought: &mut Vec<Brought>,
     drops: bool,
 ) -> Result<bool, AllocError>
-    requires within { number < length pieces.now }
-    requires can { CanExplore (standing_of debugger.old) limits pieces.now }
-    requires right { AllRight (standing_of debugger.old) limits pieces.now brought.old.items }
-    ensures right { AllRight (standing_of debugger.old) limits pieces.now brought.new.items }
+    requires within { number < length task.pieces.now }
+    requires can { CanExplore (standing_of debugger.old) task.limits task.pieces.now }
+    requires right { AllRight (standing_of debugger.old) task.limits task.pieces.now brought.old.items }
+    ensures right { AllRight (standing_of debugger.old) task.entry.limits task.entry.pieces.now brought.new.items }
     ensures same { standing_of debugger.new ≡ standing_of debugger.old }
 {
     if drops {
         return Ok(true);
     }
-    bring(alloc, debugger, pieces, limits, gate, number, brought)
+    bring(alloc, debugger, task, number, brought)
 }
 
-/// Draws numbers until none is left or memory is refused, and explores the piece of each. Behind a piece with which a report ends
-/// numbers are drawn and dropped: they are drawn in rising order, so those that are still needed are with others already.
-pub(crate) fn work<G: Gate, R: Wait>(
-    rt: &R,
-    alloc: Global,
-    thief: &Thief,
-    pieces: &[Piece],
-    limits: Limits,
-    gate: &G,
-    job: Job<'_>,
-) -> Batch
-    requires can { CanStart (stealer_deque thief.now) limits pieces.now job }
-    ensures pass { IsPassOf (stealer_deque thief.now) result.pass × (view result.pass ≡ hand false true (length pieces.now)) }
-    ensures right { AllRight (standing_of job.entry.debugger) limits pieces.now result.brought.items }
+/// Draws numbers until none is left, memory is refused, or it has drawn 1,025 times, and explores the piece of each. Behind a piece with
+/// which a report ends numbers are drawn and dropped: they are drawn in rising order, so those that are still needed are with others
+/// already.
+pub(crate) fn work<G: Gate>(alloc: Global, thief: &Thief, task: Task<'_, G>, job: Job<'_>) -> Batch
+    requires can { CanStart (stealer_deque thief.now) task.limits task.pieces.now job }
+    ensures pass { IsPassOf (stealer_deque thief.now) result.pass × (view result.pass ≡ hand false true (length task.entry.pieces.now)) }
+    ensures right { AllRight (standing_of job.entry.debugger) task.entry.limits task.entry.pieces.now result.brought.items }
 {
     let Job {
         mut debugger,
@@ -173,19 +169,10 @@ pub(crate) fn work<G: Gate, R: Wait>(
     } = job;
     let mut brought = Vec::new(alloc);
     let mut drops = false;
-    for _ in rt.forever() {
+    for _ in 0..DRAWS_MAX {
         match thief.steal_as::<Taken>(&mut pass) {
             Steal::Success(number) => {
-                let taken = take_number(
-                    alloc,
-                    &mut debugger,
-                    pieces,
-                    limits,
-                    gate,
-                    number,
-                    &mut brought,
-                    drops,
-                );
+                let taken = take_number(alloc, &mut debugger, task, number, &mut brought, drops);
                 match taken {
                     Ok(drops_more) => drops = drops_more,
                     Err(_) => break,

@@ -1,4 +1,4 @@
--- The run that some choices tell is one of the walk.
+-- The run that some choices tell is one of the wide walk.
 use Rattle.std.proofs.Common.{◌≡◌, ◌⊎◌, inl, inr, ℕ, zero, suc, ◌+◌, List, [], ◌∷◌, ◌++◌, map, slice_get, Option, Some, None, refl, sym, ap, arith}
 use Rattle.std.specs.Option.{option_map}
 use Rattle.mpd_model.specs.declared.step.Step.{Step}
@@ -6,9 +6,9 @@ use Rattle.mpd_model.specs.declared.decision.Decision.{Decision}
 use Rattle.mpd_model.specs.declared.decision.Decision.TheVariants.{Forced, Choice, Leaf}
 use Rattle.mpd_model.specs.steps.World.{World}
 use Rattle.mpd_model.specs.steps.Next.{next}
-use Rattle.mpd_model.specs.runs.Decisions.{decision}
-use Rattle.mpd_explore.specs.declared.report.Ending.TheVariants.{Ended}
-use Rattle.mpd_explore.specs.Walk.{Run, here, stepped, chosen, runs_of, branches, followed, stopped, walk, run_from, run_taken, run_followed, run_stopped, run_at}
+use Rattle.mpd_policy.specs.Wide.{wide_decision}
+use Rattle.mpd_walk.specs.declared.ending.Ending.TheVariants.{Ended}
+use Rattle.mpd_walk.specs.Walk.{Run, here, stepped, chosen, runs_of, branches, followed, stopped, wide_walk, run_from, run_taken, run_followed, run_stopped, run_by}
 
 -- a run is one of some
 abbrev pub Has : Run → List Run → Type 0
@@ -79,7 +79,7 @@ stopped_in [] (Choice candidates) r e = some_has _ r e
 stopped_in [] (Leaf o) r e = some_has _ r e
 stopped_in (c ∷ cs) d r e = none_has r (stopped d) e
 
-pub walk_has : (n : ℕ) (cs : List ℕ) (w : World) (r : Run) → run_at n cs w ≡ Some r → Has r (walk n w)
-unfolding walk run_at
-walk_has zero cs w r e = stopped_in cs (decision w) r e
-walk_has (suc n) cs w r e = followed_in (run_at n) (walk n) w cs (decision w) r (λ ds v q h. walk_has n ds v q h) e
+pub walk_has : (n : ℕ) (cs : List ℕ) (w : World) (r : Run) → run_by wide_decision n cs w ≡ Some r → Has r (wide_walk n w)
+unfolding wide_walk run_by
+walk_has zero cs w r e = stopped_in cs (wide_decision w) r e
+walk_has (suc n) cs w r e = followed_in (run_by wide_decision n) (wide_walk n) w cs (wide_decision w) r (λ ds v q h. walk_has n ds v q h) e

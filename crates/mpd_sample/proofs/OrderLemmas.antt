@@ -1,4 +1,4 @@
--- The order of choices, and that the walk rises by it.
+-- The order of choices, and that the wide walk rises by it.
 use Rattle.std.proofs.Common.{◌≡◌, ℕ, zero, suc, ◌<◌, ◌≤◌, cond, nat_lt, ◌==◌, List, [], ◌∷◌, ◌++◌, map, Option, Some, None, Less, Equal, Greater, nat_cmp, refl, ap, ◌∙◌, arith}
 use Rattle.std.specs.List.{AllByRecursion}
 use Rattle.std.specs.List.Sorted.{IsStrictlySortedBy}
@@ -10,8 +10,8 @@ use Rattle.mpd_model.specs.declared.decision.Decision.{Decision}
 use Rattle.mpd_model.specs.declared.decision.Decision.TheVariants.{Forced, Choice, Leaf}
 use Rattle.mpd_model.specs.steps.World.{World}
 use Rattle.mpd_model.specs.steps.Next.{next}
-use Rattle.mpd_model.specs.runs.Decisions.{decision}
-use Rattle.mpd_explore.specs.Walk.{Run, stepped, chosen, runs_of, branches, followed, stopped, walk}
+use Rattle.mpd_policy.specs.Wide.{wide_decision}
+use Rattle.mpd_walk.specs.Walk.{Run, stepped, chosen, runs_of, branches, followed, stopped, wide_walk}
 use Rattle.mpd_explore.proofs.ListedLemmas.{is_less}
 use Rattle.mpd_sample.specs.Order.{order, run_order}
 
@@ -139,7 +139,7 @@ rise_stopped (Forced a) = rise_one _
 rise_stopped (Choice candidates) = rise_one _
 rise_stopped (Leaf o) = rise_one _
 
-pub walk_rises : (n : ℕ) (w : World) → RunsRise (walk n w)
-unfolding walk
-walk_rises zero w = rise_stopped (decision w)
-walk_rises (suc n) w = rise_followed (walk n) w (decision w) (λ v. walk_rises n v)
+pub walk_rises : (n : ℕ) (w : World) → RunsRise (wide_walk n w)
+unfolding wide_walk
+walk_rises zero w = rise_stopped (wide_decision w)
+walk_rises (suc n) w = rise_followed (wide_walk n) w (wide_decision w) (λ v. walk_rises n v)

@@ -1,5 +1,5 @@
 -- One run more is added to a sample, and what a sample has in the end.
-use Rattle.std.proofs.Common.{◌≡◌, inl, inr, ℕ, zero, suc, ◌+◌, ◌<◌, ◌≤◌, ◌&&◌, ◌||◌, cond, if◌then◌else◌, nat_lt, Bool, true, false, List, [], ◌∷◌, ◌++◌, length, map, filter, Option, Some, Ordering, Less, Equal, Greater, is_eq, refl, sym, ap, ◌∙◌, arith, append_assoc, append-nil, subst}
+use Rattle.std.proofs.Common.{◌≡◌, inl, inr, ℕ, zero, suc, ◌+◌, ◌<◌, ◌≤◌, ◌&&◌, ◌||◌, cond, if◌then◌else◌, nat_lt, Bool, true, false, List, [], ◌∷◌, ◌++◌, length, map, take, filter, Option, Some, Ordering, Less, Equal, Greater, is_eq, refl, sym, ap, ◌∙◌, arith, append_assoc, append-nil, subst}
 use Rattle.std.specs.List.{AllByRecursion, list_any}
 use Rattle.std.specs.List.Sorted.{IsStrictlySortedBy}
 use Rattle.std.proofs.lemmas.List.Kept.{IsStrictlySortedBy-filter}
@@ -10,15 +10,19 @@ use Rattle.mpd_model.specs.declared.step.Step.{Step}
 use Rattle.mpd_model.specs.script.Program.{Program}
 use Rattle.mpd_model.specs.steps.World.{World, start}
 use Rattle.mpd_model.specs.steps.Next.{fold}
-use Rattle.mpd_model.specs.runs.Trail.{Standing, done_steps}
+use Rattle.mpd_model.specs.runs.Decisions.{CanFollow}
+use Rattle.mpd_model.specs.runs.Trail.{Standing, done_steps, step_eq}
+use Rattle.mpd_policy.specs.Wide.{sleeps_on, wide_decision}
 use Rattle.mpd_explore.specs.declared.report.Leaf.{Leaf}
 use Rattle.mpd_explore.specs.declared.report.Limits.{Limits}
-use Rattle.mpd_explore.specs.Walk.{Run, walk, run_at, steps_by}
+use Rattle.mpd_walk.specs.Walk.{Run, wide_walk, run_by, steps_by}
 use Rattle.mpd_explore.specs.Report.{shown, is_bad}
+use Rattle.mpd_explore.specs.Sleeping.{awake_by}
 use Rattle.mpd_explore.specs.Witness.{HasWitness, witness_by}
 use Rattle.mpd_explore.specs.WitnessTexts.{behind_number, witness_text, witness_texts}
 use Rattle.mpd_explore.proofs.ListedLemmas.{not_less}
-use Rattle.mpd_explore.proofs.WitnessLemmas.{AllFollow, witnesses_hold}
+use Rattle.mpd_explore.proofs.AwakeLemmas.{no_wide_sleeps}
+use Rattle.mpd_explore.proofs.WitnessLemmas.{awake_witnessed}
 use Rattle.mpd_sample.specs.Order.{order, same_choices, run_order, leaf_order, Rises, with_leaf_by, with_leaf}
 use Rattle.mpd_sample.specs.Drawn.{drawn, is_bad_run, draws, is_among, sampled, is_listed}
 use Rattle.mpd_sample.specs.Drawing.{Drew, TextsAre, IsEven, Adds, Sampling, Samples, TellsRun}
@@ -94,8 +98,8 @@ module _ (r : Run) (p q : Run → Bool) (is : (x : Run) → q x ≡ (p x || same
       let less : order x.choices r.choices ≡ Less = above_has x xs h.0 k in
       later_case x (filter p xs) (filter q xs) (p x) less (placed xs h.1 k) ∙ ap (λ c. map shown (cond c (x ∷ filter q xs) (filter q xs))) (sym (other_number x Greater (order_turned x.choices r.choices less) refl))
 
-pub sampled_more : (lists : List (List ℕ)) (n : ℕ) (w : World) (r : Run) → run_at n r.choices w ≡ Some r → with_leaf (shown r) (map shown (sampled lists n w)) ≡ map shown (sampled (lists ++ r.choices ∷ []) n w)
-sampled_more lists n w r by = placed r (is_among lists) (is_among (lists ++ r.choices ∷ [])) (λ x. among_more lists r.choices x) (walk n w) (walk_rises n w) (walk_has n r.choices w r by)
+pub sampled_more : (lists : List (List ℕ)) (n : ℕ) (w : World) (r : Run) → run_by wide_decision n r.choices w ≡ Some r → with_leaf (shown r) (map shown (sampled lists n w)) ≡ map shown (sampled (lists ++ r.choices ∷ []) n w)
+sampled_more lists n w r by = placed r (is_among lists) (is_among (lists ++ r.choices ∷ [])) (λ x. among_more lists r.choices x) (wide_walk n w) (walk_rises n w) (walk_has n r.choices w r by)
 
 -- ---- what a sample has rises
 
@@ -109,7 +113,7 @@ rises_leaves [] h = tt
 rises_leaves (x ∷ xs) h = (above_leaves x xs h.0, rises_leaves xs h.1)
 
 pub sample_rises : (lists : List (List ℕ)) (n : ℕ) (w : World) (leaves : List Leaf) → leaves ≡ map shown (sampled lists n w) → Rises leaves
-sample_rises lists n w leaves is = rw is (rises_leaves (sampled lists n w) (IsStrictlySortedBy-filter run_order (is_among lists) (walk n w) (walk_rises n w)))
+sample_rises lists n w leaves is = rw is (rises_leaves (sampled lists n w) (IsStrictlySortedBy-filter run_order (is_among lists) (wide_walk n w) (walk_rises n w)))
 
 -- ---- a run that was drawn is added
 
@@ -123,10 +127,10 @@ adds_leaf l d e s t x old new texts now last h is_last pushed told =
       drawn_is = h.drawn_is;
       leaves_are = pushed;
       last_is = is_last;
-      texts_are = told (witness_text (done_steps d.trail) l.fuel d.world) (ap (λ (o : Option Run). behind_number (witness_by (done_steps d.trail ++ steps_by o) x.ending)) h.run ∙ ap (λ p. behind_number (witness_by p x.ending)) (sym h.done_steps_are));
+      texts_are = told (witness_text wide_decision (done_steps d.trail) l.fuel d.world) (ap (λ (o : Option Run). behind_number (witness_by (done_steps d.trail ++ steps_by o) x.ending)) h.run ∙ ap (λ p. behind_number (witness_by p x.ending)) (sym h.done_steps_are));
     }
 
-draws_more : (u : Bool) (n k : ℕ) (w : World) (s : Stream) → draws u n (suc k) w s ≡ (drawn n w s).0 ∷ (if u && is_bad_run (run_at n (drawn n w s).0 w) then [] else draws u n k w (drawn n w s).1)
+draws_more : (u : Bool) (n k : ℕ) (w : World) (s : Stream) → draws u n (suc k) w s ≡ (drawn n w s).0 ∷ (if u && is_bad_run (run_by wide_decision n (drawn n w s).0 w) then [] else draws u n k w (drawn n w s).1)
 unfolding draws
 draws_more u n k w s = refl
 
@@ -134,10 +138,10 @@ draws_none : (u : Bool) (n : ℕ) (w : World) (s : Stream) → draws u n zero w 
 unfolding draws
 draws_none u n w s = refl
 
-draws_next : (u : Bool) (n k : ℕ) (w : World) (s t : Stream) (r : Run) (last : Bool) → drawn n w s ≡ (r.choices, t) → run_at n r.choices w ≡ Some r → last ≡ (u && is_bad r.ending) → draws u n (suc k) w s ≡ r.choices ∷ (if last then [] else draws u n k w t)
+draws_next : (u : Bool) (n k : ℕ) (w : World) (s t : Stream) (r : Run) (last : Bool) → drawn n w s ≡ (r.choices, t) → run_by wide_decision n r.choices w ≡ Some r → last ≡ (u && is_bad r.ending) → draws u n (suc k) w s ≡ r.choices ∷ (if last then [] else draws u n k w t)
 draws_next u n k w s t r last is by is_last =
     draws_more u n k w s
-    ∙ ap (λ (p : List ℕ × Stream). p.0 ∷ (if u && is_bad_run (run_at n p.0 w) then [] else draws u n k w p.1)) is
+    ∙ ap (λ (p : List ℕ × Stream). p.0 ∷ (if u && is_bad_run (run_by wide_decision n p.0 w) then [] else draws u n k w p.1)) is
     ∙ ap (λ o. r.choices ∷ (if u && is_bad_run o then [] else draws u n k w t)) by
     ∙ ap (λ b. r.choices ∷ (if b then [] else draws u n k w t)) (sym is_last)
 
@@ -175,8 +179,8 @@ sampling_none l before w first leaves texts none empty =
       found = [];
       joined = refl;
       runs_are = tt;
-      leaves_are = none ∙ sym (ap (map shown) (none_among (walk l.fuel w)));
-      texts_are = no_texts l.witnesses (witness_text before l.fuel w) leaves texts none empty;
+      leaves_are = none ∙ sym (ap (map shown) (none_among (wide_walk l.fuel w)));
+      texts_are = no_texts l.witnesses (witness_text wide_decision before l.fuel w) leaves texts none empty;
       few = omega (arith, ap length none);
       some = λ h. absurd (omega (arith, h));
     }
@@ -184,7 +188,7 @@ sampling_none l before w first leaves texts none empty =
 more_leaves : (l : Limits) (d : Standing) (s t : Stream) (found : List (List ℕ)) (old new : List Leaf) (texts now : List (List ℕ)) (last : Bool) (a : Adds l d s old texts last new now t) → old ≡ map shown (sampled found l.fuel d.world) → new ≡ map shown (sampled (found ++ a.run.choices ∷ []) l.fuel d.world)
 more_leaves l d s t found old new texts now last a is = a.leaves_are ∙ ap (with_leaf (shown a.run)) is ∙ sampled_more found l.fuel d.world a.run a.by
 
-runs_more : (n : ℕ) (w : World) (lists : List (List ℕ)) (r : Run) → AllByRecursion (TellsRun n w) lists → run_at n r.choices w ≡ Some r → AllByRecursion (TellsRun n w) (lists ++ r.choices ∷ [])
+runs_more : (n : ℕ) (w : World) (lists : List (List ℕ)) (r : Run) → AllByRecursion (TellsRun n w) lists → run_by wide_decision n r.choices w ≡ Some r → AllByRecursion (TellsRun n w) (lists ++ r.choices ∷ [])
 runs_more n w [] r h by = (record { run = r; by = by; same = refl }, tt)
 runs_more n w (cs ∷ lists) r h by = (h.0, runs_more n w lists r h.1 by)
 
@@ -243,7 +247,7 @@ pub even_of : (asked : Bool) (text : Leaf → List ℕ) (leaves : List Leaf) (te
 even_of false text leaves texts h = h
 even_of true text leaves texts h = ap length h ∙ length-map leaves text
 
-pub texts_told : (asked : Bool) (before : List Step) (n : ℕ) (w : World) (leaves : List Leaf) (texts : List (List ℕ)) → TextsAre asked (witness_text before n w) leaves texts → texts ≡ witness_texts asked before n w leaves
+pub texts_told : (asked : Bool) (before : List Step) (n : ℕ) (w : World) (leaves : List Leaf) (texts : List (List ℕ)) → TextsAre asked (witness_text wide_decision before n w) leaves texts → texts ≡ witness_texts wide_decision asked before n w leaves
 texts_told false before n w leaves texts h = h
 texts_told true before n w leaves texts h = h
 
@@ -257,11 +261,13 @@ kept_all : (P : Leaf → Type 0) (p : Run → Bool) (xs : List Run) → AllByRec
 kept_all P p [] h = tt
 kept_all P p (x ∷ xs) h = kept_case P x (filter p xs) (p x) h.0 (kept_all P p xs h.1)
 
-pub sample_witnessed : (s : Program) (mode : Mode) (before : List Step) (n : ℕ) (w : World) (lists : List (List ℕ)) (items : List Leaf) → AllFollow → fold (start s mode) before ≡ Some w → items ≡ map shown (sampled lists n w) → AllByRecursion (HasWitness s mode before n w) items
+pub sample_witnessed : (s : Program) (mode : Mode) (before : List Step) (n : ℕ) (w : World) (lists : List (List ℕ)) (items : List Leaf) → ((v : World) → CanFollow v (wide_decision v)) → fold (start s mode) before ≡ Some w → items ≡ map shown (sampled lists n w) → AllByRecursion (HasWitness wide_decision s mode before n w) items
 sample_witnessed s mode before n w lists items law there is =
-    let all : List Leaf = map shown (walk n w) in
-    let held : AllByRecursion (HasWitness s mode before n w) all = witnesses_hold s mode before n (length all) w all law there (sym (take_all (length all) all (omega arith))) in
-    rw is (kept_all (HasWitness s mode before n w) (is_among lists) (walk n w) held)
+    let all : List Leaf = map shown (wide_walk n w) in
+    let first : all ≡ take (length all) (map shown (awake_by wide_decision step_eq sleeps_on false n [] w)) =
+    sym (take_all (length all) all (omega arith)) ∙ ap (λ rs. take (length all) (map shown rs)) (sym (no_wide_sleeps n w)) in
+    let held : AllByRecursion (HasWitness wide_decision s mode before n w) all = awake_witnessed wide_decision step_eq sleeps_on false [] s mode before n (length all) w all law there first in
+    rw is (kept_all (HasWitness wide_decision s mode before n w) (is_among lists) (wide_walk n w) held)
 
 -- ---- each run that was drawn is listed
 
@@ -289,9 +295,9 @@ listed_has r (x ∷ xs) (inr k) = ap (λ b. same_choices x.choices r.choices || 
 
 one_listed : (lists before rest : List (List ℕ)) (n : ℕ) (w : World) (cs : List ℕ) → lists ≡ before ++ cs ∷ rest → TellsRun n w cs → is_listed (map shown (sampled lists n w)) cs ≡ true
 one_listed lists before rest n w cs split h =
-    let own : run_at n h.run.choices w ≡ Some h.run = ap (λ ds. run_at n ds w) h.same ∙ h.by in
+    let own : run_by wide_decision n h.run.choices w ≡ Some h.run = ap (λ ds. run_by wide_decision n ds w) h.same ∙ h.by in
     let among : is_among lists h.run ≡ true = ap (λ ds. list_any (λ es. same_choices es ds) lists) h.same ∙ ap (list_any (λ es. same_choices es cs)) split ∙ among_here before rest cs in
-    ap (is_listed (map shown (sampled lists n w))) (sym h.same) ∙ listed_has h.run (sampled lists n w) (kept_has (is_among lists) h.run (walk n w) among (walk_has n h.run.choices w h.run own))
+    ap (is_listed (map shown (sampled lists n w))) (sym h.same) ∙ listed_has h.run (sampled lists n w) (kept_has (is_among lists) h.run (wide_walk n w) among (walk_has n h.run.choices w h.run own))
 
 each_listed : (lists before rest : List (List ℕ)) (n : ℕ) (w : World) → lists ≡ before ++ rest → AllByRecursion (TellsRun n w) rest → AllByRecursion (λ cs. is_listed (map shown (sampled lists n w)) cs ≡ true) rest
 each_listed lists before [] n w split h = tt
@@ -319,10 +325,14 @@ filter_all : (p : Run → Bool) (xs : List Run) → length xs ≤ length (filter
 filter_all p [] h = refl
 filter_all p (x ∷ xs) h = all_case x (filter p xs) xs (p x) (filter_few p xs) h (filter_all p xs)
 
-pub more_told : (count len n : ℕ) (w v : World) (more : Bool) → more ≡ nat_lt count (length (walk n v)) → v ≡ w → count ≡ len → more ≡ nat_lt len (length (walk n w))
-more_told count len n w v more h world same = h ∙ ap (λ u. nat_lt count (length (walk n u))) world ∙ ap (λ m. nat_lt m (length (walk n w))) same
+-- they are asked of the wide walk, in which nothing falls asleep
+pub more_is : (count n : ℕ) (w : World) (more : Bool) → more ≡ nat_lt count (length (map shown (awake_by wide_decision step_eq sleeps_on false n [] w))) → more ≡ nat_lt count (length (wide_walk n w))
+more_is count n w more h = h ∙ ap (λ rs. nat_lt count (length (map shown rs))) (no_wide_sleeps n w) ∙ ap (nat_lt count) (length-map (wide_walk n w) shown)
 
-pub sample_all : (lists : List (List ℕ)) (n : ℕ) (w : World) (leaves : List Leaf) (more : Bool) → leaves ≡ map shown (sampled lists n w) → more ≡ nat_lt (length leaves) (length (walk n w)) → more ≡ false → leaves ≡ map shown (walk n w)
+pub more_told : (count len n : ℕ) (w v : World) (more : Bool) → more ≡ nat_lt count (length (wide_walk n v)) → v ≡ w → count ≡ len → more ≡ nat_lt len (length (wide_walk n w))
+more_told count len n w v more h world same = h ∙ ap (λ u. nat_lt count (length (wide_walk n u))) world ∙ ap (λ m. nat_lt m (length (wide_walk n w))) same
+
+pub sample_all : (lists : List (List ℕ)) (n : ℕ) (w : World) (leaves : List Leaf) (more : Bool) → leaves ≡ map shown (sampled lists n w) → more ≡ nat_lt (length leaves) (length (wide_walk n w)) → more ≡ false → leaves ≡ map shown (wide_walk n w)
 sample_all lists n w leaves more is told none =
-    let long : length (walk n w) ≤ length leaves = not_less (length leaves) (length (walk n w)) (sym told ∙ none) in
-    is ∙ ap (map shown) (filter_all (is_among lists) (walk n w) (omega (arith, long, ap length is, length-map (sampled lists n w) shown)))
+    let long : length (wide_walk n w) ≤ length leaves = not_less (length leaves) (length (wide_walk n w)) (sym told ∙ none) in
+    is ∙ ap (map shown) (filter_all (is_among lists) (wide_walk n w) (omega (arith, long, ap length is, length-map (sampled lists n w) shown)))

@@ -1,4 +1,4 @@
--- Which runs are drawn, by the stream of a generator, and which leaves a sample has.
+-- Which runs are drawn, by the stream of a generator, and which leaves a sample has. They are runs of the wide walk, which has every end.
 use Rattle.std.specs.Prelude.{ℕ, zero, suc, Bool, false, ◌&&◌, if◌then◌else◌, List, [], ◌∷◌, length, slice_get, Option, Some, None}
 use Rattle.std.specs.List.{list_any, filter}
 use Rattle.rand_core.specs.Stream.{Stream}
@@ -11,9 +11,9 @@ use Rattle.mpd_model.specs.declared.decision.Decision.{Decision}
 use Rattle.mpd_model.specs.declared.decision.Decision.TheVariants.{Forced, Choice, Leaf}
 use Rattle.mpd_model.specs.steps.World.{World}
 use Rattle.mpd_model.specs.steps.Next.{next}
-use Rattle.mpd_model.specs.runs.Decisions.{decision}
+use Rattle.mpd_policy.specs.Wide.{wide_decision}
 use Rattle.mpd_explore.specs.declared.report.Leaf as leaf
-use Rattle.mpd_explore.specs.Walk.{Run, walk, run_at}
+use Rattle.mpd_walk.specs.Walk.{Run, wide_walk, run_by}
 use Rattle.mpd_explore.specs.Report.{is_bad}
 use Rattle.mpd_sample.specs.Order.{same_choices}
 
@@ -46,7 +46,7 @@ drawn_followed draw w s (Leaf o) = ([], s)
 -- a run with so much fuel: at each choice a candidate is drawn, each as likely as the other
 unfoldable pub drawn : ℕ → World → Stream → List ℕ × Stream
 drawn zero w s = ([], s)
-drawn (suc n) w s = drawn_followed (drawn n) w s (decision w)
+drawn (suc n) w s = drawn_followed (drawn n) w s (wide_decision w)
 
 -- ---- many runs
 
@@ -59,16 +59,16 @@ is_bad_run (Some r) = is_bad r.ending
 unfoldable pub draws : Bool → ℕ → ℕ → World → Stream → List (List ℕ)
 draws until_bad fuel zero w s = []
 draws until_bad fuel (suc k) w s =
-    (drawn fuel w s).0 ∷ (if until_bad && is_bad_run (run_at fuel (drawn fuel w s).0 w) then [] else draws until_bad fuel k w (drawn fuel w s).1)
+    (drawn fuel w s).0 ∷ (if until_bad && is_bad_run (run_by wide_decision fuel (drawn fuel w s).0 w) then [] else draws until_bad fuel k w (drawn fuel w s).1)
 
 -- ---- what a sample has
 
 abbrev pub is_among : List (List ℕ) → Run → Bool
 is_among lists r = list_any (λ cs. same_choices cs r.choices) lists
 
--- the runs of the walk whose choices are among those that were drawn
+-- the runs of the wide walk whose choices are among those that were drawn
 abbrev pub sampled : List (List ℕ) → ℕ → World → List Run
-sampled lists n w = filter (is_among lists) (walk n w)
+sampled lists n w = filter (is_among lists) (wide_walk n w)
 
 -- whether a leaf with these choices is one of some
 abbrev pub is_listed : List leaf.Leaf → List ℕ → Bool

@@ -6,7 +6,7 @@ use Rattle.std.specs.Ordering.{nat_cmp, is_eq}
 use Rattle.std.specs.Cmp.Lexicographic.{slice_cmp}
 use Rattle.std.specs.List.Sorted.{IsStrictlySortedBy}
 use Rattle.mpd_explore.specs.declared.report.Leaf.{Leaf}
-use Rattle.mpd_explore.specs.Walk.{Run}
+use Rattle.mpd_walk.specs.Walk.{Run}
 
 -- Of two lists of choices the one with the smaller number comes first, where they first differ.
 abbrev pub order : List ℕ → List ℕ → Ordering

@@ -1,15 +1,16 @@
-//! Drawing a run: at each choice a candidate, by the numbers of a generator.
+//! Drawing a run of the wide walk: at each choice a candidate, by the numbers of a generator.
 
-ghost use Rattle.std.specs.Prelude.{◌≡◌, ℕ, suc, ◌+◌, ◌<◌, ◌≤◌, [], IfOk, OnOk};
+ghost use Rattle.std.specs.Prelude.{◌≡◌, ℕ, [], ◌+◌, ◌<◌, ◌≤◌, IfOk, OnOk};
 ghost use Rattle.rand.specs.Uniform.{usize_single};
-ghost use Rattle.mpd_model.specs.runs.Decisions.{decision, CanFollow};
 ghost use Rattle.mpd_trail.specs.Views.{standing_of};
-ghost use Rattle.mpd_sample.specs.Drawing.{Beyond, Drawing, Ends, Goes, Drew};
+ghost use Rattle.mpd_walk.specs.Choosers.{never_leaves, stays};
+ghost use Rattle.mpd_walk.specs.Walks.{Beyond};
+ghost use Rattle.mpd_sample.specs.Drawing.{Drew, takes_drawn};
 
 use mpd_explore::{ChoiceList, Ending, Leaf};
-use mpd_model::{Decision, STEPS_MAX, StepList};
-use mpd_policy::{decide, decisions_can_be_followed};
+use mpd_model::{STEPS_MAX, Step, StepList};
 use mpd_trail::Debugger;
+use mpd_walk::{Chooser, Wide, ending_of, walk};
 use rand::{Rng, RngExt};
 use std::alloc::{AllocError, Global};
 
@@ -22,61 +23,33 @@ fn draw_index<R: Rng>(random: &mut R, count: usize) -> usize
     random.random_range(0..count)
 }
 
-/// Draws one of the candidates of a choice, at which the debugger stands, and takes it.
-fn draw_choice<R: Rng>(
-    debugger: &mut Debugger<'_>,
-    random: &mut R,
-    candidates: StepList,
-    choices: &mut Vec<usize>,
-) -> Result<(), AllocError>
-    requires few { debugger.old.trail.depth < STEPS_MAX }
-    requires choice { decision debugger.old.world ≡ Decision.Choice candidates }
-    requires follow { CanFollow debugger.old.world (Decision.Choice candidates) }
-    ensures goes { OnOk result ((n : ℕ) → Drawing (suc n) (standing_of debugger.old) (R.stream random.old) choices.old.items n choices.new.items (standing_of debugger.new) (R.stream random.new)) }
-    ensures deeper { OnOk result (debugger.new.trail.depth ≡ debugger.old.trail.depth + 1) }
-    ensures beyond { Beyond (standing_of debugger.old) (standing_of debugger.new) }
-{
-    debugger.state_is_reached();
-    let index = draw_index(random, candidates.items.len());
-    let step = candidates.items[index];
-    choices.push(index)?;
-    debugger.forward(step)?;
-    Ok(())
+/// Draws one of the candidates, each as likely as the other, and notes its number.
+#[derive(Drop)]
+struct Drawer<'a, R: Rng> {
+    random: &'a mut R,
+    choices: &'a mut Vec<usize>,
 }
 
-/// Goes on by one step, or answers how the run ends.
-fn go_on<R: Rng>(
-    alloc: Global,
-    debugger: &mut Debugger<'_>,
-    random: &mut R,
-    choices: &mut Vec<usize>,
-) -> Result<Option<Ending>, AllocError>
-    requires few { debugger.old.trail.depth < STEPS_MAX }
-    ensures goes { IfOk result (λ o. Goes (standing_of debugger.old) (R.stream random.old) choices.old.items o choices.new.items (standing_of debugger.new) (R.stream random.new)) }
-    ensures beyond { Beyond (standing_of debugger.old) (standing_of debugger.new) }
-{
-    decisions_can_be_followed();
-    match decide(alloc, debugger.core())? {
-        Decision::Leaf(outcome) => Ok(Some(Ending::Ended(outcome))),
-        Decision::Forced(step) => {
-            debugger.forward(step)?;
-            Ok(None)
-        }
-        Decision::Choice(candidates) => {
-            draw_choice(debugger, random, candidates, choices)?;
-            Ok(None)
-        }
+impl<'a, R: Rng> Chooser for Drawer<'a, R> {
+    ghost takes = { takes_drawn (λ c. R.stream c.random.now) (λ c. c.choices.now.items) (λ c. c.random.ghost_name) (λ c. c.choices.ghost_name) };
+
+    ghost leaves = { never_leaves };
+
+    ghost passes = { stays };
+
+    fn choose(
+        &mut self,
+        debugger: &Debugger<'_>,
+        candidates: StepList,
+    ) -> Result<Option<Step>, AllocError> {
+        let index = draw_index(self.random, candidates.items.len());
+        let step = candidates.items[index];
+        self.choices.push(index)?;
+        Ok(Some(step))
     }
-}
 
-/// How a run ends whose fuel is used up.
-fn end_of_fuel(alloc: Global, debugger: &Debugger<'_>) -> Result<Ending, AllocError>
-    ensures { IfOk result (λ end. Ends 0 debugger.now.world end) }
-{
-    match decide(alloc, debugger.core())? {
-        Decision::Leaf(outcome) => Ok(Ending::Ended(outcome)),
-        Decision::Forced(_) => Ok(Ending::Cut),
-        Decision::Choice(_) => Ok(Ending::Cut),
+    fn pass(&mut self, debugger: &Debugger<'_>, step: Step) -> Result<(), AllocError> {
+        Ok(())
     }
 }
 
@@ -94,13 +67,13 @@ fn draw_run<R: Rng>(
     ensures beyond { Beyond (standing_of debugger.old) (standing_of debugger.new) }
 {
     debugger.state_is_reached();
-    for turn in 0..fuel {
-        if let Some(ending) = go_on(alloc, debugger, random, choices)? {
-            return Ok(ending);
-        }
-    }
-    let last = end_of_fuel(alloc, debugger)?;
-    Ok(last)
+    let base = debugger.depth();
+    let mut drawer = Drawer { random, choices };
+    let stop = walk(alloc, &Wide, debugger, base + fuel, &mut drawer)?;
+    let Some(ending) = ending_of(alloc, &Wide, debugger, stop)? else {
+        unreachable!()
+    };
+    Ok(ending)
 }
 
 /// Draws a run, and answers its leaf, at which the debugger stands then.

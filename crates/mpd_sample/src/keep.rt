@@ -10,8 +10,7 @@ ghost use Rattle.mpd_explore.specs.WitnessTexts.{behind_number};
 ghost use Rattle.mpd_sample.specs.Order.{order, Rises, with_leaf};
 ghost use Rattle.mpd_sample.specs.Drawing.{IsPlace, begins_with, TextsAre, IsEven};
 
-use crate::text::witness_text;
-use mpd_explore::{Ending, Leaf, Report};
+use mpd_explore::{Ending, Leaf, Report, witness_here};
 use mpd_trail::Debugger;
 use std::alloc::{AllocError, Global};
 use std::cmp::Ordering;
@@ -69,20 +68,6 @@ fn is_there(leaves: &[Leaf], place: usize, choices: &[usize]) -> bool
         return false;
     }
     has_choices(&leaves[place], choices)
-}
-
-/// The text of the witness of a run that ends here so: empty where that is no deadlock.
-fn witness_here(
-    alloc: Global,
-    debugger: &Debugger<'_>,
-    ending: &Ending,
-) -> Result<String, AllocError>
-    ensures { IfOk result (λ t. string_bytes t ≡ behind_number (witness_by (done_steps debugger.now.trail) ending.now)) }
-{
-    debugger.state_is_reached();
-    let depth = debugger.depth();
-    let (steps, _) = debugger.steps().split_at(depth);
-    witness_text(alloc, steps, ending)
 }
 
 /// Adds the text of the witness of a run that ends here so, at a place, where texts are asked for.

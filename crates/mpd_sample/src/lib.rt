@@ -4,6 +4,5 @@
 mod draw;
 mod keep;
 pub mod sampler;
-mod text;
 
 pub use sampler::sample;

@@ -1,33 +1,29 @@
 //! Sampling from where a debugger stands.
 
-ghost use Rattle.std.specs.Prelude.{◌≡◌, ◌+◌, ◌<◌, ◌≤◌, ◌&&◌, true, false, [], length, map, nat_lt, IfOk, OnOk, OnErr, string_bytes};
+ghost use Rattle.std.specs.Prelude.{◌≡◌, ◌+◌, ◌<◌, ◌≤◌, true, false, [], length, map, nat_lt, IfOk, OnOk, OnErr, string_bytes};
 ghost use Rattle.std.specs.List.{AllByRecursion};
 ghost use Rattle.mpd_model.specs.runs.Trail.{done_steps, gone_back, forgotten, IsReached};
 ghost use Rattle.mpd_trail.specs.Views.{standing_of};
-ghost use Rattle.mpd_explore.specs.Walk.{walk};
-ghost use Rattle.mpd_explore.specs.Report.{shown, is_bad};
+ghost use Rattle.mpd_policy.specs.Wide.{wide_decision};
+ghost use Rattle.mpd_walk.specs.Walk.{wide_walk};
+ghost use Rattle.mpd_explore.specs.Report.{shown};
 ghost use Rattle.mpd_explore.specs.Witness.{HasWitness};
 ghost use Rattle.mpd_explore.specs.WitnessTexts.{witness_texts};
 ghost use Rattle.mpd_sample.specs.Order.{Rises};
 ghost use Rattle.mpd_sample.specs.Drawn.{seeded, draws, sampled, is_listed};
-ghost use Rattle.mpd_sample.specs.Drawing.{Beyond, IsEven, Adds, Samples};
+ghost use Rattle.mpd_walk.specs.Walks.{Beyond};
+ghost use Rattle.mpd_sample.specs.Drawing.{IsEven, Adds, Samples};
 
 use crate::draw::draw_leaf;
 use crate::keep::keep_leaf;
-use mpd_explore::{Leaf, Limits, Report, Unwatched, Watch, explore};
+use mpd_explore::{Leaf, Limits, Report, Unwatched, Watch, explore_with};
 use mpd_model::STEPS_MAX;
-use mpd_policy::decisions_can_be_followed;
+use mpd_policy::wide_decisions_can_be_followed;
 use mpd_trail::Debugger;
+use mpd_walk::{Wide, put_back};
 use rand::{Rng, SeedableRng};
 use rand_pcg::Pcg64;
 use std::alloc::{AllocError, Global};
-
-/// Whether the drawing ends behind a leaf, whatever is left to be drawn.
-fn ends_with(limits: Limits, leaf: &Leaf) -> bool
-    ensures { result ≡ (limits.until_bad && is_bad leaf.now.ending) }
-{
-    limits.until_bad && leaf.is_bad()
-}
 
 /// Draws a run, and adds its leaf to a report; whether the drawing ends behind it. The debugger is left anywhere above where it stood.
 fn draw_into<R: Rng>(
@@ -44,19 +40,9 @@ fn draw_into<R: Rng>(
     ensures beyond { Beyond (standing_of debugger.old) (standing_of debugger.new) }
 {
     let leaf = draw_leaf(alloc, debugger, limits.fuel, random)?;
-    let is_last = ends_with(limits, &leaf);
+    let is_last = limits.ends_with(&leaf);
     keep_leaf(alloc, debugger, limits.witnesses, leaf, report)?;
     Ok(is_last)
-}
-
-/// Takes steps back down to a depth, and keeps no undone step.
-fn put_back(debugger: &mut Debugger<'_>, base: usize)
-    requires { base ≤ debugger.old.trail.depth }
-    ensures trail { debugger.new.trail ≡ forgotten (gone_back debugger.old.trail base) }
-    ensures reached { IsReached (standing_of debugger.new) }
-{
-    let _ = debugger.undo_to(base);
-    debugger.forget_undone();
 }
 
 /// Draws a run, adds its leaf to a report, and comes back; whether the drawing ends behind it.
@@ -144,7 +130,7 @@ fn collect<W: Watch>(
     }
 }
 
-/// Whether there are more runs from here than so many.
+/// Whether there are more runs of the wide walk from here than so many.
 fn has_more(
     alloc: Global,
     debugger: &mut Debugger<'_>,
@@ -153,7 +139,7 @@ fn has_more(
 ) -> Result<bool, AllocError>
     requires clean { length debugger.old.trail.steps ≡ debugger.old.trail.depth }
     requires fits { debugger.old.trail.depth + limits.fuel ≤ STEPS_MAX }
-    ensures more { IfOk result (λ more. more ≡ nat_lt count (length (walk limits.fuel debugger.old.world))) }
+    ensures more { IfOk result (λ more. more ≡ nat_lt count (length (wide_walk limits.fuel debugger.old.world))) }
     ensures trail { debugger.new.trail ≡ debugger.old.trail }
     ensures world { debugger.new.world ≡ debugger.old.world }
     ensures reached { IsReached (standing_of debugger.new) }
@@ -164,19 +150,19 @@ fn has_more(
     asked.witnesses = false;
     asked.until_bad = false;
     asked.ends = false;
-    let listed = explore(alloc, debugger, asked, &mut Unwatched)?;
+    let listed = explore_with(alloc, &Wide, debugger, &[], asked, &mut Unwatched)?;
     let more = listed.more;
     drop(listed);
     Ok(more)
 }
 
-/// A sample of the runs from here: so many are made, one after another, and at each choice of one a candidate is drawn, each as likely
-/// as the other, by a generator that is seeded with this number. The report has each different list of choices once, in the order of
-/// the walk, as `explore` lists them, and `more` says whether the walk has others. Where that is asked for, the drawing ends behind the
-/// first run drawn that ends in a deadlock or a trap. Fuel counts from here. The debugger is left as found, also where memory is
-/// refused, which is what an `Err` says; that comes only where a run is asked for. No undone step is kept, and the depth and the fuel
-/// are at most 1,000,000 steps together. Each leaf has a run, and each deadlock a witness; where witnesses are wanted, their texts are
-/// made as the runs are drawn. `watch` is told of each run that is drawn, with how many there are so far; nothing else depends on it.
+/// A sample of the runs of the wide walk from here, in which no step is asleep: so many are made, one after another, and at each choice of
+/// one a candidate is drawn, each as likely as the other, by a generator that is seeded with this number. The report has each different
+/// list of choices once, in the order of the walk, and `more` says whether the walk has others. Where that is asked for, the drawing ends
+/// behind the first run drawn that ends in a deadlock or a trap. Fuel counts from here. The debugger is left as found, also where memory is
+/// refused, which is what an `Err` says; that comes only where a run is asked for. No undone step is kept, and the depth and the fuel are
+/// at most 1,000,000 steps together. Each leaf has a run, and each deadlock a witness; where witnesses are wanted, their texts are made as
+/// the runs are drawn. `watch` is told of each run that is drawn, with how many there are so far; nothing else depends on it.
 pub fn sample<W: Watch>(
     alloc: Global,
     debugger: &mut Debugger<'_>,
@@ -191,16 +177,16 @@ pub fn sample<W: Watch>(
     ensures rises { IfOk result (λ r. Rises r.leaves.items) }
     ensures few { IfOk result (λ r. length r.leaves.items ≤ limits.runs) }
     ensures some { IfOk result (λ r. 0 < limits.runs → 0 < length r.leaves.items) }
-    ensures more { IfOk result (λ r. r.more ≡ nat_lt (length r.leaves.items) (length (walk limits.fuel debugger.old.world))) }
-    ensures all { IfOk result (λ r. r.more ≡ false → r.leaves.items ≡ map shown (walk limits.fuel debugger.old.world)) }
-    ensures witnesses { IfOk result (λ r. AllByRecursion (HasWitness debugger.old.trail.program debugger.old.trail.mode (done_steps debugger.old.trail) limits.fuel debugger.old.world) r.leaves.items) }
-    ensures texts { IfOk result (λ r. map string_bytes r.witnesses.items ≡ witness_texts limits.witnesses (done_steps debugger.old.trail) limits.fuel debugger.old.world r.leaves.items) }
+    ensures more { IfOk result (λ r. r.more ≡ nat_lt (length r.leaves.items) (length (wide_walk limits.fuel debugger.old.world))) }
+    ensures all { IfOk result (λ r. r.more ≡ false → r.leaves.items ≡ map shown (wide_walk limits.fuel debugger.old.world)) }
+    ensures witnesses { IfOk result (λ r. AllByRecursion (HasWitness wide_decision debugger.old.trail.program debugger.old.trail.mode (done_steps debugger.old.trail) limits.fuel debugger.old.world) r.leaves.items) }
+    ensures texts { IfOk result (λ r. map string_bytes r.witnesses.items ≡ witness_texts wide_decision limits.witnesses (done_steps debugger.old.trail) limits.fuel debugger.old.world r.leaves.items) }
     ensures trail { debugger.new.trail ≡ debugger.old.trail }
     ensures world { debugger.new.world ≡ debugger.old.world }
     ensures reached { IsReached (standing_of debugger.new) }
     ensures memory { OnErr result (0 < limits.runs) }
 {
-    decisions_can_be_followed();
+    wide_decisions_can_be_followed();
     debugger.state_is_reached();
     let mut report = collect(alloc, debugger, seed, limits, watch)?;
     match has_more(alloc, debugger, limits, report.leaves.len()) {

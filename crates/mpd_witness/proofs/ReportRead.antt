@@ -5,8 +5,8 @@ use Rattle.std.specs.Fmt.{decimal}
 use Rattle.std.specs.List.{AllByRecursion}
 use Rattle.mpd_model.specs.declared.outcome.Outcome.TheVariants.{Deadlock}
 use Rattle.mpd_model.specs.texts.Texts.{line}
-use Rattle.mpd_explore.specs.declared.report.Ending.{Ending}
-use Rattle.mpd_explore.specs.declared.report.Ending.TheVariants.{Ended}
+use Rattle.mpd_walk.specs.declared.ending.Ending.{Ending}
+use Rattle.mpd_walk.specs.declared.ending.Ending.TheVariants.{Ended}
 use Rattle.mpd_explore.specs.declared.report.Leaf.{Leaf}
 use Rattle.mpd_explore.specs.declared.report.Witness.{Witness}
 use Rattle.mpd_explore.specs.ReportText.{choices_text, ending_text, leaf_line, witness_line}

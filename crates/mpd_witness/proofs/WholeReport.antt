@@ -14,11 +14,12 @@ use Rattle.mpd_model.specs.declared.step.Step.{Step}
 use Rattle.mpd_model.specs.texts.Lines.{is_none}
 use Rattle.mpd_model.specs.steps.World.{World}
 use Rattle.mpd_model.specs.texts.Texts.{id_text, spaced, line, trap_name, trapped_text, steps_text}
-use Rattle.mpd_explore.specs.declared.report.Ending.{Ending}
-use Rattle.mpd_explore.specs.declared.report.Ending.TheVariants.{Ended, Cut}
+use Rattle.mpd_walk.specs.declared.ending.Ending.{Ending}
+use Rattle.mpd_walk.specs.declared.ending.Ending.TheVariants.{Ended, Cut}
 use Rattle.mpd_explore.specs.declared.report.Leaf.{Leaf}
 use Rattle.mpd_explore.specs.declared.report.Witness.{Witness}
-use Rattle.mpd_explore.specs.Walk.{run_at, steps_by}
+use Rattle.mpd_model.specs.declared.decision.Decision.{Decision}
+use Rattle.mpd_walk.specs.Walk.{run_by, steps_by}
 use Rattle.mpd_explore.specs.Witness.{witness_by}
 use Rattle.mpd_explore.specs.ReportText.{choices_text, ending_text, leaf_text, leaf_line, witness_lines, leaves_text, more_text, report_text}
 use Rattle.mpd_witness.specs.declared.report_lines.LineKind.{LineKind}
@@ -162,9 +163,9 @@ total_clear c n k more h =
 
 -- ---- the lines of a report
 
-module _ (before : List Step) (fuel : ℕ) (w : World) where
+module _ (decide : World → Decision) (before : List Step) (fuel : ℕ) (w : World) where
   abbrev told : Leaf → Option Witness
-  told l = witness_at_leaf before fuel w l
+  told l = witness_at_leaf decide before fuel w l
 
   -- the line of a witness, where there is one
   abbrev row : ℕ → Option Witness → List (List ℕ) → List (List ℕ)
@@ -182,12 +183,12 @@ module _ (before : List Step) (fuel : ℕ) (w : World) where
   row_parts n None z ps f h e = e
   row_parts n (Some x) z ps f h e = next_part (witness_words n (steps_text x.steps)) z ps (second_clear 10 n feed_apart x.steps (wide n f) h) e
 
-  leaves_parts : (n : ℕ) (leaves : List Leaf) (z : List ℕ) (ps : List (List ℕ)) → n + length leaves < 1000000000 → AllByRecursion (IsShortLeaf before fuel w) leaves → parts_at 10 z ≡ ps
-      → parts_at 10 (leaves_text true before fuel w n leaves ++ z) ≡ rows n leaves ps
+  leaves_parts : (n : ℕ) (leaves : List Leaf) (z : List ℕ) (ps : List (List ℕ)) → n + length leaves < 1000000000 → AllByRecursion (IsShortLeaf decide before fuel w) leaves → parts_at 10 z ≡ ps
+      → parts_at 10 (leaves_text decide true before fuel w n leaves ++ z) ≡ rows n leaves ps
   leaves_parts n [] z ps f h e = e
   leaves_parts n (l ∷ ls) z ps f h e =
       let small : n < 1000000000 = omega (arith, f) in
-      let rest : List ℕ = leaves_text true before fuel w (suc n) ls in
+      let rest : List ℕ = leaves_text decide true before fuel w (suc n) ls in
       let wit : List ℕ = witness_lines n (told l) in
       ap (parts_at 10) (append_assoc (leaf_line n l ++ wit) rest z ∙ append_assoc (leaf_line n l) wit (rest ++ z))
       ∙ next_part (leaf_words n (leaf_text l)) (wit ++ (rest ++ z)) (row n (told l) (rows (suc n) ls ps)) (leaf_clear 10 n feed_end l small h.0.choices h.0.ending)
@@ -195,7 +196,7 @@ module _ (before : List Step) (fuel : ℕ) (w : World) where
 
   -- ---- none is wrong
 
-  leaf_kind : (n : ℕ) (l : Leaf) → n < 1000000000 → IsShortLeaf before fuel w l → kind_of (line_of (leaf_words n (leaf_text l))) ≡ OfLeaf n
+  leaf_kind : (n : ℕ) (l : Leaf) → n < 1000000000 → IsShortLeaf decide before fuel w l → kind_of (line_of (leaf_words n (leaf_text l))) ≡ OfLeaf n
   leaf_kind n l f h =
       ap kind_of (line_clear (leaf_words n (leaf_text l)) (leaf_clear 10 n feed_end l f h.choices h.ending) (leaf_clear 13 n return_end l f h.choices h.ending)) ∙ leaf_is n (leaf_text l) f
 
@@ -214,7 +215,7 @@ module _ (before : List Step) (fuel : ℕ) (w : World) where
   row_right n None ls i f h r = r i (Some n)
   row_right n (Some x) ls i f h r = on_kind i (Some n) (OfWitness n) (witness_words n (steps_text x.steps)) ls (witness_kind n x f h) (same_byte n) r
 
-  rows_right : (n : ℕ) (leaves : List Leaf) (behind : List (List ℕ)) → n + length leaves < 1000000000 → AllByRecursion (IsShortLeaf before fuel w) leaves → NoneWrong behind → NoneWrong (rows n leaves behind)
+  rows_right : (n : ℕ) (leaves : List Leaf) (behind : List (List ℕ)) → n + length leaves < 1000000000 → AllByRecursion (IsShortLeaf decide before fuel w) leaves → NoneWrong behind → NoneWrong (rows n leaves behind)
   rows_right n [] behind f h r = r
   rows_right n (l ∷ ls) behind f h r = λ i b.
       let small : n < 1000000000 = omega (arith, f) in
@@ -244,7 +245,7 @@ module _ (before : List Step) (fuel : ℕ) (w : World) where
       let there = found (suc i) in
       (there.0, there.1, past m i (OfWitness n) (witness_words n (steps_text x.steps)) ls (witness_kind n x f h) refl ∙ there.2)
 
-  found_at : (m n k i : ℕ) (leaves : List Leaf) (behind : List (List ℕ)) (l : Leaf) → m ≡ n + k → n + length leaves < 1000000000 → AllByRecursion (IsShortLeaf before fuel w) leaves → slice_get leaves k ≡ Some l → Found m i (rows n leaves behind) l
+  found_at : (m n k i : ℕ) (leaves : List Leaf) (behind : List (List ℕ)) (l : Leaf) → m ≡ n + k → n + length leaves < 1000000000 → AllByRecursion (IsShortLeaf decide before fuel w) leaves → slice_get leaves k ≡ Some l → Found m i (rows n leaves behind) l
   found_at m n k i [] behind l e f h s = absurd (let x : ⊥ = cc in x)
   found_at m n zero i (q ∷ ls) behind l e f h s =
       let small : n < 1000000000 = omega (arith, f) in
@@ -297,14 +298,14 @@ module _ (before : List Step) (fuel : ℕ) (w : World) where
   first_is n l x e =
       grouped (codes "leaf " ++ decimal n) (choices_text l.choices) (ending_text l.ending) ∙ ap (λ (y : Ending). codes "leaf " ++ decimal n ++ codes " [" ++ choices_text l.choices ++ codes "] " ++ ending_text y) e
 
-  both_read : (n p : ℕ) (l : Leaf) (x : Witness) → n < 1000000000 → IsShortLeaf before fuel w l → told l ≡ Some x → IsShort x → with_both p (blocked_of (line_of (leaf_words n (leaf_text l)))) (steps_of (line_of (witness_words n (steps_text x.steps)))) ≡ Ok x
+  both_read : (n p : ℕ) (l : Leaf) (x : Witness) → n < 1000000000 → IsShortLeaf decide before fuel w l → told l ≡ Some x → IsShort x → with_both p (blocked_of (line_of (leaf_words n (leaf_text l)))) (steps_of (line_of (witness_words n (steps_text x.steps)))) ≡ Ok x
   both_read n p l x f h t s =
       let a : List ℕ = leaf_words n (leaf_text l) in
       let b : List ℕ = witness_words n (steps_text x.steps) in
       let bare_a : line_of a ≡ a = line_clear a (leaf_clear 10 n feed_end l f h.choices h.ending) (leaf_clear 13 n return_end l f h.choices h.ending) in
       let bare_b : line_of b ≡ b = line_clear b (second_clear 10 n feed_apart x.steps (wide n f) s.steps) (second_clear 13 n return_apart x.steps (wide n f) s.steps) in
       let first : blocked_of (line_of a) ≡ Some x.blocked =
-      ap blocked_of (bare_a ∙ first_is n l x (stuck_at (before ++ steps_by (run_at fuel l.choices w)) l.ending x t)) ∙ first_read_back n l.choices x.blocked (wide n f) h.choices s.calls s.some_call in
+      ap blocked_of (bare_a ∙ first_is n l x (stuck_at (before ++ steps_by (run_by decide fuel l.choices w)) l.ending x t)) ∙ first_read_back n l.choices x.blocked (wide n f) h.choices s.calls s.some_call in
       let second : steps_of (line_of b) ≡ Some x.steps = ap steps_of bare_b ∙ second_read_back n x.steps (wide n f) s.steps s.some_step in
       ap (λ (q : Option (List CallId)). with_both p q (steps_of (line_of b))) first ∙ ap (λ (q : Option (List Step)). with_both p (Some x.blocked) q) second
 
@@ -319,7 +320,7 @@ module _ (before : List Step) (fuel : ℕ) (w : World) where
       let there : IsThere 0 (Some (p, leaf_words n (leaf_text l) ∷ row n (told l) more)) ls = there_as 0 (leaf_from n 0 ls) (Some (p, leaf_words n (leaf_text l) ∷ row n (told l) more)) ls e (is_there n 0 ls) in
       ap (λ k. drop k ls) (let s : p ≡ p - 0 = omega arith in s) ∙ there.1 ∙ ap (λ (q : Option Witness). leaf_words n (leaf_text l) ∷ row n q more) t
 
-  rows_read : (n : ℕ) (leaves : List Leaf) (ls : List (List ℕ)) (l : Leaf) (x : Witness) → n < 1000000000 → IsShortLeaf before fuel w l → told l ≡ Some x → IsShort x → wrong_line 1 None ls ≡ None → Found n 0 ls l → unless_wrong (wrong_line 1 None ls) (Some n) ls ≡ Ok x
+  rows_read : (n : ℕ) (leaves : List Leaf) (ls : List (List ℕ)) (l : Leaf) (x : Witness) → n < 1000000000 → IsShortLeaf decide before fuel w l → told l ≡ Some x → IsShort x → wrong_line 1 None ls ≡ None → Found n 0 ls l → unless_wrong (wrong_line 1 None ls) (Some n) ls ≡ Ok x
   rows_read n leaves ls l x f h t s right found =
       let p : ℕ = found.0 in
       ap (λ (q : Option ℕ). unless_wrong q (Some n) ls) right
@@ -327,7 +328,7 @@ module _ (before : List Step) (fuel : ℕ) (w : World) where
       ∙ ap (witness_at p) (dropped n p ls found.1 l x t found.2)
       ∙ both_read n p l x f h t s
 
-  leaf_at : (k : ℕ) (leaves : List Leaf) (l : Leaf) → AllByRecursion (IsShortLeaf before fuel w) leaves → slice_get leaves k ≡ Some l → IsShortLeaf before fuel w l
+  leaf_at : (k : ℕ) (leaves : List Leaf) (l : Leaf) → AllByRecursion (IsShortLeaf decide before fuel w) leaves → slice_get leaves k ≡ Some l → IsShortLeaf decide before fuel w l
   leaf_at k [] l h s = absurd (let z : ⊥ = cc in z)
   leaf_at zero (q ∷ ls) l h s = let same : q ≡ l = cc in rw (sym same) h.0
   leaf_at (suc k) (q ∷ ls) l h s = leaf_at k ls l h.1 s
@@ -335,8 +336,8 @@ module _ (before : List Step) (fuel : ℕ) (w : World) where
   within : (k : ℕ) (leaves : List Leaf) (l : Leaf) → slice_get leaves k ≡ Some l → k < length leaves
   within k leaves l s = slice_get_within leaves k l s
 
-  pub leaf_in : (leaves : List Leaf) (more : Bool) (n : ℕ) (l : Leaf) (x : Witness) → length leaves < 1000000000 → AllByRecursion (IsShortLeaf before fuel w) leaves → slice_get leaves n ≡ Some l → told l ≡ Some x → IsShort x
-      → witness_of_report (Some n) (report_text true before fuel w leaves more) ≡ Ok x
+  pub leaf_in : (leaves : List Leaf) (more : Bool) (n : ℕ) (l : Leaf) (x : Witness) → length leaves < 1000000000 → AllByRecursion (IsShortLeaf decide before fuel w) leaves → slice_get leaves n ≡ Some l → told l ≡ Some x → IsShort x
+      → witness_of_report (Some n) (report_text decide true before fuel w leaves more) ≡ Ok x
   leaf_in leaves more n l x f h s t short =
       let k : ℕ = length leaves in
       let total : List ℕ = total_words k more in
@@ -344,11 +345,11 @@ module _ (before : List Step) (fuel : ℕ) (w : World) where
       let last : parts_at 10 (line total) ≡ behind = parts_next 10 total [] (total_clear 10 k feed_end more f) in
       let bare : line_of total ≡ total = line_clear total (total_clear 10 k feed_end more f) (total_clear 13 k return_end more f) in
       let ends : NoneWrong behind = λ i b. on_kind i b Passed total ([] ∷ []) (ap kind_of bare ∙ total_is k more f) refl (λ j c. refl) in
-      let cut : parts_at 10 (report_text true before fuel w leaves more) ≡ rows 0 leaves behind = leaves_parts 0 leaves (line total) behind (omega (arith, f)) h last in
+      let cut : parts_at 10 (report_text decide true before fuel w leaves more) ≡ rows 0 leaves behind = leaves_parts 0 leaves (line total) behind (omega (arith, f)) h last in
       ap (λ (ls : List (List ℕ)). unless_wrong (wrong_line 1 None ls) (Some n) ls) cut
       ∙ rows_read n leaves (rows 0 leaves behind) l x (omega (arith, f, within n leaves l s)) (leaf_at n leaves l h s) t short (rows_right 0 leaves behind (omega (arith, f)) h ends 1 None)
       (found_at n 0 n 0 leaves behind l (omega arith) (omega (arith, f)) h s)
 
-pub leaf_is_read : (before : List Step) (fuel : ℕ) (w : World) (leaves : List Leaf) (more : Bool) (n : ℕ) (l : Leaf) (x : Witness) → length leaves < 1000000000 → AllByRecursion (IsShortLeaf before fuel w) leaves → slice_get leaves n ≡ Some l → witness_at_leaf before fuel w l ≡ Some x → IsShort x
-    → witness_of_report (Some n) (report_text true before fuel w leaves more) ≡ Ok x
-leaf_is_read before fuel w leaves more n l x f h s t short = leaf_in before fuel w leaves more n l x f h s t short
+pub leaf_is_read : (decide : World → Decision) (before : List Step) (fuel : ℕ) (w : World) (leaves : List Leaf) (more : Bool) (n : ℕ) (l : Leaf) (x : Witness) → length leaves < 1000000000 → AllByRecursion (IsShortLeaf decide before fuel w) leaves → slice_get leaves n ≡ Some l → witness_at_leaf decide before fuel w l ≡ Some x → IsShort x
+    → witness_of_report (Some n) (report_text decide true before fuel w leaves more) ≡ Ok x
+leaf_is_read decide before fuel w leaves more n l x f h s t short = leaf_in decide before fuel w leaves more n l x f h s t short

@@ -3,15 +3,16 @@ use Rattle.std.specs.Prelude.{◌<◌, ◌^◌, ◌++◌, ℕ, List, Option, Som
 use Rattle.std.specs.List.{AllByRecursion}
 use Rattle.mpd_model.specs.declared.step.CallId.{CallId}
 use Rattle.mpd_model.specs.declared.step.Step.{Step}
+use Rattle.mpd_model.specs.declared.decision.Decision.{Decision}
 use Rattle.mpd_model.specs.declared.step.Step.TheVariants.{Local, Match, Wake, WakeAny, Release}
 use Rattle.mpd_model.specs.declared.outcome.TrappedRank.{TrappedRank}
 use Rattle.mpd_model.specs.declared.outcome.Outcome.TheVariants.{Done, Leftovers, Deadlock, Trap}
 use Rattle.mpd_model.specs.steps.World.{World}
-use Rattle.mpd_explore.specs.declared.report.Ending.{Ending}
-use Rattle.mpd_explore.specs.declared.report.Ending.TheVariants.{Ended, Cut}
+use Rattle.mpd_walk.specs.declared.ending.Ending.{Ending}
+use Rattle.mpd_walk.specs.declared.ending.Ending.TheVariants.{Ended, Cut}
 use Rattle.mpd_explore.specs.declared.report.Leaf.{Leaf}
 use Rattle.mpd_explore.specs.declared.report.Witness.{Witness}
-use Rattle.mpd_explore.specs.Walk.{run_at, steps_by}
+use Rattle.mpd_walk.specs.Walk.{run_by, steps_by}
 use Rattle.mpd_explore.specs.Witness.{witness_by}
 
 -- its numbers have at most nine digits
@@ -45,12 +46,12 @@ abbrev pub AreShortSteps : Option Witness → Type 0
 AreShortSteps None = Unit {0}
 AreShortSteps (Some x) = AllByRecursion IsShortStep x.steps
 
--- the witness of a leaf, where it is a deadlock
-abbrev pub witness_at_leaf : List Step → ℕ → World → Leaf → Option Witness
-witness_at_leaf before fuel w l = witness_by (before ++ steps_by (run_at fuel l.choices w)) l.ending
+-- the witness of a leaf, where it is a deadlock; what comes next along its run is told by a function
+abbrev pub witness_at_leaf : (World → Decision) → List Step → ℕ → World → Leaf → Option Witness
+witness_at_leaf decide before fuel w l = witness_by (before ++ steps_by (run_by decide fuel l.choices w)) l.ending
 
 -- no number of its lines has more than nine digits, but for its choices
-pub record IsShortLeaf (before : List Step) (fuel : ℕ) (w : World) (l : Leaf) : Type 0 where
+pub record IsShortLeaf (decide : World → Decision) (before : List Step) (fuel : ℕ) (w : World) (l : Leaf) : Type 0 where
   pub choices : AllByRecursion (λ c. c < 2 ^ 64) l.choices
   pub ending : IsShortEnding l.ending
-  pub steps : AreShortSteps (witness_at_leaf before fuel w l)
+  pub steps : AreShortSteps (witness_at_leaf decide before fuel w l)

@@ -5,8 +5,7 @@ ghost use Rattle.mpd_witness.specs.WitnessText.{parts_at, cut_at, line_of};
 ghost use Rattle.mpd_witness.specs.ReadBack.{number_behind, numbered, before_cut, is_indented, is_passed, kind_of, may_follow, leaf_number, wrong_line, is_witness, is_leaf, leaf_from, is_filled, are_two, FindsWitness};
 
 use crate::pieces::{Pieces, cut};
-use crate::witness_text::number_of;
-use mpd_lines::without_return;
+use mpd_model::{number_of, without_return};
 
 /// What a line of a report is.
 #[derive(Clone, Copy)]

@@ -13,7 +13,8 @@ use crate::witness_text::{
     WitnessTextFault, read_blocked, read_steps, read_witness, skip_to_blocked,
 };
 use mpd_explore::Witness;
-use mpd_lines::{EngineFault, without_return};
+use mpd_lines::EngineFault;
+use mpd_model::without_return;
 use std::alloc::Global;
 use std::error::Error;
 use std::fmt;

@@ -1,14 +1,15 @@
 //! The text of a witness, as a report has it (docs/FORMATS.md, "Witnesses").
 
 ghost use Rattle.std.specs.Prelude.{◌≡◌, codes};
-ghost use Rattle.mpd_model.specs.texts.Words.{number_of, call_of, step_of};
+ghost use Rattle.mpd_model.specs.texts.Words.{call_of, step_of};
 ghost use Rattle.mpd_witness.specs.FaultTexts.{text_fault_shown};
 ghost use Rattle.mpd_witness.specs.WitnessText.{behind_word, each_read, blocked_of, behind_cut, cut_at, steps_of, all_empty, witness_of, Skipped, ReadsLine, ReadsText};
 
 use crate::pieces::{Pieces, cut};
 use mpd_explore::Witness;
-use mpd_lines::without_return;
-use mpd_model::{CallId, CallList, Step, StepList, TraceWord, trace_word_of};
+use mpd_model::{
+    CallId, CallList, Step, StepList, TraceWord, call_of, trace_word_of, without_return,
+};
 use std::alloc::Global;
 use std::error::Error;
 use std::fmt;
@@ -36,35 +37,6 @@ impl fmt::Display for WitnessTextFault {
 }
 
 impl Error for WitnessTextFault {}
-
-/// A number of 1 to 9 digits.
-pub(crate) fn number_of(word: &[u8]) -> Option<usize>
-    ensures { result ≡ number_of word.now }
-{
-    if word.is_empty() || word.len() > 9 {
-        return None;
-    }
-    let mut value = 0;
-    for byte in word {
-        if !byte.is_ascii_digit() {
-            return None;
-        }
-        value = value * 10 + (*byte - b'0') as usize;
-    }
-    Some(value)
-}
-
-/// A call: two numbers with one `.` between them.
-#[tactic(auto, using(crate::proofs::TextLemmas::calling))]
-fn call_of(word: &[u8]) -> Option<CallId>
-    ensures { result ≡ call_of word.now }
-{
-    let (rank, index) = cut(word, b'.')?;
-    Some(CallId {
-        rank: number_of(rank)?,
-        index: number_of(index)?,
-    })
-}
 
 /// A step, as trace words write it.
 #[tactic(auto, using(crate::proofs::TextLemmas::stepping))]

@@ -1,12 +1,23 @@
-use Rattle.std.proofs.Common.{◌∙◌}
+use Rattle.std.proofs.Common.{◌∙◌, arith}
 use Rattle.mpd_core.proofs.RangeLemmas.{if_ok}
 use Rattle.mpd_model.specs.runs.Trail.{done_steps}
-use Rattle.mpd_explore.specs.Walk.{run_at, steps_by}
+use Rattle.mpd_trail.specs.Views.{standing_of}
+use Rattle.mpd_walk.specs.Walk.{run_by, steps_by}
+use Rattle.mpd_walk.proofs.WalkLemmas.{beyond_depth}
 use Rattle.mpd_explain.proofs.TellLemmas.{told_behind}
 use Rattle.mpd_explain.proofs.explanation.explain.Goals as goal
 
 pub returns-clause-text : goal.returns-clause-text
-returns-clause-text c =
+returns-clause-text g c =
     let d = c.args.debugger.now in
     let l = c.args.leaf.now in
-    if_ok c.retell-text.result (λ t h. h ∙ told_behind d.trail.program d.trail.mode (done_steps d.trail) (steps_by (run_at c.args.fuel l.choices d.world)) d.world l.ending c.state_is_reached.ensures.reached.world) c.retell-text.ensures.text
+    if_ok c.retell-text.result (λ t h. h ∙ told_behind d.trail.program d.trail.mode (done_steps d.trail) (steps_by (run_by g.S.Schedule.decides c.args.fuel l.choices d.world)) d.world l.ending c.state_is_reached.ensures.reached.world) c.retell-text.ensures.text
+
+pub put_back-requires : goal.put_back-requires
+put_back-requires g c = omega (arith, c.depth-base.ensures.value, beyond_depth (standing_of c.args.debugger.now) (standing_of c.retell-text.new.debugger) c.state_is_reached.ensures.reached c.retell-text.ensures.beyond)
+
+pub returns-clause-trail : goal.returns-clause-trail
+returns-clause-trail g c = (c.put_back.ensures.found (standing_of c.args.debugger.now) c.state_is_reached.ensures.reached c.requires.clean c.depth-base.ensures.value c.retell-text.ensures.beyond).trail
+
+pub returns-clause-world : goal.returns-clause-world
+returns-clause-world g c = (c.put_back.ensures.found (standing_of c.args.debugger.now) c.state_is_reached.ensures.reached c.requires.clean c.depth-base.ensures.value c.retell-text.ensures.beyond).world

@@ -7,13 +7,13 @@ use Rattle.mpd_explain.specs.Explanations.{explanations}
 use Rattle.mpd_explain.proofs.explanation.explain_all.Given as goal
 
 abbrev pub invariant-loop-leaf : goal.invariant-loop-leaf
-invariant-loop-leaf l =
+invariant-loop-leaf g l =
     let t = l.fn.debugger.trail in
     let w = l.fn.debugger.world in
     record {
       trail : l.debugger.trail ≡ t;
       world : l.debugger.world ≡ w;
       reached : IsReached (standing_of l.debugger);
-      listed : AllByRecursion (HasWitness t.program t.mode (done_steps t) l.fuel w) (drop l.leaf-index l.fn.report.leaves.items);
-      texts : map string_bytes l.texts.items ++ explanations t.program t.mode (done_steps t) l.fuel w (drop l.leaf-index l.fn.report.leaves.items) ≡ explanations t.program t.mode (done_steps t) l.fuel w l.fn.report.leaves.items;
+      listed : AllByRecursion (HasWitness g.S.Schedule.decides t.program t.mode (done_steps t) l.fuel w) (drop l.leaf-index l.fn.report.leaves.items);
+      texts : map string_bytes l.texts.items ++ explanations g.S.Schedule.decides t.program t.mode (done_steps t) l.fuel w (drop l.leaf-index l.fn.report.leaves.items) ≡ explanations g.S.Schedule.decides t.program t.mode (done_steps t) l.fuel w l.fn.report.leaves.items;
     }

@@ -1,7 +1,7 @@
 use Rattle.std.proofs.Common.{◌+◌, drop}
 use Rattle.std.proofs.lemmas.List.{drop_more}
 use Rattle.mpd_explain.specs.Requests.{call_of}
-use Rattle.mpd_explain.proofs.JoinLemmas.{joined_more}
+use Rattle.mpd_names.proofs.JoinLemmas.{joined_more}
 use Rattle.mpd_explain.proofs.request_calls.push_targets.Goals as goal
 
 pub loop-handle-preserved : goal.loop-handle-preserved

@@ -1,6 +1,6 @@
 use Rattle.std.proofs.Common.{List, ℕ, [], ◌∷◌, ◌++◌, codes, string_bytes}
 use Rattle.std.specs.Fmt.{decimal}
-use Rattle.mpd_explain.proofs.JoinLemmas.{begun_two, grown}
+use Rattle.mpd_names.proofs.JoinLemmas.{begun_two, grown}
 use Rattle.mpd_explain.proofs.sentences.push_absence.Goals as goal
 
 pub returns : goal.returns

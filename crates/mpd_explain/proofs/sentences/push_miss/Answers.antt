@@ -1,8 +1,9 @@
 use Rattle.std.proofs.Common.{List, ℕ, [], ◌∷◌, ◌++◌, codes, string_bytes, sym, ap, ◌∙◌}
 use Rattle.mpd_core.proofs.RangeLemmas.{on_ok}
-use Rattle.mpd_explain.specs.Explained.{placed, miss_line}
+use Rattle.mpd_names.specs.Placed.{placed}
+use Rattle.mpd_explain.specs.Explained.{miss_line}
 use Rattle.mpd_explain.specs.Missed.{miss_text}
-use Rattle.mpd_explain.proofs.JoinLemmas.{grown, pushed}
+use Rattle.mpd_names.proofs.JoinLemmas.{grown, pushed}
 use Rattle.mpd_explain.proofs.sentences.push_miss.Goals as goal
 
 pub returns : goal.returns

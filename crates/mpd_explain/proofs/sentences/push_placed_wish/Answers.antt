@@ -2,8 +2,9 @@ use Rattle.std.proofs.Common.{List, ℕ, [], ◌∷◌, ◌++◌, Option, codes,
 use Rattle.mpd_core.proofs.RangeLemmas.{on_ok}
 use Rattle.mpd_model.specs.declared.call.CallKind.{CallKind}
 use Rattle.mpd_model.specs.steps.World.{Board, kind_at}
-use Rattle.mpd_explain.specs.Explained.{placed, wish}
-use Rattle.mpd_explain.proofs.JoinLemmas.{grown, pushed}
+use Rattle.mpd_names.specs.Placed.{placed}
+use Rattle.mpd_explain.specs.Explained.{wish}
+use Rattle.mpd_names.proofs.JoinLemmas.{grown, pushed}
 use Rattle.mpd_explain.proofs.sentences.push_placed_wish.Goals as goal
 
 pub returns : goal.returns

@@ -1,8 +1,9 @@
 use Rattle.std.proofs.Common.{codes, string_bytes}
 use Rattle.mpd_core.proofs.RangeLemmas.{on_ok}
 use Rattle.mpd_model.specs.steps.World.{kind_at}
-use Rattle.mpd_explain.specs.Explained.{placed, wish}
-use Rattle.mpd_explain.proofs.JoinLemmas.{grown_four}
+use Rattle.mpd_names.specs.Placed.{placed}
+use Rattle.mpd_explain.specs.Explained.{wish}
+use Rattle.mpd_names.proofs.JoinLemmas.{grown_four}
 use Rattle.mpd_explain.proofs.sentences.push_request.Goals as goal
 
 pub returns : goal.returns

@@ -1,7 +1,7 @@
 use Rattle.std.proofs.Common.{List, ℕ, ◌++◌, codes, string_bytes}
 use Rattle.std.specs.Fmt.{decimal}
 use Rattle.mpd_core.proofs.RangeLemmas.{on_ok}
-use Rattle.mpd_explain.proofs.JoinLemmas.{begun_two, grown_two}
+use Rattle.mpd_names.proofs.JoinLemmas.{begun_two, grown_two}
 use Rattle.mpd_explain.proofs.sentences.push_send_wish.Goals as goal
 
 pub returns : goal.returns

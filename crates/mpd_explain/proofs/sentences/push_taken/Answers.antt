@@ -1,6 +1,7 @@
 use Rattle.std.proofs.Common.{List, ℕ, [], ◌∷◌, ◌++◌, codes, string_bytes, sym, ap, ◌∙◌}
-use Rattle.mpd_explain.specs.Explained.{placed, taken_line}
-use Rattle.mpd_explain.proofs.JoinLemmas.{grown}
+use Rattle.mpd_names.specs.Placed.{placed}
+use Rattle.mpd_explain.specs.Explained.{taken_line}
+use Rattle.mpd_names.proofs.JoinLemmas.{grown}
 use Rattle.mpd_explain.proofs.sentences.push_taken.Goals as goal
 
 pub returns : goal.returns

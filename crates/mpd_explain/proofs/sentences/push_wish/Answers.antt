@@ -1,7 +1,7 @@
 use Rattle.std.proofs.Common.{Some, None, string_bytes, ap, ◌∙◌}
 use Rattle.mpd_model.specs.declared.call.CallKind.TheVariants.{Wait, Waitany, Barrier}
 use Rattle.mpd_explain.specs.Explained.{wish}
-use Rattle.mpd_explain.proofs.JoinLemmas.{pushed_of}
+use Rattle.mpd_names.proofs.JoinLemmas.{pushed_of}
 use Rattle.mpd_explain.proofs.sentences.push_wish.Goals as goal
 
 pub returns-in-None : goal.returns-in-None

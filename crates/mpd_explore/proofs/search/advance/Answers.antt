@@ -1,52 +1,104 @@
-use Rattle.std.proofs.Common.{◌≡◌, ◌+◌, ◌∷◌, reverse, ap, ◌∙◌, arith, List, add-one}
-use Rattle.mpd_model.specs.steps.World.{World}
-use Rattle.mpd_model.specs.runs.Trail.{Trail, done_steps}
+use Rattle.std.proofs.Common.{◌+◌, ◌∷◌, reverse, refl, ap, ◌∙◌, arith, List, add-one}
+use Rattle.mpd_model.specs.runs.Trail.{Trail}
 use Rattle.mpd_trail.specs.Run.{first_of}
 use Rattle.mpd_trail.specs.Views.{standing_of}
-use Rattle.mpd_explore.specs.Search.{Safe, At, later, states_later}
-use Rattle.mpd_explore.proofs.SearchLemmas.{Came, safe_then, at_popped, passed_back, safe_popped}
 use Rattle.mpd_explore.specs.declared.search.Open.{Open}
+use Rattle.mpd_explore.specs.Search.{Search, search_by, At, after, states_left}
 use Rattle.mpd_explore.proofs.ListLemmas.{reverse_pushed}
+use Rattle.mpd_explore.proofs.SearchLemmas.{Came, Went, safe_then, at_popped, safe_popped, safe_pushed, safe_same, next_enabled, retaken, exhausted, tried_some, tried_none}
 use Rattle.mpd_explore.proofs.search.advance.Goals as goal
 
-pub returns-in_err-is_taken-clause-safe : goal.returns-in_err-is_taken-clause-safe
-returns-in_err-is_taken-clause-safe c =
+pub returns-in_err-taken-clause-safe : goal.returns-in_err-taken-clause-safe
+returns-in_err-taken-clause-safe g c =
     let i = c.loop-top.invariant in
     let begun = standing_of c.args.debugger.now in
     let d = standing_of c.loop-top.debugger in
     let e = standing_of c.go_back.new.debugger in
-    let n = standing_of c.take_from.new.debugger in
-    let b = c.args.bounds in
-    let first : World = first_of c.args.debugger.now.trail in
+    let s : Search = search_by g.S.Schedule.decides g.S.Schedule.same g.S.Schedule.keeps c.args.bounds (first_of begun.trail) in
     let top : Open = c.in-Some.top in
     let fs : List Open = reverse c.pop.new.self.items in
-    let popped : reverse c.loop-top.stack.items ≡ top ∷ fs = reverse_pushed c.pop.new.self.items c.loop-top.stack.items top c.in-Some.ensures.items in
-    let at : At first b (top ∷ fs) d = rw popped at i.at in
+    let at : At s (top ∷ fs) d = rw (reverse_pushed c.pop.new.self.items c.loop-top.frontier.stack.items top c.in-Some.ensures.items) at i.at in
     let came : Came d top.depth e = record { done_steps_are = c.go_back.ensures.steps; depth = ap (λ (t : Trail). t.depth) c.go_back.ensures.trail; program = ap (λ (t : Trail). t.program) c.go_back.ensures.trail; mode = ap (λ (t : Trail). t.mode) c.go_back.ensures.trail; reached = c.go_back.ensures.reached } in
-    let back : Safe b.base begun e = safe_then b.base begun d e i.safe (safe_popped first b top fs d e at came) in
-    safe_then b.base begun e n back c.take_from.ensures.safe
+    safe_then s.base begun d e i.safe (safe_popped s top fs d e at came)
+
+pub forward-requires-clause-enabled : goal.forward-requires-clause-enabled
+forward-requires-clause-enabled g c =
+    let i = c.loop-top.invariant in
+    let begun = standing_of c.args.debugger.now in
+    let d = standing_of c.loop-top.debugger in
+    let e = standing_of c.go_back.new.debugger in
+    let s : Search = search_by g.S.Schedule.decides g.S.Schedule.same g.S.Schedule.keeps c.args.bounds (first_of begun.trail) in
+    let top : Open = c.in-Some.top in
+    let fs : List Open = reverse c.pop.new.self.items in
+    let at : At s (top ∷ fs) d = rw (reverse_pushed c.pop.new.self.items c.loop-top.frontier.stack.items top c.in-Some.ensures.items) at i.at in
+    let came : Came d top.depth e = record { done_steps_are = c.go_back.ensures.steps; depth = ap (λ (t : Trail). t.depth) c.go_back.ensures.trail; program = ap (λ (t : Trail). t.program) c.go_back.ensures.trail; mode = ap (λ (t : Trail). t.mode) c.go_back.ensures.trail; reached = c.go_back.ensures.reached } in
+    let h = tried_some s e.world _ c.in_ok-taken.taken c.in-Some-taken.step _ _ c.in-Some-taken.is c.in_ok-taken.ensures in
+    next_enabled s top fs d e c.in-Some-taken.step h.0 at came h.1
+
+pub returns-in_err-forward-clause-safe : goal.returns-in_err-forward-clause-safe
+returns-in_err-forward-clause-safe g c =
+    let i = c.loop-top.invariant in
+    let begun = standing_of c.args.debugger.now in
+    let d = standing_of c.loop-top.debugger in
+    let e = standing_of c.go_back.new.debugger in
+    let n = standing_of c.forward.new.self in
+    let s : Search = search_by g.S.Schedule.decides g.S.Schedule.same g.S.Schedule.keeps c.args.bounds (first_of begun.trail) in
+    let top : Open = c.in-Some.top in
+    let fs : List Open = reverse c.pop.new.self.items in
+    let at : At s (top ∷ fs) d = rw (reverse_pushed c.pop.new.self.items c.loop-top.frontier.stack.items top c.in-Some.ensures.items) at i.at in
+    let came : Came d top.depth e = record { done_steps_are = c.go_back.ensures.steps; depth = ap (λ (t : Trail). t.depth) c.go_back.ensures.trail; program = ap (λ (t : Trail). t.program) c.go_back.ensures.trail; mode = ap (λ (t : Trail). t.mode) c.go_back.ensures.trail; reached = c.go_back.ensures.reached } in
+    safe_then s.base begun e n (safe_then s.base begun d e i.safe (safe_popped s top fs d e at came)) (safe_same s.base e n c.in_err-forward.ensures.err c.in_err-forward.ensures.reached)
+
+pub returns-in-Some-taken-clause-advanced : goal.returns-in-Some-taken-clause-advanced
+returns-in-Some-taken-clause-advanced g c =
+    let i = c.loop-top.invariant in
+    let begun = standing_of c.args.debugger.now in
+    let d = standing_of c.loop-top.debugger in
+    let e = standing_of c.go_back.new.debugger in
+    let n = standing_of c.forward.new.self in
+    let s : Search = search_by g.S.Schedule.decides g.S.Schedule.same g.S.Schedule.keeps c.args.bounds (first_of begun.trail) in
+    let top : Open = c.in-Some.top in
+    let fs : List Open = reverse c.pop.new.self.items in
+    let popped = reverse_pushed c.pop.new.self.items c.loop-top.frontier.stack.items top c.in-Some.ensures.items in
+    let at : At s (top ∷ fs) d = rw popped at i.at in
+    let came : Came d top.depth e = record { done_steps_are = c.go_back.ensures.steps; depth = ap (λ (t : Trail). t.depth) c.go_back.ensures.trail; program = ap (λ (t : Trail). t.program) c.go_back.ensures.trail; mode = ap (λ (t : Trail). t.mode) c.go_back.ensures.trail; reached = c.go_back.ensures.reached } in
+    let went : Went e c.in-Some-taken.step n = record { done_steps_are = c.in_ok-forward.ensures.steps; world = c.in_ok-forward.ensures.world; depth = ap (λ (t : Trail). t.depth) c.in_ok-forward.ensures.ok; program = c.in_ok-forward.ensures.program; mode = c.in_ok-forward.ensures.mode; reached = c.in_ok-forward.ensures.reached } in
+    let h = tried_some s e.world _ c.in_ok-taken.taken c.in-Some-taken.step _ _ c.in-Some-taken.is c.in_ok-taken.ensures in
+    retaken s top (reverse c.args.frontier.now.stack.items) fs c.open_choice.new.frontier _ begun d e n c.in-Some-taken.step (top.index + 1) h.0 at came (add-one top.index) refl h.1 h.2 went
+    (i.same ∙ ap (λ xs. after s xs d) popped) (let few = i.fewer in let left = ap (λ xs. states_left s xs d) popped in omega (arith, few, left))
+
+pub returns-in-Some-taken-clause-safe : goal.returns-in-Some-taken-clause-safe
+returns-in-Some-taken-clause-safe g c =
+    let i = c.loop-top.invariant in
+    let begun = standing_of c.args.debugger.now in
+    let d = standing_of c.loop-top.debugger in
+    let e = standing_of c.go_back.new.debugger in
+    let n = standing_of c.forward.new.self in
+    let s : Search = search_by g.S.Schedule.decides g.S.Schedule.same g.S.Schedule.keeps c.args.bounds (first_of begun.trail) in
+    let top : Open = c.in-Some.top in
+    let fs : List Open = reverse c.pop.new.self.items in
+    let at : At s (top ∷ fs) d = rw (reverse_pushed c.pop.new.self.items c.loop-top.frontier.stack.items top c.in-Some.ensures.items) at i.at in
+    let came : Came d top.depth e = record { done_steps_are = c.go_back.ensures.steps; depth = ap (λ (t : Trail). t.depth) c.go_back.ensures.trail; program = ap (λ (t : Trail). t.program) c.go_back.ensures.trail; mode = ap (λ (t : Trail). t.mode) c.go_back.ensures.trail; reached = c.go_back.ensures.reached } in
+    let went : Went e c.in-Some-taken.step n = record { done_steps_are = c.in_ok-forward.ensures.steps; world = c.in_ok-forward.ensures.world; depth = ap (λ (t : Trail). t.depth) c.in_ok-forward.ensures.ok; program = c.in_ok-forward.ensures.program; mode = c.in_ok-forward.ensures.mode; reached = c.in_ok-forward.ensures.reached } in
+    safe_then s.base begun e n (safe_then s.base begun d e i.safe (safe_popped s top fs d e at came)) (safe_pushed s fs e n c.in-Some-taken.step (at_popped s top fs d e at came) went)
 
 pub loop-top-preserved : goal.loop-top-preserved
-loop-top-preserved c =
+loop-top-preserved g c =
     let i = c.loop-top.invariant in
     let begun = standing_of c.args.debugger.now in
     let d = standing_of c.loop-top.debugger in
     let e = standing_of c.go_back.new.debugger in
-    let n = standing_of c.take_from.new.debugger in
-    let b = c.args.bounds in
-    let first : World = first_of c.args.debugger.now.trail in
+    let s : Search = search_by g.S.Schedule.decides g.S.Schedule.same g.S.Schedule.keeps c.args.bounds (first_of begun.trail) in
     let top : Open = c.in-Some.top in
     let fs : List Open = reverse c.pop.new.self.items in
-    let popped : reverse c.loop-top.stack.items ≡ top ∷ fs = reverse_pushed c.pop.new.self.items c.loop-top.stack.items top c.in-Some.ensures.items in
-    let at : At first b (top ∷ fs) d = rw popped at i.at in
+    let popped = reverse_pushed c.pop.new.self.items c.loop-top.frontier.stack.items top c.in-Some.ensures.items in
+    let at : At s (top ∷ fs) d = rw popped at i.at in
     let came : Came d top.depth e = record { done_steps_are = c.go_back.ensures.steps; depth = ap (λ (t : Trail). t.depth) c.go_back.ensures.trail; program = ap (λ (t : Trail). t.program) c.go_back.ensures.trail; mode = ap (λ (t : Trail). t.mode) c.go_back.ensures.trail; reached = c.go_back.ensures.reached } in
-    let back : Safe b.base begun e = safe_then b.base begun d e i.safe (safe_popped first b top fs d e at came) in
-    let gs : List Open = reverse c.take_from.new.stack.items in
-    let own : first_of e.trail ≡ first = (at_popped first b top fs d e at came).first_is in
-    let t = passed_back first (first_of e.trail) b c.args.asleep.now top fs gs d e n (top.index + 1) c.in_ok-is_taken.is_taken own at came (add-one top.index) c.if-is_taken.false c.in_ok-is_taken.ensures.tried in
+    let h = tried_none s e.world _ c.in_ok-taken.taken _ c.open_choice.new.frontier c.in_default-taken.not-Some c.in_ok-taken.ensures in
+    let t = exhausted s top fs c.open_choice.new.frontier _ d e (top.index + 1) at came (add-one top.index) refl h in
     record {
       at = t.0;
-      same = i.same ∙ ap (λ xs. later first b c.args.asleep.now xs (done_steps d.trail)) popped ∙ t.1;
-      fewer = omega (arith, i.fewer, t.2, ap (λ xs. states_later first b xs (done_steps d.trail)) popped);
-      safe = safe_then b.base begun e n back c.take_from.ensures.safe;
+      same = i.same ∙ ap (λ xs. after s xs d) popped ∙ t.1;
+      fewer = (let few = i.fewer in let left = ap (λ xs. states_left s xs d) popped in let less = t.2 in omega (arith, few, left, less));
+      safe = safe_then s.base begun d e i.safe (safe_popped s top fs d e at came);
     }

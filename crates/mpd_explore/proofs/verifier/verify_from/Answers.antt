@@ -1,7 +1,7 @@
 use Rattle.std.proofs.Common.{rules, ◌≡◌, ◌≢◌}
 use Rattle.mpd_explore.specs.declared.verifier.WitnessFault.TheVariants.{Memory}
 use Rattle.mpd_explore.specs.Witness.{IsWitnessFrom, HasFault}
-use Rattle.mpd_explore.proofs.VerifyLemmas.{stop_fault, end_fault, wants_last, only_memory, accepted_by}
+use Rattle.mpd_explore.proofs.VerifyLemmas.{stop_fault, end_fault, wants_last, only_memory, accepted_by, left_at_end}
 use Rattle.mpd_explore.proofs.verifier.verify_from.Goals as goal
 
 pub returns-in_err-take_steps-clause-fault : goal.returns-in_err-take_steps-clause-fault
@@ -32,3 +32,8 @@ pub returns-clause-memory : goal.returns-clause-memory
 returns-clause-memory c =
     let same : c.deref.result.now ≡ c.args.witness.now.steps = search rules in
     λ k. wants_last c.args.core.now.world c.take_steps.new.core.world c.args.witness.now.steps c.deref.result.now same c.in_ok-take_steps.ensures.ok (c.check_end.ensures.memory k)
+
+pub returns-clause-left : goal.returns-clause-left
+returns-clause-left c =
+    let same : c.deref.result.now ≡ c.args.witness.now.steps = search rules in
+    left_at_end c.args.core.now.world c.take_steps.new.core.world c.args.witness.now.steps c.deref.result.now c.deref-2.result.now c.check_end.result same c.in_ok-take_steps.ensures.ok c.check_end.ensures.fault

@@ -1,4 +1,5 @@
 use Rattle.std.proofs.Common.{◌≡◌, ◌∙◌}
+use Rattle.mpd_explore.specs.Sleeping.{decides_by}
 use Rattle.mpd_pieces.specs.Along.{report_of, more_of}
 use Rattle.mpd_pieces.proofs.SplitLemmas.{level_reached}
 use Rattle.mpd_pieces.proofs.ReportLemmas.{parts_are, more_is}
@@ -6,7 +7,7 @@ use Rattle.mpd_pieces.proofs.by_pieces.explore_by_pieces.Goals as goal
 
 pub explore_pieces-requires-clause-reaches : goal.explore_pieces-requires-clause-reaches
 explore_pieces-requires-clause-reaches g c =
-    rw c.in-Ok.ensures.world (level_reached c.args.limits.fuel c.args.choices c.args.debugger.now.world c.deref.result.now (c.deref.ensures.value ∙ c.in-Ok.ensures.ok))
+    rw c.in-Ok.ensures.world (level_reached (decides_by c.args.limits.ends) c.args.limits.fuel c.args.choices c.args.debugger.now.world c.deref.result.now (c.deref.ensures.value ∙ c.in-Ok.ensures.ok))
 
 pub returns-in_ok-report-in-Ok-clause-leaves : goal.returns-in_ok-report-in-Ok-clause-leaves
 returns-in_ok-report-in-Ok-clause-leaves g c =

@@ -1,6 +1,7 @@
 use Rattle.std.proofs.Common.{◌≡◌, ◌<◌, ◌+◌, ◌++◌, ◌||◌, ◌&&◌, length, take, drop, map, string_bytes, refl, ap, ◌∙◌, arith}
 use Rattle.mpd_model.specs.runs.Trail.{done_steps}
 use Rattle.mpd_explore.specs.Report.{any_bad}
+use Rattle.mpd_explore.specs.Sleeping.{decides_by}
 use Rattle.mpd_explore.specs.WitnessTexts.{witness_texts}
 use Rattle.mpd_pieces.specs.Pieces.{part, part_left}
 use Rattle.mpd_pieces.specs.Along.{parts, have_run}
@@ -13,7 +14,7 @@ loop-place-init g c =
     record {
       leaves = c.new.ensures.items;
       more = refl;
-      texts = texts_begun c.args.limits.witnesses (done_steps c.args.debugger.now.trail) c.args.limits.fuel c.args.debugger.now.world c.new.result.items (map string_bytes c.new-2.result.items) c.new.ensures.items (ap (map string_bytes) c.new-2.ensures.items);
+      texts = texts_begun (decides_by c.args.limits.ends) c.args.limits.witnesses (done_steps c.args.debugger.now.trail) c.args.limits.fuel c.args.debugger.now.world c.new.result.items (map string_bytes c.new-2.result.items) c.new.ensures.items (ap (map string_bytes) c.new-2.ensures.items);
       good = λ h. ap any_bad c.new.ensures.items;
       trail = refl;
       world = refl;
@@ -24,7 +25,7 @@ pub add_part-requires-clause-reaches : goal.add_part-requires-clause-reaches
 add_part-requires-clause-reaches g c =
     let i = c.loop-place.invariant in
     let within : c.loop-place.place < length c.args.pieces.now = omega (arith, c.loop-place-test.true) in
-    reached_at c.args.limits.fuel c.args.debugger.now.world c.loop-place.debugger.world c.args.pieces.now c.loop-place.place c.index-pieces-place.result c.index-pieces-place.result.choices within c.index-pieces-place.is refl i.world c.requires.reaches
+    reached_at (decides_by c.args.limits.ends) c.args.limits.fuel c.args.debugger.now.world c.loop-place.debugger.world c.args.pieces.now c.loop-place.place c.index-pieces-place.result c.index-pieces-place.result.choices within c.index-pieces-place.is refl i.world c.requires.reaches
 
 pub loop-place-preserved : goal.loop-place-preserved
 loop-place-preserved g c =
@@ -40,11 +41,11 @@ loop-place-preserved g c =
     let leaves : new.leaves.items ≡ old.leaves.items ++ part l p.choices d.world = rw i.world at c.in_ok-is_last.ensures.leaves in
     let last : c.in_ok-is_last.is_last ≡ (l.until_bad && any_bad (part l p.choices d.world)) = rw i.world at c.in_ok-is_last.ensures.last in
     let more : new.more ≡ (old.more || part_left l p.choices d.world) = rw i.world at c.in_ok-is_last.ensures.more in
-    let texts : map string_bytes new.witnesses.items ≡ map string_bytes old.witnesses.items ++ witness_texts l.witnesses (done_steps d.trail) l.fuel d.world (part l p.choices d.world) = rw (i.world, i.trail) at c.in_ok-is_last.ensures.texts in
+    let texts : map string_bytes new.witnesses.items ≡ map string_bytes old.witnesses.items ++ witness_texts (decides_by l.ends) l.witnesses (done_steps d.trail) l.fuel d.world (part l p.choices d.world) = rw (i.world, i.trail) at c.in_ok-is_last.ensures.texts in
     record {
       leaves = parts_next l d.world ps n p old.leaves.items new.leaves.items within c.index-pieces-place.is i.leaves leaves;
       more = more_next l d.world ps n p old.more new.more within c.index-pieces-place.is i.more more;
-      texts = texts_next l.witnesses (done_steps d.trail) l.fuel d.world old.leaves.items (part l p.choices d.world) new.leaves.items _ _ leaves i.texts texts;
+      texts = texts_next (decides_by l.ends) l.witnesses (done_steps d.trail) l.fuel d.world old.leaves.items (part l p.choices d.world) new.leaves.items _ _ leaves i.texts texts;
       good = good_next l.until_bad c.in_ok-is_last.is_last old.leaves.items (part l p.choices d.world) new.leaves.items leaves last c.if-is_last.false i.good;
       trail = c.in_ok-is_last.ensures.trail ∙ i.trail;
       world = c.in_ok-is_last.ensures.world ∙ i.world;
@@ -100,8 +101,8 @@ returns-then-is_last-clause-texts g c =
     let within : n < length ps = omega (arith, c.loop-place-test.true) in
     let leaves : new.leaves.items ≡ old.leaves.items ++ part l p.choices d.world = rw i.world at c.in_ok-is_last.ensures.leaves in
     let last : c.in_ok-is_last.is_last ≡ (l.until_bad && any_bad (part l p.choices d.world)) = rw i.world at c.in_ok-is_last.ensures.last in
-    let texts : map string_bytes new.witnesses.items ≡ map string_bytes old.witnesses.items ++ witness_texts l.witnesses (done_steps d.trail) l.fuel d.world (part l p.choices d.world) = rw (i.world, i.trail) at c.in_ok-is_last.ensures.texts in
-    texts_next l.witnesses (done_steps d.trail) l.fuel d.world old.leaves.items (part l p.choices d.world) new.leaves.items _ _ leaves i.texts texts
+    let texts : map string_bytes new.witnesses.items ≡ map string_bytes old.witnesses.items ++ witness_texts (decides_by l.ends) l.witnesses (done_steps d.trail) l.fuel d.world (part l p.choices d.world) = rw (i.world, i.trail) at c.in_ok-is_last.ensures.texts in
+    texts_next (decides_by l.ends) l.witnesses (done_steps d.trail) l.fuel d.world old.leaves.items (part l p.choices d.world) new.leaves.items _ _ leaves i.texts texts
 
 pub returns-clause-leaves : goal.returns-clause-leaves
 returns-clause-leaves g c =

@@ -1,36 +1,29 @@
-use Rattle.std.proofs.lemmas.List.{length-append}
-use Rattle.std.proofs.Common.{rules, ◌<◌, length, ◌≡◌, ◌+◌, ◌-◌, ℕ, List, refl, sym, ap, ◌∙◌, arith}
+use Rattle.std.proofs.Common.{rules, ◌≡◌, ◌-◌, [], Bool, Some, Option, List, length, refl, sym, subst}
+use Rattle.mpd_model.specs.declared.step.Step.{Step}
 use Rattle.mpd_trail.specs.Views.{standing_of}
+use Rattle.mpd_explore.specs.Sleeping.{Rules}
+use Rattle.mpd_pieces.specs.Pieces.{rules_of}
+use Rattle.mpd_pieces.specs.Along.{Going}
 use Rattle.mpd_pieces.specs.Slept.{asleep_there}
-use Rattle.mpd_pieces.proofs.AlongLemmas.{going_none, going_then, rest_is, none_left, going_ended}
+use Rattle.mpd_pieces.proofs.AlongLemmas.{going_none, none_of_none, going_all}
+use Rattle.mpd_pieces.proofs.SleepLemmas.{none_there}
 use Rattle.mpd_pieces.proofs.follow.follow.Goals as goal
 
-pub loop-depth-init : goal.loop-depth-init
-loop-depth-init c =
-    let d = standing_of c.args.debugger.now in
-    record { depth = sym c.depth-begun.ensures.value; going = going_none c.args.ends (asleep_there c.args.sleep.now) (c.args.limit - d.trail.depth) c.args.choices.now d c.state_is_reached.ensures.reached c.requires.reaches; still = λ h. refl }
-
-pub loop-depth-preserved : goal.loop-depth-preserved
-loop-depth-preserved c =
-    let i = c.loop-depth.invariant in
-    let d = standing_of c.args.debugger.now in
-    let e = standing_of c.loop-depth.debugger in
-    let f = standing_of c.follow_one.new.debugger in
-    let left : List ℕ = c.loop-depth.left.now in
-    let rest : i.going.rest ≡ c.args.limit - e.trail.depth = rest_is c.args.ends (asleep_there c.args.sleep.now) (asleep_there c.loop-depth.sleep) c.args.limit c.args.choices.now left d e i.going c.requires.within in
-    let some : 0 < length left = search rules in
-    record {
-      depth = c.in_ok-taken.ensures.deeper ∙ ap (λ n. n + 1) i.depth;
-      going = rw c.split_at.ensures.back (going_then c.args.ends (asleep_there c.args.sleep.now) (asleep_there c.loop-depth.sleep) (asleep_there c.follow_one.new.sleep) (c.args.limit - d.trail.depth) (c.args.limit - e.trail.depth) c.args.choices.now left _ d e f i.going rest c.in_ok-taken.ensures.going);
-      still = λ h. absurd (omega (arith, h, ap length i.going.joined, length-append i.going.taken left, some));
-    }
-
 pub returns-clause-going : goal.returns-clause-going
-returns-clause-going c =
-    let i = c.loop-depth.invariant in
+returns-clause-going g c =
+    let rules : Bool → Rules = rules_of g.S.Schedule.decides g.S.Schedule.same g.S.Schedule.keeps in
     let d = standing_of c.args.debugger.now in
-    let e = standing_of c.loop-depth.debugger in
-    let left : List ℕ = c.loop-depth.left.now in
-    let rest : i.going.rest ≡ c.args.limit - e.trail.depth = rest_is c.args.ends (asleep_there c.args.sleep.now) (asleep_there c.loop-depth.sleep) c.args.limit c.args.choices.now left d e i.going c.requires.within in
-    let none : i.going.rest ≡ 0 = omega (arith, i.depth, rest) in
-    going_ended c.args.ends (asleep_there c.args.sleep.now) (asleep_there c.loop-depth.sleep) (c.args.limit - d.trail.depth) c.args.choices.now left d e i.going (none_left i.going.rest left e.world none i.going.reaches)
+    let e = standing_of c.walk.new.debugger in
+    let none = c.none-sleep.result in
+    let f = c.walk.new.chooser in
+    let all = going_all rules c.args.sleeps (λ x. x.sleeps) (λ x. x.left.now) (λ x. x.sleep) c.args.limit d e _ f c.in_ok-stop.stop refl c.requires.within c.requires.reaches c.walk.ensures.beyond c.in_ok-stop.ensures.walks in
+    subst (λ (s : Option (List Step)). Going (rules c.args.sleeps) (c.args.limit - d.trail.depth) c.args.choices.now s d [] (asleep_there f.sleep) e) (none_there none c.none-sleep.ensures.steps c.none-sleep.ensures.passed) all
+
+pub returns-then-is_empty-clause-going : goal.returns-then-is_empty-clause-going
+returns-then-is_empty-clause-going g c =
+    let r : Rules = rules_of g.S.Schedule.decides g.S.Schedule.same g.S.Schedule.keeps c.args.sleeps in
+    let d = standing_of c.args.debugger.now in
+    let short : length c.args.choices.now ≡ 0 = search rules in
+    let none = c.none-sleep.result in
+    subst (λ (s : Option (List Step)). Going r (c.args.limit - d.trail.depth) c.args.choices.now (Some []) d [] s d) (sym (none_there none c.none-sleep.ensures.steps c.none-sleep.ensures.passed))
+    (going_none r (Some []) (c.args.limit - d.trail.depth) c.args.choices.now d c.state_is_reached.ensures.reached (none_of_none c.args.choices.now short))

@@ -1,12 +1,12 @@
 use Rattle.std.proofs.Common.{◌≡◌, ◌-◌}
 use Rattle.mpd_trail.specs.Views.{standing_of}
 use Rattle.mpd_pieces.specs.Pieces.{pieces}
-use Rattle.mpd_pieces.specs.Along.{Beyond}
+use Rattle.mpd_walk.specs.Walks.{Beyond}
 use Rattle.mpd_pieces.proofs.splitter.look_ahead.Given as goal
 
 abbrev pub invariant-loop-depth : goal.invariant-loop-depth
-invariant-loop-depth l = record {
+invariant-loop-depth g l = record {
   depth : l.debugger.trail.depth ≡ l.depth;
-  same : pieces 1 (l.limit - l.fn.debugger.trail.depth) l.fn.debugger.world ≡ pieces 1 (l.limit - l.depth) l.debugger.world;
+  same : pieces g.S.Schedule.decides 1 (l.limit - l.fn.debugger.trail.depth) l.fn.debugger.world ≡ pieces g.S.Schedule.decides 1 (l.limit - l.depth) l.debugger.world;
   beyond : Beyond (standing_of l.fn.debugger) (standing_of l.debugger);
 }

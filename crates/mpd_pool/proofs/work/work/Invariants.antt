@@ -8,7 +8,7 @@ use Rattle.mpd_pool.proofs.work.work.Given as goal
 abbrev pub invariant-loop : goal.invariant-loop
 invariant-loop g l = record {
   table : IsPassOf (stealer_deque l.thief) l.pass;
-  knows : view l.pass ≡ hand false true (length l.pieces);
+  knows : view l.pass ≡ hand false true (length l.task.pieces.now);
   same : standing_of l.debugger ≡ standing_of l.initial.debugger;
-  right : AllRight (standing_of l.initial.debugger) l.limits l.pieces l.brought.items;
+  right : AllRight (standing_of l.initial.debugger) l.task.limits l.task.pieces.now l.brought.items;
 }

@@ -1,15 +1,13 @@
 use Rattle.std.proofs.Common.{arith}
 use Rattle.mpd_trail.specs.Views.{standing_of}
-use Rattle.mpd_explore.proofs.CollectLemmas.{world_found}
-use Rattle.mpd_sample.proofs.DrawLemmas.{beyond_depth, trail_found}
+use Rattle.mpd_walk.proofs.WalkLemmas.{beyond_depth}
 use Rattle.mpd_sample.proofs.sampler.add_run.Goals as goal
 
 pub put_back-requires : goal.put_back-requires
 put_back-requires g c = omega (arith, c.depth-base.ensures.value, beyond_depth (standing_of c.args.debugger.now) (standing_of c.draw_into-added.new.debugger) c.state_is_reached.ensures.reached c.draw_into-added.ensures.beyond)
 
 pub returns-clause-trail : goal.returns-clause-trail
-returns-clause-trail g c =
-    trail_found (standing_of c.args.debugger.now) (standing_of c.draw_into-added.new.debugger) (standing_of c.put_back.new.debugger) c.state_is_reached.ensures.reached c.requires.clean c.draw_into-added.ensures.beyond (rw c.depth-base.ensures.value at c.put_back.ensures.trail)
+returns-clause-trail g c = (c.put_back.ensures.found (standing_of c.args.debugger.now) c.state_is_reached.ensures.reached c.requires.clean c.depth-base.ensures.value c.draw_into-added.ensures.beyond).trail
 
 pub returns-clause-world : goal.returns-clause-world
-returns-clause-world g c = world_found (standing_of c.args.debugger.now) (standing_of c.put_back.new.debugger) c.state_is_reached.ensures.reached c.put_back.ensures.reached (returns-clause-trail g c)
+returns-clause-world g c = (c.put_back.ensures.found (standing_of c.args.debugger.now) c.state_is_reached.ensures.reached c.requires.clean c.depth-base.ensures.value c.draw_into-added.ensures.beyond).world

@@ -1,6 +1,7 @@
 use Rattle.std.proofs.Common.{◌≡◌, ◌+◌, ◌-◌, ℕ, suc, map, string_bytes, refl, ap, ◌∙◌, arith}
 use Rattle.mpd_model.specs.runs.Trail.{done_steps}
 use Rattle.mpd_trail.specs.Views.{standing_of}
+use Rattle.mpd_policy.specs.Wide.{wide_decision}
 use Rattle.mpd_explore.specs.WitnessTexts.{witness_text}
 use Rattle.mpd_sample.proofs.SampleLemmas.{sampling_none, sampling_more, sampling_left, samples_last, samples_all, sample_rises, even_of, adds_at}
 use Rattle.mpd_sample.proofs.sampler.gather.Goals as goal
@@ -24,7 +25,7 @@ add_run-requires-clause-rises g c =
 pub add_run-requires-clause-even : goal.add_run-requires-clause-even
 add_run-requires-clause-even g c =
     let i = c.loop-turn.invariant in
-    even_of c.args.limits.witnesses (witness_text (done_steps c.args.debugger.now.trail) c.args.limits.fuel c.args.debugger.now.world) c.loop-turn.report.leaves.items _ i.sampling.texts_are
+    even_of c.args.limits.witnesses (witness_text wide_decision (done_steps c.args.debugger.now.trail) c.args.limits.fuel c.args.debugger.now.world) c.loop-turn.report.leaves.items _ i.sampling.texts_are
 
 pub returns-then-is_last-clause-samples : goal.returns-then-is_last-clause-samples
 returns-then-is_last-clause-samples g c =

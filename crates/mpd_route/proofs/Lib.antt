@@ -1,3 +1,0 @@
-pub mod FirstLemmas
-pub mod GivenLemmas
-pub mod ReadLemmas

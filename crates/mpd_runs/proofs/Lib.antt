@@ -1,0 +1,10 @@
+pub mod AlongLemmas
+pub mod ChoiceLemmas
+pub mod WriteLemmas
+pub mod FirstLemmas
+pub mod GivenLemmas
+pub mod ReadLemmas
+pub mod LastChoiceLemmas
+pub mod EndLemmas
+pub mod LookLemmas
+pub mod SeekLemmas

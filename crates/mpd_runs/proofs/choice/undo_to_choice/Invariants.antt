@@ -1,0 +1,6 @@
+use Rattle.mpd_trail.specs.Views.{standing_of}
+use Rattle.mpd_runs.proofs.LastChoiceLemmas.{Undoing}
+use Rattle.mpd_runs.proofs.choice.undo_to_choice.Given as goal
+
+abbrev pub invariant-loop-undone : goal.invariant-loop-undone
+invariant-loop-undone l = Undoing l.fn.debugger.trail (standing_of l.debugger) l.undone

@@ -1,0 +1,14 @@
+pub mod Place
+pub mod Led
+pub mod Along
+pub mod Choices
+pub mod Written
+pub mod WordsRows
+pub mod First
+pub mod Given
+pub mod Read
+pub mod Ways
+pub mod Runs
+pub mod Seek
+pub mod SeekRows
+pub mod LastChoice

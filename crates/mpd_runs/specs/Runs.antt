@@ -1,0 +1,104 @@
+-- The runs from where a trail stands, and their text. They are those of the wide walk that takes two steps which do not conflict in one order
+-- alone, so they have every end (docs/DEFINITIONS.md, "What a walk says of all runs").
+use Rattle.std.specs.Prelude.{ℕ, suc, ◌+◌, ◌-◌, ◌==◌, Bool, true, false, ◌&&◌, ◌||◌, not, nat_lt, if◌then◌else◌, List, [], ◌∷◌, ◌++◌, length, map, take, codes}
+use Rattle.std.specs.Fmt.{decimal}
+use Rattle.mpd_model.specs.declared.limits.TheConstants.{STEPS_MAX, RUNS_MAX}
+use Rattle.mpd_model.specs.steps.World.{World}
+use Rattle.mpd_model.specs.runs.Trail.{Trail}
+use Rattle.mpd_model.specs.texts.Texts.{line, spaced}
+use Rattle.mpd_explore.specs.declared.report.Leaf.{Leaf}
+use Rattle.mpd_explore.specs.Sleeping.{walk_by}
+use Rattle.mpd_explore.specs.Report.{shown}
+use Rattle.mpd_explore.specs.ReportText.{ending_text}
+use Rattle.mpd_runs.specs.declared.listing.TheConstants.{FUEL}
+use Rattle.mpd_runs.specs.declared.way.Way.{Way}
+use Rattle.mpd_runs.specs.declared.way.Way.TheVariants as way
+use Rattle.mpd_runs.specs.Ways.{way_name, count_in, ways}
+
+-- ---- runs
+
+-- how many steps a run may have behind so many
+abbrev pub fuel_at : ℕ → ℕ
+fuel_at depth = if nat_lt (STEPS_MAX - depth) FUEL then STEPS_MAX - depth else FUEL
+
+-- all runs from a world with so much fuel, in the order of their choices
+abbrev pub all_runs : ℕ → World → List Leaf
+all_runs fuel w = map shown (walk_by true fuel w)
+
+-- the first so many of them, and whether there are more
+abbrev pub first_runs : ℕ → ℕ → World → List Leaf
+first_runs n fuel w = take n (all_runs fuel w)
+
+abbrev pub are_more : ℕ → ℕ → World → Bool
+are_more n fuel w = nat_lt n (length (all_runs fuel w))
+
+-- how many runs may be asked for, and which may be
+abbrev pub is_number : ℕ → Bool
+is_number n = if (n == 0) || nat_lt RUNS_MAX n then false else true
+
+-- ---- their text
+
+abbrev pub from_zero : ℕ → List ℕ
+from_zero c = decimal (c + 1)
+
+abbrev pub choices_words : List ℕ → List ℕ
+choices_words [] = codes "no choice"
+choices_words (c ∷ cs) = codes "choices" ++ spaced from_zero (c ∷ cs)
+
+-- `3 choices 1 2: deadlock 0.1 2.0`, where so many runs stand before it
+abbrev pub leaf_line : ℕ → Leaf → List ℕ
+leaf_line place l = line (decimal (place + 1) ++ 32 ∷ choices_words l.choices ++ codes ": " ++ ending_text l.ending)
+
+abbrev pub leaf_lines : ℕ → List Leaf → List ℕ
+leaf_lines place [] = []
+leaf_lines place (l ∷ ls) = leaf_line place l ++ leaf_lines (suc place) ls
+
+abbrev pub runs_words : ℕ → List ℕ
+runs_words n = if n == 1 then codes "1 run" else decimal n ++ codes " runs"
+
+abbrev pub more_words : Bool → List ℕ
+more_words true = codes ", and there are more"
+more_words false = codes ", and no more"
+
+-- what stands before the first way that is told, and before each other
+abbrev pub separator : Bool → List ℕ
+separator true = codes " ("
+separator false = codes ", "
+
+-- `, 3 cut`, where any run ends so
+abbrev pub way_words : Bool → ℕ → Way → List ℕ
+way_words first n x = if n == 0 then [] else separator first ++ decimal n ++ 32 ∷ way_name x
+
+-- whether a way that comes behind is still the first that is told
+abbrev pub still_first : Bool → ℕ → Bool
+still_first first n = if n == 0 then first else false
+
+abbrev pub tally : Bool → List Leaf → List Way → List ℕ
+tally first leaves [] = []
+tally first leaves (x ∷ xs) = way_words first (count_in x leaves) x ++ tally (still_first first (count_in x leaves)) leaves xs
+
+-- `3 runs, and no more (2 done, 1 cut)`
+abbrev pub total_line : List Leaf → Bool → List ℕ
+total_line leaves more = line (runs_words (length leaves) ++ more_words more ++ tally true leaves ways ++ codes ")")
+
+abbrev pub report_text : List Leaf → Bool → List ℕ
+report_text leaves more = leaf_lines 0 leaves ++ total_line leaves more
+
+abbrev pub no_number_line : List ℕ
+no_number_line = line (codes "refused: 1 to 65536 runs can be asked for")
+
+-- the first so many runs from where a trail stands that leads to a world
+abbrev pub check_text : Trail → World → ℕ → List ℕ
+check_text t w n = if is_number n then report_text (first_runs n (fuel_at t.depth) w) (are_more n (fuel_at t.depth) w) else no_number_line
+
+-- whether some runs have all ways to end: there are no more, and none is cut
+abbrev pub sees_all : List Leaf → Bool → Bool
+sees_all leaves more = not more && (count_in way.Cut leaves == 0)
+
+abbrev pub found_words : Bool → List ℕ
+found_words true = codes " from here: "
+found_words false = codes " found from here: "
+
+-- `no deadlock from here: 2 runs, and no more (1 done, 1 trap)`
+abbrev pub none_line : Way → List Leaf → Bool → List ℕ
+none_line x leaves more = codes "no " ++ way_name x ++ found_words (sees_all leaves more) ++ total_line leaves more

@@ -1,0 +1,47 @@
+-- How runs end, in a word.
+use Rattle.std.specs.Prelude.{ℕ, Bool, true, false, if◌then◌else◌, List, [], ◌∷◌, count_by, Option, Some, None, codes}
+use Rattle.mpd_model.specs.declared.outcome.Outcome.TheVariants as outcome
+use Rattle.mpd_walk.specs.declared.ending.Ending.{Ending}
+use Rattle.mpd_walk.specs.declared.ending.Ending.TheVariants as ending
+use Rattle.mpd_explore.specs.declared.report.Leaf.{Leaf}
+use Rattle.mpd_runs.specs.declared.way.Way.{Way}
+use Rattle.mpd_runs.specs.declared.way.Way.TheVariants.{Done, Leftovers, Deadlock, Trap, Cut}
+use Rattle.mpd_runs.specs.declared.way.TheConstants.{WAYS}
+
+abbrev pub way_name : Way → List ℕ
+way_name Done = codes "done"
+way_name Leftovers = codes "leftovers"
+way_name Deadlock = codes "deadlock"
+way_name Trap = codes "trap"
+way_name Cut = codes "cut"
+
+abbrev pub way_of : Ending → Way
+way_of ending.Cut = Cut
+way_of (ending.Ended outcome.Done) = Done
+way_of (ending.Ended (outcome.Leftovers calls)) = Leftovers
+way_of (ending.Ended (outcome.Deadlock calls)) = Deadlock
+way_of (ending.Ended (outcome.Trap ranks)) = Trap
+
+abbrev pub same_way : Way → Way → Bool
+same_way Done Done = true
+same_way Leftovers Leftovers = true
+same_way Deadlock Deadlock = true
+same_way Trap Trap = true
+same_way Cut Cut = true
+same_way x y = false
+
+-- whether a run ends so
+abbrev pub ends_in : Way → Leaf → Bool
+ends_in x l = same_way x (way_of l.ending)
+
+abbrev pub count_in : Way → List Leaf → ℕ
+count_in x leaves = count_by (ends_in x) leaves
+
+-- the first run that ends so
+abbrev pub first_in : Way → List Leaf → Option Leaf
+first_in x [] = None
+first_in x (l ∷ ls) = if ends_in x l then Some l else first_in x ls
+
+-- all ways, in the order in which they are counted
+abbrev pub ways : List Way
+ways = WAYS

@@ -1,0 +1,47 @@
+//! The run of the first candidates along a schedule.
+
+ghost use Rattle.std.specs.Prelude.{◌≡◌, ◌++◌, OnOk, false};
+ghost use Rattle.mpd_model.specs.runs.Trail.{done_steps};
+ghost use Rattle.mpd_walk.specs.declared.along.Stop.TheVariants as stop_is;
+ghost use Rattle.mpd_runs.specs.First.{first_steps};
+
+use mpd_model::STEPS_MAX;
+use mpd_trail::Debugger;
+use mpd_walk::{First, Schedule, Stop, walk};
+use std::alloc::{AllocError, Global};
+
+/// A walk whose fuel was cut short must have stopped before it was used up.
+fn fits(stop: Stop, is_cut: bool) -> Result<(), AllocError>
+    ensures { OnOk result (stop ≡ stop_is.Fuel → is_cut ≡ false) }
+{
+    match stop {
+        Stop::Fuel => {
+            if is_cut {
+                return Err(AllocError);
+            }
+            Ok(())
+        }
+        Stop::Ended(_) => Ok(()),
+        Stop::Untaken => Ok(()),
+    }
+}
+
+/// Leads a debugger along the first candidates of a schedule, up to the end of the run, or so many steps. The depth and these are at most
+/// 1,000,000 together. An `Err` is want of memory; the debugger then stands somewhere on that run.
+pub fn lead_first<S: Schedule>(
+    alloc: Global,
+    schedule: &S,
+    debugger: &mut Debugger<'_>,
+    fuel: usize,
+) -> Result<(), AllocError>
+    ensures { OnOk result (done_steps debugger.new.trail ≡ done_steps debugger.old.trail ++ first_steps S.decides fuel debugger.old.world) }
+{
+    debugger.state_is_reached();
+    let base = debugger.depth();
+    let room = STEPS_MAX - base;
+    let mut chooser = First;
+    let limit = base + fuel.min(room);
+    let stop = walk(alloc, schedule, debugger, limit, &mut chooser)?;
+    fits(stop, room < fuel)?;
+    Ok(())
+}

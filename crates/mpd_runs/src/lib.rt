@@ -1,0 +1,29 @@
+//! One run and its steps: the run that some choices tell, the run of the first candidates, steps or trace words that are given, the runs
+//! from where a debugger stands, the first of them that ends in one way, and the last choice that was made.
+#![tactic(auto)]
+
+pub mod by_choices;
+pub mod choice;
+pub mod choices;
+pub mod fault;
+pub mod first;
+pub mod given;
+pub mod laws;
+pub mod listing;
+pub mod read;
+pub mod search;
+pub mod way;
+pub mod write;
+
+pub use by_choices::steps_by_choices;
+pub use choice::{last_choice, push_no_choice};
+pub use choices::choices_of;
+pub use fault::{ChoicesFault, WordsFault, WriteFault};
+pub use first::lead_first;
+pub use given::{StepsFault, take_steps};
+pub use laws::a_run_or_a_bad_choice;
+pub use listing::{FUEL, push_none, push_runs};
+pub use read::{ReadFault, steps_of};
+pub use search::{Search, WholeRun, numbered_run, push_ahead, push_count, push_no_run, seek};
+pub use way::{WAYS, Way};
+pub use write::write_words;

@@ -1,0 +1,257 @@
+//! The runs from where a debugger stands, along the wide walk that takes two steps which do not conflict in one order alone, and their text.
+
+ghost use Rattle.std.specs.Prelude.{◌≡◌, ◌≤◌, ◌<◌, ◌+◌, ◌++◌, true, false, IfOk, OnOk, length, string_bytes};
+ghost use Rattle.std.specs.List.{AllByRecursion};
+ghost use Rattle.mpd_model.specs.runs.Trail.{done_steps};
+ghost use Rattle.mpd_model.specs.texts.Texts.{spaced};
+ghost use Rattle.mpd_explore.specs.Report.{ended_by, left_out};
+ghost use Rattle.mpd_explore.specs.ReportText.{ending_text};
+ghost use Rattle.mpd_explore.specs.Witness.{HasWitness};
+ghost use Rattle.mpd_policy.specs.Wide.{wide_decision};
+ghost use Rattle.mpd_runs.specs.Runs as spec;
+
+use crate::way::{WAYS, Way, count_in};
+use mpd_explore::{Ending, Leaf, Limits, Report, Unwatched, explore};
+use mpd_model::{RUNS_MAX, STEPS_MAX, print_outcome};
+use mpd_trail::Debugger;
+use std::alloc::{AllocError, Global};
+
+/// How many steps a run has at most that is tried.
+pub const FUEL: usize = 100_000;
+
+/// How many steps a run may have behind so many: as many as can be kept.
+pub(crate) fn fuel_at(depth: usize) -> usize
+    requires { depth ≤ STEPS_MAX }
+    ensures value { result ≡ spec.fuel_at depth }
+    ensures fits { depth + result ≤ STEPS_MAX }
+{
+    let left = STEPS_MAX - depth;
+    if left < FUEL { left } else { FUEL }
+}
+
+/// The first runs from where a debugger stands, so many at most; where `until_bad`, up to the first deadlock or trap. An `Err` is want of
+/// memory.
+pub(crate) fn first_runs(
+    alloc: Global,
+    debugger: &mut Debugger<'_>,
+    runs: usize,
+    fuel: usize,
+    until_bad: bool,
+) -> Result<Report, AllocError>
+    requires clean { length debugger.old.trail.steps ≡ debugger.old.trail.depth }
+    requires fits { debugger.old.trail.depth + fuel ≤ STEPS_MAX }
+    ensures leaves { IfOk result (λ r. r.leaves.items ≡ ended_by until_bad (spec.first_runs runs fuel debugger.old.world)) }
+    ensures more { IfOk result (λ r. r.more ≡ left_out (record { runs = runs; fuel = fuel; witnesses = false; until_bad = until_bad; ends = true }) (spec.all_runs fuel debugger.old.world)) }
+    ensures has { IfOk result (λ r. AllByRecursion (HasWitness wide_decision debugger.old.trail.program debugger.old.trail.mode (done_steps debugger.old.trail) fuel debugger.old.world) r.leaves.items) }
+    ensures trail { debugger.new.trail ≡ debugger.old.trail }
+    ensures world { debugger.new.world ≡ debugger.old.world }
+{
+    let limits = Limits {
+        runs,
+        fuel,
+        witnesses: false,
+        until_bad,
+        ends: true,
+    };
+    explore(alloc, debugger, limits, &mut Unwatched)
+}
+
+/// The first runs from where a debugger stands, in the order of the walk.
+fn runs_from(alloc: Global, debugger: &Debugger<'_>, runs: usize) -> Result<Report, AllocError>
+    ensures leaves { IfOk result (λ r. r.leaves.items ≡ spec.first_runs runs (spec.fuel_at debugger.now.trail.depth) debugger.now.world) }
+    ensures more { IfOk result (λ r. r.more ≡ spec.are_more runs (spec.fuel_at debugger.now.trail.depth) debugger.now.world) }
+{
+    debugger.state_is_reached();
+    let fuel = fuel_at(debugger.depth());
+    let mut copy = debugger.copy()?;
+    first_runs(alloc, &mut copy, runs, fuel, false)
+}
+
+/// Whether so many runs may be asked for.
+pub(crate) fn is_number(runs: usize) -> bool
+    ensures { result ≡ spec.is_number runs }
+{
+    !(runs == 0 || runs > RUNS_MAX)
+}
+
+// ---- text
+
+/// Adds the numbers of candidates, from 1.
+fn push_choices(out: &mut String, choices: &[usize]) -> Result<(), AllocError>
+    ensures { OnOk result (string_bytes out.new ≡ string_bytes out.old ++ spaced spec.from_zero choices.now) }
+{
+    for choice in choices {
+        let number = *choice as u128 + 1;
+        write!(out, " {number}")?;
+    }
+    Ok(())
+}
+
+/// Adds which candidates are taken.
+fn push_choices_words(out: &mut String, choices: &[usize]) -> Result<(), AllocError>
+    ensures { OnOk result (string_bytes out.new ≡ string_bytes out.old ++ spec.choices_words choices.now) }
+{
+    if choices.is_empty() {
+        return out.push_str("no choice");
+    }
+    out.push_str("choices")?;
+    push_choices(out, choices)
+}
+
+/// Adds how a run ends.
+pub(crate) fn push_ending(
+    alloc: Global,
+    out: &mut String,
+    ending: &Ending,
+) -> Result<(), AllocError>
+    ensures { OnOk result (string_bytes out.new ≡ string_bytes out.old ++ ending_text ending.now) }
+{
+    match ending {
+        Ending::Cut => out.push_str("cut"),
+        Ending::Ended(outcome) => {
+            let text = print_outcome(alloc, outcome)?;
+            out.push_str(&text)
+        }
+    }
+}
+
+/// Adds the line of a run, where so many stand before it.
+fn push_leaf(alloc: Global, out: &mut String, place: usize, leaf: &Leaf) -> Result<(), AllocError>
+    requires { place < 9223372036854775808 }
+    ensures { OnOk result (string_bytes out.new ≡ string_bytes out.old ++ spec.leaf_line place leaf.now) }
+{
+    let number = place + 1;
+    write!(out, "{number} ")?;
+    push_choices_words(out, &leaf.choices.items)?;
+    out.push_str(": ")?;
+    push_ending(alloc, out, &leaf.ending)?;
+    out.push('\n')
+}
+
+/// Adds the lines of runs, numbered from 1.
+fn push_leaves(alloc: Global, out: &mut String, leaves: &[Leaf]) -> Result<(), AllocError>
+    ensures { OnOk result (string_bytes out.new ≡ string_bytes out.old ++ spec.leaf_lines 0 leaves.now) }
+{
+    let mut place = 0;
+    for leaf in leaves {
+        push_leaf(alloc, out, place, leaf)?;
+        place += 1;
+    }
+    Ok(())
+}
+
+/// What stands before a way that is told.
+fn separator(is_first: bool) -> &'static str
+    ensures { result.now ≡ spec.separator is_first }
+{
+    if is_first { " (" } else { ", " }
+}
+
+/// Adds how many runs end in a way, where any does.
+fn push_way(out: &mut String, is_first: bool, count: usize, way: Way) -> Result<(), AllocError>
+    ensures { OnOk result (string_bytes out.new ≡ string_bytes out.old ++ spec.way_words is_first count way) }
+{
+    if count == 0 {
+        return Ok(());
+    }
+    out.push_str(separator(is_first))?;
+    write!(out, "{count} ")?;
+    out.push_str(way.name())
+}
+
+/// Whether the next way is the first that is told, behind one in which so many runs end.
+fn still_first(is_first: bool, count: usize) -> bool
+    ensures { result ≡ spec.still_first is_first count }
+{
+    if count == 0 { is_first } else { false }
+}
+
+/// Adds how many runs end in each of some ways.
+fn push_tally(out: &mut String, leaves: &[Leaf], ways: &[Way]) -> Result<(), AllocError>
+    ensures { OnOk result (string_bytes out.new ≡ string_bytes out.old ++ spec.tally true leaves.now ways.now) }
+{
+    let mut is_first = true;
+    for way in ways {
+        let count = count_in(*way, leaves);
+        push_way(out, is_first, count, *way)?;
+        is_first = still_first(is_first, count);
+    }
+    Ok(())
+}
+
+/// Adds how many runs there are.
+fn push_count_of_runs(out: &mut String, count: usize) -> Result<(), AllocError>
+    ensures { OnOk result (string_bytes out.new ≡ string_bytes out.old ++ spec.runs_words count) }
+{
+    if count == 1 {
+        return out.push_str("1 run");
+    }
+    write!(out, "{count} runs")
+}
+
+/// Whether there are more, in words.
+fn more_words(more: bool) -> &'static str
+    ensures { result.now ≡ spec.more_words more }
+{
+    if more {
+        ", and there are more"
+    } else {
+        ", and no more"
+    }
+}
+
+/// Adds the last line: how many runs there are, whether there are more, and how many end in each way.
+fn push_total(out: &mut String, leaves: &[Leaf], more: bool) -> Result<(), AllocError>
+    ensures { OnOk result (string_bytes out.new ≡ string_bytes out.old ++ spec.total_line leaves.now more) }
+{
+    push_count_of_runs(out, leaves.len())?;
+    out.push_str(more_words(more))?;
+    push_tally(out, leaves, &WAYS)?;
+    out.push_str(")\n")
+}
+
+/// Adds the first runs from where a debugger stands, so many at most, or which numbers there are. An `Err` is want of memory.
+pub fn push_runs(
+    alloc: Global,
+    debugger: &Debugger<'_>,
+    out: &mut String,
+    runs: usize,
+) -> Result<(), AllocError>
+    ensures { OnOk result (string_bytes out.new ≡ string_bytes out.old ++ spec.check_text debugger.now.trail debugger.now.world runs) }
+{
+    if !is_number(runs) {
+        return out.push_str("refused: 1 to 65536 runs can be asked for\n");
+    }
+    let report = runs_from(alloc, debugger, runs)?;
+    push_leaves(alloc, out, &report.leaves)?;
+    push_total(out, &report.leaves, report.more)
+}
+
+/// Whether some runs have all ways to end: there are no more, and none is cut.
+fn sees_all(leaves: &[Leaf], more: bool) -> bool
+    ensures { result ≡ spec.sees_all leaves.now more }
+{
+    !more && count_in(Way::Cut, leaves) == 0
+}
+
+/// What is told between a way and the runs that were looked at, by whether these have all ways to end.
+fn found_words(sees_all: bool) -> &'static str
+    ensures { result.now ≡ spec.found_words sees_all }
+{
+    if sees_all {
+        " from here: "
+    } else {
+        " found from here: "
+    }
+}
+
+/// Adds that no run ends in a way, and what was looked at. An `Err` is want of memory.
+pub fn push_none(out: &mut String, way: Way, report: &Report) -> Result<(), AllocError>
+    ensures { OnOk result (string_bytes out.new ≡ string_bytes out.old ++ spec.none_line way report.now.leaves.items report.now.more) }
+{
+    out.push_str("no ")?;
+    out.push_str(way.name())?;
+    let all = sees_all(&report.leaves, report.more);
+    out.push_str(found_words(all))?;
+    push_total(out, &report.leaves, report.more)
+}

@@ -1,0 +1,286 @@
+//! The first run that ends in one way, and the run of a number, with their steps from the start of the script. Both are of the wide walk that
+//! takes two steps which do not conflict in one order alone.
+
+ghost use Rattle.std.specs.Prelude.{◌≡◌, ◌≤◌, ◌<◌, ◌+◌, ◌++◌, None, Some, IfOk, IfSome, OnOk, length, slice_get, string_bytes};
+ghost use Rattle.std.specs.List.{AllByRecursion};
+ghost use Rattle.std.specs.Option.{option_map};
+ghost use Rattle.mpd_model.specs.runs.Trail.{done_steps};
+ghost use Rattle.mpd_explore.specs.Witness.{HasWitness};
+ghost use Rattle.mpd_policy.specs.Wide.{wide_decision};
+ghost use Rattle.mpd_walk.specs.Walk.{run_by, steps_by};
+ghost use Rattle.mpd_runs.specs.Ways as ways;
+ghost use Rattle.mpd_runs.specs.Runs as runs;
+ghost use Rattle.mpd_runs.specs.Seek as spec;
+ghost use Rattle.mpd_runs.specs.Seek.{LiesAhead, Looked};
+
+use crate::by_choices::steps_by_choices;
+use crate::listing::{first_runs, fuel_at, is_number, push_ending};
+use crate::way::{Way, first_in};
+use mpd_explore::{Ending, Leaf, Report};
+use mpd_model::{CallList, Outcome, RUNS_MAX, STEPS_MAX, StepList, TrapList};
+use mpd_policy::wide_decisions_can_be_followed;
+use mpd_trail::Debugger;
+use mpd_walk::Wide;
+use std::alloc::{AllocError, Global};
+
+/// A run from the start of the script: its steps, and how it ends.
+#[derive(Drop)]
+pub struct WholeRun {
+    pub steps: StepList,
+    pub ending: Ending,
+}
+
+/// What came of looking for a run.
+#[derive(Drop)]
+pub struct Search {
+    /// The runs that were looked at.
+    pub report: Report,
+    /// The first of them that ends in the way that was looked for, where there is one.
+    pub found: Option<WholeRun>,
+}
+
+// ---- one run
+
+/// A copy of how a run has ended.
+fn copy_outcome(alloc: Global, outcome: &Outcome) -> Result<Outcome, AllocError>
+    ensures { IfOk result (λ o. o ≡ outcome.now) }
+{
+    match outcome {
+        Outcome::Done => Ok(Outcome::Done),
+        Outcome::Leftovers(calls) => Ok(Outcome::Leftovers(CallList {
+            items: Vec::from_slice(alloc, &calls.items)?,
+        })),
+        Outcome::Deadlock(calls) => Ok(Outcome::Deadlock(CallList {
+            items: Vec::from_slice(alloc, &calls.items)?,
+        })),
+        Outcome::Trap(ranks) => Ok(Outcome::Trap(TrapList {
+            items: Vec::from_slice(alloc, &ranks.items)?,
+        })),
+    }
+}
+
+/// A copy of how a run ends.
+fn copy_ending(alloc: Global, ending: &Ending) -> Result<Ending, AllocError>
+    ensures { IfOk result (λ e. e ≡ ending.now) }
+{
+    match ending {
+        Ending::Cut => Ok(Ending::Cut),
+        Ending::Ended(outcome) => {
+            let outcome = copy_outcome(alloc, outcome)?;
+            Ok(Ending::Ended(outcome))
+        }
+    }
+}
+
+/// The steps that are not undone, and behind them some others.
+fn joined(alloc: Global, debugger: &Debugger<'_>, more: StepList) -> Result<StepList, AllocError>
+    ensures { IfOk result (λ steps. steps ≡ done_steps debugger.now.trail ++ more) }
+{
+    debugger.state_is_reached();
+    let depth = debugger.depth();
+    let (steps, _) = debugger.steps().split_at(depth);
+    let mut items = Vec::from_slice(alloc, steps)?;
+    items.extend_from_slice(&more.items)?;
+    Ok(StepList { items })
+}
+
+/// The steps of a leaf's run, behind those that led here.
+#[tactic(auto, using(crate::proofs::SeekLemmas::leading))]
+fn steps_of(
+    alloc: Global,
+    debugger: &mut Debugger<'_>,
+    fuel: usize,
+    leaf: &Leaf,
+) -> Result<StepList, AllocError>
+    requires clean { length debugger.old.trail.steps ≡ debugger.old.trail.depth }
+    requires fits { debugger.old.trail.depth + fuel ≤ STEPS_MAX }
+    ensures steps { IfOk result (λ steps. steps ≡ done_steps debugger.old.trail ++ steps_by (run_by wide_decision fuel leaf.now.choices debugger.old.world)) }
+    ensures trail { debugger.new.trail ≡ debugger.old.trail }
+    ensures world { debugger.new.world ≡ debugger.old.world }
+{
+    match steps_by_choices(alloc, &Wide, debugger, &leaf.choices.items, fuel) {
+        Ok(more) => joined(alloc, debugger, more),
+        Err(_) => Err(AllocError),
+    }
+}
+
+/// The whole run of a leaf that was listed.
+#[tactic(auto, using(crate::proofs::SeekLemmas::lying))]
+fn whole_run(
+    alloc: Global,
+    debugger: &mut Debugger<'_>,
+    fuel: usize,
+    leaf: &Leaf,
+) -> Result<WholeRun, AllocError>
+    requires clean { length debugger.old.trail.steps ≡ debugger.old.trail.depth }
+    requires fits { debugger.old.trail.depth + fuel ≤ STEPS_MAX }
+    requires has { HasWitness wide_decision debugger.old.trail.program debugger.old.trail.mode (done_steps debugger.old.trail) fuel debugger.old.world leaf.now }
+    ensures steps { IfOk result (λ r. r.steps ≡ done_steps debugger.old.trail ++ steps_by (run_by wide_decision fuel leaf.now.choices debugger.old.world)) }
+    ensures ending { IfOk result (λ r. r.ending ≡ leaf.now.ending) }
+    ensures lies { IfOk result (LiesAhead debugger.old.trail) }
+{
+    wide_decisions_can_be_followed();
+    debugger.state_is_reached();
+    let ending = copy_ending(alloc, &leaf.ending)?;
+    let steps = steps_of(alloc, debugger, fuel, leaf)?;
+    Ok(WholeRun { steps, ending })
+}
+
+// ---- the first that ends in one way
+
+/// Whether runs up to the first deadlock or trap are too few.
+fn falls_short(report: &Report, way: Way) -> bool
+    ensures { result ≡ spec.falls_short way report.now.leaves.items }
+{
+    report.has_bad() && first_in(way, &report.leaves).is_none()
+}
+
+/// The runs that are looked at: up to the first deadlock or trap, and where that is none of those that are looked for, as many as there are.
+#[tactic(auto, using(crate::proofs::LookLemmas::looking))]
+fn look(alloc: Global, copy: &mut Debugger<'_>, fuel: usize, way: Way) -> Result<Report, AllocError>
+    requires clean { length copy.old.trail.steps ≡ copy.old.trail.depth }
+    requires fits { copy.old.trail.depth + fuel ≤ STEPS_MAX }
+    ensures looked { IfOk result (λ r. Looked way fuel copy.old.world r.leaves.items r.more) }
+    ensures has { IfOk result (λ r. AllByRecursion (HasWitness wide_decision copy.old.trail.program copy.old.trail.mode (done_steps copy.old.trail) fuel copy.old.world) r.leaves.items) }
+    ensures trail { copy.new.trail ≡ copy.old.trail }
+    ensures world { copy.new.world ≡ copy.old.world }
+{
+    let report = first_runs(alloc, copy, RUNS_MAX, fuel, true)?;
+    if falls_short(&report, way) {
+        drop(report);
+        return first_runs(alloc, copy, RUNS_MAX, fuel, false);
+    }
+    Ok(report)
+}
+
+/// The first of some runs that ends in a way.
+#[tactic(auto, using(crate::proofs::SeekLemmas::finding))]
+fn found_in(
+    alloc: Global,
+    copy: &mut Debugger<'_>,
+    fuel: usize,
+    leaves: &[Leaf],
+    way: Way,
+) -> Result<Option<WholeRun>, AllocError>
+    requires clean { length copy.old.trail.steps ≡ copy.old.trail.depth }
+    requires fits { copy.old.trail.depth + fuel ≤ STEPS_MAX }
+    requires has { AllByRecursion (HasWitness wide_decision copy.old.trail.program copy.old.trail.mode (done_steps copy.old.trail) fuel copy.old.world) leaves.now }
+    ensures value { IfOk result (λ o. o ≡ option_map (spec.whole_run (done_steps copy.old.trail) fuel copy.old.world) (ways.first_in way leaves.now)) }
+    ensures lies { IfOk result (λ o. IfSome o (LiesAhead copy.old.trail)) }
+{
+    match first_in(way, leaves) {
+        None => Ok(None),
+        Some(leaf) => {
+            let run = whole_run(alloc, copy, fuel, leaf)?;
+            Ok(Some(run))
+        }
+    }
+}
+
+/// Looks for the first run that ends in a way, from where a debugger stands, in the order of the walk, among the first 65,536. An `Err` is
+/// want of memory.
+#[tactic(auto, using(crate::proofs::SeekLemmas::seeking))]
+pub fn seek(alloc: Global, debugger: &Debugger<'_>, way: Way) -> Result<Search, AllocError>
+    ensures found { IfOk result (λ s. s.found ≡ spec.found_run way debugger.now.trail debugger.now.world) }
+    ensures none { IfOk result (λ s. s.found ≡ None → runs.none_line way s.report.leaves.items s.report.more ≡ spec.nothing_line way debugger.now.trail debugger.now.world) }
+    ensures lies { IfOk result (λ s. IfSome s.found (LiesAhead debugger.now.trail)) }
+{
+    debugger.state_is_reached();
+    let fuel = fuel_at(debugger.depth());
+    let mut copy = debugger.copy()?;
+    let report = look(alloc, &mut copy, fuel, way)?;
+    let found = found_in(alloc, &mut copy, fuel, &report.leaves, way)?;
+    Ok(Search { report, found })
+}
+
+// ---- the run of a number
+
+/// The run that stands at a place among some runs.
+#[tactic(auto, using(crate::proofs::SeekLemmas::placing))]
+fn run_at_place(
+    alloc: Global,
+    copy: &mut Debugger<'_>,
+    fuel: usize,
+    leaves: &[Leaf],
+    place: usize,
+) -> Result<Option<WholeRun>, AllocError>
+    requires clean { length copy.old.trail.steps ≡ copy.old.trail.depth }
+    requires fits { copy.old.trail.depth + fuel ≤ STEPS_MAX }
+    requires has { AllByRecursion (HasWitness wide_decision copy.old.trail.program copy.old.trail.mode (done_steps copy.old.trail) fuel copy.old.world) leaves.now }
+    ensures value { IfOk result (λ o. o ≡ option_map (spec.whole_run (done_steps copy.old.trail) fuel copy.old.world) (slice_get leaves.now place)) }
+    ensures lies { IfOk result (λ o. IfSome o (LiesAhead copy.old.trail)) }
+{
+    match leaves.get(place) {
+        None => Ok(None),
+        Some(leaf) => {
+            let run = whole_run(alloc, copy, fuel, leaf)?;
+            Ok(Some(run))
+        }
+    }
+}
+
+/// The run of a number, from 1, among those from where a debugger stands, in the order of the walk; none where there is no such run, or no
+/// such number. An `Err` is want of memory.
+#[tactic(auto, using(crate::proofs::SeekLemmas::numbering))]
+pub fn numbered_run(
+    alloc: Global,
+    debugger: &Debugger<'_>,
+    number: usize,
+) -> Result<Option<WholeRun>, AllocError>
+    ensures value { IfOk result (λ o. o ≡ spec.numbered_run number debugger.now.trail debugger.now.world) }
+    ensures lies { IfOk result (λ o. IfSome o (LiesAhead debugger.now.trail)) }
+{
+    if !is_number(number) {
+        return Ok(None);
+    }
+    debugger.state_is_reached();
+    let fuel = fuel_at(debugger.depth());
+    let mut copy = debugger.copy()?;
+    let report = first_runs(alloc, &mut copy, number, fuel, false)?;
+    let found = run_at_place(alloc, &mut copy, fuel, &report.leaves, number - 1)?;
+    Ok(found)
+}
+
+// ---- text
+
+/// Adds how many steps, in words. An `Err` is want of memory.
+pub fn push_count(out: &mut String, count: usize) -> Result<(), AllocError>
+    ensures { OnOk result (string_bytes out.new ≡ string_bytes out.old ++ spec.count_words count) }
+{
+    if count == 1 {
+        return out.push_str("1 step");
+    }
+    write!(out, "{count} steps")
+}
+
+/// Adds how the run ends that lies ahead, and by how many steps; of the run of a number this number, too. An `Err` is want of memory.
+pub fn push_ahead(
+    alloc: Global,
+    out: &mut String,
+    number: Option<usize>,
+    ending: &Ending,
+    ahead: usize,
+) -> Result<(), AllocError>
+    ensures { OnOk result (string_bytes out.new ≡ string_bytes out.old ++ spec.ahead_line number ending.now ahead) }
+{
+    match number {
+        None => {
+            push_ending(alloc, out, ending)?;
+            out.push_str(" is ")?;
+        }
+        Some(number) => {
+            write!(out, "run {number}, ")?;
+            push_ending(alloc, out, ending)?;
+            out.push_str(", is ")?;
+        }
+    }
+    push_count(out, ahead)?;
+    out.push_str(" ahead\n")
+}
+
+/// Adds that there is no run of a number. An `Err` is want of memory.
+pub fn push_no_run(out: &mut String) -> Result<(), AllocError>
+    ensures { OnOk result (string_bytes out.new ≡ string_bytes out.old ++ spec.no_run_line) }
+{
+    out.push_str("refused: there is no such run\n")
+}

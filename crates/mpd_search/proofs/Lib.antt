@@ -1,5 +1,0 @@
-pub mod ChoiceLemmas
-pub mod EndLemmas
-pub mod HiddenLemmas
-pub mod LookLemmas
-pub mod SeekLemmas

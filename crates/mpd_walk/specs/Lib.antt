@@ -1,0 +1,5 @@
+pub mod Asleep
+pub mod Walk
+pub mod Walked
+pub mod Choosers
+pub mod Walks

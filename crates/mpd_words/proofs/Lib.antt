@@ -1,3 +1,0 @@
-pub mod AlongLemmas
-pub mod ChoiceLemmas
-pub mod WriteLemmas
