@@ -1,7 +1,7 @@
--- Two steps that are enabled in one world, and are not two matches of one call nor two steps of one waitany, can be taken in either order.
-use Rattle.std.proofs.Common.{◌≡◌, ◌≢◌, ◌⊎◌, ℕ, ◌<◌, ◌==◌, Bool, true, false, ◌&&◌, not, nat_lt, Option, Some, None, length, slice_get, inl, inr, refl, sym, ap, subst, ◌∙◌, arith, eq-eqb}
+-- Two steps that are enabled in one world and do not conflict can be taken in either order.
+use Rattle.std.proofs.Common.{◌≡◌, ◌≢◌, ◌⊎◌, ℕ, ◌<◌, ◌==◌, Bool, true, false, ◌&&◌, ◌||◌, not, nat_lt, Option, Some, None, is_some, is_none, length, slice_get, inl, inr, refl, sym, ap, subst, ◌∙◌, arith, eq-eqb}
 use Rattle.mpd_laws.proofs.ordered.Releases.{one_of_all}
-use Rattle.std.proofs.lemmas.Bool.{and_parts, not-true}
+use Rattle.std.proofs.lemmas.Bool.{and_parts, or_parts, ne_eqb, not-true}
 use Rattle.std.proofs.lemmas.Bool.Decides.{eqb_tells}
 use Rattle.std.proofs.lemmas.Option.{slice_get_within}
 use Rattle.std.specs.Option.{option_map}
@@ -9,18 +9,23 @@ use Rattle.mpd_model.specs.declared.step.CallId.{CallId}
 use Rattle.mpd_model.specs.declared.step.Step.{Step}
 use Rattle.mpd_model.specs.declared.step.Step.TheVariants.{Local, Match, Wake, WakeAny, Release}
 use Rattle.mpd_model.specs.declared.call.Call.{Call}
-use Rattle.mpd_model.specs.steps.World.{World, id_eq, eligible, last_call}
+use Rattle.mpd_model.specs.declared.call.CallKind.{CallKind}
+use Rattle.mpd_model.specs.declared.call.CallKind.TheVariants.{Recv}
+use Rattle.mpd_model.specs.runs.Decisions.{names_source, takes_any}
+use Rattle.mpd_model.specs.steps.World.{World, id_eq, kind_at, is_buffered, is_limited, eligible, last_call}
 use Rattle.mpd_model.specs.steps.Next.{stepped, waits, can_wake, woken, can_wake_any, woken_any, is_at_barrier, can_release, released, next}
-use Rattle.mpd_complete.specs.CompleteLaws.{apart, Joins, KeepsBuffers}
+use Rattle.mpd_policy.specs.Wide.{lacks_slot, frees_slot, gives_slot, conflict, is_quiet}
+use Rattle.mpd_complete.specs.CompleteLaws.{Joins}
 use Rattle.mpd_laws.proofs.ordered.CallsInOrder.{chosen}
 use Rattle.mpd_complete.proofs.Worlds.{same_sym, taken}
-use Rattle.mpd_complete.proofs.Moves.{Known, joining, moved, paired, stepped_is, joining_paired, local_again, moved_swapped, moved_paired}
+use Rattle.mpd_complete.proofs.Moves.{Known, joining, moved, paired, stepped_is, local_again, moved_swapped, moved_paired}
 use Rattle.mpd_laws.proofs.ordered.Eligible.{clash}
 use Rattle.mpd_laws.proofs.ordered.Orderly.{same_id}
-use Rattle.mpd_complete.proofs.Pairs.{turned, match_again, match_freed, freed_paired, match_paired, paired_swapped, same_recv, same_send}
+use Rattle.mpd_complete.proofs.Pairs.{turned, match_again, match_freed, freed_paired, match_paired, paired_swapped, same_recv, same_send, send_known, recv_known}
 use Rattle.mpd_complete.proofs.Steps.{IsLocalStep, IsWakeStep, local_step, wake_step, any_step, match_step, release_step}
 use Rattle.mpd_complete.proofs.Idle.{never_both}
-use Rattle.mpd_complete.proofs.Invariants.{Sound, IsNamed}
+use Rattle.mpd_complete.proofs.Invariants.{Sound, keeps}
+use Rattle.mpd_complete.proofs.Slots.{joining_paired, lacks_elsewhere, lacks_paired, gives_none, false_and}
 
 -- ---- steps that exclude one another
 
@@ -44,42 +49,29 @@ flip u v a b h = record { behind_a = h.behind_b; behind_b = h.behind_a; by_b = h
 at_worlds : (u u' v v' : World) (a b : Step) → u ≡ u' → v ≡ v' → Joins u v a b → Joins u' v' a b
 at_worlds u u' v v' a b e f h = subst (λ (z : World). Joins z v' a b) e (subst (λ (z : World). Joins u z a b) f h)
 
-abbrev pub SameOrJoins : World → World → Step → Step → Type 0
-SameOrJoins u v a b = (a ≡ b) ⊎ Joins u v a b
+two_locals : (w : World) (p q : ℕ) (u v : World) → IsLocalStep w p u → IsLocalStep w q v → p ≢ q → Joins u v (Local p) (Local q)
+two_locals w p q u v a b ne =
+    let here : Option Call = joining w.board p a.ran.call in
+    let there : Option Call = joining w.board q b.ran.call in
+    at_worlds (moved w p a.ran.rank here None) u (moved w q b.ran.rank there None) v (Local p) (Local q) a.is b.is (record {
+      behind_a = moved (moved w p a.ran.rank here None) q b.ran.rank there None;
+      behind_b = moved (moved w q b.ran.rank there None) p a.ran.rank here None;
+      by_b = local_again w p a.ran.rank here None q b.ran (λ e. ne (sym e)) b.at;
+      by_a = local_again w q b.ran.rank there None p a.ran ne a.at;
+      same = moved_swapped w p a.ran.rank here None q b.ran.rank there None ne;
+    })
 
-two_locals : (w : World) (p q : ℕ) (u v : World) → IsLocalStep w p u → IsLocalStep w q v → SameOrJoins u v (Local p) (Local q)
-two_locals w p q u v a b =
-    elim (eqb_tells p q) [
-      | inl same ↦ inl (ap Local same.1)
-      | inr off ↦
-          let ne = off.1 in
-          let here : Option Call = joining w.board p a.ran.call in
-          let there : Option Call = joining w.board q b.ran.call in
-          inr (at_worlds (moved w p a.ran.rank here None) u (moved w q b.ran.rank there None) v (Local p) (Local q) a.is b.is (record {
-            behind_a = moved (moved w p a.ran.rank here None) q b.ran.rank there None;
-            behind_b = moved (moved w q b.ran.rank there None) p a.ran.rank here None;
-            by_b = local_again w p a.ran.rank here None q b.ran (λ e. ne (sym e)) b.at;
-            by_a = local_again w q b.ran.rank there None p a.ran ne a.at;
-            same = moved_swapped w p a.ran.rank here None q b.ran.rank there None ne;
-          }))
-    ]
-
-local_and_wake : (w : World) → Known w.board → (p q : ℕ) (c : Step) (u v : World) → IsLocalStep w p u → IsWakeStep w c q v → Joins u v (Local p) c
-local_and_wake w all p q c u v a b =
-    elim (eqb_tells p q) [
-      | inl same ↦ absurd (no_local_wake w q u v c (subst (λ (k : ℕ). IsLocalStep w k u) same.1 a) b)
-      | inr off ↦
-          let ne = off.1 in
-          let call : Option Call = joining w.board p a.ran.call in
-          let wake : Option CallId = Some (last_call w.board q) in
-          at_worlds (moved w p a.ran.rank call None) u (moved w q b.after None wake) v (Local p) c a.is b.is (record {
-            behind_a = moved (moved w p a.ran.rank call None) q b.after None wake;
-            behind_b = moved (moved w q b.after None wake) p a.ran.rank call None;
-            by_b = b.again all p a.ran.rank call None (λ e. ne (sym e));
-            by_a = local_again w q b.after None wake p a.ran ne a.at;
-            same = moved_swapped w p a.ran.rank call None q b.after None wake ne;
-          })
-    ]
+local_and_wake : (w : World) → Known w.board → (p q : ℕ) (c : Step) (u v : World) → IsLocalStep w p u → IsWakeStep w c q v → p ≢ q → Joins u v (Local p) c
+local_and_wake w all p q c u v a b ne =
+    let call : Option Call = joining w.board p a.ran.call in
+    let wake : Option CallId = Some (last_call w.board q) in
+    at_worlds (moved w p a.ran.rank call None) u (moved w q b.after None wake) v (Local p) c a.is b.is (record {
+      behind_a = moved (moved w p a.ran.rank call None) q b.after None wake;
+      behind_b = moved (moved w q b.after None wake) p a.ran.rank call None;
+      by_b = b.again all p a.ran.rank call None (λ e. ne (sym e));
+      by_a = local_again w q b.after None wake p a.ran ne a.at;
+      same = moved_swapped w p a.ran.rank call None q b.after None wake ne;
+    })
 
 -- two ranks go on
 two_wakes : (w : World) → Known w.board → (a b : Step) (p q : ℕ) (u v : World) → IsWakeStep w a p u → IsWakeStep w b q v → p ≢ q → Joins u v a b
@@ -94,28 +86,8 @@ two_wakes w all a b p q u v one other ne =
       same = moved_swapped w p one.after None here q other.after None there ne;
     })
 
-wake_and_wake : (w : World) → Known w.board → (p q : ℕ) (u v : World) → IsWakeStep w (Wake p) p u → IsWakeStep w (Wake q) q v → SameOrJoins u v (Wake p) (Wake q)
-wake_and_wake w all p q u v a b =
-    elim (eqb_tells p q) [
-      | inl same ↦ inl (ap Wake same.1)
-      | inr off ↦ inr (two_wakes w all (Wake p) (Wake q) p q u v a b off.1)
-    ]
-
--- No rank goes on by a wake and by a request as well.
-wake_and_any : (w : World) → Sound w → (p q i : ℕ) (u v : World) → next w (Wake p) ≡ Some u → next w (WakeAny q i) ≡ Some v → Joins u v (Wake p) (WakeAny q i)
-wake_and_any w h p q i u v e f =
-    elim (eqb_tells p q) [
-      | inl same ↦
-          absurd (never_both w h.idle q i (subst (λ (k : ℕ). can_wake w k ≡ true) same.1 (chosen (can_wake w p) (woken w p) u e).0) (chosen (can_wake_any w q i) (woken_any w q i) v f).0)
-      | inr off ↦ two_wakes w h.known (Wake p) (WakeAny q i) p q u v (wake_step w p u e) (any_step w q i v f) off.1
-    ]
-
-any_and_any : (w : World) → Known w.board → (p i q j : ℕ) (u v : World) → IsWakeStep w (WakeAny p i) p u → IsWakeStep w (WakeAny q j) q v → apart (WakeAny p i) (WakeAny q j) ≡ true
-    → Joins u v (WakeAny p i) (WakeAny q j)
-any_and_any w all p i q j u v a b off = two_wakes w all (WakeAny p i) (WakeAny q j) p q u v a b (λ same. clash (eq-eqb p q same) (not-true (p == q) off))
-
-local_and_match : (w : World) → KeepsBuffers w.board.mode → (p : ℕ) (s r : CallId) (u v : World) → IsLocalStep w p u → eligible w.board s r ≡ true → paired w s r ≡ v → Joins u v (Local p) (Match s r)
-local_and_match w ample p s r u v a e is =
+local_and_match : (w : World) (p : ℕ) (s r : CallId) (u v : World) → IsLocalStep w p u → eligible w.board s r ≡ true → paired w s r ≡ v → gives_slot w p s ≡ false → Joins u v (Local p) (Match s r)
+local_and_match w p s r u v a e is none =
     let call : Option Call = joining w.board p a.ran.call in
     at_worlds (moved w p a.ran.rank call None) u (paired w s r) v (Local p) (Match s r) a.is is (record {
       behind_a = paired (moved w p a.ran.rank call None) s r;
@@ -124,7 +96,7 @@ local_and_match w ample p s r u v a e is =
       by_a =
           ap (option_map (stepped (paired w s r) p)) a.at
           ∙ ap (λ (z : World). Some z) (stepped_is (paired w s r) p a.ran)
-          ∙ ap (λ (k : Option Call). Some (moved (paired w s r) p a.ran.rank k None)) (joining_paired w s r p a.ran.call ample);
+          ∙ ap (λ (k : Option Call). Some (moved (paired w s r) p a.ran.rank k None)) (joining_paired w s r p a.ran a.at e none);
       same = moved_paired w p a.ran.rank call None s r;
     })
 
@@ -160,66 +132,125 @@ two_matches w s r t q u v e is f also sends recvs =
       same = paired_swapped w s r t q e f sends recvs;
     })
 
--- Two steps that are enabled are the same, or can be taken in either order, unless they are two matches that share a call, or two steps
--- of one rank's waitany. Where buffers run out, a match may give back the one that a local step then takes.
-pub diamond : (w : World) → Sound w → KeepsBuffers w.board.mode → (a b : Step) (u v : World) → next w a ≡ Some u → next w b ≡ Some v → apart a b ≡ true → SameOrJoins u v a b
-diamond w h ample (Local p) (Local q) u v e f off = two_locals w p q u v (local_step w p u e) (local_step w q v f)
-diamond w h ample (Local p) (Match s r) u v e f off = let m = match_step w s r v f in inr (local_and_match w ample p s r u v (local_step w p u e) m.0 m.1)
-diamond w h ample (Local p) (Wake q) u v e f off = inr (local_and_wake w h.known p q (Wake q) u v (local_step w p u e) (wake_step w q v f))
-diamond w h ample (Local p) (WakeAny q j) u v e f off = inr (local_and_wake w h.known p q (WakeAny q j) u v (local_step w p u e) (any_step w q j v f))
-diamond w h ample (Local p) Release u v e f off = absurd (no_local_release w p u (local_step w p u e) (release_step w v f).0)
-diamond w h ample (Match s r) (Local q) u v e f off = let m = match_step w s r u e in inr (flip v u (Local q) (Match s r) (local_and_match w ample q s r v u (local_step w q v f) m.0 m.1))
-diamond w h ample (Match s r) (Match t q) u v e f off =
+-- ---- any two
+
+apart_ranks : (p q : ℕ) → (p == q) ≡ false → p ≢ q
+apart_ranks p q off e = clash (eq-eqb p q e) off
+
+-- Two steps that are enabled and do not conflict can be taken in either order.
+pub diamond : (w : World) → Sound w → (a b : Step) (u v : World) → next w a ≡ Some u → next w b ≡ Some v → conflict w a b ≡ false → Joins u v a b
+diamond w h (Local p) (Local q) u v e f off = two_locals w p q u v (local_step w p u e) (local_step w q v f) (apart_ranks p q off)
+diamond w h (Local p) (Match s r) u v e f off = let m = match_step w s r v f in local_and_match w p s r u v (local_step w p u e) m.0 m.1 off
+diamond w h (Local p) (Wake q) u v e f off = local_and_wake w h.known p q (Wake q) u v (local_step w p u e) (wake_step w q v f) (apart_ranks p q off)
+diamond w h (Local p) (WakeAny q j) u v e f off = local_and_wake w h.known p q (WakeAny q j) u v (local_step w p u e) (any_step w q j v f) (apart_ranks p q off)
+diamond w h (Local p) Release u v e f off = absurd (cc)
+diamond w h (Match s r) (Local q) u v e f off = let m = match_step w s r u e in flip v u (Local q) (Match s r) (local_and_match w q s r v u (local_step w q v f) m.0 m.1 off)
+diamond w h (Match s r) (Match t q) u v e f off =
     let m = match_step w s r u e in
     let n = match_step w t q v f in
-    let parts = and_parts (not (id_eq s t)) _ off in
-    inr (two_matches w s r t q u v m.0 m.1 n.0 n.1 (not-true (id_eq s t) parts.0) (not-true (id_eq r q) parts.1))
-diamond w h ample (Match s r) (Wake q) u v e f off = let m = match_step w s r u e in inr (flip v u (Wake q) (Match s r) (wake_and_match w (Wake q) q s r v u (wake_step w q v f) m.0 m.1))
-diamond w h ample (Match s r) (WakeAny q j) u v e f off = let m = match_step w s r u e in inr (flip v u (WakeAny q j) (Match s r) (wake_and_match w (WakeAny q j) q s r v u (any_step w q j v f) m.0 m.1))
-diamond w h ample (Match s r) Release u v e f off =
+    let parts = or_parts (id_eq s t) (id_eq r q) off in
+    two_matches w s r t q u v m.0 m.1 n.0 n.1 parts.0 parts.1
+diamond w h (Match s r) (Wake q) u v e f off = let m = match_step w s r u e in flip v u (Wake q) (Match s r) (wake_and_match w (Wake q) q s r v u (wake_step w q v f) m.0 m.1)
+diamond w h (Match s r) (WakeAny q j) u v e f off = let m = match_step w s r u e in flip v u (WakeAny q j) (Match s r) (wake_and_match w (WakeAny q j) q s r v u (any_step w q j v f) m.0 m.1)
+diamond w h (Match s r) Release u v e f off =
     let m = match_step w s r u e in
     let n = release_step w v f in
-    inr (flip v u Release (Match s r) (release_and_match w s r v u n.0 n.1 m.0 m.1))
-diamond w h ample (Wake p) (Local q) u v e f off = inr (flip v u (Local q) (Wake p) (local_and_wake w h.known q p (Wake p) v u (local_step w q v f) (wake_step w p u e)))
-diamond w h ample (Wake p) (Match s r) u v e f off = let m = match_step w s r v f in inr (wake_and_match w (Wake p) p s r u v (wake_step w p u e) m.0 m.1)
-diamond w h ample (Wake p) (Wake q) u v e f off = wake_and_wake w h.known p q u v (wake_step w p u e) (wake_step w q v f)
-diamond w h ample (Wake p) (WakeAny q j) u v e f off = inr (wake_and_any w h p q j u v e f)
-diamond w h ample (Wake p) Release u v e f off = absurd (no_wake_release w (Wake p) p u (wake_step w p u e) (release_step w v f).0)
-diamond w h ample (WakeAny p i) (Local q) u v e f off = inr (flip v u (Local q) (WakeAny p i) (local_and_wake w h.known q p (WakeAny p i) v u (local_step w q v f) (any_step w p i u e)))
-diamond w h ample (WakeAny p i) (Match s r) u v e f off = let m = match_step w s r v f in inr (wake_and_match w (WakeAny p i) p s r u v (any_step w p i u e) m.0 m.1)
-diamond w h ample (WakeAny p i) (Wake q) u v e f off = inr (flip v u (Wake q) (WakeAny p i) (wake_and_any w h q p i v u f e))
-diamond w h ample (WakeAny p i) (WakeAny q j) u v e f off = inr (any_and_any w h.known p i q j u v (any_step w p i u e) (any_step w q j v f) off)
-diamond w h ample (WakeAny p i) Release u v e f off = absurd (no_wake_release w (WakeAny p i) p u (any_step w p i u e) (release_step w v f).0)
-diamond w h ample Release (Local q) u v e f off = absurd (no_local_release w q v (local_step w q v f) (release_step w u e).0)
-diamond w h ample Release (Match s r) u v e f off =
+    flip v u Release (Match s r) (release_and_match w s r v u n.0 n.1 m.0 m.1)
+diamond w h (Wake p) (Local q) u v e f off = flip v u (Local q) (Wake p) (local_and_wake w h.known q p (Wake p) v u (local_step w q v f) (wake_step w p u e) (λ is. apart_ranks p q off (sym is)))
+diamond w h (Wake p) (Match s r) u v e f off = let m = match_step w s r v f in wake_and_match w (Wake p) p s r u v (wake_step w p u e) m.0 m.1
+diamond w h (Wake p) (Wake q) u v e f off = two_wakes w h.known (Wake p) (Wake q) p q u v (wake_step w p u e) (wake_step w q v f) (apart_ranks p q off)
+diamond w h (Wake p) (WakeAny q j) u v e f off = two_wakes w h.known (Wake p) (WakeAny q j) p q u v (wake_step w p u e) (any_step w q j v f) (apart_ranks p q off)
+diamond w h (Wake p) Release u v e f off = absurd (cc)
+diamond w h (WakeAny p i) (Local q) u v e f off = flip v u (Local q) (WakeAny p i) (local_and_wake w h.known q p (WakeAny p i) v u (local_step w q v f) (any_step w p i u e) (λ is. apart_ranks p q off (sym is)))
+diamond w h (WakeAny p i) (Match s r) u v e f off = let m = match_step w s r v f in wake_and_match w (WakeAny p i) p s r u v (any_step w p i u e) m.0 m.1
+diamond w h (WakeAny p i) (Wake q) u v e f off = two_wakes w h.known (WakeAny p i) (Wake q) p q u v (any_step w p i u e) (wake_step w q v f) (apart_ranks p q off)
+diamond w h (WakeAny p i) (WakeAny q j) u v e f off = two_wakes w h.known (WakeAny p i) (WakeAny q j) p q u v (any_step w p i u e) (any_step w q j v f) (apart_ranks p q off)
+diamond w h (WakeAny p i) Release u v e f off = absurd (cc)
+diamond w h Release (Match s r) u v e f off =
     let m = match_step w s r v f in
     let n = release_step w u e in
-    inr (release_and_match w s r u v n.0 n.1 m.0 m.1)
-diamond w h ample Release (Wake q) u v e f off = absurd (no_wake_release w (Wake q) q v (wake_step w q v f) (release_step w u e).0)
-diamond w h ample Release (WakeAny q j) u v e f off = absurd (no_wake_release w (WakeAny q j) q v (any_step w q j v f) (release_step w u e).0)
-diamond w h ample Release Release u v e f off = inl refl
+    release_and_match w s r u v n.0 n.1 m.0 m.1
+diamond w h Release (Local q) u v e f off = absurd (cc)
+diamond w h Release (Wake q) u v e f off = absurd (cc)
+diamond w h Release (WakeAny q j) u v e f off = absurd (cc)
+diamond w h Release Release u v e f off = absurd (cc)
 
--- ---- a step that nobody has to choose
+-- ---- a quiet step
 
-apart_matches : (x y : Bool) (s r t q : CallId) → id_eq s t ≡ x → id_eq r q ≡ y → (id_eq s t ≡ true → r ≡ q) → (id_eq r q ≡ true → s ≡ t) → (Match s r ≡ Match t q) ⊎ (apart (Match s r) (Match t q) ≡ true)
-apart_matches true y s r t q e f recvs sends = let a = same_id s t e in let b = recvs e in inl (λ i. Match (a i) (b i))
-apart_matches false true s r t q e f recvs sends = let a = sends f in let b = same_id r q f in inl (λ i. Match (a i) (b i))
-apart_matches false false s r t q e f recvs sends = inr (λ i. not (e i) && not (f i))
+abbrev pub SameOrApart : World → Step → Step → Type 0
+SameOrApart w a b = (a ≡ b) ⊎ (conflict w a b ≡ false)
 
-same_or_apart : (w : World) (a b : Step) (u v : World) → IsNamed w.board a → next w a ≡ Some u → next w b ≡ Some v → (a ≡ b) ⊎ (apart a b ≡ true)
-same_or_apart w (Match s r) (Match t q) u v named e f =
+is_none_or : (o : Option ℕ) → is_some o ≡ true → is_none o ≡ false
+is_none_or (Some p) e = refl
+is_none_or None e = absurd (cc)
+
+pub source_named : (k : Option CallKind) → names_source k ≡ true → takes_any k ≡ false
+source_named (Some (Recv r)) e = is_none_or r.from e
+source_named k e = refl
+
+by_calls : (x y : Bool) (s r t q : CallId) → id_eq s t ≡ x → id_eq r q ≡ y → (id_eq s t ≡ true → r ≡ q) → (id_eq r q ≡ true → s ≡ t) → (Match s r ≡ Match t q) ⊎ ((id_eq s t || id_eq r q) ≡ false)
+by_calls true y s r t q e f recvs sends = let a = same_id s t e in let b = recvs e in inl (λ i. Match (a i) (b i))
+by_calls false true s r t q e f recvs sends = let a = sends f in let b = same_id r q f in inl (λ i. Match (a i) (b i))
+by_calls false false s r t q e f recvs sends = inr (λ i. e i || f i)
+
+-- It is in conflict with no other step that is enabled.
+pub apart : (w : World) → Sound w → (a b : Step) (u v : World) → is_quiet w a ≡ true → next w a ≡ Some u → next w b ≡ Some v → SameOrApart w a b
+apart w h (Local p) (Local q) u v quiet e f =
+    elim (eqb_tells p q) [
+      | inl same ↦ inl (ap Local same.1)
+      | inr off ↦ inr (ne_eqb p q off.1)
+    ]
+apart w h (Local p) (Match s r) u v quiet e f = inr (false_and (lacks_slot w p) (p == s.rank && is_buffered (kind_at w.board s)) (inl (not-true (lacks_slot w p) quiet)))
+apart w h (Local p) (Wake q) u v quiet e f = inr (ne_eqb p q (λ is. no_local_wake w q u v (Wake q) (subst (λ (k : ℕ). IsLocalStep w k u) is (local_step w p u e)) (wake_step w q v f)))
+apart w h (Local p) (WakeAny q j) u v quiet e f = inr (ne_eqb p q (λ is. no_local_wake w q u v (WakeAny q j) (subst (λ (k : ℕ). IsLocalStep w k u) is (local_step w p u e)) (any_step w q j v f)))
+apart w h (Local p) Release u v quiet e f = absurd (no_local_release w p u (local_step w p u e) (release_step w v f).0)
+apart w h (Match s r) (Local p) u v quiet e f = inr (gives_none w p s (not-true (frees_slot w.board s) (and_parts (names_source (kind_at w.board r)) _ quiet).1))
+apart w h (Match s r) (Match t q) u v quiet e f =
     let m = match_step w s r u e in
     let n = match_step w t q v f in
-    apart_matches (id_eq s t) (id_eq r q) s r t q refl refl
+    let named = source_named (kind_at w.board r) (and_parts (names_source (kind_at w.board r)) _ quiet).0 in
+    by_calls (id_eq s t) (id_eq r q) s r t q refl refl
     (λ is. same_recv w.board s r q m.0 (ap (λ (c : CallId). eligible w.board c q) (same_id s t is) ∙ n.0))
-    (λ is. same_send w.board s t r named.no_open m.0 (ap (λ (c : CallId). eligible w.board t c) (same_id r q is) ∙ n.0))
-same_or_apart w (WakeAny p i) b u v named e f = absurd (let some : Some p ≡ None = named.no_any in cc)
-same_or_apart w a b u v named e f = inr refl
-
--- Any other enabled step can be taken before it or behind it.
-pub steady : (w : World) → Sound w → KeepsBuffers w.board.mode → (a b : Step) (u v : World) → IsNamed w.board a → next w a ≡ Some u → next w b ≡ Some v → SameOrJoins u v a b
-steady w h ample a b u v named e f =
-    elim (same_or_apart w a b u v named e f) [
-      | inl same ↦ inl same
-      | inr off ↦ diamond w h ample a b u v e f off
+    (λ is. same_send w.board s t r named m.0 (ap (λ (c : CallId). eligible w.board t c) (same_id r q is) ∙ n.0))
+apart w h (Match s r) (Wake q) u v quiet e f = inr refl
+apart w h (Match s r) (WakeAny q j) u v quiet e f = inr refl
+apart w h (Match s r) Release u v quiet e f = inr refl
+apart w h (Wake p) (Local q) u v quiet e f = inr (ne_eqb p q (λ is. no_local_wake w q v u (Wake p) (local_step w q v f) (subst (λ (k : ℕ). IsWakeStep w (Wake p) k u) is (wake_step w p u e))))
+apart w h (Wake p) (Match s r) u v quiet e f = inr refl
+apart w h (Wake p) (Wake q) u v quiet e f =
+    elim (eqb_tells p q) [
+      | inl same ↦ inl (ap Wake same.1)
+      | inr off ↦ inr (ne_eqb p q off.1)
     ]
+apart w h (Wake p) (WakeAny q j) u v quiet e f =
+    inr (ne_eqb p q (λ is. never_both w h.idle q j (subst (λ (k : ℕ). can_wake w k ≡ true) is (chosen (can_wake w p) (woken w p) u e).0) (chosen (can_wake_any w q j) (woken_any w q j) v f).0))
+apart w h (Wake p) Release u v quiet e f = absurd (no_wake_release w (Wake p) p u (wake_step w p u e) (release_step w v f).0)
+apart w h (WakeAny p i) b u v quiet e f = absurd (cc)
+apart w h Release (Local q) u v quiet e f = absurd (no_local_release w q v (local_step w q v f) (release_step w u e).0)
+apart w h Release (Match s r) u v quiet e f = inr refl
+apart w h Release (Wake q) u v quiet e f = absurd (no_wake_release w (Wake q) q v (wake_step w q v f) (release_step w u e).0)
+apart w h Release (WakeAny q j) u v quiet e f = absurd (no_wake_release w (WakeAny q j) q v (any_step w q j v f) (release_step w u e).0)
+apart w h Release Release u v quiet e f = inl refl
+
+-- After a step that does not conflict with it, it is quiet as before.
+pub stays_quiet : (w : World) (a b : Step) (u v : World) → is_quiet w a ≡ true → next w a ≡ Some u → next w b ≡ Some v → conflict w a b ≡ false → is_quiet v a ≡ true
+stays_quiet w (Local p) (Local q) u v quiet e f off =
+    let b = local_step w q v f in
+    subst (λ (z : World). is_quiet z (Local p) ≡ true) b.is (ap not (lacks_elsewhere w q b.ran.rank (joining w.board q b.ran.call) None p (apart_ranks p q off)) ∙ quiet)
+stays_quiet w (Local p) (Match s r) u v quiet e f off =
+    let m = match_step w s r v f in
+    subst (λ (z : World). is_quiet z (Local p) ≡ true) m.1 (ap not (lacks_paired w s r p m.0 (not-true (lacks_slot w p) quiet)))
+stays_quiet w (Local p) (Wake q) u v quiet e f off =
+    let b = wake_step w q v f in
+    subst (λ (z : World). is_quiet z (Local p) ≡ true) b.is (ap not (lacks_elsewhere w q b.after None (Some (last_call w.board q)) p (apart_ranks p q off)) ∙ quiet)
+stays_quiet w (Local p) (WakeAny q j) u v quiet e f off =
+    let b = any_step w q j v f in
+    subst (λ (z : World). is_quiet z (Local p) ≡ true) b.is (ap not (lacks_elsewhere w q b.after None (Some (last_call w.board q)) p (apart_ranks p q off)) ∙ quiet)
+stays_quiet w (Local p) Release u v quiet e f off = absurd (cc)
+stays_quiet w (Match s r) b u v quiet e f off =
+    let m = match_step w s r u e in
+    let k = keeps w b v f in
+    (λ i. names_source (k.later.kinds r (recv_known w.board s r m.0) i) && not (is_limited (k.mode i) && is_buffered (k.later.kinds s (send_known w.board s r m.0) i))) ∙ quiet
+stays_quiet w (Wake p) b u v quiet e f off = refl
+stays_quiet w (WakeAny p i) b u v quiet e f off = absurd (cc)
+stays_quiet w Release b u v quiet e f off = refl

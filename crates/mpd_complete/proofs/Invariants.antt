@@ -13,7 +13,6 @@ use Rattle.mpd_model.specs.script.Program.{Program}
 use Rattle.mpd_model.specs.steps.World.{World, Board, RankWorld, start, start_rank, id_eq, kind_at, partner, is_limited, eligible, last_call}
 use Rattle.mpd_model.specs.steps.Next.{released, going_on, next, fold}
 use Rattle.mpd_model.specs.steps.Why.{or_else}
-use Rattle.mpd_model.specs.runs.Decisions.{any_rank, is_open_match, takes_any}
 use Rattle.mpd_meaning.specs.StepLaws.{HasCalls}
 use Rattle.mpd_complete.specs.CompleteLaws.{KeepsBuffers}
 use Rattle.mpd_complete.proofs.Sets.{partner_more, else_none, partner_by}
@@ -128,14 +127,3 @@ start_sound s mode = record {
   has = let a = length-replicate s.ranks (start_rank s) in let b = length-replicate {A = List Call} s.ranks [] in omega (arith, a, b);
   idle = idle_start s mode;
 }
-
--- ---- steps that nobody has to choose
-
-pub record IsNamed (b : Board) (a : Step) : Type 0 where
-  pub no_open : is_open_match b a ≡ false
-  pub no_any : any_rank a ≡ None
-
--- such a step stays one
-pub stays_named : (w : World) (a b : Step) (u v : World) → next w a ≡ Some u → next w b ≡ Some v → IsNamed w.board a → IsNamed v.board a
-stays_named w (Match s r) b u v e f h = record { no_open = ap takes_any ((keeps w b v f).later.kinds r (recv_known w.board s r (match_step w s r u e).0)) ∙ h.no_open; no_any = refl }
-stays_named w a b u v e f h = record { no_open = refl; no_any = h.no_any }

@@ -1,5 +1,5 @@
 -- A local step and a wake, by a waitany or not, in one form: one rank is written, it may issue a call, and a wake may be formed. What that leaves as it was.
-use Rattle.std.proofs.Common.{◌≡◌, ◌≢◌, ℕ, ℤ, ◌-◌, Bool, true, false, ◌&&◌, ◌||◌, not, Option, Some, None, is_some, option_and_then, List, [], ◌∷◌, ◌++◌, length, slice_get, slice_set, inl, inr, refl, sym, ap, subst, ◌∙◌}
+use Rattle.std.proofs.Common.{◌≡◌, ◌≢◌, ℕ, ℤ, ◌-◌, Bool, true, ◌&&◌, ◌||◌, not, Option, Some, None, is_some, option_and_then, List, [], ◌∷◌, ◌++◌, length, slice_get, slice_set, inl, inr, refl, sym, ap, subst, ◌∙◌}
 use Rattle.std.specs.Prelude.{slice_index_or}
 use Rattle.std.proofs.lemmas.Bool.Decides.{eqb_tells}
 use Rattle.std.proofs.lemmas.List.{length-set, set_comm}
@@ -9,11 +9,9 @@ use Rattle.mpd_model.specs.declared.step.Step.TheVariants.{Local, Wake, WakeAny}
 use Rattle.mpd_model.specs.declared.call.Call.{Call}
 use Rattle.mpd_model.specs.declared.call.CallKind.{CallKind}
 use Rattle.mpd_model.specs.declared.call.CallKind.TheVariants.{Wait, Waitany}
-use Rattle.mpd_model.specs.declared.call.Mode.{Mode}
-use Rattle.mpd_model.specs.declared.call.Mode.TheVariants.{Rendezvous, Buffered, Slots}
 use Rattle.mpd_model.specs.declared.call.MatchSet.{MatchSet}
 use Rattle.mpd_model.specs.declared.call.MatchSet.TheVariants.{Pair, Woke}
-use Rattle.mpd_model.specs.steps.World.{World, Board, RankWorld, call_id, listed_calls, calls_of, kind_of, kind_at, partner, is_buffered, is_done, is_limited, slots_used, message_of, awaited_by, awaited, complete_by, has_own_step, complete, last_call}
+use Rattle.mpd_model.specs.steps.World.{World, Board, RankWorld, call_id, listed_calls, calls_of, kind_of, kind_at, partner, is_buffered, is_done, slots_used, message_of, awaited_by, awaited, complete_by, has_own_step, complete, last_call}
 use Rattle.mpd_model.specs.steps.Next.{Ran, local, local_at, stepped, buffers_one, has_buffer, buffered_by, entered, with_issued, with_set, waits, can_wake, writes_of, writes_by, cleared_by, own_writes, put_at, woken_rank, wake_writes, wake_clears, woken_by, woken, request_handle, index_writes, held_in, any_handle, any_call, is_complete_some, can_wake_any, any_writes, woken_any, next}
 use Rattle.mpd_complete.specs.Same.{SameSets, Same}
 use Rattle.mpd_complete.proofs.Sets.{partner_more, else_none, sets_refl, sets_swapped, woke_disjoint}
@@ -102,30 +100,24 @@ partner_formed sets (Some d) c = partner_more sets (Woke d ∷ []) c ∙ else_no
 
 -- ---- what a rank issues beside a step of another one, which changes none of its slots
 
+pub slots_elsewhere : (w : World) (p : ℕ) (r : RankWorld) (o : Option Call) (m : Option CallId) (q : ℕ) → q ≢ p → slots_used (moved w p r o m).board q ≡ slots_used w.board q
+slots_elsewhere w p r o m q ne = λ i. used_by (listed_calls (calls_elsewhere w.board.calls p q o ne i)) (λ c. partner_formed w.board.sets m c i) q
+
 buffer_elsewhere : (w : World) (p : ℕ) (r : RankWorld) (o : Option Call) (m : Option CallId) (q : ℕ) → q ≢ p → has_buffer (moved w p r o m).board q ≡ has_buffer w.board q
-buffer_elsewhere w p r o m q ne = λ i. buffers_one w.board.mode (used_by (listed_calls (calls_elsewhere w.board.calls p q o ne i)) (λ c. partner_formed w.board.sets m c i) q)
+buffer_elsewhere w p r o m q ne = ap (buffers_one w.board.mode) (slots_elsewhere w p r o m q ne)
 
 abbrev entering : Bool → Call → Call
 entering room c = record c { kind = buffered_by room c.kind }
 
-abbrev joining_by : Bool → Option Call → Option Call
+abbrev pub joining_by : Bool → Option Call → Option Call
 joining_by room o = option_map (entering room) o
 
 joining_elsewhere : (w : World) (p : ℕ) (r : RankWorld) (o : Option Call) (m : Option CallId) (q : ℕ) (k : Option Call) → q ≢ p → joining (moved w p r o m).board q k ≡ joining w.board q k
 joining_elsewhere w p r o m q k ne = ap (λ (room : Bool). joining_by room k) (buffer_elsewhere w p r o m q ne)
 
--- and behind a match, where buffers never run out
-told_by_mode : (mode : Mode) (n k : ℕ) → is_limited mode ≡ false → buffers_one mode n ≡ buffers_one mode k
-told_by_mode Rendezvous n k e = refl
-told_by_mode Buffered n k e = refl
-told_by_mode (Slots count) n k e = absurd (cc)
-
-pub joining_paired : (w : World) (s t : CallId) (p : ℕ) (k : Option Call) → is_limited w.board.mode ≡ false → joining (paired w s t).board p k ≡ joining w.board p k
-joining_paired w s t p k e = ap (λ (room : Bool). joining_by room k) (told_by_mode w.board.mode (slots_used (paired w s t).board p) (slots_used w.board p) e)
-
 -- ---- a local step of another rank
 
-local_elsewhere : (w : World) (p : ℕ) (r : RankWorld) (o : Option Call) (m : Option CallId) (q : ℕ) → q ≢ p → local_at (moved w p r o m) q ≡ local_at w q
+pub local_elsewhere : (w : World) (p : ℕ) (r : RankWorld) (o : Option Call) (m : Option CallId) (q : ℕ) → q ≢ p → local_at (moved w p r o m) q ≡ local_at w q
 local_elsewhere w p r o m q ne =
     λ i. option_and_then (local q (length-set w.ranks p r i) (length (listed_calls (calls_elsewhere w.board.calls p q o ne i)))) (others_kept w.ranks p q r ne i)
 

@@ -14,23 +14,23 @@ use Rattle.mpd_model.specs.script.Program.{Program}
 use Rattle.mpd_model.specs.steps.World.{World, start, partner}
 use Rattle.mpd_model.specs.steps.Next.{next, fold}
 use Rattle.mpd_model.specs.runs.Decisions.{takes_any, is_open_match, decision}
-use Rattle.mpd_explore.specs.declared.report.Ending.{Ending}
-use Rattle.mpd_explore.specs.declared.report.Ending.TheVariants.{Ended, Cut}
-use Rattle.mpd_explore.specs.Walk.{Run, here, stepped, chosen, runs_of, stopped}
+use Rattle.mpd_walk.specs.declared.ending.Ending.{Ending}
+use Rattle.mpd_walk.specs.declared.ending.Ending.TheVariants.{Ended, Cut}
+use Rattle.mpd_walk.specs.Walk.{Run, here, stepped, chosen, runs_of, stopped}
+use Rattle.mpd_walk.specs.Asleep.{same_match, nothing_wakes}
+use Rattle.mpd_explore.specs.Sleeping.{awake_runs, awake_by}
 use Rattle.mpd_complete.specs.CompleteLaws.{HasNoWaitany}
-use Rattle.mpd_explore.specs.Sleeping.{same_match, is_asleep, awake_runs, awake_branches, followed_awake, awake_walk, sleeping_walk}
-use Rattle.mpd_complete.specs.Sleeping.{EndApart}
+use Rattle.mpd_complete.specs.Sleeping.{is_asleep, awake_branches, followed_awake, awake_walk, sleeping_walk, EndApart}
 use Rattle.mpd_meaning.proofs.listed.Members.{In, in_either, map_from, in_at}
 use Rattle.mpd_laws.proofs.ordered.CallsInOrder.{joined_from}
 use Rattle.mpd_laws.proofs.ordered.Eligible.{clash}
 use Rattle.mpd_complete.proofs.Pairs.{id_same, recv_known}
 use Rattle.mpd_complete.proofs.Steps.{match_step}
 use Rattle.mpd_complete.proofs.Invariants.{Sound, keeps}
-use Rattle.mpd_complete.proofs.Views.{View, view}
+use Rattle.mpd_complete.proofs.Opens.{OpensOnly, opens_only}
 use Rattle.mpd_complete.proofs.Calm.{Calm, stays_calm, fold_calm, start_calm, calm_none}
-use Rattle.mpd_complete.proofs.Walks.{only}
-use Rattle.mpd_complete.proofs.Asleep.{fold_kept, pair_made, still_on, free_unpaired, some_call}
-use Rattle.mpd_complete.proofs.Runs.{branch_from}
+use Rattle.mpd_complete.proofs.PairsStay.{fold_kept, pair_made, still_on, free_unpaired, some_call}
+use Rattle.mpd_complete.proofs.Runs.{only, branch_from}
 
 -- ---- any two of a list
 
@@ -97,7 +97,7 @@ never_behind n ih asleep u h s r v on o within a ne t k w e p =
 never_branch : (n : ℕ) → Never n → (asleep : List Step) (u : World) → Sound u → (s r : CallId) (v : World) → next u (Match s r) ≡ Some v → is_open_match u.board (Match s r) ≡ true → In asleep (Match s r)
     → (i : ℕ) (candidates : List Step) (t : Run) → In (awake_branches true (awake_walk true n) u asleep i candidates) t → (w : World) → fold u t.steps ≡ Some w → partner w.board.sets r ≡ Some s → ⊥
 never_branch n ih asleep u h s r v on o within i candidates t k w e p =
-    let b = branch_from true (awake_walk true n) u asleep i candidates t k in
+    let b = branch_from same_match nothing_wakes true (awake_walk true n) u asleep i candidates t k in
     never_behind n ih b.others u h s r v on o (b.more (Match s r) within) b.step (not_asleep b.others b.step s r b.awake (b.more (Match s r) within)) b.rest b.within w
     (ap (λ (y : Run). fold u y.steps) b.is ∙ e) p
 
@@ -115,17 +115,17 @@ never_none u s r v on (Choice candidates) t k w e p = never_here u s r v on Cut 
 never_none u s r v on (Leaf o) t k w e p = never_here u s r v on (Ended o) t (only (here (Ended o)) t k) w e p
 
 never_more : (n : ℕ) → Never n → (asleep : List Step) (u : World) → Sound u → (s r : CallId) (v : World) → next u (Match s r) ≡ Some v → is_open_match u.board (Match s r) ≡ true → In asleep (Match s r)
-    → (d : Decision) → View u d → (t : Run) → In (followed_awake true (awake_walk true n) asleep u d) t → (w : World) → fold u t.steps ≡ Some w → partner w.board.sets r ≡ Some s → ⊥
+    → (d : Decision) → OpensOnly u d → (t : Run) → In (followed_awake true (awake_walk true n) asleep u d) t → (w : World) → fold u t.steps ≡ Some w → partner w.board.sets r ≡ Some s → ⊥
 never_more n ih asleep u h s r v on o within (Forced a) is t k w e p =
     let m = map_from (stepped a) (runs_of (awake_walk true n asleep) (next u a)) t k in
-    never_behind n ih asleep u h s r v on o within a (λ same. clash (ap (is_open_match u.board) same ∙ o) is.named.no_open) m.0 m.1 w (ap (λ (y : Run). fold u y.steps) m.2 ∙ e) p
+    never_behind n ih asleep u h s r v on o within a (λ same. clash (ap (is_open_match u.board) same ∙ o) is) m.0 m.1 w (ap (λ (y : Run). fold u y.steps) m.2 ∙ e) p
 never_more n ih asleep u h s r v on o within (Choice candidates) is t k w e p = never_branch n ih asleep u h s r v on o within 0 candidates t k w e p
 never_more n ih asleep u h s r v on o within (Leaf l) is t k w e p = never_here u s r v on (Ended l) t (only (here (Ended l)) t k) w e p
 
 never : (n : ℕ) → Never n
-unfolding awake_walk
+unfolding awake_by
 never zero asleep u h s r v on o within t k w e p = never_none u s r v on (decision u) t k w e p
-never (suc n) asleep u h s r v on o within t k w e p = never_more n (never n) asleep u h s r v on o within (decision u) (view u h) t k w e p
+never (suc n) asleep u h s r v on o within t k w e p = never_more n (never n) asleep u h s r v on o within (decision u) (opens_only u) t k w e p
 
 -- ---- no end twice
 
@@ -172,9 +172,9 @@ once_branches n ih u h i (a ∷ more) asleep on opens =
     (once_branches n ih u h (suc i) more (a ∷ asleep) (λ b j. on b (inr j)) (λ b j. opens b (inr j)))
     (λ r t j k. cross n asleep u h i a (on a (inl refl)) (opens a (inl refl)) more r t j k)
 
-once_more : (n : ℕ) → Once n → (asleep : List Step) (u : World) → Calm u → (d : Decision) → View u d → EachTwo (EndApart u) (followed_awake true (awake_walk true n) asleep u d)
+once_more : (n : ℕ) → Once n → (asleep : List Step) (u : World) → Calm u → (d : Decision) → OpensOnly u d → EachTwo (EndApart u) (followed_awake true (awake_walk true n) asleep u d)
 once_more n ih asleep u h (Forced a) is = once_behind n ih asleep u h a (stepped a) (λ r. refl) (next u a) refl
-once_more n ih asleep u h (Choice candidates) is = once_branches n ih u h 0 candidates asleep is.each (is.among (calm_none u h)).opens
+once_more n ih asleep u h (Choice candidates) is = once_branches n ih u h 0 candidates asleep (λ a j. (is a j).0) (λ a j. (is a j).1 (calm_none u h))
 once_more n ih asleep u h (Leaf o) is = alone u (here (Ended o))
 
 once_none : (u : World) (d : Decision) → EachTwo (EndApart u) (stopped d)
@@ -183,9 +183,9 @@ once_none u (Choice candidates) = alone u (here Cut)
 once_none u (Leaf o) = alone u (here (Ended o))
 
 once : (n : ℕ) → Once n
-unfolding awake_walk
+unfolding awake_by
 once zero asleep u h = once_none u (decision u)
-once (suc n) asleep u h = once_more n (once n) asleep u h (decision u) (view u h.sound)
+once (suc n) asleep u h = once_more n (once n) asleep u h (decision u) (opens_only u)
 
 pub have_no_end_twice : (s : Program) → HasNoWaitany s → (mode : Mode) (before : List Step) (u : World) → fold (start s mode) before ≡ Some u → (fuel : ℕ) → AllPairs (EndApart u) (sleeping_walk fuel u)
 have_no_end_twice s none mode before u e fuel = each_pairs (EndApart u) (awake_walk true fuel [] u) (once fuel [] u (fold_calm before (start s mode) u e (start_calm s none mode)))

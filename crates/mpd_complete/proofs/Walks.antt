@@ -1,26 +1,25 @@
--- The step that nobody has to choose is brought to the front of a run. What the runs of any walk have in common.
-use Rattle.std.proofs.Common.{◌≡◌, ◌≢◌, ◌⊎◌, ℕ, zero, suc, ◌+◌, ◌≤◌, true, false, Option, Some, None, is_some, option_and_then, List, [], ◌∷◌, ◌++◌, length, length-append, inl, inr, refl, sym, ap, subst, ◌∙◌, arith}
+-- A quiet step is brought to the front of a run. What the runs of any walk have in common.
+use Rattle.std.proofs.Common.{◌≡◌, ◌⊎◌, ℕ, zero, suc, ◌+◌, ◌≤◌, true, false, Option, Some, is_some, option_and_then, List, [], ◌∷◌, ◌++◌, length, length-append, inl, inr, refl, sym, ap, subst, ◌∙◌, arith}
 use Rattle.std.proofs.lemmas.Bool.{or_parts}
 use Rattle.std.specs.List.{list_any}
 use Rattle.mpd_model.specs.declared.step.Step.{Step}
 use Rattle.mpd_model.specs.declared.call.Mode.{Mode}
 use Rattle.mpd_model.specs.declared.outcome.Outcome.{Outcome}
-use Rattle.mpd_model.specs.declared.decision.Decision.{Decision}
-use Rattle.mpd_model.specs.declared.decision.Decision.TheVariants.{Forced, Choice, Leaf}
 use Rattle.mpd_model.specs.script.Program.{Program}
 use Rattle.mpd_model.specs.steps.World.{World, start}
 use Rattle.mpd_model.specs.steps.Next.{next, fold, enabled}
 use Rattle.mpd_model.specs.steps.Outcomes.{ending}
-use Rattle.mpd_explore.specs.declared.report.Ending.TheVariants.{Ended, Cut}
-use Rattle.mpd_explore.specs.Walk.{Run, here, runs_of, stopped}
+use Rattle.mpd_walk.specs.declared.ending.Ending.TheVariants.{Ended}
+use Rattle.mpd_walk.specs.Walk.{Run, here}
 use Rattle.mpd_complete.specs.Same.{Same}
-use Rattle.mpd_complete.specs.CompleteLaws.{Joins, KeepsBuffers, was_cut, IsWhole, IsListed, GoesOnToAnEnd, IsRun, apart}
+use Rattle.mpd_policy.specs.Wide.{conflict, is_quiet}
+use Rattle.mpd_complete.specs.CompleteLaws.{Joins, was_cut, IsWhole, IsListed, GoesOnToAnEnd}
 use Rattle.mpd_laws.proofs.ordered.CallsInOrder.{joined_from}
 use Rattle.mpd_complete.proofs.Worlds.{same_refl, same_sym, same_trans, ending_same, follows, follows_all}
 use Rattle.mpd_meaning.proofs.listed.Members.{In, contains_in}
-use Rattle.mpd_complete.proofs.Invariants.{Sound, IsNamed, keeps, stays_ample, fold_ample, fold_sound, start_sound, stays_named}
-use Rattle.mpd_complete.proofs.Diamond.{diamond, steady}
-use Rattle.mpd_complete.proofs.Views.{world_of, in_enabled, from_enabled, Stuck, LeafView, View}
+use Rattle.mpd_complete.proofs.Invariants.{Sound, keeps, fold_sound, start_sound}
+use Rattle.mpd_complete.proofs.Diamond.{diamond, apart, stays_quiet}
+use Rattle.mpd_complete.proofs.Views.{world_of, in_enabled, from_enabled, Stuck, LeafView}
 
 -- ---- a step comes to the front
 
@@ -34,25 +33,26 @@ pub record IsLeft (steps rest : List Step) (a : Step) (v end : World) : Type 0 w
   pub leads : next v a ≡ Some world
   pub same : Same world end
 
--- steps to v, and other steps behind the first one
+-- steps to v, and other steps after the first one
 pub record Fronted (steps : List Step) (a : Step) (u v : World) : Type 0 where
   pub rest : List Step
   pub end : World
   pub leads : fold u rest ≡ Some end
   pub either : WasTaken steps rest v end ⊎ IsLeft steps rest a v end
 
-pub front : (steps : List Step) (a : Step) (w u v : World) → Sound w → KeepsBuffers w.board.mode → IsNamed w.board a → next w a ≡ Some u → fold w steps ≡ Some v → Fronted steps a u v
-front [] a w u v h ample named e f =
+pub front : (steps : List Step) (a : Step) (w u v : World) → Sound w → is_quiet w a ≡ true → next w a ≡ Some u → fold w steps ≡ Some v → Fronted steps a u v
+front [] a w u v h quiet e f =
     let is : w ≡ v = cc in
     record { rest = []; end = u; leads = refl; either = inr (record { as_long = refl; world = u; leads = subst (λ (z : World). next z a ≡ Some u) is e; same = same_refl u }) }
-front (b ∷ steps) a w u v h ample named e f =
+front (b ∷ steps) a w u v h quiet e f =
     let after = joined_from (λ x. fold x steps) (next w b) v f in
-    elim (steady w h ample a b u after.0 named e after.1) [
+    elim (apart w h a b u after.0 quiet e after.1) [
       | inl same ↦
           let is : u ≡ after.0 = some_same (sym e ∙ ap (next w) same ∙ after.1) in
           record { rest = steps; end = v; leads = ap (λ (z : World). fold z steps) is ∙ after.2; either = inl (refl, same_refl v) }
-      | inr joins ↦
-          behind joins (front steps a after.0 joins.behind_b v ((keeps w b after.0 after.1).sound h) (stays_ample w b after.0 after.1 ample) (stays_named w a b u after.0 e after.1 named) joins.by_a after.2)
+      | inr off ↦
+          let joins = diamond w h a b u after.0 e after.1 off in
+          behind joins (front steps a after.0 joins.behind_b v ((keeps w b after.0 after.1).sound h) (stays_quiet w a b u after.0 quiet e after.1 off) joins.by_a after.2)
     ]
   where
     some_same : {x y : World} → Some x ≡ Some y → x ≡ y
@@ -90,7 +90,7 @@ whole_each [] e r h = absurd h
 whole_each (x ∷ xs) e r (inl is) = ap (λ (y : Run). was_cut y.ending) (sym is) ∙ (or_parts (was_cut x.ending) (list_any (λ y. was_cut y.ending) xs) e).0
 whole_each (x ∷ xs) e r (inr h) = whole_each xs (or_parts (was_cut x.ending) (list_any (λ y. was_cut y.ending) xs) e).1 r h
 
--- a run that goes on from a world behind one step
+-- a run that goes on from a world after one step
 pub behind_step : (runs more : List Run) (a : Step) (put : Run → Run) (u x w v : World) → ((r : Run) → In more r → In runs (put r)) → ((r : Run) → (put r).steps ≡ a ∷ r.steps) → ((r : Run) → (put r).ending ≡ r.ending)
     → next u a ≡ Some x → Same w v → Found more x v → Found runs u w
 behind_step runs more a put u x w v within steps ends e same k = record {
@@ -172,48 +172,6 @@ stuck_from w h e a on = subst (λ (xs : List Step). In xs a) e (in_enabled w h a
 pub listed_from : (runs : List Run) (u w : World) → Found runs u w → IsListed runs u w
 listed_from runs u w k = record { run = k.run; listed = contains_in runs k.run k.listed; ending = k.ending; end = k.end; leads = k.leads; same = k.same }
 
-pub commute : (s : Program) (mode : Mode) → KeepsBuffers mode → (steps : List Step) (w : World) → fold (start s mode) steps ≡ Some w
-    → (a b : Step) (u v : World) → next w a ≡ Some u → next w b ≡ Some v → a ≢ b → apart a b ≡ true → Joins u v a b
-commute s mode ample steps w e a b u v f g ne off =
-    elim (diamond w (fold_sound steps (start s mode) w e (start_sound s mode)) (fold_ample steps (start s mode) w e ample) a b u v f g off) [
-      | inl same ↦ absurd (ne same)
-      | inr joins ↦ joins
-    ]
-
--- ---- runs of a walk are runs
-
-empty_enabled : (w : World) → Stuck w → enabled w ≡ []
-empty_enabled w all = by_list (enabled w) refl
-  where
-    by_list : (on : List Step) → enabled w ≡ on → on ≡ []
-    by_list [] is = refl
-    by_list (a ∷ on) is = absurd (all a (from_enabled w a (subst (λ (xs : List Step). In xs a) (sym is) (inl refl))))
-
--- a run behind a step
-pub run_behind : (u x : World) (a : Step) (r t : Run) → next u a ≡ Some x → t.steps ≡ a ∷ r.steps → t.ending ≡ r.ending → IsRun x r → IsRun u t
-run_behind u x a r t e steps ends k = record {
-  end = k.end;
-  leads = ap (fold u) steps ∙ ap (option_and_then (λ z. fold z r.steps)) e ∙ k.leads;
-  ended = λ whole. let m = k.ended (sym (ap was_cut ends) ∙ whole) in (m.0, ends ∙ m.1);
-}
-
-pub run_here : (u : World) (t : Run) → here Cut ≡ t → IsRun u t
-run_here u t is = subst (IsRun u) is (record { end = u; leads = refl; ended = λ whole. absurd (cc) })
-
-pub run_ended : (u : World) (o : Outcome) (t : Run) → LeafView u o → here (Ended o) ≡ t → IsRun u t
-run_ended u o t leaf is = subst (IsRun u) is (record { end = u; leads = refl; ended = λ whole. (empty_enabled u leaf.stuck, ap Ended leaf.is) })
-
-pub only : {A : Type 0} (x y : A) → In (x ∷ []) y → x ≡ y
-only x y (inl e) = e
-only x y (inr h) = absurd h
-
-pub run_stopped : (u : World) (d : Decision) → View u d → (t : Run) → In (stopped d) t → IsRun u t
-run_stopped u (Forced a) is t k = run_here u t (only (here Cut) t k)
-run_stopped u (Choice candidates) is t k = run_here u t (only (here Cut) t k)
-run_stopped u (Leaf o) is t k = run_ended u o t is (only (here (Ended o)) t k)
-
--- runs behind a world that is there
-pub run_from_world : (runs : World → List Run) (u : World) (a : Step) (o : Option World) → next u a ≡ o → (r t : Run) → In (runs_of runs o) r → ((x : World) → next u a ≡ Some x → In (runs x) r → IsRun x r)
-    → t.steps ≡ a ∷ r.steps → t.ending ≡ r.ending → IsRun u t
-run_from_world runs u a None e r t k ih steps ends = absurd k
-run_from_world runs u a (Some x) e r t k ih steps ends = run_behind u x a r t e steps ends (ih x e k)
+pub commute : (s : Program) (mode : Mode) (steps : List Step) (w : World) → fold (start s mode) steps ≡ Some w
+    → (a b : Step) (u v : World) → next w a ≡ Some u → next w b ≡ Some v → conflict w a b ≡ false → Joins u v a b
+commute s mode steps w e = diamond w (fold_sound steps (start s mode) w e (start_sound s mode))

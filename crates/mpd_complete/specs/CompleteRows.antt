@@ -4,8 +4,6 @@ use Rattle.std.specs.List.{list_any}
 use Rattle.std.proofs.Common.{arith}
 use Rattle.mpd_model.specs.declared.place.DeclKind.TheVariants.{Variable}
 use Rattle.mpd_model.specs.declared.expr.BinaryOp.TheVariants.{Equal, Less, Subtract}
-use Rattle.mpd_model.specs.declared.step.Step.{Step}
-use Rattle.mpd_model.specs.declared.step.Step.TheVariants.{Match, Wake, WakeAny}
 use Rattle.mpd_model.specs.declared.call.Mode.TheVariants.{Rendezvous, Buffered}
 use Rattle.mpd_model.specs.declared.stmt.Simple.TheVariants as st
 use Rattle.mpd_model.specs.declared.outcome.Outcome.TheVariants as o
@@ -15,11 +13,12 @@ use Rattle.mpd_model.specs.script.Tree.{Tree, simple, branch, no_more, then_more
 use Rattle.mpd_model.specs.script.Program.{Program}
 use Rattle.mpd_model.specs.steps.World.{call_id, start}
 use Rattle.mpd_model.specs.runs.Decisions.{decision}
-use Rattle.mpd_explore.specs.declared.report.Ending.{Ending}
-use Rattle.mpd_explore.specs.declared.report.Ending.TheVariants.{Ended}
-use Rattle.mpd_explore.specs.Walk.{Run, walk}
-use Rattle.mpd_complete.specs.CompleteLaws.{was_cut, apart, HasNoWaitany}
-use Rattle.mpd_explore.specs.Sleeping.{awake_walk, sleeping_walk}
+use Rattle.mpd_walk.specs.declared.ending.Ending.{Ending}
+use Rattle.mpd_walk.specs.declared.ending.Ending.TheVariants.{Ended}
+use Rattle.mpd_walk.specs.Walk.{Run, walk}
+use Rattle.mpd_complete.specs.CompleteLaws.{was_cut, HasNoWaitany}
+use Rattle.mpd_explore.specs.Sleeping.{awake_by}
+use Rattle.mpd_complete.specs.Sleeping.{sleeping_walk}
 
 abbrev n : ℕ → Term
 n k = lit (pos k)
@@ -56,12 +55,6 @@ pub row_cut : map {B = Bool} (λ (f : ℕ). list_any (λ r. was_cut r.ending) (w
 unfolding walk decision
 row_cut = refl
 
--- two matches of one receive, and two steps of one rank's waitany, are the only steps here that are not apart
-pub row_apart : map {B = Bool} (λ (s : Step × Step). apart s.0 s.1)
-    ((Match (call_id 1 0) (call_id 0 0), Match (call_id 2 0) (call_id 0 0)) ∷ (Match (call_id 1 0) (call_id 0 0), Match (call_id 2 0) (call_id 0 1)) ∷ (Wake 1, Match (call_id 1 0) (call_id 0 0)) ∷ (WakeAny 1 0, WakeAny 1 1) ∷ (WakeAny 1 0, WakeAny 2 0) ∷ (Wake 1, WakeAny 1 0) ∷ [])
-    ≡ false ∷ true ∷ true ∷ false ∷ true ∷ true ∷ []
-row_apart = refl
-
 -- no statement of it is a waitany
 pub row_none : HasNoWaitany racing
 row_none = (((omega arith, (omega arith, tt)), (omega arith, tt)), tt)
@@ -87,13 +80,13 @@ unfolding walk decision
 row_orders = refl
 
 pub row_one_order : map {B = List ℕ × Ending} (λ (r : Run). (r.choices, r.ending)) (sleeping_walk 20 (start pairs Rendezvous)) ≡ (0 ∷ 0 ∷ [], Ended o.Done) ∷ []
-unfolding awake_walk decision
+unfolding awake_by decision
 row_one_order = refl
 
 -- two matches of one receive are two ends in both
 pub row_both_ends : map {B = List ℕ × Ending} (λ (r : Run). (r.choices, r.ending)) (sleeping_walk 13 (start racing Rendezvous))
     ≡ (0 ∷ [], Ended o.Done) ∷ (1 ∷ [], Ended (o.Deadlock (call_id 0 1 ∷ call_id 1 0 ∷ []))) ∷ []
-unfolding awake_walk decision
+unfolding awake_by decision
 row_both_ends = refl
 
 -- three pairs of ranks: six orders, and one
@@ -104,5 +97,5 @@ three_pairs = record pairs {
 }
 
 pub row_six_orders : length (walk 30 (start three_pairs Buffered)) ∷ length (sleeping_walk 30 (start three_pairs Buffered)) ∷ [] ≡ 6 ∷ 1 ∷ []
-unfolding walk awake_walk decision
+unfolding walk awake_by decision
 row_six_orders = refl

@@ -1,5 +1,5 @@
--- What a report says of all runs: where it says that there are no more leaves, and none of its leaves is cut.
-use Rattle.std.specs.Prelude.{◌≡◌, ◌≤◌, false, List, [], length, map, Some}
+-- What a report says of all runs, where it says that there are no more leaves, and none of its leaves is cut.
+use Rattle.std.specs.Prelude.{◌≡◌, ◌≤◌, ◌⊎◌, ℕ, true, false, List, [], length, map, Some}
 use Rattle.std.specs.List.{list_any, Contains}
 use Rattle.mpd_model.specs.declared.step.Step.{Step}
 use Rattle.mpd_model.specs.declared.call.Mode.{Mode}
@@ -7,12 +7,30 @@ use Rattle.mpd_model.specs.script.Program.{Program}
 use Rattle.mpd_model.specs.steps.World.{World, start}
 use Rattle.mpd_model.specs.steps.Next.{fold, enabled}
 use Rattle.mpd_model.specs.steps.Outcomes.{ending}
-use Rattle.mpd_explore.specs.declared.report.Ending.TheVariants.{Ended}
+use Rattle.mpd_walk.specs.declared.ending.Ending.TheVariants.{Ended}
+use Rattle.mpd_walk.specs.Walk.{wide_walk}
 use Rattle.mpd_explore.specs.declared.report.Leaf.{Leaf}
 use Rattle.mpd_explore.specs.declared.report.Limits.{Limits}
 use Rattle.mpd_explore.specs.Sleeping.{walk_of}
 use Rattle.mpd_explore.specs.Report.{shown, listed, left_out}
 use Rattle.mpd_complete.specs.CompleteLaws.{HasNoWaitany, KeepsBuffers, was_cut, GoesOnToAnEnd}
+
+-- ---- what leaves say of all runs
+
+abbrev pub NoneIsCut : List Leaf → Type 0
+NoneIsCut leaves = list_any (λ x. was_cut x.ending) leaves ≡ false
+
+-- Every run from u that can't go on has an outcome that is a leaf's.
+abbrev pub HaveAllOutcomes : List Leaf → World → Type 0
+HaveAllOutcomes leaves u =
+    (steps : List Step) (w : World) → fold u steps ≡ Some w → enabled w ≡ []
+    → (x : Leaf) × Contains leaves x × (x.ending ≡ Ended (ending w))
+
+-- None has more steps than the fuel, and each can be continued until no step is enabled.
+abbrev pub BoundsAllRuns : ℕ → World → Type 0
+BoundsAllRuns fuel u = (steps : List Step) (w : World) → fold u steps ≡ Some w → (length steps ≤ fuel) × GoesOnToAnEnd w
+
+-- ---- a report of a walk
 
 -- the leaves of all runs with so much fuel, each end once or in every order
 abbrev pub all_leaves : Limits → World → List Leaf
@@ -22,18 +40,30 @@ all_leaves l u = map shown (walk_of l u)
 abbrev pub reported : Limits → World → List Leaf
 reported l u = listed l (all_leaves l u)
 
--- Every run that can't go on has an outcome that is a leaf's.
+-- The walk that is asked for leaves out no end: where each end is asked for once it is a wide walk, whatever the script and the mode; where
+-- every order is, it is one where the script has no waitany, and buffers never run out.
+abbrev pub HasAllEnds : Program → Mode → Limits → Type 0
+HasAllEnds s mode l = (l.ends ≡ true) ⊎ (HasNoWaitany s × KeepsBuffers mode)
+
 abbrev pub ReportsHaveAllOutcomes : Type 0
 ReportsHaveAllOutcomes =
-    (s : Program) → HasNoWaitany s → (mode : Mode) → KeepsBuffers mode → (before : List Step) (u : World) → fold (start s mode) before ≡ Some u
-    → (l : Limits) → left_out l (all_leaves l u) ≡ false → list_any (λ x. was_cut x.ending) (reported l u) ≡ false
-    → (steps : List Step) (w : World) → fold u steps ≡ Some w → enabled w ≡ []
-    → (x : Leaf) × Contains (reported l u) x × (x.ending ≡ Ended (ending w))
+    (s : Program) (mode : Mode) (l : Limits) → HasAllEnds s mode l → (before : List Step) (u : World) → fold (start s mode) before ≡ Some u
+    → left_out l (all_leaves l u) ≡ false → NoneIsCut (reported l u) → HaveAllOutcomes (reported l u) u
 
--- None has more steps than the fuel, and each can be continued until no step is enabled.
 abbrev pub ReportsBoundAllRuns : Type 0
 ReportsBoundAllRuns =
-    (s : Program) → HasNoWaitany s → (mode : Mode) → KeepsBuffers mode → (before : List Step) (u : World) → fold (start s mode) before ≡ Some u
-    → (l : Limits) → left_out l (all_leaves l u) ≡ false
-    → list_any (λ x. was_cut x.ending) (reported l u) ≡ false
-    → (steps : List Step) (w : World) → fold u steps ≡ Some w → (length steps ≤ l.fuel) × GoesOnToAnEnd w
+    (s : Program) (mode : Mode) (l : Limits) → HasAllEnds s mode l → (before : List Step) (u : World) → fold (start s mode) before ≡ Some u
+    → left_out l (all_leaves l u) ≡ false → NoneIsCut (reported l u) → BoundsAllRuns l.fuel u
+
+-- ---- a report of runs that were drawn
+
+-- Where it says that there are no more, its leaves are those of the wide walk.
+abbrev pub SamplesHaveAllOutcomes : Type 0
+SamplesHaveAllOutcomes =
+    (s : Program) (mode : Mode) (before : List Step) (u : World) → fold (start s mode) before ≡ Some u
+    → (fuel : ℕ) (leaves : List Leaf) → leaves ≡ map shown (wide_walk fuel u) → NoneIsCut leaves → HaveAllOutcomes leaves u
+
+abbrev pub SamplesBoundAllRuns : Type 0
+SamplesBoundAllRuns =
+    (s : Program) (mode : Mode) (before : List Step) (u : World) → fold (start s mode) before ≡ Some u
+    → (fuel : ℕ) (leaves : List Leaf) → leaves ≡ map shown (wide_walk fuel u) → NoneIsCut leaves → BoundsAllRuns fuel u

@@ -1,15 +1,41 @@
--- What holds of the walk that sleeps.
-use Rattle.std.specs.Prelude.{◌≡◌, ℕ, true, false, List, [], Some}
-use Rattle.std.specs.List.{AllPairs, Contains}
+-- The walk by the decisions in which steps may be asleep: only matches are, and none wakes. And what holds of it.
+use Rattle.std.specs.Prelude.{◌≡◌, ℕ, Bool, true, false, List, [], Some}
+use Rattle.std.specs.List.{list_any, AllPairs, Contains}
 use Rattle.mpd_model.specs.declared.step.Step.{Step}
+use Rattle.mpd_model.specs.declared.decision.Decision.{Decision}
 use Rattle.mpd_model.specs.declared.call.Mode.{Mode}
 use Rattle.mpd_model.specs.script.Program.{Program}
 use Rattle.mpd_model.specs.steps.World.{World, start}
 use Rattle.mpd_model.specs.steps.Next.{fold}
-use Rattle.mpd_explore.specs.Walk.{Run, walk}
-use Rattle.mpd_explore.specs.Sleeping.{awake_walk, sleeping_walk}
+use Rattle.mpd_model.specs.runs.Decisions.{decision}
+use Rattle.mpd_walk.specs.Asleep.{same_match, nothing_wakes}
+use Rattle.mpd_walk.specs.Walk.{Run, walk}
+use Rattle.mpd_explore.specs.Sleeping.{branches_by, followed_by, awake_by}
 use Rattle.mpd_complete.specs.Same.{Same}
 use Rattle.mpd_complete.specs.CompleteLaws.{HasNoWaitany, KeepsBuffers, IsWhole, IsComplete, IsRun}
+
+-- ---- the walk
+
+abbrev pub is_asleep : List Step → Step → Bool
+is_asleep asleep a = list_any (same_match a) asleep
+
+-- the runs by each of some candidates
+abbrev pub awake_branches : Bool → (List Step → World → List Run) → World → List Step → ℕ → List Step → List Run
+awake_branches = branches_by same_match nothing_wakes
+
+-- the runs after a decision
+abbrev pub followed_awake : Bool → (List Step → World → List Run) → List Step → World → Decision → List Run
+followed_awake = followed_by same_match nothing_wakes
+
+-- the leaves of the runs from a state with so much fuel, while these steps are asleep: with `true` what was tried falls asleep, with `false`
+-- nothing does
+abbrev pub awake_walk : Bool → ℕ → List Step → World → List Run
+awake_walk = awake_by decision same_match nothing_wakes
+
+abbrev pub sleeping_walk : ℕ → World → List Run
+sleeping_walk fuel w = awake_walk true fuel [] w
+
+-- ---- what holds of it
 
 -- Where nothing falls asleep it is the walk with every order.
 abbrev pub WalksWhereNothingSleeps : Type 0

@@ -1,5 +1,5 @@
--- Worked rows of a mode whose buffers run out, in which a walk that is nowhere cut leaves out an end, and two steps that share no call
--- lead to two worlds. What is wanted was worked out by hand.
+-- Worked rows of a mode whose buffers run out, in which a walk that is nowhere cut leaves out an end, and two steps that share no call but
+-- conflict lead to two worlds. What is wanted was worked out by hand.
 use Rattle.std.specs.Prelude.{◌≡◌, ◌≤◌, ℕ, ◌+◌, pos, Bool, true, false, map, List, [], ◌∷◌, ◌++◌, slice_get, replicate, Option, Some, None, is_some, codes, refl}
 use Rattle.std.specs.Option.{option_map}
 use Rattle.std.proofs.Common.{arith, sym, ap, ◌∙◌}
@@ -20,11 +20,13 @@ use Rattle.mpd_model.specs.steps.World.{World, start, call_id, listed_calls, kin
 use Rattle.mpd_model.specs.steps.Next.{next, fold, enabled}
 use Rattle.mpd_model.specs.steps.Outcomes.{ending}
 use Rattle.mpd_model.specs.runs.Decisions.{decision}
-use Rattle.mpd_explore.specs.declared.report.Ending.{Ending}
-use Rattle.mpd_explore.specs.declared.report.Ending.TheVariants.{Ended}
-use Rattle.mpd_explore.specs.Walk.{Run, walk}
-use Rattle.mpd_complete.specs.CompleteLaws.{HasNoWaitany, KeepsBuffers, apart, Joins, IsWhole, IsComplete}
-use Rattle.mpd_explore.specs.Sleeping.{awake_walk, sleeping_walk}
+use Rattle.mpd_policy.specs.Wide.{conflict}
+use Rattle.mpd_walk.specs.declared.ending.Ending.{Ending}
+use Rattle.mpd_walk.specs.declared.ending.Ending.TheVariants.{Ended}
+use Rattle.mpd_walk.specs.Walk.{Run, walk}
+use Rattle.mpd_complete.specs.CompleteLaws.{HasNoWaitany, KeepsBuffers, Joins, IsWhole, IsComplete}
+use Rattle.mpd_explore.specs.Sleeping.{awake_by}
+use Rattle.mpd_complete.specs.Sleeping.{sleeping_walk}
 
 abbrev n : ℕ → Term
 n k = lit (pos k)
@@ -39,7 +41,7 @@ abbrev isend : ℕ → ℕ → Tree
 isend k tag = simple (st.Isend (record { request = request k; send = record { value = n 1; to = n 1; tag = n tag } }))
 
 -- var x; req r[2]; if rank == 0 { isend r[0] 1 to 1 tag 0; isend r[1] 1 to 1 tag 1; wait r[1]; and then these } else { recv x from 0 tag 0; }
-abbrev two_sends : Block → Program
+abbrev pub two_sends : Block → Program
 two_sends behind = record {
   version = 1;
   ranks = 2;
@@ -51,11 +53,11 @@ two_sends behind = record {
   lines = replicate (5 + statements_in behind) 2;
 }
 
-abbrev first_pair : Step
+abbrev pub first_pair : Step
 first_pair = Match (call_id 0 0) (call_id 1 0)
 
 -- the first send and the receive are there
-abbrev both_there : List Step
+abbrev pub both_there : List Step
 both_there = Local 0 ∷ Local 0 ∷ Local 1 ∷ Local 1 ∷ []
 
 -- the match comes before the second send, which so finds a slot
@@ -64,7 +66,7 @@ matched_first = both_there ++ first_pair ∷ Local 0 ∷ Local 0 ∷ Wake 0 ∷ 
 
 -- ---- an end that is left out
 
-abbrev ending_there : Program
+abbrev pub ending_there : Program
 ending_there = two_sends no_more
 
 -- with one slot the walk, which takes local steps first, comes to a deadlock: it waits for the second send, which found no slot
@@ -73,7 +75,7 @@ unfolding walk decision
 row_walk = refl
 
 pub row_sleeping_walk : map {B = List ℕ × Ending} (λ (r : Run). (r.choices, r.ending)) (sleeping_walk 8 (start ending_there (Slots 1))) ≡ ([], Ended (o.Deadlock (call_id 0 2 ∷ []))) ∷ []
-unfolding awake_walk decision
+unfolding awake_by decision
 row_sleeping_walk = refl
 
 -- with the match first it ends, and the second message is left over
@@ -107,11 +109,11 @@ row_longer = refl
 
 -- ---- two steps that don't commute
 
-abbrev world_of : Option World → World
+abbrev pub world_of : Option World → World
 world_of None = start ending_there (Slots 1)
 world_of (Some w) = w
 
-abbrev behind : List Step → World
+abbrev pub behind : List Step → World
 behind steps = world_of (fold (start ending_there (Slots 1)) steps)
 
 -- whether the second send of rank 0 was buffered
@@ -121,8 +123,8 @@ second_is_buffered calls = is_buffered (kind_of (slice_get (listed_calls (slice_
 pub row_enabled : enabled (behind both_there) ≡ Local 0 ∷ first_pair ∷ []
 row_enabled = refl
 
-pub row_apart : apart (Local 0) first_pair ≡ true
-row_apart = refl
+pub row_conflict : conflict (behind both_there) (Local 0) first_pair ≡ true
+row_conflict = refl
 
 -- the local step first, and the match first
 pub row_two_worlds : map {B = Bool} (λ (steps : List Step). second_is_buffered (behind (both_there ++ steps)).board.calls) ((Local 0 ∷ first_pair ∷ []) ∷ (first_pair ∷ Local 0 ∷ []) ∷ []) ≡ false ∷ true ∷ []

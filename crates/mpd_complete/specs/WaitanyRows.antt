@@ -19,11 +19,12 @@ use Rattle.mpd_model.specs.steps.World.{call_id, start}
 use Rattle.mpd_model.specs.steps.Next.{fold, enabled}
 use Rattle.mpd_model.specs.steps.Outcomes.{ending}
 use Rattle.mpd_model.specs.runs.Decisions.{decision}
-use Rattle.mpd_explore.specs.declared.report.Ending.{Ending}
-use Rattle.mpd_explore.specs.declared.report.Ending.TheVariants.{Ended}
-use Rattle.mpd_explore.specs.Walk.{Run, walk}
+use Rattle.mpd_walk.specs.declared.ending.Ending.{Ending}
+use Rattle.mpd_walk.specs.declared.ending.Ending.TheVariants.{Ended}
+use Rattle.mpd_walk.specs.Walk.{Run, walk}
 use Rattle.mpd_complete.specs.CompleteLaws.{HasNoWaitany}
-use Rattle.mpd_explore.specs.Sleeping.{awake_walk, sleeping_walk}
+use Rattle.mpd_explore.specs.Sleeping.{awake_by}
+use Rattle.mpd_complete.specs.Sleeping.{sleeping_walk}
 
 abbrev n : ℕ → Term
 n k = lit (pos k)
@@ -68,7 +69,7 @@ is_first = op2 Equal (cell i) (n 0)
 
 -- ---- an end that is left out: assert i == 0;
 
-abbrev asserting : Program
+abbrev pub asserting : Program
 asserting = of_two (simple (st.Assert is_first) ∷ [])
 
 pub row_walk : map {B = List ℕ × Ending} (λ (r : Run). (r.choices, r.ending)) (walk 6 (start asserting Buffered)) ≡ (0 ∷ 0 ∷ [], Ended o.Done) ∷ []
@@ -93,14 +94,14 @@ row_longer = refl
 
 -- ---- one end twice: waitany r to i; i = 0;
 
-abbrev answering : Program
+abbrev pub answering : Program
 answering = of_two (waitany ∷ simple (st.Assign (record { into = whole i; value = n 0 })) ∷ [])
 
-abbrev answered : ℕ → ℕ → List Step
+abbrev pub answered : ℕ → ℕ → List Step
 answered first second = Local 0 ∷ Local 0 ∷ Local 0 ∷ Match (call_id 0 0) (call_id 0 1) ∷ WakeAny 0 first ∷ Local 0 ∷ WakeAny 0 second ∷ Local 0 ∷ []
 
 pub row_twice : map (λ (r : Run). r.steps) (sleeping_walk 8 (start answering Rendezvous)) ≡ answered 0 1 ∷ answered 1 0 ∷ []
-unfolding awake_walk decision
+unfolding awake_by decision
 row_twice = refl
 
 pub row_one_end : fold (start answering Rendezvous) (answered 0 1) ≡ fold (start answering Rendezvous) (answered 1 0)

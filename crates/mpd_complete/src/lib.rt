@@ -2,16 +2,69 @@
 #![tactic(auto)]
 
 ghost use Rattle.mpd_complete.specs.CompleteLaws as law;
+ghost use Rattle.mpd_complete.specs.WideLaws as wide;
 
-/// In a mode whose buffers never run out, two steps that are enabled in a world which a run reaches, and are neither two matches of one
-/// call nor two requests of one waitany, can be taken one after the other, in either order; both ways lead to one world, up to the order
-/// of match sets.
+/// Of any script and in any mode, two steps that are enabled in a world which a run reaches, and do not conflict, can be taken one after
+/// the other, in either order; both ways lead to one world, up to the order of match sets.
 pub fn enabled_steps_commute()
     ensures { law.EnabledStepsCommute }
 {}
 
-/// From a world that a run of a script without a waitany reaches, in such a mode, whose walk is nowhere cut, no run has more steps than
-/// the walk has fuel, every run can be continued until no step is enabled, and then it has ended as a leaf of the walk does.
+/// A quiet step that is enabled in such a world conflicts with no other step that is, and is enabled and quiet after each.
+pub fn quiet_steps_stay()
+    ensures { wide.QuietStepsStay }
+{}
+
+/// It can be brought to the front of any steps: either it is one of them, or it can still be taken after them.
+pub fn quiet_steps_come_first()
+    ensures { wide.QuietStepsComeFirst }
+{}
+
+/// From a world that a run of any script reaches in any mode, whose wide walk is nowhere cut, no run has more steps than the walk has
+/// fuel, every run can be continued until no step is enabled, and then it has ended as a leaf of the walk does.
+pub fn wide_walks_are_complete()
+    ensures { wide.WideWalksAreComplete }
+{}
+
+/// What is said of a wide walk that is nowhere cut holds as well of one that takes two steps which do not conflict in one order alone.
+pub fn sleeping_wide_walks_are_complete()
+    ensures { wide.SleepingWideWalksAreComplete }
+{}
+
+/// The definition of a wide walk in which steps may fall asleep is that of the wide walk, where nothing does.
+pub fn wide_walks_where_nothing_sleeps()
+    ensures { wide.WideWalksWhereNothingSleeps }
+{}
+
+/// A wide walk that is nowhere cut is the same with more fuel.
+pub fn whole_wide_walks_need_no_more_fuel()
+    ensures { wide.WholeWideWalksNeedNoMoreFuel }
+{}
+
+/// What a wide walk lists are runs: each leads somewhere, and where it isn't cut no step is enabled there, and its outcome is that
+/// world's.
+pub fn runs_of_wide_walks_are_runs()
+    ensures { wide.RunsOfWideWalksAreRuns }
+{}
+
+/// So are those of a wide walk that sleeps.
+pub fn runs_of_sleeping_wide_walks_are_runs()
+    ensures { wide.RunsOfSleepingWideWalksAreRuns }
+{}
+
+/// The wide walk of a script without a waitany, in a mode whose buffers never run out, is the walk.
+pub fn wide_walks_are_walks()
+    ensures { wide.WideWalksAreWalks }
+{}
+
+/// So it is where what was tried falls asleep.
+pub fn sleeping_wide_walks_are_sleeping_walks()
+    ensures { wide.SleepingWideWalksAreSleepingWalks }
+{}
+
+/// From a world that a run of a script without a waitany reaches, in a mode whose buffers never run out, whose walk is nowhere cut, no
+/// run has more steps than the walk has fuel, every run can be continued until no step is enabled, and then it has ended as a leaf of
+/// the walk does.
 pub fn whole_walks_are_complete()
     ensures { law.WholeWalksAreComplete }
 {}
@@ -52,8 +105,9 @@ pub fn runs_of_sleeping_walks_are_runs()
 
 ghost use Rattle.mpd_complete.specs.Reported as report;
 
-/// A report of `explore`, of a script without a waitany, in a mode whose buffers never run out and by whatever limits, that says that
-/// there are no other leaves, and none of whose leaves is cut, has the outcome of every run that can't go on.
+/// A report of `explore` that says that there are no other leaves, and none of whose leaves is cut, has the outcome of every run that
+/// can't go on: where each end was asked for once (`ends`), whatever the script and the mode; where every order was, of a script without a
+/// waitany, in a mode whose buffers never run out. It is so by whatever other limits.
 pub fn reports_have_all_outcomes()
     ensures { report.ReportsHaveAllOutcomes }
 {}
@@ -61,4 +115,35 @@ pub fn reports_have_all_outcomes()
 /// From where such a report was made no run has more steps than there was fuel, and every run can be continued until no step is enabled.
 pub fn reports_bound_all_runs()
     ensures { report.ReportsBoundAllRuns }
+{}
+
+/// A sample of any script, in any mode, that says that there are no other leaves, so that its leaves are those of the wide walk, and none of
+/// whose leaves is cut, has the outcome of every run that can't go on.
+pub fn samples_have_all_outcomes()
+    ensures { report.SamplesHaveAllOutcomes }
+{}
+
+/// From where such a sample was drawn no run has more steps than there was fuel, and every run can be continued until no step is enabled.
+pub fn samples_bound_all_runs()
+    ensures { report.SamplesBoundAllRuns }
+{}
+
+ghost use Rattle.mpd_complete.specs.Told as told;
+
+/// Where what `check` answers tells all (`Tally::tells_all`), each run from the script's start has at most as many steps as there was fuel,
+/// can be continued until no step is enabled, and ends as a leaf of the report does: by whatever pieces and limits, with `--ends` of every
+/// script in every mode.
+pub fn checks_tell_all_ends()
+    ensures { told.ChecksTellAllEnds }
+{}
+
+/// The same of the report of a sample.
+pub fn samples_tell_all_ends()
+    ensures { told.SamplesTellAllEnds }
+{}
+
+/// Where the console says that there is no deadlock or no trap from where it stands, the runs that it looked at have the end of each run
+/// from there.
+pub fn consoles_see_all_ends()
+    ensures { told.ConsolesSeeAllEnds }
 {}
