@@ -1,7 +1,7 @@
 -- What a request leaves as it was, and how a history goes on.
 use Rattle.std.proofs.Common.{◌≡◌, ℕ, Bool, true, false, cond, List, [], ◌∷◌, ◌++◌, ◌&&◌, Option, Some, None, refl, ap, sym, subst, ◌∙◌, nat_lt, ◌+◌, ◌-◌, slice_get, slice_set, is_some, length}
 use Rattle.std.specs.Prelude.{⊤}
-use Rattle.mpd_model.specs.declared.limits.TheConstants.{STEPS_MAX}
+use Rattle.mpd_model.specs.declared.limits.TheConstants.{STEPS_MAX, RUNS_MAX}
 use Rattle.mpd_model.specs.declared.call.Mode.{Mode}
 use Rattle.mpd_model.specs.declared.step.Step.{Step}
 use Rattle.mpd_model.specs.declared.decision.Decision.{Decision}
@@ -25,7 +25,6 @@ use Rattle.mpd_wire.specs.declared.reply.Reply.TheVariants as reply
 use Rattle.mpd_wire.specs.declared.reply.Refusal.{Refusal}
 use Rattle.mpd_wire.specs.declared.reply.Refusal.TheVariants.{Stale, Full, BadNumber, AtStart, NoRedo, NotBefore, NoSuchBreak}
 use Rattle.mpd_wire.specs.Copies.{holds_list, lists_in}
-use Rattle.mpd_session.specs.declared.limits.TheConstants.{RUNS_MAX}
 use Rattle.mpd_session.specs.declared.effect.Effect.{Effect}
 use Rattle.mpd_session.specs.declared.effect.Effect.TheVariants.{Refused, Told, Changed}
 use Rattle.mpd_session.specs.declared.history.Entry.{Entry}

@@ -7,7 +7,7 @@ use Rattle.mpd_model.specs.steps.World.{RankWorld, World}
 use Rattle.mpd_model.specs.runs.Breakpoints.{cell_at, held_at}
 use Rattle.mpd_model.specs.runs.Trail.{Trail}
 use Rattle.mpd_explore.specs.declared.report.Leaf.{Leaf}
-use Rattle.mpd_explore.specs.Walk.{walk}
+use Rattle.mpd_walk.specs.Walk.{walk}
 use Rattle.mpd_explore.specs.Report.{shown}
 use Rattle.mpd_explore.specs.ReportText.{leaf_text}
 use Rattle.mpd_wire.specs.declared.reply.Answer.TheVariants as answer

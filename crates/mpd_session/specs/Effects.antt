@@ -2,7 +2,7 @@
 use Rattle.std.specs.Prelude.{ℕ, ◌+◌, ◌-◌, Bool, false, ◌&&◌, nat_le, nat_lt, if◌then◌else◌, List, [], ◌∷◌, ◌++◌, map, length, take, slice_get, slice_set, Option, Some, None, option_map, is_some, codes}
 use Rattle.std.specs.Fmt.{decimal}
 use Rattle.std.specs.List.{flat_map, range_with_len}
-use Rattle.mpd_model.specs.declared.limits.TheConstants.{STEPS_MAX, BREAKS_MAX}
+use Rattle.mpd_model.specs.declared.limits.TheConstants.{STEPS_MAX, RUNS_MAX, BREAKS_MAX}
 use Rattle.mpd_model.specs.declared.step.CallId.{CallId}
 use Rattle.mpd_model.specs.declared.step.Step.{Step}
 use Rattle.mpd_model.specs.declared.decision.Decision.{Decision}
@@ -20,13 +20,13 @@ use Rattle.mpd_model.specs.runs.Running.{Ran, ran, stop_of, all_applied, ran_bac
 use Rattle.mpd_model.specs.texts.Texts.{id_text, step_text, rank_text, set_text, call_text, outcome_text}
 use Rattle.mpd_policy.specs.Single.{ran_on}
 use Rattle.mpd_explore.specs.declared.report.Leaf.{Leaf as RunLeaf}
-use Rattle.mpd_explore.specs.Walk.{walk}
+use Rattle.mpd_walk.specs.Walk.{walk}
 use Rattle.mpd_explore.specs.Report.{shown}
 use Rattle.mpd_explore.specs.ReportText.{leaf_text}
 use Rattle.mpd_wire.specs.declared.reply.Answer.{Answer}
 use Rattle.mpd_wire.specs.declared.reply.Answer.TheVariants as answer
 use Rattle.mpd_wire.specs.declared.reply.Refusal.TheVariants.{NotEnabled, Full, AtStart, NoRedo, NotBefore, NeedsChoice, NoSuchBreak, BreaksFull, BadNumber}
-use Rattle.mpd_session.specs.declared.limits.TheConstants.{LINES_MAX, RUNS_MAX}
+use Rattle.mpd_session.specs.declared.limits.TheConstants.{LINES_MAX}
 use Rattle.mpd_session.specs.declared.effect.Effect.{Effect}
 use Rattle.mpd_session.specs.declared.effect.Effect.TheVariants.{Refused, Told, Changed}
 

@@ -3,3 +3,4 @@ pub mod Held
 pub mod Respond
 pub mod History
 pub mod Audit
+pub mod FaultNumbers

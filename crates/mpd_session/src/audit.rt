@@ -5,6 +5,7 @@ ghost use Rattle.std.specs.List.{All, AllPairs, HoldsAt};
 ghost use Rattle.std.specs.Bool.{Decides};
 ghost use Rattle.mpd_session.specs.History.{noted};
 ghost use Rattle.mpd_session.specs.Audit.{IsOf, IsRising, IsApart, IsKept, Agrees, receipts_in};
+ghost use Rattle.mpd_session.specs.FaultNumbers.{audit_fault_number};
 
 use crate::history::{Entry, Log, Logged, Receipt};
 use mpd_wire::{same_reply, same_request};
@@ -17,6 +18,18 @@ pub enum AuditFault {
     /// A receipt is of no entry under its client, or stands behind one of its log whose entry isn't before its own, or its entry has
     /// a receipt in another log (58).
     ReceiptDiffers,
+}
+
+impl AuditFault {
+    /// Its number, as docs/DEFINITIONS.md lists them.
+    pub fn number(self) -> u8
+        ensures { result ≡ audit_fault_number self }
+    {
+        match self {
+            AuditFault::CountsDiffer => 57,
+            AuditFault::ReceiptDiffers => 58,
+        }
+    }
 }
 
 /// Whether all logs have so many receipts together.

@@ -6,6 +6,7 @@ ghost use Rattle.mpd_session.specs.Held.{opened};
 ghost use Rattle.mpd_session.specs.Respond.{respond};
 ghost use Rattle.mpd_session.specs.History.{IsReplay};
 ghost use Rattle.mpd_session.specs.Audit.{Agrees, HasReceipt, receipts_in};
+ghost use Rattle.mpd_session.specs.FaultNumbers.{take_fault_number};
 
 use crate::audit::{AuditFault, agrees, has_count};
 use crate::history::{Entry, HISTORY_MAX, Logged, Receipt};
@@ -21,6 +22,18 @@ pub enum TakeFault {
     HistoryFull,
     /// Memory was refused.
     Memory,
+}
+
+impl TakeFault {
+    /// Its number, as docs/SESSIONS.md lists them; 0 for want of memory, which has none.
+    pub fn number(self) -> u8
+        ensures { result ≡ take_fault_number self }
+    {
+        match self {
+            TakeFault::HistoryFull => 56,
+            TakeFault::Memory => 0,
+        }
+    }
 }
 
 impl From<AllocError> for TakeFault {

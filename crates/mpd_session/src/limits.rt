@@ -3,8 +3,5 @@
 /// The last line that a script may have, which has 65,536 bytes at most.
 pub const LINES_MAX: usize = 65_537;
 
-/// How many runs `explore` lists at most.
-pub const RUNS_MAX: usize = 65_536;
-
 /// The last version, which no request raises.
 pub const VERSION_MAX: u64 = 18_446_744_073_709_551_615;

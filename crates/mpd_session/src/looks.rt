@@ -11,12 +11,11 @@ ghost use Rattle.mpd_explore.specs.ReportText.{leaf_text};
 ghost use Rattle.mpd_session.specs.Effects.{enabled_effect, state_effect, vars_effect, calls_effect, why_effect, partner_text, leaves_effect, explore_effect};
 
 use crate::effect::{Effect, is_within};
-use crate::limits::RUNS_MAX;
 use crate::runs::report;
 use crate::steps::is_below;
 use mpd_core::Core;
 use mpd_explore::{Leaf, push_leaf_text};
-use mpd_model::{CallId, MatchSet, STEPS_MAX, Step, print_outcome, print_step};
+use mpd_model::{CallId, MatchSet, RUNS_MAX, STEPS_MAX, Step, print_outcome, print_step};
 use mpd_trail::Debugger;
 use mpd_wire::{Answer, HandleList, IntegerList, Refusal, Text, TextList};
 use std::alloc::{AllocError, Global};

@@ -3,7 +3,7 @@
 ghost use Rattle.std.specs.Prelude.{◌≡◌, ◌+◌, ◌≤◌, IfOk, OnOk, OnErr, length, map, take, nat_lt};
 ghost use Rattle.mpd_model.specs.runs.Trail.{IsReached};
 ghost use Rattle.mpd_trail.specs.Views.{standing_of};
-ghost use Rattle.mpd_explore.specs.Walk.{walk};
+ghost use Rattle.mpd_walk.specs.Walk.{walk};
 ghost use Rattle.mpd_explore.specs.Report.{shown};
 ghost use Rattle.mpd_session.specs.Effects.{run_effect, run_on_effect, run_back_effect};
 

@@ -6,7 +6,7 @@ use Rattle.std.proofs.Crossing.{crosses}
 use Rattle.std.proofs.sync.ledger.Book.TheSendSync as calls
 use Rattle.std.specs.declared.sync.ledger.Ledger as ledger
 use Rattle.mpd_shared.specs.declared.opening.Opening as opening
-use Rattle.mpd_device.specs.contracts.steps.Steps as Steps
+use Rattle.mpd_counter.specs.contracts.counter.Counter as Counter
 use Rattle.mpd_queue.specs.contracts.snapshot.Shown as Shown
 use Rattle.mpd_queue.specs.contracts.lists.Lists as Lists
 use Rattle.mpd_match.specs.contracts.side.Side as Side
@@ -26,8 +26,8 @@ use Rattle.mpd_session.specs.contracts.book.Book as Book
 use Rattle.mpd_shared.specs.contracts.shared.Shared as Shared
 use Rattle.mpd_shared.specs.contracts.seat.Locked as Locked
 
-pub steps_send : IsSend Steps.the_row
-steps_send = search (sendable, crosses) depth 100 fits 20000
+pub counter_send : IsSend Counter.the_row
+counter_send = search (sendable, crosses) depth 100 fits 20000
 
 pub shown_send : IsSend Shown.the_row
 shown_send = search (sendable, crosses) depth 100 fits 20000
@@ -36,13 +36,13 @@ pub lists_send : IsSend Lists.the_row
 lists_send = search (shown_send, sendable, crosses) depth 100 fits 20000
 
 pub side_send : IsSend Side.the_row
-side_send = search (lists_send, steps_send, sendable, crosses) depth 100 fits 20000
+side_send = search (lists_send, counter_send, sendable, crosses) depth 100 fits 20000
 
 pub board_send : IsSend Board.the_row
-board_send = search (side_send, steps_send, sendable, crosses) depth 100 fits 20000
+board_send = search (side_send, counter_send, sendable, crosses) depth 100 fits 20000
 
 pub rank_send : IsSend RankState.the_row
-rank_send = search (steps_send, sendable, crosses) depth 100 fits 20000
+rank_send = search (counter_send, sendable, crosses) depth 100 fits 20000
 
 pub expr_sync : IsSync Expr.the_row
 expr_sync = search (expr_knot.crosses, sendable, crosses) depth 100 fits 50000

@@ -9,6 +9,11 @@ use Rattle.mpd_shared.specs.Receipts.{seated}
 use Rattle.mpd_shared.specs.declared.settle.SettleFault.{SettleFault}
 use Rattle.mpd_shared.specs.declared.settle.SettleFault.TheVariants.{CountsDiffer, ReceiptDiffers}
 
+-- the number of why it does not settle
+abbrev pub settle_fault_number : SettleFault → ℕ
+settle_fault_number (CountsDiffer book) = 57
+settle_fault_number (ReceiptDiffers book) = 58
+
 -- the book, which comes back whatever it says
 abbrev pub book_in : Result Kept SettleFault → Kept
 book_in (Ok book) = book

@@ -1,6 +1,6 @@
 //! What a client holds of a shared session, and what lies under its lock.
 
-ghost use Rattle.std.specs.Prelude.{◌≡◌, ◌<◌, ◌+◌, [], length, vec_len, IfOk, OnErr};
+ghost use Rattle.std.specs.Prelude.{◌≡◌, ◌<◌, ◌+◌, [], ◌∷◌, ◌++◌, length, vec_len, IfOk, OnErr};
 ghost use Rattle.std.proofs.Props.{props};
 ghost use Rattle.mpd_model.specs.script.Program.{program_code};
 ghost use Rattle.mpd_session.specs.Held.{opened};
@@ -116,7 +116,8 @@ impl<'c, L: Opening> Locked<'c, L> {
         Locked { book, calls }
     }
 
-    /// Answers a request of a client, and gives its seat the receipt. An `Err` changes nothing.
+    /// Answers a request of a client: exactly one entry of its own joins the history, and its seat gets the receipt, with the number of
+    /// that entry. An `Err` changes nothing.
     pub(crate) fn take(
         &mut self,
         alloc: Global,
@@ -125,6 +126,9 @@ impl<'c, L: Opening> Locked<'c, L> {
     ) -> Result<Reply, TakeFault>
         ensures ok { IfOk result (λ reply. Adds L.program L.mode seat.old request.now reply seat.new) }
         ensures err { OnErr result (seat.new ≡ seat.old) }
+        ensures entry { IfOk result (λ reply. self.new.book.history ≡ self.old.book.history ++ record { client = seat.old.client; request = request.now; reply = reply } ∷ []) }
+        ensures receipt { IfOk result (λ reply. seat.new.receipts ≡ seat.old.receipts ++ record { entry = length self.old.book.history; request = request.now; reply = reply } ∷ []) }
+        ensures stays { OnErr result (self.new.book ≡ self.old.book) }
     {
         seat.log.receipts.reserve(1)?;
         let Locked { book, calls } = self;

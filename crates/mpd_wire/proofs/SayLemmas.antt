@@ -1,5 +1,5 @@
 -- What a line is answered.
-use Rattle.std.proofs.Common.{◌≡◌, ◌≢◌, ℕ, ◌<◌, List, [], ◌∷◌, ◌++◌, length, codes, refl, ap, sym, ◌∙◌, arith, subst, inl, inr, append-nil, Result, Ok, Err}
+use Rattle.std.proofs.Common.{◌≡◌, ◌≢◌, ℕ, ◌<◌, ◌≤◌, List, [], ◌∷◌, ◌++◌, length, codes, refl, ap, sym, ◌∙◌, arith, subst, inl, inr, append-nil, Result, Ok, Err}
 use Rattle.serde_json.proofs.OnLiterals.{serde_json_on_literals}
 use Rattle.mpd_wire.specs.declared.request.Request.{Request}
 use Rattle.mpd_wire.specs.declared.request.WireFault.{WireFault}
@@ -98,14 +98,14 @@ module _ {D : Type 0} (asks : D → Request → Reply → D → Type 0) (full : 
   skipped d e a b m n [] before after is same name count said = ([], said ∙ sym (append-nil before), ((refl, same), name, count))
   skipped d e a b m n (c ∷ l) before after is same name count said = absurd cc
 
-  pub answered_line : {N : Type 0} (d e : D) (a b : N) (m n : ℕ) (line before after : List ℕ) → line ≢ [] → b ≡ a → n ≡ one_more m → AddsTook asks full d (request_in line) before after e
+  pub answered_line : {N : Type 0} (d e : D) (a b : N) (m n : ℕ) (line before after : List ℕ) → line ≢ [] → length line ≤ 4096 → b ≡ a → n ≡ one_more m → AddsTook asks full d (request_in line) before after e
       → AddsAnswered d a m line before after e b n
-  answered_line d e a b m n [] before after some name count h = absurd (some refl)
-  answered_line d e a b m n (c ∷ l) before after some name count (text, said, took) = (text, said, (took, name, count))
+  answered_line d e a b m n [] before after some short name count h = absurd (some refl)
+  answered_line d e a b m n (c ∷ l) before after some short name count (text, said, took) = (text, said, ((took, λ long. absurd (omega (arith, short, long))), name, count))
 
   long_one : {N : Type 0} (d e : D) (a b : N) (m n : ℕ) (line : List ℕ) → 4096 < length line → e ≡ d → b ≡ a → n ≡ one_more m → Answered d a m line (fault_line LineTooLong) e b n
   long_one d e a b m n [] long same name count = absurd (omega (arith, long))
-  long_one d e a b m n (c ∷ l) long same name count = (subst (λ r. Took asks full d r (fault_line LineTooLong) e) (sym (too_long (c ∷ l) long)) (same, inl refl), name, count)
+  long_one d e a b m n (c ∷ l) long same name count = ((subst (λ r. Took asks full d r (fault_line LineTooLong) e) (sym (too_long (c ∷ l) long)) (same, inl refl), λ _. refl), name, count)
 
   pub long_answered : {N : Type 0} (d e : D) (a b : N) (m n : ℕ) (before after : List ℕ) → e ≡ d → b ≡ a → n ≡ one_more m → after ≡ before ++ fault_line LineTooLong
       → (text : List ℕ) × (after ≡ before ++ text) × ((line : List ℕ) → 4096 < length line → Answered d a m line text e b n)

@@ -1,5 +1,6 @@
 -- What a line is answered, and where that leaves the desk.
-use Rattle.std.specs.Prelude.{◌≡◌, ℕ, suc, ◌+◌, ◌==◌, ◌⊎◌, if◌then◌else◌, List, [], ◌∷◌, ◌++◌, codes, Result, Ok, Err}
+use Rattle.std.specs.Prelude.{◌≡◌, ℕ, suc, ◌+◌, ◌==◌, ◌<◌, ◌⊎◌, if◌then◌else◌, List, [], ◌∷◌, ◌++◌, length, codes, Result, Ok, Err}
+use Rattle.mpd_model.specs.declared.limits.TheConstants.{LINE_MAX}
 use Rattle.mpd_wire.specs.declared.request.Request.{Request}
 use Rattle.mpd_wire.specs.declared.request.WireFault.{WireFault}
 use Rattle.mpd_wire.specs.declared.request.WireFault.TheVariants as fault
@@ -44,10 +45,10 @@ abbrev pub Took : {D : Type 0} → (D → Request → Reply → D → Type 0) �
 Took asks full d (Ok q) text e = Asked asks full d q text e ⊎ ((e ≡ d) × (text ≡ memory_line))
 Took asks full d (Err f) text e = (e ≡ d) × ((text ≡ fault_line f) ⊎ (text ≡ memory_line))
 
--- an empty line is passed over
+-- an empty line is passed over; one that is too long is never answered as memory
 abbrev pub Says : {D : Type 0} → (D → Request → Reply → D → Type 0) → (D → Type 0) → D → List ℕ → List ℕ → D → Type 0
 Says asks full d [] text e = (text ≡ []) × (e ≡ d)
-Says asks full d (b ∷ l) text e = Took asks full d (request_in (b ∷ l)) text e
+Says asks full d (b ∷ l) text e = Took asks full d (request_in (b ∷ l)) text e × (LINE_MAX < length (b ∷ l) → text ≡ fault_line fault.LineTooLong)
 
 -- ---- the same, of what is added to a text
 

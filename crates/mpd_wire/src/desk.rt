@@ -3,6 +3,7 @@
 ghost use Rattle.std.specs.Prelude.{◌≡◌, IfOk, OnErr, IsErrOf};
 ghost use Rattle.mpd_wire.specs.declared.request.Request.{Request};
 ghost use Rattle.mpd_wire.specs.declared.reply.Reply.{Reply};
+ghost use Rattle.mpd_wire.specs.FaultNumbers.{desk_fault_number};
 
 use crate::reply::Reply;
 use crate::request::Request;
@@ -15,6 +16,18 @@ pub enum DeskFault {
     HistoryFull,
     /// Memory was refused.
     Memory,
+}
+
+impl DeskFault {
+    /// Its number, as docs/SESSIONS.md lists them; 0 for want of memory, which has none.
+    pub fn number(self) -> u8
+        ensures { result ≡ desk_fault_number self }
+    {
+        match self {
+            DeskFault::HistoryFull => 56,
+            DeskFault::Memory => 0,
+        }
+    }
 }
 
 /// What answers requests, one after another. A request that isn't taken leaves it as it was.

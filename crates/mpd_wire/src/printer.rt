@@ -207,7 +207,14 @@ fn done(alloc: Global, version: u64, answer: &Answer) -> Result<Value, AllocErro
             sets,
             undone,
             outcome,
-        } => lists_value(alloc, version, *depth, ranks, sets, *undone, outcome),
+        } => {
+            let state = BareState {
+                depth: *depth,
+                undone: *undone,
+                outcome,
+            };
+            lists_value(alloc, version, state, ranks, sets)
+        }
         Answer::Vars { vars, handles, out } => cells_value(alloc, version, vars, handles, out),
         Answer::Calls(calls) => calls_value(alloc, version, &calls.items),
         Answer::Partners(partners) => partners_value(alloc, version, &partners.items),
@@ -285,17 +292,28 @@ fn state_fields(alloc: Global, depth: usize, outcome: &Option<Text>) -> Fields
     }
 }
 
+/// A state without its lists.
+#[derive(Clone, Copy)]
+struct BareState<'s> {
+    depth: usize,
+    undone: usize,
+    outcome: &'s Option<Text>,
+}
+
 fn state_value(
     alloc: Global,
     version: u64,
-    depth: usize,
+    state: BareState<'_>,
     ranks: Value,
     sets: Value,
-    undone: usize,
-    outcome: &Option<Text>,
 ) -> Result<Value, AllocError>
-    ensures { (rs ss : List (List ℕ)) → view ranks ≡ listed string rs → view sets ≡ listed string ss → IfOk result (λ v. view v ≡ object (members (answer_fields (answer.State depth rs ss undone outcome.now) ++ (codes "version", natural version) ∷ []))) }
+    ensures { (rs ss : List (List ℕ)) → view ranks ≡ listed string rs → view sets ≡ listed string ss → IfOk result (λ v. view v ≡ object (members (answer_fields (answer.State state.entry.depth rs ss state.entry.undone state.entry.outcome.now) ++ (codes "version", natural version) ∷ []))) }
 {
+    let BareState {
+        depth,
+        undone,
+        outcome,
+    } = state;
     let fields = state_fields(alloc, depth, outcome);
     let fields = with_field(alloc, fields, "ranks", ranks);
     let fields = with_field(alloc, fields, "sets", sets);
@@ -307,17 +325,15 @@ fn state_value(
 fn lists_value(
     alloc: Global,
     version: u64,
-    depth: usize,
+    state: BareState<'_>,
     ranks: &TextList,
     sets: &TextList,
-    undone: usize,
-    outcome: &Option<Text>,
 ) -> Result<Value, AllocError>
-    ensures { IfOk result (λ v. view v ≡ object (members (answer_fields (answer.State depth ranks.now sets.now undone outcome.now) ++ (codes "version", natural version) ∷ []))) }
+    ensures { IfOk result (λ v. view v ≡ object (members (answer_fields (answer.State state.entry.depth ranks.now sets.now state.entry.undone state.entry.outcome.now) ++ (codes "version", natural version) ∷ []))) }
 {
     let ranks = texts_value(alloc, &ranks.items)?;
     match texts_value(alloc, &sets.items) {
-        Ok(sets) => state_value(alloc, version, depth, ranks, sets, undone, outcome),
+        Ok(sets) => state_value(alloc, version, state, ranks, sets),
         Err(refused) => {
             drop(ranks);
             Err(refused)

@@ -1,5 +1,8 @@
 //! What a client is told (docs/SESSIONS.md, "Replies").
 
+ghost use Rattle.std.specs.Prelude.{◌≡◌};
+ghost use Rattle.mpd_wire.specs.FaultNumbers.{refusal_number};
+
 use mpd_model::{Step, Stop};
 use std::marker::Model;
 
@@ -160,6 +163,31 @@ pub enum Refusal {
     BadNumber,
     /// The history has as many entries as it may have (56).
     HistoryFull,
+}
+
+impl Refusal {
+    /// Its number, as docs/SESSIONS.md lists them.
+    pub fn number(self) -> u8
+        ensures { result ≡ refusal_number self }
+    {
+        match self {
+            Refusal::NotEnabled => 21,
+            Refusal::Full => 22,
+            Refusal::AtStart => 24,
+            Refusal::NoRedo => 25,
+            Refusal::NotBefore => 26,
+            Refusal::LineTooLong => 41,
+            Refusal::NotJson => 42,
+            Refusal::BadField => 43,
+            Refusal::UnknownCommand => 44,
+            Refusal::Stale { .. } => 51,
+            Refusal::NeedsChoice { .. } => 52,
+            Refusal::NoSuchBreak => 53,
+            Refusal::BreaksFull => 54,
+            Refusal::BadNumber => 55,
+            Refusal::HistoryFull => 56,
+        }
+    }
 }
 
 /// What a client is told.

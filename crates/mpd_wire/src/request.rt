@@ -1,5 +1,8 @@
 //! What a client asks (docs/SESSIONS.md, "Requests").
 
+ghost use Rattle.std.specs.Prelude.{◌≡◌};
+ghost use Rattle.mpd_wire.specs.FaultNumbers.{wire_fault_number};
+
 use mpd_model::{Break, CallId, Step};
 
 /// A command with its fields. Numbers are as they were given, whatever a session has.
@@ -93,4 +96,19 @@ pub enum WireFault {
     UnknownCommand,
     /// Memory was refused.
     Memory,
+}
+
+impl WireFault {
+    /// Its number, as docs/SESSIONS.md lists them; 0 for want of memory, which has none.
+    pub fn number(self) -> u8
+        ensures { result ≡ wire_fault_number self }
+    {
+        match self {
+            WireFault::LineTooLong => 41,
+            WireFault::NotJson => 42,
+            WireFault::BadField => 43,
+            WireFault::UnknownCommand => 44,
+            WireFault::Memory => 0,
+        }
+    }
 }

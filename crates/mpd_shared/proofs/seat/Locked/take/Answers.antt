@@ -15,6 +15,10 @@ returns-clause-ok g c =
       rw (c.push_reserved.ensures.items, c.in_ok-reserve.ensures.items, e.receipt, ← c.seat.view_is) refl,
     )
 
+pub returns-clause-receipt : goal.returns-clause-receipt
+returns-clause-receipt g c =
+    let e = c.in_ok-receipt.ensures in rw (c.push_reserved.ensures.items, c.in_ok-reserve.ensures.items, e.receipt, ← c.seat.view_is) refl
+
 pub invariant_of-self-2-clause-program : goal.invariant_of-self-2-clause-program
 invariant_of-self-2-clause-program g c =
     ap (λ (s : Held). s.trail.program) c.in_ok-receipt.ensures.session ∙ (script_stays c.args.self.now.book.session c.args.request.now).0 ∙ c.args.self.now.program
