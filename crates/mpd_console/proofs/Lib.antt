@@ -1,2 +1,1 @@
-pub mod JoinLemmas
 pub mod SaidLemmas

@@ -7,7 +7,7 @@ use Rattle.mpd_model.specs.steps.World.{World}
 use Rattle.mpd_model.specs.runs.Trail.{Trail, IsReached, IsRun, done_steps, world_of}
 use Rattle.mpd_trail.specs.Views.{DebuggerView, standing_of}
 use Rattle.mpd_explore.specs.declared.report.Leaf.{Leaf}
-use Rattle.mpd_explore.specs.declared.report.Ending.{Ending}
+use Rattle.mpd_walk.specs.declared.ending.Ending.{Ending}
 use Rattle.mpd_wire.specs.declared.request.Command.{Command}
 use Rattle.mpd_wire.specs.declared.request.Command.TheVariants as command
 use Rattle.mpd_wire.specs.declared.reply.Reply.{Reply}
@@ -25,12 +25,11 @@ use Rattle.mpd_moves.specs.News.{Known, known_for}
 use Rattle.mpd_moves.specs.Moves.{doing_of, lead_text, reply_text}
 use Rattle.mpd_console.specs.Looks.{look_text}
 use Rattle.mpd_vocabulary.specs.Reading.{line_of}
-use Rattle.mpd_search.specs.declared.search.WholeRun.{WholeRun}
-use Rattle.mpd_search.specs.declared.way.Way.{Way}
-use Rattle.mpd_search.specs.Hidden.{may_hide}
-use Rattle.mpd_search.specs.Runs.{none_line}
-use Rattle.mpd_search.specs.Seek.{found_run, numbered_run, nothing_line, LiesAhead, ahead_line, no_run_line}
-use Rattle.mpd_search.specs.Choices.{last_choice, no_choice_line}
+use Rattle.mpd_runs.specs.declared.search.WholeRun.{WholeRun}
+use Rattle.mpd_runs.specs.declared.way.Way.{Way}
+use Rattle.mpd_runs.specs.Runs.{none_line}
+use Rattle.mpd_runs.specs.Seek.{found_run, numbered_run, nothing_line, LiesAhead, ahead_line, no_run_line}
+use Rattle.mpd_runs.specs.LastChoice.{last_choice, no_choice_line}
 use Rattle.mpd_console.specs.Says.{memory_line, unprinted_line, too_long_line, at_world, prompt, said, lead_said, known_at, known_in, reply_said, laid_out, look_said, laid_said, not_found_said, none_said, prompts_behind, fault_said, Told, Looked, asking, Carried, UndoneBy, LaidBy, found_from, numbered_from, SoughtBy, FollowedBy, doing_at, doing_in, AnsweredBy, Answered, Console, again, WordSays, RepeatSays, LineSays, SaysBy, ConsoleSays, Adds, OrElse}
 
 -- ---- texts on the world of a trail
@@ -92,14 +91,6 @@ pub ruleset leading = (led, known)
 
 pub ruleset looking = (looked, led)
 
-pub not_found : (p b : Bool) (s : Held) (d : DebuggerView) (x : Way) (leaves : List Leaf) (more : Bool) (begun one lent text : List ℕ) → IsReached (standing_of d) → d.trail ≡ s.trail → b ≡ may_hide d.trail.program d.world.board.mode
-    → begun ≡ [] → one ≡ begun ++ none_line b x leaves more → lent ≡ one → text ≡ said p s lent → text ≡ not_found_said p s x leaves more
-not_found p b s d x leaves more begun one lent text reached e hides h k l m =
-    let u : one ≡ none_line (may_hide d.trail.program d.world.board.mode) x leaves more = k ∙ ap (λ z. z ++ none_line b x leaves more) h ∙ ap (λ z. none_line z x leaves more) hides in
-    m ∙ ap (said p s) (l ∙ u ∙ told_at (λ t w. none_line (may_hide t.program w.board.mode) x leaves more) s d reached e)
-
-pub ruleset not_finding = (not_found, led)
-
 pub ruleset finding = (found, told_so)
 
 -- ---- what is added
@@ -130,15 +121,16 @@ pub ruleset telling = (told_whole, told_not, looked_whole, looked_not)
 
 -- ---- what a word does
 
-pub carried : (p : Bool) (script : List ℕ) (s t : Held) (x : Word) (c : Command) (lead before after : List ℕ) (k : Known) (r : Reply) → lead ≡ lead_said s x → k ≡ known_in s x → r ≡ (respond s (asking c)).0 → t ≡ (respond s (asking c)).1
-    → Adds (Told (reply_said p script t x lead k r)) before after → Adds (Carried p script s x c t) before after
-carried p script s t x c lead before after k r is knows e held (z, h, told) = (
+pub carried : (p : Bool) (script : List ℕ) (s t : Held) (x y : Word) (c : Command) (lead before after : List ℕ) (k : Known) (r : Reply) → y ≡ x → lead ≡ lead_said s x → k ≡ known_in s x → r ≡ (respond s (asking c)).0 → t ≡ (respond s (asking c)).1
+    → Adds (Told (reply_said p script t y lead k r)) before after → Adds (Carried p script s x c t) before after
+carried p script s t x y c lead before after k r same is knows e held (z, h, told) = (
   z,
   h,
   inl (
     held,
-    subst (λ y. Told (reply_said p script t x y (known_in s x) (respond s (asking c)).0) z) is
-        (subst (λ y. Told (reply_said p script t x lead y (respond s (asking c)).0) z) knows (subst (λ y. Told (reply_said p script t x lead k y) z) e told)),
+    subst (λ i. Told (reply_said p script t x i (known_in s x) (respond s (asking c)).0) z) is
+        (subst (λ i. Told (reply_said p script t x lead i (respond s (asking c)).0) z) knows
+        (subst (λ i. Told (reply_said p script t x lead k i) z) e (subst (λ i. Told (reply_said p script t i lead k r) z) same told))),
   ),
 )
 
@@ -162,9 +154,8 @@ pub numbered_at : (s : Held) (d : DebuggerView) (n : ℕ) (o : Option WholeRun) 
 numbered_at s d n o r e h = h ∙ ap (λ t. numbered_run n t d.world) e ∙ sym (ap (λ (w : Option World). option_and_then (λ v. numbered_run n s.trail v) w) (world_at s d r e))
 
 pub none_at_is : (p : Bool) (s : Held) (d : DebuggerView) (x : Way) (leaves : List Leaf) (more : Bool) → IsReached (standing_of d) → d.trail ≡ s.trail
-    → none_line (may_hide d.trail.program d.world.board.mode) x leaves more ≡ nothing_line x d.trail d.world → not_found_said p s x leaves more ≡ none_said p s x
-none_at_is p s d x leaves more r e h =
-    ap (said p s) (sym (told_at (λ t w. none_line (may_hide t.program w.board.mode) x leaves more) s d r e) ∙ h ∙ told_at (nothing_line x) s d r e)
+    → none_line x leaves more ≡ nothing_line x d.trail d.world → not_found_said p s x leaves more ≡ none_said p s x
+none_at_is p s d x leaves more r e h = ap (said p s) (h ∙ told_at (nothing_line x) s d r e)
 
 pub lies_at : (s : Held) (d : DebuggerView) (o : Option WholeRun) → d.trail ≡ s.trail → IfSome o (LiesAhead d.trail) → IfSome o (LiesAhead s.trail)
 lies_at s d o e h = subst (λ t. IfSome o (LiesAhead t)) e h

@@ -21,7 +21,7 @@ use Rattle.mpd_picture.specs.Pictures.{picture_text}
 use Rattle.mpd_vocabulary.specs.declared.word.Word.{Word}
 use Rattle.mpd_vocabulary.specs.declared.word.Word.TheVariants as word
 use Rattle.mpd_moves.specs.Moves.{break_line_of}
-use Rattle.mpd_search.specs.Runs.{check_text}
+use Rattle.mpd_runs.specs.Runs.{check_text}
 use Rattle.mpd_vocabulary.specs.Faults.{help_text}
 
 abbrev pub no_such_rank : List ℕ

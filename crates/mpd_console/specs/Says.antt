@@ -7,7 +7,7 @@ use Rattle.mpd_model.specs.steps.World.{World}
 use Rattle.mpd_model.specs.runs.Trail.{Trail, world_of}
 use Rattle.mpd_model.specs.texts.Texts.{line}
 use Rattle.mpd_explore.specs.declared.report.Leaf.{Leaf}
-use Rattle.mpd_explore.specs.declared.report.Ending.{Ending}
+use Rattle.mpd_walk.specs.declared.ending.Ending.{Ending}
 use Rattle.mpd_wire.specs.declared.request.Command.{Command}
 use Rattle.mpd_wire.specs.declared.request.Command.TheVariants as command
 use Rattle.mpd_wire.specs.declared.request.Request.{Request}
@@ -27,12 +27,11 @@ use Rattle.mpd_moves.specs.declared.moves.Doing.TheVariants.{Asks, Undoes, Seeks
 use Rattle.mpd_moves.specs.News.{Known, told, known_for}
 use Rattle.mpd_moves.specs.Moves.{doing_of, lead_text, reply_text}
 use Rattle.mpd_console.specs.Looks.{look_text}
-use Rattle.mpd_search.specs.declared.search.WholeRun.{WholeRun}
-use Rattle.mpd_search.specs.declared.way.Way.{Way}
-use Rattle.mpd_search.specs.Hidden.{may_hide}
-use Rattle.mpd_search.specs.Runs.{none_line}
-use Rattle.mpd_search.specs.Seek.{found_run, numbered_run, nothing_line, LiesAhead, ahead_line, no_run_line}
-use Rattle.mpd_search.specs.Choices.{last_choice, no_choice_line}
+use Rattle.mpd_runs.specs.declared.search.WholeRun.{WholeRun}
+use Rattle.mpd_runs.specs.declared.way.Way.{Way}
+use Rattle.mpd_runs.specs.Runs.{none_line}
+use Rattle.mpd_runs.specs.Seek.{found_run, numbered_run, nothing_line, LiesAhead, ahead_line, no_run_line}
+use Rattle.mpd_runs.specs.LastChoice.{last_choice, no_choice_line}
 use Rattle.mpd_vocabulary.specs.Faults.{fault_text}
 use Rattle.mpd_fold.specs.Folding.{folded}
 
@@ -96,7 +95,7 @@ abbrev pub laid_said : Bool → List ℕ → Held → Option ℕ → Ending → 
 laid_said p script s number e ahead = said p s (ahead_line number e ahead ++ at_world (λ w. standing_text script s.trail w) (world_of s.trail))
 
 abbrev pub not_found_said : Bool → Held → Way → List Leaf → Bool → List ℕ
-not_found_said p s x leaves more = said p s (at_world (λ w. none_line (may_hide s.trail.program w.board.mode) x leaves more) (world_of s.trail))
+not_found_said p s x leaves more = said p s (none_line x leaves more)
 
 abbrev pub fault_said : Bool → Held → List ℕ → WordFault → List ℕ
 fault_said p s z f = said p s (fault_text z f)

@@ -2,8 +2,8 @@
 
 ghost use Rattle.std.specs.Prelude.{◌≡◌, ◌+◌, ◌-◌, ◌≤◌, ◌++◌, ℕ, Bool, List, None, IfOk, IfSome, OnOk, length, string_bytes, vec_len, vec_capacity};
 ghost use Rattle.mpd_session.specs.Respond.{laid};
-ghost use Rattle.mpd_search.specs.Seek.{LiesAhead, no_run_line};
-ghost use Rattle.mpd_search.specs.Choices.{last_choice as last_choice_of, no_choice_line};
+ghost use Rattle.mpd_runs.specs.Seek.{LiesAhead, no_run_line};
+ghost use Rattle.mpd_runs.specs.LastChoice.{last_choice as last_choice_of, no_choice_line};
 ghost use Rattle.mpd_vocabulary.specs.Reading.{line_of};
 ghost use Rattle.mpd_moves.specs.News.{told};
 ghost use Rattle.mpd_console.specs.Says as spec;
@@ -16,10 +16,10 @@ use mpd_explore::{Ending, Report};
 use mpd_fold::push_folded;
 use mpd_lines::{LineDesk, ROOM, push_all};
 use mpd_model::LINE_MAX;
-use mpd_moves::{Doing, Known, doing_of, known_for, lead, push_reply};
-use mpd_search::{
-    Search, Way, WholeRun, last_choice, may_hide, numbered_run, push_ahead, push_no_choice,
-    push_no_run, push_none, seek as seek_run,
+use mpd_moves::{Doing, Lead, Scene, doing_of, lead_of, push_reply};
+use mpd_runs::{
+    Search, Way, WholeRun, last_choice, numbered_run, push_ahead, push_no_choice, push_no_run,
+    push_none, seek as seek_run,
 };
 use mpd_session::Session;
 use mpd_view::push_standing;
@@ -36,6 +36,26 @@ const UNPRINTED: &[u8] = b"done, but memory for the answer was refused\n";
 
 /// What answers a line that is too long.
 const TOO_LONG: &[u8] = b"refused: this line is too long\n";
+
+/// What a console is written for: the text of its script, which it shows, and whether a person is to see prompts.
+#[derive(Clone, Copy)]
+pub struct Screen<'t> {
+    /// The text of the script.
+    pub script: &'t [u8],
+    /// Whether prompts are wanted.
+    pub is_prompting: bool,
+}
+
+/// A run whose steps lie ahead.
+#[derive(Clone, Copy)]
+pub(crate) struct RunAhead<'r> {
+    /// Its number, where it was asked for by that.
+    pub(crate) number: Option<usize>,
+    /// How it ends.
+    pub(crate) ending: &'r Ending,
+    /// How many of its steps lie ahead.
+    pub(crate) steps: usize,
+}
 
 /// Adds a text, or the line that stands in its place where that is refused memory.
 #[tactic(auto, using(crate::proofs::SaidLemmas::adding))]
@@ -56,30 +76,22 @@ fn add(text: &[u8], otherwise: &[u8], out: &mut Vec<u8>)
 fn reply_text(
     alloc: Global,
     session: &Session<'_>,
-    is_prompting: bool,
-    script: &[u8],
-    word: Word,
-    lead: &str,
-    known: &Known,
+    screen: Screen<'_>,
+    lead: &Lead,
     reply: &Reply,
 ) -> Result<Vec<u8>, AllocError>
-    ensures { IfOk result (λ t. t.items ≡ spec.reply_said is_prompting script.now session.now word lead.now (told known.now.depth known.now.printed.items known.now.lost.items) reply.now) }
+    ensures { IfOk result (λ t. t.items ≡ spec.reply_said screen.entry.is_prompting screen.entry.script.now session.now lead.now.word (string_bytes lead.now.text) (told lead.now.known.depth lead.now.known.printed.items lead.now.known.lost.items) reply.now) }
 {
     let mut told = String::new(alloc);
     let debugger = session.debugger();
     debugger.state_is_reached();
-    push_reply(
-        alloc,
+    let scene = Scene {
         debugger,
-        script,
-        session.breaks(),
-        &mut told,
-        word,
-        lead,
-        known,
-        reply,
-    )?;
-    said(alloc, session, is_prompting, &told)
+        text: screen.script,
+        breaks: session.breaks(),
+    };
+    push_reply(alloc, scene, &mut told, lead, reply)?;
+    said(alloc, session, screen.is_prompting, &told)
 }
 
 /// Adds the answer to a word by the reply of the session, behind it.
@@ -87,53 +99,31 @@ fn reply_text(
 fn tell_reply(
     alloc: Global,
     session: &Session<'_>,
-    is_prompting: bool,
-    script: &[u8],
-    word: Word,
+    screen: Screen<'_>,
     lead: &Lead,
     reply: &Reply,
     out: &mut Vec<u8>,
 )
     requires room { vec_len out.old + ROOM ≤ vec_capacity out.old }
-    ensures told { Adds (Told (spec.reply_said is_prompting script.now session.now word (string_bytes lead.now.text) (told lead.now.known.depth lead.now.known.printed.items lead.now.known.lost.items) reply.now)) out.old.items out.new.items }
+    ensures told { Adds (Told (spec.reply_said screen.entry.is_prompting screen.entry.script.now session.now lead.now.word (string_bytes lead.now.text) (told lead.now.known.depth lead.now.known.printed.items lead.now.known.lost.items) reply.now)) out.old.items out.new.items }
     ensures capacity { vec_capacity out.old ≤ vec_capacity out.new }
 {
-    let Ok(text) = reply_text(
-        alloc,
-        session,
-        is_prompting,
-        script,
-        word,
-        &lead.text,
-        &lead.known,
-        reply,
-    ) else {
+    let Ok(text) = reply_text(alloc, session, screen, lead, reply) else {
         return push_all(out, UNPRINTED);
     };
     add(&text, UNPRINTED, out)
 }
 
 /// What is told and known before a word is done.
-#[derive(Drop)]
-struct Lead {
-    /// The step that it takes, in words.
-    text: String,
-    /// What behind it tells what its steps did.
-    known: Known,
-}
-
-/// What is told and known before a word is done.
 #[tactic(auto, using(crate::proofs::SaidLemmas::leading))]
-fn lead_of(alloc: Global, session: &Session<'_>, word: Word) -> Result<Lead, AllocError>
+fn lead_in(alloc: Global, session: &Session<'_>, word: Word) -> Result<Lead, AllocError>
+    ensures word { IfOk result (λ l. l.word ≡ word) }
     ensures text { IfOk result (λ l. string_bytes l.text ≡ spec.lead_said session.now word) }
     ensures known { IfOk result (λ l. told l.known.depth l.known.printed.items l.known.lost.items ≡ spec.known_in session.now word) }
 {
     let debugger = session.debugger();
     debugger.state_is_reached();
-    Ok(Lead {
-        text: lead(alloc, debugger, word)?,
-        known: known_for(alloc, debugger, word)?,
-    })
+    lead_of(alloc, debugger, word)
 }
 
 /// Asks the session, and adds what is told of its reply.
@@ -141,33 +131,21 @@ fn lead_of(alloc: Global, session: &Session<'_>, word: Word) -> Result<Lead, All
 fn carry_out(
     alloc: Global,
     session: &mut Session<'_>,
-    is_prompting: bool,
-    script: &[u8],
+    screen: Screen<'_>,
     word: Word,
     command: Command,
     out: &mut Vec<u8>,
 )
     requires room { vec_len out.old + ROOM ≤ vec_capacity out.old }
-    ensures carried { Adds (Carried is_prompting script.now session.old word command session.new) out.old.items out.new.items }
+    ensures carried { Adds (Carried screen.entry.is_prompting screen.entry.script.now session.old word command session.new) out.old.items out.new.items }
     ensures capacity { vec_capacity out.old ≤ vec_capacity out.new }
 {
-    let Ok(lead) = lead_of(alloc, session, word) else {
+    let Ok(lead) = lead_in(alloc, session, word) else {
         return push_all(out, MEMORY);
     };
     let request = Request { command, at: None };
     match session.answer(alloc, &request) {
-        Ok(reply) => {
-            tell_reply(
-                alloc,
-                session,
-                is_prompting,
-                script,
-                word,
-                &lead,
-                &reply,
-                out,
-            )
-        }
+        Ok(reply) => tell_reply(alloc, session, screen, &lead, &reply, out),
         Err(_) => push_all(out, MEMORY),
     }
 }
@@ -197,19 +175,30 @@ fn push_laid_out(out: &mut Vec<u8>, word: Word, told: &[u8]) -> Result<(), Alloc
 fn look_text(
     alloc: Global,
     session: &Session<'_>,
-    is_prompting: bool,
-    script: &[u8],
+    screen: Screen<'_>,
     word: Word,
 ) -> Result<Vec<u8>, AllocError>
-    ensures { IfOk result (λ t. t.items ≡ spec.look_said is_prompting script.now session.now word) }
+    ensures { IfOk result (λ t. t.items ≡ spec.look_said screen.entry.is_prompting screen.entry.script.now session.now word) }
 {
     let mut told = String::new(alloc);
     let debugger = session.debugger();
     debugger.state_is_reached();
-    push_look(alloc, debugger, session.breaks(), script, &mut told, word)?;
+    push_look(
+        alloc,
+        debugger,
+        session.breaks(),
+        screen.script,
+        &mut told,
+        word,
+    )?;
     let mut out = Vec::new(alloc);
     push_laid_out(&mut out, word, told.as_bytes())?;
-    push_idle(alloc, session, prompts_behind(is_prompting, word), &mut out)?;
+    push_idle(
+        alloc,
+        session,
+        prompts_behind(screen.is_prompting, word),
+        &mut out,
+    )?;
     Ok(out)
 }
 
@@ -218,24 +207,21 @@ fn look_text(
 pub(crate) fn laid_text(
     alloc: Global,
     session: &Session<'_>,
-    is_prompting: bool,
-    script: &[u8],
-    number: Option<usize>,
-    ending: &Ending,
-    ahead: usize,
+    screen: Screen<'_>,
+    run: RunAhead<'_>,
 ) -> Result<Vec<u8>, AllocError>
-    ensures { IfOk result (λ t. t.items ≡ spec.laid_said is_prompting script.now session.now number ending.now ahead) }
+    ensures { IfOk result (λ t. t.items ≡ spec.laid_said screen.entry.is_prompting screen.entry.script.now session.now run.entry.number run.entry.ending.now run.entry.steps) }
 {
     let mut told = String::new(alloc);
     let debugger = session.debugger();
     debugger.state_is_reached();
-    push_ahead(alloc, &mut told, number, ending, ahead)?;
-    push_standing(alloc, debugger, script, &mut told)?;
-    said(alloc, session, is_prompting, &told)
+    push_ahead(alloc, &mut told, run.number, run.ending, run.steps)?;
+    push_standing(alloc, debugger, screen.script, &mut told)?;
+    said(alloc, session, screen.is_prompting, &told)
 }
 
 /// What is told where no run ends so.
-#[tactic(auto, using(crate::proofs::SaidLemmas::not_finding))]
+#[tactic(auto, using(crate::proofs::SaidLemmas::saying))]
 fn not_found_text(
     alloc: Global,
     session: &Session<'_>,
@@ -246,11 +232,7 @@ fn not_found_text(
     ensures { IfOk result (λ t. t.items ≡ spec.not_found_said is_prompting session.now way report.now.leaves.items report.now.more) }
 {
     let mut told = String::new(alloc);
-    let debugger = session.debugger();
-    debugger.state_is_reached();
-    let core = debugger.core();
-    let is_hidden = may_hide(core.code(), core.board().mode());
-    push_none(&mut told, is_hidden, way, report)?;
+    push_none(&mut told, way, report)?;
     said(alloc, session, is_prompting, &told)
 }
 
@@ -259,18 +241,15 @@ fn not_found_text(
 fn tell_laid(
     alloc: Global,
     session: &Session<'_>,
-    is_prompting: bool,
-    script: &[u8],
-    number: Option<usize>,
-    ending: &Ending,
-    ahead: usize,
+    screen: Screen<'_>,
+    run: RunAhead<'_>,
     out: &mut Vec<u8>,
 )
     requires room { vec_len out.old + ROOM ≤ vec_capacity out.old }
-    ensures told { Adds (Told (spec.laid_said is_prompting script.now session.now number ending.now ahead)) out.old.items out.new.items }
+    ensures told { Adds (Told (spec.laid_said screen.entry.is_prompting screen.entry.script.now session.now run.entry.number run.entry.ending.now run.entry.steps)) out.old.items out.new.items }
     ensures capacity { vec_capacity out.old ≤ vec_capacity out.new }
 {
-    let Ok(text) = laid_text(alloc, session, is_prompting, script, number, ending, ahead) else {
+    let Ok(text) = laid_text(alloc, session, screen, run) else {
         return push_all(out, UNPRINTED);
     };
     add(&text, UNPRINTED, out)
@@ -281,8 +260,7 @@ fn tell_laid(
 fn lay(
     alloc: Global,
     session: &mut Session<'_>,
-    is_prompting: bool,
-    script: &[u8],
+    screen: Screen<'_>,
     number: Option<usize>,
     run: WholeRun,
     out: &mut Vec<u8>,
@@ -290,23 +268,19 @@ fn lay(
     requires lies { LiesAhead session.old.trail run }
     requires room { vec_len out.old + ROOM ≤ vec_capacity out.old }
     ensures session { session.new ≡ laid session.old run.steps }
-    ensures told { Adds (Told (spec.laid_said is_prompting script.now session.new number run.ending (length run.steps - session.old.trail.depth))) out.old.items out.new.items }
+    ensures told { Adds (Told (spec.laid_said screen.entry.is_prompting screen.entry.script.now session.new number run.ending (length run.steps - session.old.trail.depth))) out.old.items out.new.items }
     ensures capacity { vec_capacity out.old ≤ vec_capacity out.new }
 {
     let depth = session.debugger().depth();
-    let ahead = run.steps.items.len().saturating_sub(depth);
+    let steps = run.steps.items.len().saturating_sub(depth);
     let ending = run.ending;
     session.lay(run.steps.items);
-    tell_laid(
-        alloc,
-        session,
-        is_prompting,
-        script,
+    let ahead = RunAhead {
         number,
-        &ending,
-        ahead,
-        out,
-    )
+        ending: &ending,
+        steps,
+    };
+    tell_laid(alloc, session, screen, ahead, out)
 }
 
 /// Tells that no run ends so.
@@ -343,16 +317,9 @@ fn sought_from(alloc: Global, session: &Session<'_>, way: Way) -> Result<Search,
 
 /// Looks for the first run that ends so, has its steps lie ahead, and tells so.
 #[tactic(auto, using(crate::proofs::SaidLemmas::laying))]
-fn seek(
-    alloc: Global,
-    session: &mut Session<'_>,
-    is_prompting: bool,
-    script: &[u8],
-    way: Way,
-    out: &mut Vec<u8>,
-)
+fn seek(alloc: Global, session: &mut Session<'_>, screen: Screen<'_>, way: Way, out: &mut Vec<u8>)
     requires room { vec_len out.old + ROOM ≤ vec_capacity out.old }
-    ensures sought { Adds (SoughtBy is_prompting script.now session.old way (spec.found_from session.old way) session.new) out.old.items out.new.items }
+    ensures sought { Adds (SoughtBy screen.entry.is_prompting screen.entry.script.now session.old way (spec.found_from session.old way) session.new) out.old.items out.new.items }
     ensures capacity { vec_capacity out.old ≤ vec_capacity out.new }
 {
     let Ok(sought) = sought_from(alloc, session, way) else {
@@ -360,8 +327,8 @@ fn seek(
     };
     let Search { report, found } = sought;
     match found {
-        Some(run) => lay(alloc, session, is_prompting, script, None, run, out),
-        None => tell_none(alloc, session, is_prompting, way, &report, out),
+        Some(run) => lay(alloc, session, screen, None, run, out),
+        None => tell_none(alloc, session, screen.is_prompting, way, &report, out),
     }
 }
 
@@ -412,21 +379,20 @@ fn tell_no_run(alloc: Global, session: &Session<'_>, is_prompting: bool, out: &m
 fn follow(
     alloc: Global,
     session: &mut Session<'_>,
-    is_prompting: bool,
-    script: &[u8],
+    screen: Screen<'_>,
     number: usize,
     out: &mut Vec<u8>,
 )
     requires room { vec_len out.old + ROOM ≤ vec_capacity out.old }
-    ensures followed { Adds (FollowedBy is_prompting script.now session.old number (spec.numbered_from session.old number) session.new) out.old.items out.new.items }
+    ensures followed { Adds (FollowedBy screen.entry.is_prompting screen.entry.script.now session.old number (spec.numbered_from session.old number) session.new) out.old.items out.new.items }
     ensures capacity { vec_capacity out.old ≤ vec_capacity out.new }
 {
     let Ok(found) = numbered_from(alloc, session, number) else {
         return push_all(out, MEMORY);
     };
     match found {
-        Some(run) => lay(alloc, session, is_prompting, script, Some(number), run, out),
-        None => tell_no_run(alloc, session, is_prompting, out),
+        Some(run) => lay(alloc, session, screen, Some(number), run, out),
+        None => tell_no_run(alloc, session, screen.is_prompting, out),
     }
 }
 
@@ -470,13 +436,12 @@ fn tell_no_choice(alloc: Global, session: &Session<'_>, is_prompting: bool, out:
 fn undo_choice(
     alloc: Global,
     session: &mut Session<'_>,
-    is_prompting: bool,
-    script: &[u8],
+    screen: Screen<'_>,
     word: Word,
     out: &mut Vec<u8>,
 )
     requires room { vec_len out.old + ROOM ≤ vec_capacity out.old }
-    ensures undone { Adds (UndoneBy is_prompting script.now session.old word (last_choice_of session.old.trail) session.new) out.old.items out.new.items }
+    ensures undone { Adds (UndoneBy screen.entry.is_prompting screen.entry.script.now session.old word (last_choice_of session.old.trail) session.new) out.old.items out.new.items }
     ensures capacity { vec_capacity out.old ≤ vec_capacity out.new }
 {
     let Ok(found) = last_choice_in(alloc, session) else {
@@ -484,35 +449,21 @@ fn undo_choice(
     };
     match found {
         Some(depth) => {
-            carry_out(
-                alloc,
-                session,
-                is_prompting,
-                script,
-                word,
-                Command::Goto(depth),
-                out,
-            )
+            let command = Command::Goto(depth);
+            carry_out(alloc, session, screen, word, command, out)
         }
-        None => tell_no_choice(alloc, session, is_prompting, out),
+        None => tell_no_choice(alloc, session, screen.is_prompting, out),
     }
 }
 
 /// Looks, and tells what is seen.
 #[tactic(auto, using(crate::proofs::SaidLemmas::telling))]
-fn look(
-    alloc: Global,
-    session: &Session<'_>,
-    is_prompting: bool,
-    script: &[u8],
-    word: Word,
-    out: &mut Vec<u8>,
-)
+fn look(alloc: Global, session: &Session<'_>, screen: Screen<'_>, word: Word, out: &mut Vec<u8>)
     requires room { vec_len out.old + ROOM ≤ vec_capacity out.old }
-    ensures looked { Adds (Looked (spec.look_said is_prompting script.now session.now word)) out.old.items out.new.items }
+    ensures looked { Adds (Looked (spec.look_said screen.entry.is_prompting screen.entry.script.now session.now word)) out.old.items out.new.items }
     ensures capacity { vec_capacity out.old ≤ vec_capacity out.new }
 {
-    let Ok(text) = look_text(alloc, session, is_prompting, script, word) else {
+    let Ok(text) = look_text(alloc, session, screen, word) else {
         return push_all(out, MEMORY);
     };
     add(&text, MEMORY, out)
@@ -533,26 +484,23 @@ fn doing_in(alloc: Global, session: &Session<'_>, word: Word) -> Result<Doing, A
 fn answer_word(
     alloc: Global,
     session: &mut Session<'_>,
-    is_prompting: bool,
-    script: &[u8],
+    screen: Screen<'_>,
     word: Word,
     out: &mut Vec<u8>,
 )
     requires room { vec_len out.old + ROOM ≤ vec_capacity out.old }
-    ensures answered { Adds (Answered is_prompting script.now session.old word session.new) out.old.items out.new.items }
+    ensures answered { Adds (Answered screen.entry.is_prompting screen.entry.script.now session.old word session.new) out.old.items out.new.items }
     ensures capacity { vec_capacity out.old ≤ vec_capacity out.new }
 {
     let Ok(doing) = doing_in(alloc, session, word) else {
         return push_all(out, MEMORY);
     };
     match doing {
-        Doing::Asks(command) => {
-            carry_out(alloc, session, is_prompting, script, word, command, out)
-        }
-        Doing::Undoes => undo_choice(alloc, session, is_prompting, script, word, out),
-        Doing::Seeks(way) => seek(alloc, session, is_prompting, script, way, out),
-        Doing::Follows(number) => follow(alloc, session, is_prompting, script, number, out),
-        Doing::Looks => look(alloc, session, is_prompting, script, word, out),
+        Doing::Asks(command) => carry_out(alloc, session, screen, word, command, out),
+        Doing::Undoes => undo_choice(alloc, session, screen, word, out),
+        Doing::Seeks(way) => seek(alloc, session, screen, way, out),
+        Doing::Follows(number) => follow(alloc, session, screen, number, out),
+        Doing::Looks => look(alloc, session, screen, word, out),
     }
 }
 
@@ -607,14 +555,13 @@ fn again(word: Word) -> Word
     }
 }
 
-/// A console at the start of a script (docs/CONSOLE.md): a session, the text of its script, the word that an empty line repeats, and
-/// whether prompts are wanted.
+/// A console at the start of a script (docs/CONSOLE.md): a session, the text of its script and whether prompts are wanted, and the word
+/// that an empty line repeats.
 #[derive(Drop)]
 pub struct ConsoleDesk<'c, 't> {
     session: Session<'c>,
-    script: &'t [u8],
+    screen: Screen<'t>,
     last: Option<Word>,
-    is_prompting: bool,
 }
 
 impl<'c, 't> Model for ConsoleDesk<'c, 't> {
@@ -624,19 +571,18 @@ impl<'c, 't> Model for ConsoleDesk<'c, 't> {
 
     ghost coded = { console_code };
 
-    ghost view = { λ d. record { session = d.session; script = d.script.now; last = d.last; prompts = d.is_prompting } };
+    ghost view = { λ d. record { session = d.session; script = d.screen.script.now; last = d.last; prompts = d.screen.is_prompting } };
 }
 
 impl<'c, 't> ConsoleDesk<'c, 't> {
-    /// A console over a session, given the text of its script.
-    pub fn new(session: Session<'c>, script: &'t [u8], is_prompting: bool) -> ConsoleDesk<'c, 't>
-        ensures { result ≡ record { session = session.entry; script = script.entry.now; last = None; prompts = is_prompting } }
+    /// A console over a session, given the text of its script and whether prompts are wanted.
+    pub fn new(session: Session<'c>, screen: Screen<'t>) -> ConsoleDesk<'c, 't>
+        ensures { result ≡ record { session = session.entry; script = screen.entry.script.now; last = None; prompts = screen.entry.is_prompting } }
     {
         ConsoleDesk {
             session,
-            script,
+            screen,
             last: None,
-            is_prompting,
         }
     }
 
@@ -647,14 +593,7 @@ impl<'c, 't> ConsoleDesk<'c, 't> {
         ensures said { Adds (λ text. spec.WordSays self.old word text self.new) out.old.items out.new.items }
         ensures capacity { vec_capacity out.old ≤ vec_capacity out.new }
     {
-        answer_word(
-            alloc,
-            &mut self.session,
-            self.is_prompting,
-            self.script,
-            word,
-            out,
-        )
+        answer_word(alloc, &mut self.session, self.screen, word, out)
     }
 
     /// Answers a line that says nothing.
@@ -664,7 +603,7 @@ impl<'c, 't> ConsoleDesk<'c, 't> {
         ensures said { Adds (Looked (spec.prompt self.now.prompts self.now.session)) out.old.items out.new.items }
         ensures capacity { vec_capacity out.old ≤ vec_capacity out.new }
     {
-        let Ok(text) = idle_text(alloc, &self.session, self.is_prompting) else {
+        let Ok(text) = idle_text(alloc, &self.session, self.screen.is_prompting) else {
             return push_all(out, MEMORY);
         };
         add(text.as_bytes(), MEMORY, out)
@@ -690,7 +629,8 @@ impl<'c, 't> ConsoleDesk<'c, 't> {
         ensures said { Adds (Looked (spec.fault_said self.now.prompts self.now.session line.now fault)) out.old.items out.new.items }
         ensures capacity { vec_capacity out.old ≤ vec_capacity out.new }
     {
-        let Ok(text) = fault_text(alloc, &self.session, self.is_prompting, line, fault) else {
+        let is_prompting = self.screen.is_prompting;
+        let Ok(text) = fault_text(alloc, &self.session, is_prompting, line, fault) else {
             return push_all(out, MEMORY);
         };
         add(&text, MEMORY, out)
@@ -735,6 +675,6 @@ impl<'c, 't> LineDesk for ConsoleDesk<'c, 't> {
 
     #[tactic(auto, using(crate::proofs::SaidLemmas::speaking))]
     fn refuse_long(&mut self, out: &mut Vec<u8>) {
-        refuse_long(&self.session, self.is_prompting, out)
+        refuse_long(&self.session, self.screen.is_prompting, out)
     }
 }

@@ -8,7 +8,7 @@ mod prompts;
 pub mod quit;
 pub mod run;
 
-pub use desk::ConsoleDesk;
+pub use desk::{ConsoleDesk, Screen};
 pub use opening::{OpenFault, Opened, open, open_with};
 pub use quit::UntilQuit;
 pub use run::run_console;

@@ -12,7 +12,7 @@ use mpd_moves::push_break_line;
 use mpd_names::{Named, push_list, push_list_about, push_named, push_variables};
 use mpd_picture::push_picture;
 use mpd_policy::Breaks;
-use mpd_search::push_runs;
+use mpd_runs::push_runs;
 use mpd_trace::show;
 use mpd_trail::Debugger;
 use mpd_view::{

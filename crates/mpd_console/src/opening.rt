@@ -6,14 +6,14 @@ ghost use Rattle.mpd_explore.specs.Witness.{IsWitness};
 ghost use Rattle.mpd_session.specs.Held.{opened};
 ghost use Rattle.mpd_session.specs.Respond.{laid};
 ghost use Rattle.mpd_model.specs.declared.outcome.Outcome.TheVariants.{Deadlock};
-ghost use Rattle.mpd_explore.specs.declared.report.Ending.TheVariants.{Ended};
+ghost use Rattle.mpd_walk.specs.declared.ending.Ending.TheVariants.{Ended};
 ghost use Rattle.mpd_console.specs.Says.{prompt, laid_said};
 
-use crate::desk::{ConsoleDesk, laid_text};
+use crate::desk::{ConsoleDesk, RunAhead, Screen, laid_text};
 use crate::prompts::idle_bytes;
-use mpd_code::Code;
+use mpd_code::Subject;
 use mpd_explore::{Ending, Witness, WitnessFault, verify};
-use mpd_model::{Mode, Outcome, STEPS_MAX};
+use mpd_model::{Outcome, STEPS_MAX};
 use mpd_session::Session;
 use std::alloc::Global;
 
@@ -38,33 +38,31 @@ pub struct Opened<'c, 't> {
 /// A console at the start of a script, given its text. It says a prompt, where prompts are wanted.
 pub fn open<'c, 't>(
     alloc: Global,
-    code: &'c Code,
-    mode: Mode,
-    script: &'t [u8],
-    is_prompting: bool,
+    subject: Subject<'c>,
+    screen: Screen<'t>,
 ) -> Result<Opened<'c, 't>, OpenFault>
-    ensures desk { IfOk result (λ o. o.desk ≡ record { session = opened code.now.program mode; script = script.entry.now; last = None; prompts = is_prompting }) }
-    ensures said { IfOk result (λ o. o.said.items ≡ prompt is_prompting (opened code.now.program mode)) }
+    ensures desk { IfOk result (λ o. o.desk ≡ record { session = opened subject.entry.code.now.program subject.entry.mode; script = screen.entry.script.now; last = None; prompts = screen.entry.is_prompting }) }
+    ensures said { IfOk result (λ o. o.said.items ≡ prompt screen.entry.is_prompting (opened subject.entry.code.now.program subject.entry.mode)) }
 {
-    let Ok(session) = Session::start(alloc, code, mode) else {
+    let Ok(session) = Session::start(alloc, subject.code, subject.mode) else {
         return Err(OpenFault::Memory);
     };
-    let Ok(said) = idle_bytes(alloc, &session, is_prompting) else {
+    let Ok(said) = idle_bytes(alloc, &session, screen.is_prompting) else {
         return Err(OpenFault::Memory);
     };
-    let desk = ConsoleDesk::new(session, script, is_prompting);
+    let desk = ConsoleDesk::new(session, screen);
     Ok(Opened { desk, said })
 }
 
 /// Checks a witness for a script, of which no more steps are taken than a debugger has room for.
-fn check_witness(alloc: Global, code: &Code, mode: Mode, witness: &Witness) -> Result<(), OpenFault>
-    ensures is { IfOk result (λ _. IsWitness code.now.program mode witness.now) }
+fn check_witness(alloc: Global, subject: Subject<'_>, witness: &Witness) -> Result<(), OpenFault>
+    ensures is { IfOk result (λ _. IsWitness subject.entry.code.now.program subject.entry.mode witness.now) }
     ensures fits { IfOk result (λ _. length witness.now.steps ≤ STEPS_MAX) }
 {
     if witness.steps.items.len() > STEPS_MAX {
         return Err(OpenFault::TooLong);
     }
-    match verify(alloc, code, mode, witness) {
+    match verify(alloc, subject.code, subject.mode, witness) {
         Ok(()) => Ok(()),
         Err(WitnessFault::Memory) => Err(OpenFault::Memory),
         Err(fault) => Err(OpenFault::Refused(fault)),
@@ -75,17 +73,15 @@ fn check_witness(alloc: Global, code: &Code, mode: Mode, witness: &Witness) -> R
 fn console_before<'c, 't>(
     alloc: Global,
     session: Session<'c>,
-    script: &'t [u8],
-    is_prompting: bool,
-    ending: &Ending,
-    ahead: usize,
+    screen: Screen<'t>,
+    run: RunAhead<'_>,
 ) -> Result<Opened<'c, 't>, OpenFault>
-    ensures desk { IfOk result (λ o. o.desk ≡ record { session = session.entry; script = script.entry.now; last = None; prompts = is_prompting }) }
-    ensures said { IfOk result (λ o. o.said.items ≡ laid_said is_prompting script.entry.now session.entry None ending.now ahead) }
+    ensures desk { IfOk result (λ o. o.desk ≡ record { session = session.entry; script = screen.entry.script.now; last = None; prompts = screen.entry.is_prompting }) }
+    ensures said { IfOk result (λ o. o.said.items ≡ laid_said screen.entry.is_prompting screen.entry.script.now session.entry run.entry.number run.entry.ending.now run.entry.steps) }
 {
-    match laid_text(alloc, &session, is_prompting, script, None, ending, ahead) {
+    match laid_text(alloc, &session, screen, run) {
         Ok(said) => {
-            let desk = ConsoleDesk::new(session, script, is_prompting);
+            let desk = ConsoleDesk::new(session, screen);
             Ok(Opened { desk, said })
         }
         Err(_) => {
@@ -99,22 +95,25 @@ fn console_before<'c, 't>(
 /// "Witnesses"). It says where it stands.
 pub fn open_with<'c, 't>(
     alloc: Global,
-    code: &'c Code,
-    mode: Mode,
-    script: &'t [u8],
-    is_prompting: bool,
+    subject: Subject<'c>,
+    screen: Screen<'t>,
     witness: Witness,
 ) -> Result<Opened<'c, 't>, OpenFault>
-    ensures is { IfOk result (λ _. IsWitness code.now.program mode witness) }
-    ensures desk { IfOk result (λ o. o.desk ≡ record { session = laid (opened code.now.program mode) witness.steps; script = script.entry.now; last = None; prompts = is_prompting }) }
-    ensures said { IfOk result (λ o. o.said.items ≡ laid_said is_prompting script.entry.now (laid (opened code.now.program mode) witness.steps) None (Ended (Deadlock witness.blocked)) (length witness.steps)) }
+    ensures is { IfOk result (λ _. IsWitness subject.entry.code.now.program subject.entry.mode witness) }
+    ensures desk { IfOk result (λ o. o.desk ≡ record { session = laid (opened subject.entry.code.now.program subject.entry.mode) witness.steps; script = screen.entry.script.now; last = None; prompts = screen.entry.is_prompting }) }
+    ensures said { IfOk result (λ o. o.said.items ≡ laid_said screen.entry.is_prompting screen.entry.script.now (laid (opened subject.entry.code.now.program subject.entry.mode) witness.steps) None (Ended (Deadlock witness.blocked)) (length witness.steps)) }
 {
-    check_witness(alloc, code, mode, &witness)?;
-    let Ok(mut session) = Session::start(alloc, code, mode) else {
+    check_witness(alloc, subject, &witness)?;
+    let Ok(mut session) = Session::start(alloc, subject.code, subject.mode) else {
         return Err(OpenFault::Memory);
     };
-    let ahead = witness.steps.items.len();
+    let steps = witness.steps.items.len();
     let ending = Ending::Ended(Outcome::Deadlock(witness.blocked));
     session.lay(witness.steps.items);
-    console_before(alloc, session, script, is_prompting, &ending, ahead)
+    let run = RunAhead {
+        number: None,
+        ending: &ending,
+        steps,
+    };
+    console_before(alloc, session, screen, run)
 }

@@ -4,7 +4,8 @@ ghost use Rattle.std.specs.Prelude.{◌≡◌, ◌≤◌, IfSome, None, length};
 ghost use Rattle.mpd_model.specs.texts.Words.{is_blank};
 ghost use Rattle.mpd_console.specs.Quitting as spec;
 
-use mpd_device::{DeviceFault, Source, Steps};
+use mpd_counter::Counter;
+use mpd_device::{DeviceFault, Source};
 use mpd_model::LINE_MAX;
 
 /// What of a line was read so far, as far as it matters whether it is `quit`, `q` or `exit` alone.
@@ -153,9 +154,9 @@ pub struct UntilQuit<'s, S: Source> {
     source: &'s mut S,
     begun: Begun,
     is_over: bool,
-    calls: Steps,
-    failures: Steps,
-    ends: Steps,
+    calls: Counter,
+    failures: Counter,
+    ends: Counter,
 }
 
 impl<'s, S: Source> UntilQuit<'s, S> {
@@ -167,9 +168,9 @@ impl<'s, S: Source> UntilQuit<'s, S> {
             source,
             begun: nothing(),
             is_over: false,
-            calls: Steps::new(),
-            failures: Steps::new(),
-            ends: Steps::new(),
+            calls: Counter::new(),
+            failures: Counter::new(),
+            ends: Counter::new(),
         }
     }
 

@@ -19,12 +19,7 @@ const BREAK: &[u8] = b"\n        ";
 fn has_ink(line: &[u8]) -> bool
     ensures { result ≡ list_any spec.is_ink line.now }
 {
-    for byte in line {
-        if *byte != b' ' {
-            return true;
-        }
-    }
-    false
+    line.iter().any(|byte| *byte != b' ')
 }
 
 /// Whether a line can be cut at a place.

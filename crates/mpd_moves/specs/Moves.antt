@@ -1,5 +1,5 @@
 -- Words that ask the session for something that changes it: what they ask, and what is told of the reply.
-use Rattle.std.specs.Prelude.{ℕ, ◌-◌, ◌==◌, Bool, true, false, ◌&&◌, nat_lt, nat_le, is_some, is_none, if◌then◌else◌, List, [], ◌∷◌, ◌++◌, length, slice_get, Option, Some, None, codes}
+use Rattle.std.specs.Prelude.{ℕ, ◌-◌, ◌==◌, Bool, true, false, ◌&&◌, ◌||◌, not, min, drop, nat_lt, nat_le, is_some, is_none, if◌then◌else◌, List, [], ◌∷◌, ◌++◌, length, slice_get, Option, Some, None, codes}
 use Rattle.std.specs.Fmt.{decimal}
 use Rattle.std.specs.List.{list_any}
 use Rattle.mpd_model.specs.declared.step.Step.{Step}
@@ -14,10 +14,10 @@ use Rattle.mpd_model.specs.script.Declaration.{Declared}
 use Rattle.mpd_model.specs.script.Program.{Program}
 use Rattle.mpd_model.specs.steps.World.{World}
 use Rattle.mpd_model.specs.runs.Decisions.{decision}
-use Rattle.mpd_model.specs.runs.Running.{ran_back}
-use Rattle.mpd_model.specs.runs.Trail.{Trail, forgotten}
+use Rattle.mpd_model.specs.runs.Running.{all_applied, ran_back}
+use Rattle.mpd_model.specs.runs.Trail.{Trail, step_eq, forgotten}
 use Rattle.mpd_model.specs.texts.Texts.{line}
-use Rattle.mpd_model.specs.runs.Breakpoints.{break_at}
+use Rattle.mpd_model.specs.runs.Breakpoints.{no_breaks, break_at}
 use Rattle.mpd_wire.specs.declared.request.Command.{Command}
 use Rattle.mpd_wire.specs.declared.request.Command.TheVariants as command
 use Rattle.mpd_wire.specs.declared.reply.Answer.{Answer}
@@ -26,15 +26,15 @@ use Rattle.mpd_wire.specs.declared.reply.Refusal.{Refusal}
 use Rattle.mpd_wire.specs.declared.reply.Refusal.TheVariants as refusal
 use Rattle.mpd_wire.specs.declared.reply.Reply.{Reply}
 use Rattle.mpd_wire.specs.declared.reply.Reply.TheVariants as reply
-use Rattle.mpd_policy.specs.Single.{single, only_step}
+use Rattle.mpd_policy.specs.Single.{single, only_step, ran_on}
 use Rattle.mpd_names.specs.Called.{break_text}
 use Rattle.mpd_view.specs.Steps.{step_words}
 use Rattle.mpd_view.specs.Standing.{standing_text}
 use Rattle.mpd_moves.specs.declared.moves.TheConstants.{NO_CANDIDATE}
 use Rattle.mpd_moves.specs.declared.moves.Doing.{Doing}
 use Rattle.mpd_moves.specs.declared.moves.Doing.TheVariants.{Asks, Undoes, Seeks, Follows, Looks}
-use Rattle.mpd_search.specs.declared.way.Way.TheVariants as way
-use Rattle.mpd_search.specs.Seek.{count_words}
+use Rattle.mpd_runs.specs.declared.way.Way.TheVariants as way
+use Rattle.mpd_runs.specs.Seek.{count_words}
 use Rattle.mpd_moves.specs.News.{Known, news_text}
 use Rattle.mpd_vocabulary.specs.declared.word.Word.{Word}
 use Rattle.mpd_vocabulary.specs.declared.word.Word.TheVariants as word
@@ -63,17 +63,35 @@ is_alone one other = is_some one && is_none other
 abbrev pub goes_along : Trail → World → Bool
 goes_along t w = is_alone (slice_get t.steps t.depth) (only_step w)
 
+-- Whether two lists of steps part: at some place both have a step, and not the same.
+abbrev pub part : List Step → List Step → Bool
+part [] others = false
+part (a ∷ steps) [] = false
+part (a ∷ steps) (b ∷ others) = not (step_eq a b) || part steps others
+
+-- the trail of a run on of at most so many steps, as many as lie ahead at most
+abbrev pub ran_ahead : Trail → World → ℕ → Trail
+ran_ahead t w n = all_applied (forgotten t) (ran_on t.program no_breaks (min n (ahead_of t)) t.depth w).steps
+
+-- A run on would leave the steps that lie ahead, and take others: so it may be where those were laid by a search, whose walk forces fewer steps.
+abbrev pub leaves_ahead : Trail → World → ℕ → Bool
+leaves_ahead t w n = part (drop t.depth t.steps) (drop t.depth (ran_ahead t w n).steps)
+
+-- a run on, or where that would leave the steps that lie ahead so many of these
+abbrev pub on_command : Trail → World → ℕ → Command
+on_command t w n = if leaves_ahead t w n then command.Redo (min n (ahead_of t)) else command.RunOn n
+
 -- a step that comes next is taken as the first candidate is, which is looked at where it is a candidate alone; `next` goes along, too
 abbrev pub next_alone : Bool → Bool → Command
 next_alone comes along = if comes then command.Next (Some 0) else (if along then command.Redo 1 else command.Next None)
 
 abbrev pub next_command : Trail → World → Option ℕ → Command
-next_command t w None = next_alone (is_some (only_step w)) (is_some (slice_get t.steps t.depth))
-next_command t w (Some n) = if is_some (only_step w) then command.RunOn n else command.Next (Some (from_one n))
+next_command t w None = if leaves_ahead t w 1 then command.Redo 1 else next_alone (is_some (only_step w)) (is_some (slice_get t.steps t.depth))
+next_command t w (Some n) = if is_some (only_step w) then on_command t w n else command.Next (Some (from_one n))
 
--- `run` goes along: at a choice it takes the step that lies ahead
+-- `run` goes along: at a choice it takes the step that lies ahead, and where a run on would leave those that do, it takes these
 abbrev pub run_command : Trail → World → ℕ → Command
-run_command t w n = if nat_lt 0 n && goes_along t w then command.Redo 1 else command.RunOn n
+run_command t w n = if nat_lt 0 n && goes_along t w then command.Redo 1 else on_command t w n
 
 -- `redo` takes no more steps than lie ahead, where one does
 abbrev pub redo_command : Trail → ℕ → Command
@@ -118,10 +136,10 @@ abbrev pub or_else : Option Step → Option Step → Option Step
 or_else None other = other
 or_else (Some a) other = Some a
 
--- the step that `next` takes, by the candidate of this number at a choice, or the one that lies ahead; where a step comes next, a number is
--- one of steps
+-- the step that `next` takes: the one that lies ahead, else the one that comes next, or the candidate of this number at a choice; where a step
+-- comes next, a number is one of steps
 abbrev pub picked : Option Step → Option ℕ → Decision → Option Step
-picked ahead None d = or_else (single d) ahead
+picked ahead None d = or_else ahead (single d)
 picked ahead (Some n) d = picked_at n d (single d)
 
 -- the step that is taken again by a request for one

@@ -5,5 +5,5 @@
 pub mod moves;
 pub mod news;
 
-pub use moves::{Doing, doing_of, lead, push_break_line, push_reply};
-pub use news::{Known, known_for};
+pub use moves::{Doing, Scene, doing_of, lead_of, lead_text, push_break_line, push_reply};
+pub use news::{Known, Lead, known_for};

@@ -1,22 +1,22 @@
 //! Words that ask the session for something that changes it: what they ask, and what is told of the reply (docs/CONSOLE.md, "Answers").
 
-ghost use Rattle.std.specs.Prelude.{◌≡◌, ◌==◌, ◌++◌, IfOk, OnOk, None, Some, slice_get, string_bytes};
+ghost use Rattle.std.specs.Prelude.{◌≡◌, ◌==◌, ◌≤◌, ◌++◌, IfOk, OnOk, None, Some, drop, length, slice_get, string_bytes};
 ghost use Rattle.std.specs.List.{list_any};
 ghost use Rattle.mpd_model.specs.runs.Decisions.{decision};
 ghost use Rattle.mpd_policy.specs.Single.{single};
 ghost use Rattle.mpd_names.specs.Called.{break_text};
 ghost use Rattle.mpd_view.specs.Steps.{step_words};
 ghost use Rattle.mpd_view.specs.Standing.{standing_text};
-ghost use Rattle.mpd_moves.specs.News.{told};
+ghost use Rattle.mpd_moves.specs.News.{told, known_for};
 ghost use Rattle.mpd_moves.specs.Moves as spec;
 
-use crate::news::{Known, push_news};
+use crate::news::{Lead, known_for, push_news};
 use mpd_code::Code;
 use mpd_core::Core;
 use mpd_model::{Break, Cause, Decision, Decl, Step, Stop};
 use mpd_names::push_break;
-use mpd_policy::{Breaks, decide, only_step, run_back, sole};
-use mpd_search::{Way, push_count};
+use mpd_policy::{Breaks, decide, only_step, run_back, run_on, sole};
+use mpd_runs::{Way, push_count};
 use mpd_trail::Debugger;
 use mpd_view::{push_standing, push_step};
 use mpd_vocabulary::Word;
@@ -35,6 +35,17 @@ fn from_one(number: usize) -> usize
     } else {
         number - 1
     }
+}
+
+/// Where a session stands after a word, which is what is told of it.
+#[derive(Clone, Copy)]
+pub struct Scene<'s, 'c> {
+    /// Its debugger.
+    pub debugger: &'s Debugger<'c>,
+    /// The text of its script.
+    pub text: &'s [u8],
+    /// Its breakpoints.
+    pub breaks: &'s Breaks,
 }
 
 /// What a word does with the session.
@@ -99,6 +110,82 @@ fn next_alone(comes: bool, lies_ahead: bool) -> Command
     Command::Next(None)
 }
 
+/// Whether two lists of steps part: at some place both have a step, and not the same.
+fn part(one: &[Step], other: &[Step]) -> bool
+    ensures { result ≡ spec.part one.now other.now }
+{
+    for place in 0..one.len() {
+        if place >= other.len() {
+            return false;
+        }
+        if one[place] != other[place] {
+            return true;
+        }
+    }
+    false
+}
+
+/// Whether a copy of a debugger that has run on from its depth took other steps than those that lie ahead of it.
+fn has_left(debugger: &Debugger<'_>, copy: &Debugger<'_>) -> bool
+    requires within { debugger.now.trail.depth ≤ length debugger.now.trail.steps }
+    requires there { debugger.now.trail.depth ≤ length copy.now.trail.steps }
+    ensures { result ≡ spec.part (drop debugger.now.trail.depth debugger.now.trail.steps) (drop debugger.now.trail.depth copy.now.trail.steps) }
+{
+    let depth = debugger.depth();
+    let (_, ahead) = debugger.steps().split_at(depth);
+    let (_, taken) = copy.steps().split_at(depth);
+    part(ahead, taken)
+}
+
+/// Whether a run on of at most so many steps would leave those that lie ahead, and take others. A copy of the debugger runs. An `Err` is
+/// want of memory.
+fn leaves_ahead(alloc: Global, debugger: &Debugger<'_>, max: usize) -> Result<bool, AllocError>
+    ensures { IfOk result (λ b. b ≡ spec.leaves_ahead debugger.now.trail debugger.now.world max) }
+{
+    debugger.state_is_reached();
+    if debugger.next_undone().is_none() {
+        return Ok(false);
+    }
+    let mut copy = debugger.copy()?;
+    match run_on(
+        alloc,
+        &mut copy,
+        &Breaks::new(),
+        max.min(ahead_of(debugger)),
+    ) {
+        Ok(_) => {
+            let left = has_left(debugger, &copy);
+            drop(copy);
+            Ok(left)
+        }
+        Err(fault) => {
+            drop(copy);
+            Err(fault)
+        }
+    }
+}
+
+/// What goes on by so many steps asks for: a run on, or where that would leave the steps that lie ahead so many of these.
+fn on_command(alloc: Global, debugger: &Debugger<'_>, max: usize) -> Result<Command, AllocError>
+    ensures { IfOk result (λ c. c ≡ spec.on_command debugger.now.trail debugger.now.world max) }
+{
+    if leaves_ahead(alloc, debugger, max)? {
+        return Ok(Command::Redo(max.min(ahead_of(debugger))));
+    }
+    Ok(Command::RunOn(max))
+}
+
+/// What `next` asks for alone: the step that comes next, or at a choice a candidate, or the step that lies ahead.
+fn next_one(alloc: Global, debugger: &Debugger<'_>) -> Result<Command, AllocError>
+    ensures { IfOk result (λ c. c ≡ spec.next_command debugger.now.trail debugger.now.world None) }
+{
+    if leaves_ahead(alloc, debugger, 1)? {
+        return Ok(Command::Redo(1));
+    }
+    let comes = only_step(alloc, debugger.core())?.is_some();
+    Ok(next_alone(comes, debugger.next_undone().is_some()))
+}
+
 /// What `next` asks for: the step that comes next, or with a number so many; at a choice a candidate, or the step that lies ahead.
 fn next_command(
     alloc: Global,
@@ -107,25 +194,23 @@ fn next_command(
 ) -> Result<Command, AllocError>
     ensures { IfOk result (λ c. c ≡ spec.next_command debugger.now.trail debugger.now.world number) }
 {
-    let comes = only_step(alloc, debugger.core())?.is_some();
-    match number {
-        None => Ok(next_alone(comes, debugger.next_undone().is_some())),
-        Some(number) if comes => Ok(Command::RunOn(number)),
-        Some(number) => Ok(Command::Next(Some(from_one(number)))),
+    let Some(number) = number else {
+        return next_one(alloc, debugger);
+    };
+    if only_step(alloc, debugger.core())?.is_some() {
+        return on_command(alloc, debugger, number);
     }
+    Ok(Command::Next(Some(from_one(number))))
 }
 
-/// What `run` asks for: at a choice the step that lies ahead, where one does.
+/// What `run` asks for: at a choice the step that lies ahead, where one does, and the steps that lie ahead where a run on would leave them.
 fn run_command(alloc: Global, debugger: &Debugger<'_>, max: usize) -> Result<Command, AllocError>
     ensures { IfOk result (λ c. c ≡ spec.run_command debugger.now.trail debugger.now.world max) }
 {
-    if max == 0 {
-        return Ok(Command::RunOn(0));
-    }
-    if goes_along(alloc, debugger)? {
+    if max > 0 && goes_along(alloc, debugger)? {
         return Ok(Command::Redo(1));
     }
-    Ok(Command::RunOn(max))
+    on_command(alloc, debugger, max)
 }
 
 /// What `redo` asks for: no more steps than lie ahead, where one does.
@@ -208,12 +293,12 @@ fn picked_at(decision: &Decision, number: usize, only: Option<Step>) -> Option<S
     }
 }
 
-/// The step that is taken next, by the candidate of this number, from 1, at a choice, or the one that lies ahead.
+/// The step that is taken next: the one that lies ahead, else the one that comes next, or the candidate of this number, from 1, at a choice.
 fn picked(decision: &Decision, number: Option<usize>, ahead: Option<Step>) -> Option<Step>
     ensures { result ≡ spec.picked ahead number decision.now }
 {
     match number {
-        None => single(decision).or(ahead),
+        None => ahead.or(single(decision)),
         Some(number) => picked_at(decision, number, single(decision)),
     }
 }
@@ -254,7 +339,7 @@ fn step_of(alloc: Global, debugger: &Debugger<'_>, word: Word) -> Result<Option<
 }
 
 /// The step that a word takes, in words, before it is taken; empty where it takes none, or several. An `Err` is want of memory.
-pub fn lead(alloc: Global, debugger: &Debugger<'_>, word: Word) -> Result<String, AllocError>
+pub fn lead_text(alloc: Global, debugger: &Debugger<'_>, word: Word) -> Result<String, AllocError>
     ensures { IfOk result (λ t. string_bytes t ≡ spec.lead_text debugger.now.trail debugger.now.world word) }
 {
     let mut out = String::new(alloc);
@@ -262,6 +347,19 @@ pub fn lead(alloc: Global, debugger: &Debugger<'_>, word: Word) -> Result<String
         push_step(debugger.core(), &mut out, step)?;
     }
     Ok(out)
+}
+
+/// A word, and what is told and known before it is done. An `Err` is want of memory.
+pub fn lead_of(alloc: Global, debugger: &Debugger<'_>, word: Word) -> Result<Lead, AllocError>
+    ensures word { IfOk result (λ l. l.word ≡ word) }
+    ensures text { IfOk result (λ l. string_bytes l.text ≡ spec.lead_text debugger.now.trail debugger.now.world word) }
+    ensures known { IfOk result (λ l. told l.known.depth l.known.printed.items l.known.lost.items ≡ known_for debugger.now.trail debugger.now.world word) }
+{
+    Ok(Lead {
+        word,
+        text: lead_text(alloc, debugger, word)?,
+        known: known_for(alloc, debugger, word)?,
+    })
 }
 
 /// Adds the line of a move: the step that was taken, or the depth alone.
@@ -365,12 +463,7 @@ fn push_ran(out: &mut String, word: Word, depth: usize, count: usize) -> Result<
 fn is_among(lines: &[usize], line: usize) -> bool
     ensures { result ≡ list_any (λ l. l == line) lines.now }
 {
-    for other in lines {
-        if *other == line {
-            return true;
-        }
-    }
-    false
+    lines.iter().any(|other| *other == line)
 }
 
 /// Adds that no statement begins at a line, where that is so.
@@ -493,26 +586,23 @@ fn push_refused(
 /// Adds what is told of a run.
 fn push_run(
     alloc: Global,
-    debugger: &Debugger<'_>,
-    text: &[u8],
-    breaks: &Breaks,
+    scene: Scene<'_, '_>,
     out: &mut String,
-    word: Word,
+    lead: &Lead,
     depth: usize,
     stop: Stop,
-    known: &Known,
 ) -> Result<(), AllocError>
-    ensures { OnOk result (string_bytes out.new ≡ string_bytes out.old ++ spec.run_text text.now debugger.now.trail debugger.now.world breaks.now word depth stop (told known.now.depth known.now.printed.items known.now.lost.items)) }
+    ensures { OnOk result (string_bytes out.new ≡ string_bytes out.old ++ spec.run_text scene.entry.text.now scene.entry.debugger.now.trail scene.entry.debugger.now.world scene.entry.breaks.now lead.now.word depth stop (told lead.now.known.depth lead.now.known.printed.items lead.now.known.lost.items)) }
 {
-    push_ran(out, word, depth, stop.steps)?;
-    push_news(alloc, debugger, out, known)?;
-    push_cause(
-        out,
-        debugger.core().code().decls(),
+    let Scene {
+        debugger,
+        text,
         breaks,
-        word,
-        stop.cause,
-    )?;
+    } = scene;
+    let decls = debugger.core().code().decls();
+    push_ran(out, lead.word, depth, stop.steps)?;
+    push_news(alloc, debugger, out, &lead.known)?;
+    push_cause(out, decls, breaks, lead.word, stop.cause)?;
     push_standing(alloc, debugger, text, out)
 }
 
@@ -585,51 +675,44 @@ fn push_stepped(
 /// Adds what is told of a move.
 fn push_move(
     alloc: Global,
-    debugger: &Debugger<'_>,
-    text: &[u8],
-    breaks: &Breaks,
+    scene: Scene<'_, '_>,
     out: &mut String,
-    word: Word,
+    lead: &Lead,
     depth: usize,
-    lead: &str,
-    known: &Known,
 ) -> Result<(), AllocError>
-    ensures { OnOk result (string_bytes out.new ≡ string_bytes out.old ++ spec.move_text text.now debugger.now.trail debugger.now.world breaks.now word depth lead.now (told known.now.depth known.now.printed.items known.now.lost.items)) }
+    ensures { OnOk result (string_bytes out.new ≡ string_bytes out.old ++ spec.move_text scene.entry.text.now scene.entry.debugger.now.trail scene.entry.debugger.now.world scene.entry.breaks.now lead.now.word depth (string_bytes lead.now.text) (told lead.now.known.depth lead.now.known.printed.items lead.now.known.lost.items)) }
 {
-    push_moved(out, depth, lead)?;
-    push_news(alloc, debugger, out, known)?;
-    push_stepped(debugger, breaks, out, word, lead)?;
+    let Scene {
+        debugger,
+        text,
+        breaks,
+    } = scene;
+    let step = lead.text.as_str();
+    push_moved(out, depth, step)?;
+    push_news(alloc, debugger, out, &lead.known)?;
+    push_stepped(debugger, breaks, out, lead.word, step)?;
     push_standing(alloc, debugger, text, out)
 }
 
-/// Adds what is told of a reply to a word, behind it. `lead` is what was told of its step before, and `known` what was known then. An
-/// `Err` is want of memory.
+/// Adds what is told of a reply to a word after it, by what was told and known before. An `Err` is want of memory.
 pub fn push_reply(
     alloc: Global,
-    debugger: &Debugger<'_>,
-    text: &[u8],
-    breaks: &Breaks,
+    scene: Scene<'_, '_>,
     out: &mut String,
-    word: Word,
-    lead: &str,
-    known: &Known,
+    lead: &Lead,
     reply: &Reply,
 ) -> Result<(), AllocError>
-    ensures { OnOk result (string_bytes out.new ≡ string_bytes out.old ++ spec.reply_text text.now debugger.now.trail debugger.now.world breaks.now word lead.now (told known.now.depth known.now.printed.items known.now.lost.items) reply.now) }
+    ensures { OnOk result (string_bytes out.new ≡ string_bytes out.old ++ spec.reply_text scene.entry.text.now scene.entry.debugger.now.trail scene.entry.debugger.now.world scene.entry.breaks.now lead.now.word (string_bytes lead.now.text) (told lead.now.known.depth lead.now.known.printed.items lead.now.known.lost.items) reply.now) }
 {
+    let Scene { debugger, text, .. } = scene;
+    let word = lead.word;
     match reply {
         Reply::Refused(refusal) => push_refused(alloc, debugger, text, out, word, *refusal),
         Reply::Done { answer, .. } => match answer {
             Answer::Depth(depth) | Answer::Stepped { depth, .. } => {
-                push_move(
-                    alloc, debugger, text, breaks, out, word, *depth, lead, known,
-                )
+                push_move(alloc, scene, out, lead, *depth)
             }
-            Answer::Ran { depth, stop } => {
-                push_run(
-                    alloc, debugger, text, breaks, out, word, *depth, *stop, known,
-                )
-            }
+            Answer::Ran { depth, stop } => push_run(alloc, scene, out, lead, *depth, *stop),
             Answer::Added(number) => push_added(out, debugger.core().code(), word, *number),
             Answer::Removed => push_removed(out, word),
             Answer::Enabled(_)

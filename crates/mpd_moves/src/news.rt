@@ -1,13 +1,12 @@
 //! What the steps of a word did: what ranks print by them, and the requests that are lost by them (docs/CONSOLE.md, "Answers").
 
 ghost use Rattle.std.specs.Prelude.{◌≡◌, ◌++◌, IfOk, OnErr, OnOk, drop, false, get_or, slice_get, string_bytes};
-ghost use Rattle.std.specs.Fmt.{signed_decimal};
 ghost use Rattle.mpd_model.specs.runs.Decisions.{decision};
-ghost use Rattle.mpd_model.specs.texts.Texts.{spaced};
 ghost use Rattle.mpd_moves.specs.News as spec;
 
 use mpd_core::Core;
 use mpd_model::{CallId, Decision};
+use mpd_names::push_spaced;
 use mpd_policy::decide;
 use mpd_trail::Debugger;
 use mpd_view::{lost_calls, push_lost_line};
@@ -23,6 +22,16 @@ pub struct Known {
     printed: Vec<usize>,
     /// The requests that are lost.
     lost: Vec<CallId>,
+}
+
+/// A word, and what is told and known before it is done.
+#[derive(Drop)]
+pub struct Lead {
+    pub word: Word,
+    /// The step that it takes, in words; empty where it takes none, or several.
+    pub text: String,
+    /// What tells afterwards what its steps did.
+    pub known: Known,
 }
 
 /// How many values a rank has printed; of a rank that isn't there none.
@@ -80,16 +89,6 @@ pub fn known_for(alloc: Global, debugger: &Debugger<'_>, word: Word) -> Result<K
         });
     }
     known_of(alloc, debugger)
-}
-
-/// Adds values, each with a space before it.
-fn push_spaced(out: &mut String, values: &[i64]) -> Result<(), AllocError>
-    ensures { OnOk result (string_bytes out.new ≡ string_bytes out.old ++ spaced signed_decimal values.now) }
-{
-    for value in values {
-        write!(out, " {value}")?;
-    }
-    Ok(())
 }
 
 /// Adds the line of values that a rank prints.
@@ -155,12 +154,7 @@ fn push_prints(core: &Core<'_>, out: &mut String, counts: &[usize]) -> Result<()
 fn is_among(calls: &[CallId], call: CallId) -> bool
     ensures { result ≡ spec.is_among calls.now call }
 {
-    for other in calls {
-        if call.rank == other.rank && call.index == other.index {
-            return true;
-        }
-    }
-    false
+    calls.iter().any(|other| call.rank == other.rank && call.index == other.index)
 }
 
 /// Adds the line of a request that is lost, where it wasn't before.

@@ -2,10 +2,8 @@
 use Rattle.std.specs.Prelude.{ℕ, ◌+◌, nat_le, Bool, if◌then◌else◌, List, ◌++◌, length, Option, Some, None, codes}
 use Rattle.std.specs.Fmt.{decimal}
 use Rattle.std.specs.List.{flat_map}
-use Rattle.mpd_model.specs.declared.call.Mode.{Mode}
-use Rattle.mpd_model.specs.declared.call.Mode.TheVariants.{Rendezvous, Buffered, Slots}
 use Rattle.mpd_model.specs.declared.outcome.Outcome.{Outcome}
-use Rattle.mpd_model.specs.texts.Modes.{rendezvous_word, buffered_word, slots_word}
+use Rattle.mpd_model.specs.texts.Modes.{mode_word}
 use Rattle.mpd_model.specs.script.Program.{Program}
 use Rattle.mpd_model.specs.steps.World.{World, Board}
 use Rattle.mpd_model.specs.steps.Outcomes.{outcome}
@@ -21,11 +19,6 @@ use Rattle.mpd_picture.specs.Svg.{column_x, row_y, attribute, text_element, open
 use Rattle.mpd_picture.specs.Rows.{rows_text}
 
 -- ---- the title
-
-abbrev pub mode_word : Mode → List ℕ
-mode_word Rendezvous = rendezvous_word
-mode_word Buffered = buffered_word
-mode_word (Slots count) = slots_word ++ decimal count
 
 unfoldable pub how_text : Option Outcome → List ℕ
 how_text None = codes "can go on"

@@ -8,7 +8,7 @@ use Rattle.mpd_model.specs.declared.call.CallKind.TheVariants.{Send, Recv, Wait,
 use Rattle.mpd_model.specs.script.Program.{Program}
 use Rattle.mpd_model.specs.steps.World.{World, Board, call_at, kind_at, is_free, rank_numbers}
 use Rattle.mpd_model.specs.texts.Texts.{line, id_text, kind_text}
-use Rattle.mpd_explain.specs.Explained.{issue_line}
+use Rattle.mpd_names.specs.Placed.{issue_line}
 use Rattle.mpd_picture.specs.declared.shape.Shape.{Shape}
 use Rattle.mpd_picture.specs.declared.shape.Shape.TheVariants.{Arrow, Bar}
 use Rattle.mpd_picture.specs.declared.shape.Shape.TheVariants as shape

@@ -11,7 +11,7 @@ use Rattle.mpd_model.specs.script.Program.{Program}
 use Rattle.mpd_model.specs.steps.World.{RankWorld, World, Board, call_at, kind_at}
 use Rattle.mpd_model.specs.steps.Outcomes.{has_ended}
 use Rattle.mpd_model.specs.texts.Texts.{id_text, send_word, recv_word, call_text, trap_name}
-use Rattle.mpd_explain.specs.Explained.{issue_line, rank_line}
+use Rattle.mpd_names.specs.Placed.{issue_line, rank_line}
 use Rattle.mpd_picture.specs.declared.shape.Shape.{Shape}
 use Rattle.mpd_picture.specs.declared.shape.Shape.TheVariants.{Lane, Waiting, Posted, Arrow, Bar, Stub, End}
 use Rattle.mpd_picture.specs.declared.shape.Shape.TheVariants as shape

@@ -15,7 +15,7 @@ use crate::shapes::{rows_of, shapes_of};
 use crate::style::{LEGEND, OPENED, STYLE};
 use crate::svg::push_shapes;
 use mpd_core::Core;
-use mpd_model::{Mode, Outcome, print_outcome};
+use mpd_model::{Outcome, print_outcome};
 use mpd_trail::Debugger;
 use std::alloc::{AllocError, Global};
 
@@ -38,17 +38,6 @@ impl From<AllocError> for DrawFault {
 
     fn from(_: AllocError) -> DrawFault {
         DrawFault::Memory
-    }
-}
-
-/// Adds the word of a mode.
-fn push_mode(out: &mut String, mode: Mode) -> Result<(), AllocError>
-    ensures { OnOk result (string_bytes out.new ≡ string_bytes out.old ++ spec.mode_word mode) }
-{
-    match mode {
-        Mode::Rendezvous => out.push_str("rendezvous"),
-        Mode::Buffered => out.push_str("buffered"),
-        Mode::Slots(count) => write!(out, "slots:{count}"),
     }
 }
 
@@ -79,7 +68,8 @@ fn push_title_text(
 {
     let ranks = core.rank_count();
     write!(out, "{ranks} ranks, ")?;
-    push_mode(out, core.board().mode())?;
+    let mode = core.board().mode();
+    write!(out, "{mode}")?;
     write!(out, ", {depth} steps: ")?;
     push_how(alloc, out, ended)
 }

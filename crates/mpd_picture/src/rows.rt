@@ -9,8 +9,8 @@ use crate::shape::Shape;
 use crate::style::LETTERS;
 use crate::svg::{Finish, finish_of, word_of};
 use mpd_core::Core;
-use mpd_explain::issue_line;
 use mpd_model::{CallId, CallKind};
+use mpd_names::issue_line;
 use std::alloc::AllocError;
 
 // ---- the sign in each lane

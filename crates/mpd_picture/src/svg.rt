@@ -3,15 +3,14 @@
 ghost use Rattle.std.specs.Prelude.{◌≡◌, ◌++◌, ◌+◌, ◌≤◌, codes, OnOk, IfOk, IfSome, slice_get, string_bytes};
 ghost use Rattle.std.specs.List.{flat_map};
 ghost use Rattle.mpd_model.specs.steps.World.{kind_at};
-ghost use Rattle.mpd_model.specs.texts.Texts.{send_word, recv_word};
 ghost use Rattle.mpd_picture.specs.Svg as spec;
 
 use crate::elements::{push_corner, push_group, push_group_end, push_line, push_path, push_text};
 use crate::places::{column_x, lane_x, row_y};
 use crate::shape::Shape;
 use mpd_core::Core;
-use mpd_explain::{issue_line, rank_line};
-use mpd_model::{Activity, CallId, CallKind, Trap};
+use mpd_model::{Activity, CallId, CallKind, Trap, recv_word, send_word};
+use mpd_names::{issue_line, rank_line};
 use std::alloc::{AllocError, Global};
 
 /// How a rank is at the end of a run.
@@ -25,33 +24,14 @@ pub(crate) enum Finish {
 
 // ---- what shapes of calls look like
 
-/// The word of a send.
-fn word_of_send(synchronous: bool, blocks: bool) -> &'static str
-    ensures { result.now ≡ send_word synchronous blocks }
-{
-    match (synchronous, blocks) {
-        (false, true) => "send",
-        (false, false) => "isend",
-        (true, true) => "ssend",
-        (true, false) => "issend",
-    }
-}
-
-/// The word of a receive.
-fn word_of_recv(blocks: bool) -> &'static str
-    ensures { result.now ≡ recv_word blocks }
-{
-    if blocks { "recv" } else { "irecv" }
-}
-
 /// The word of a call.
 pub(crate) fn word_of(kind: Option<CallKind>) -> &'static str
     ensures { result.now ≡ spec.word_of kind }
 {
     match kind {
         None => "none",
-        Some(CallKind::Send(send)) => word_of_send(send.synchronous, send.blocks),
-        Some(CallKind::Recv(recv)) => word_of_recv(recv.blocks),
+        Some(CallKind::Send(send)) => send_word(send.synchronous, send.blocks),
+        Some(CallKind::Recv(recv)) => recv_word(recv.blocks),
         Some(CallKind::Wait(_)) => "wait",
         Some(CallKind::Waitany(_)) => "waitany",
         Some(CallKind::Barrier) => "barrier",
@@ -201,19 +181,23 @@ fn arrow_told(
 
 // ---- shapes
 
-/// Adds what stands beside a lane.
-#[tactic(auto, unfolding(crate::specs::Svg::side_element))]
-fn push_side(
-    out: &mut String,
-    is_left: bool,
+/// What a text beside a lane belongs to: a point of the lane, at most 2,000 to the right and 30,000,000 down, and at which side of it
+/// the text stands.
+#[derive(Clone, Copy)]
+struct Anchor {
     x: usize,
     y: usize,
-    label: &str,
-) -> Result<(), AllocError>
-    requires x { x ≤ 2000 }
-    requires y { y ≤ 30000000 }
-    ensures { OnOk result (string_bytes out.new ≡ string_bytes out.old ++ spec.side_element is_left x y label.now) }
+    is_left: bool,
+}
+
+/// Adds what stands beside a lane.
+#[tactic(auto, unfolding(crate::specs::Svg::side_element))]
+fn push_side(out: &mut String, anchor: Anchor, label: &str) -> Result<(), AllocError>
+    requires x { anchor.x ≤ 2000 }
+    requires y { anchor.y ≤ 30000000 }
+    ensures { OnOk result (string_bytes out.new ≡ string_bytes out.old ++ spec.side_element anchor.is_left anchor.x anchor.y label.now) }
 {
+    let Anchor { x, y, is_left } = anchor;
     if is_left {
         push_text(out, "left", x.saturating_sub(12), y + 4, label)
     } else {
@@ -226,18 +210,17 @@ fn push_side(
 fn push_row(
     core: &Core<'_>,
     out: &mut String,
-    is_left: bool,
-    x: usize,
-    y: usize,
+    anchor: Anchor,
     label: &str,
     told: &str,
 ) -> Result<(), AllocError>
-    requires x { x ≤ 2000 }
-    requires y { y ≤ 30000000 }
-    ensures { OnOk result (string_bytes out.new ≡ string_bytes out.old ++ spec.row_elements core.now.world.board is_left x y label.now told.now) }
+    requires x { anchor.x ≤ 2000 }
+    requires y { anchor.y ≤ 30000000 }
+    ensures { OnOk result (string_bytes out.new ≡ string_bytes out.old ++ spec.row_elements core.now.world.board anchor.is_left anchor.x anchor.y label.now told.now) }
 {
+    let Anchor { x, y, .. } = anchor;
     let column = column_x(core);
-    push_side(out, is_left, x, y, label)?;
+    push_side(out, anchor, label)?;
     push_line(out, "guide", x + 80, y, column - 6, y)?;
     push_text(out, "row", column, y + 4, told)
 }
@@ -296,9 +279,14 @@ fn push_call(
     let told = call_told(alloc, core, call)?;
     let x = lane_x(call.rank);
     let y = row_y(row);
+    let anchor = Anchor {
+        x,
+        y,
+        is_left: goes_right(call, kind),
+    };
     push_group(out, &told)?;
     push_path(out, class_of(kind), x, y, path_of(kind))?;
-    push_row(core, out, goes_right(call, kind), x, y, &label, &told)?;
+    push_row(core, out, anchor, &label, &told)?;
     push_group_end(out)
 }
 
@@ -342,34 +330,44 @@ fn arrow_path(
     Ok(path)
 }
 
+/// The arrow of a message.
+#[derive(Clone, Copy)]
+struct Arrow {
+    send: CallId,
+    /// The row that it begins at.
+    from: usize,
+    receive: CallId,
+    /// The row that it ends at.
+    to: usize,
+}
+
 /// Adds the arrow of a message.
 #[tactic(auto, unfolding(crate::specs::Svg::arrow_elements))]
 fn push_arrow(
     alloc: Global,
     core: &Core<'_>,
     out: &mut String,
-    send: CallId,
-    from: usize,
-    receive: CallId,
-    to: usize,
+    arrow: Arrow,
 ) -> Result<(), AllocError>
-    ensures { OnOk result (string_bytes out.new ≡ string_bytes out.old ++ spec.arrow_elements core.now.world.board send from receive to) }
+    ensures { OnOk result (string_bytes out.new ≡ string_bytes out.old ++ spec.arrow_elements core.now.world.board arrow.send arrow.from arrow.receive arrow.to) }
 {
+    let Arrow {
+        send,
+        from,
+        receive,
+        to,
+    } = arrow;
     let label = message_label(alloc, core.board().kind(send))?;
     let told = arrow_told(alloc, core, send, receive)?;
     let path = arrow_path(alloc, send.rank, from, receive.rank, to)?;
-    let is_left = receive.rank < send.rank;
+    let anchor = Anchor {
+        x: lane_x(receive.rank),
+        y: row_y(to),
+        is_left: receive.rank < send.rank,
+    };
     push_group(out, &told)?;
     push_path(out, "arrow", lane_x(send.rank), row_y(from), &path)?;
-    push_row(
-        core,
-        out,
-        is_left,
-        lane_x(receive.rank),
-        row_y(to),
-        &label,
-        &told,
-    )?;
+    push_row(core, out, anchor, &label, &told)?;
     push_group_end(out)
 }
 
@@ -487,18 +485,25 @@ fn end_title(alloc: Global, name: &str, told: &str) -> Result<String, AllocError
     Ok(title)
 }
 
-/// Adds how a rank of that name is at the end, with its words and a title.
-fn push_finish_group(
-    out: &mut String,
+/// How a rank is at the end, and at which row that is drawn.
+#[derive(Clone, Copy)]
+struct RankEnd {
     rank: usize,
     row: usize,
     finish: Finish,
+}
+
+/// Adds how a rank of that name is at the end, with its words and a title.
+fn push_finish_group(
+    out: &mut String,
+    end: RankEnd,
     name: &str,
     told: &str,
     title: &str,
 ) -> Result<(), AllocError>
-    ensures { OnOk result (string_bytes out.new ≡ string_bytes out.old ++ (spec.group_begun title.now ++ spec.path_element (spec.finish_class finish) (spec.lane_x rank) (spec.row_y row) (spec.finish_path finish) ++ spec.text_element (codes "name") (spec.lane_x rank) (spec.row_y row + 24) name.now ++ spec.text_element (codes "name") (spec.lane_x rank) (spec.row_y row + 38) told.now ++ spec.group_ended)) }
+    ensures { OnOk result (string_bytes out.new ≡ string_bytes out.old ++ (spec.group_begun title.now ++ spec.path_element (spec.finish_class end.finish) (spec.lane_x end.rank) (spec.row_y end.row) (spec.finish_path end.finish) ++ spec.text_element (codes "name") (spec.lane_x end.rank) (spec.row_y end.row + 24) name.now ++ spec.text_element (codes "name") (spec.lane_x end.rank) (spec.row_y end.row + 38) told.now ++ spec.group_ended)) }
 {
+    let RankEnd { rank, row, finish } = end;
     let x = lane_x(rank);
     let y = row_y(row);
     push_group(out, title)?;
@@ -510,19 +515,12 @@ fn push_finish_group(
 
 /// Adds how a rank is at the end, with its words.
 #[tactic(auto, unfolding(crate::specs::Svg::end_told))]
-fn push_finish(
-    alloc: Global,
-    out: &mut String,
-    rank: usize,
-    row: usize,
-    finish: Finish,
-    told: &str,
-) -> Result<(), AllocError>
-    ensures { OnOk result (string_bytes out.new ≡ string_bytes out.old ++ spec.end_told rank row finish told.now) }
+fn push_finish(alloc: Global, out: &mut String, end: RankEnd, told: &str) -> Result<(), AllocError>
+    ensures { OnOk result (string_bytes out.new ≡ string_bytes out.old ++ spec.end_told end.rank end.row end.finish told.now) }
 {
-    let name = rank_name(alloc, rank)?;
+    let name = rank_name(alloc, end.rank)?;
     let title = end_title(alloc, &name, told)?;
-    push_finish_group(out, rank, row, finish, &name, told, &title)
+    push_finish_group(out, end, &name, told, &title)
 }
 
 /// Adds how a rank is at the end.
@@ -538,7 +536,7 @@ fn push_end(
 {
     let finish = finish_of(core, rank);
     let told = finish_told(alloc, core, rank, finish)?;
-    push_finish(alloc, out, rank, row, finish, &told)
+    push_finish(alloc, out, RankEnd { rank, row, finish }, &told)
 }
 
 // ---- any shape
@@ -563,7 +561,15 @@ fn push_shape(
             from,
             receive,
             to,
-        } => push_arrow(alloc, core, out, send, from, receive, to),
+        } => {
+            let arrow = Arrow {
+                send,
+                from,
+                receive,
+                to,
+            };
+            push_arrow(alloc, core, out, arrow)
+        }
         Shape::Bar { row } => push_bar(core, out, row),
         Shape::End { rank, row } => push_end(alloc, core, out, rank, row),
     }

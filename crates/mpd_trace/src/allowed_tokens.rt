@@ -1,16 +1,13 @@
 //! What is told of a token that the grammar doesn't allow: which one stands there, and what could stand in its place.
-ghost use Rattle.std.specs.Prelude.{◌≡◌, ◌≤◌, ◌<◌, length, map, IfOk};
+ghost use Rattle.std.specs.Prelude.{◌≡◌, ◌≤◌, ◌<◌, ◌++◌, [], ◌∷◌, if◌then◌else◌, length, map, IfOk, OnOk, string_bytes};
 ghost use Rattle.mpd_model.specs.grammar.Tokens as spec;
-ghost use Rattle.mpd_trace.specs.Allowed.{allows, allows_one};
+ghost use Rattle.mpd_trace.specs.Allowed.{all_told, allowed_line, allows, allows_one, choice_text, found_text, kinds_told, operators_told};
 
 use crate::excerpts::push_part;
 use mpd_model::{Class, FaultCode};
 use mpd_script::read;
 use std::alloc::{AllocError, Global};
 use std::cmp;
-
-/// Kinds of tokens that are told at most. Where more could stand, none is told.
-pub const TOLD_MAX: usize = 3;
 
 /// The kinds of tokens but operators: how each is told, and a token of it, which stands for all.
 const KINDS: [(&str, &[u8]); 37] = [
@@ -89,28 +86,59 @@ fn is_one_allowed(alloc: Global, front: &[u8], tokens: &[&[u8]]) -> Result<bool,
     Ok(false)
 }
 
-/// How operators are told, where the grammar allows some behind the front of a text: those that compare stand where all do.
-fn allowed_operators(alloc: Global, front: &[u8]) -> Result<Option<&'static str>, AllocError> {
-    if is_one_allowed(alloc, front, &COMPARISONS)? {
-        Ok(Some("an operator"))
-    } else if is_one_allowed(alloc, front, &OTHERS)? {
-        Ok(Some("an operator that is no comparison"))
+/// Adds how a kind is told, if it is.
+fn push_if(
+    kinds: &mut Vec<&'static str>,
+    name: &'static str,
+    is_told: bool,
+) -> Result<(), AllocError>
+    ensures { OnOk result (map (λ t. t.now) kinds.new.items ≡ map (λ t. t.now) kinds.old.items ++ (if is_told then name.now ∷ [] else [])) }
+{
+    if is_told {
+        kinds.push(name)?;
+    }
+    Ok(())
+}
+
+/// How those of some kinds are told that the grammar allows behind the front of a text.
+fn told_of(
+    alloc: Global,
+    front: &[u8],
+    table: &[(&'static str, &'static [u8])],
+) -> Result<Vec<&'static str>, AllocError>
+    ensures { IfOk result (λ kinds. map (λ t. t.now) kinds.items ≡ kinds_told front.now (map (λ k. (k.0.now, k.1.now)) table.now)) }
+{
+    let mut kinds = Vec::new(alloc);
+    for (name, token) in table {
+        let is_told = is_allowed(alloc, front, token)?;
+        push_if(&mut kinds, name, is_told)?;
+    }
+    Ok(kinds)
+}
+
+/// Adds how operators are told, where some are allowed: those that compare are only where all are.
+fn push_operators(
+    kinds: &mut Vec<&'static str>,
+    compares: bool,
+    others: bool,
+) -> Result<(), AllocError>
+    ensures { OnOk result (map (λ t. t.now) kinds.new.items ≡ map (λ t. t.now) kinds.old.items ++ operators_told compares others) }
+{
+    if compares {
+        push_if(kinds, "an operator", true)
     } else {
-        Ok(None)
+        push_if(kinds, "an operator that is no comparison", others)
     }
 }
 
 /// How the kinds of tokens are told that the grammar allows behind the front of a text.
-fn allowed_kinds(alloc: Global, front: &[u8]) -> Result<Vec<&'static str>, AllocError> {
-    let mut kinds = Vec::new(alloc);
-    for (name, token) in &KINDS {
-        if is_allowed(alloc, front, token)? {
-            kinds.push(*name)?;
-        }
-    }
-    if let Some(name) = allowed_operators(alloc, front)? {
-        kinds.push(name)?;
-    }
+fn allowed_kinds(alloc: Global, front: &[u8]) -> Result<Vec<&'static str>, AllocError>
+    ensures { IfOk result (λ kinds. map (λ t. t.now) kinds.items ≡ all_told front.now) }
+{
+    let mut kinds = told_of(alloc, front, &KINDS)?;
+    let compares = is_one_allowed(alloc, front, &COMPARISONS)?;
+    let others = is_one_allowed(alloc, front, &OTHERS)?;
+    push_operators(&mut kinds, compares, others)?;
     Ok(kinds)
 }
 
@@ -168,7 +196,9 @@ fn token_len(text: &[u8]) -> usize
 }
 
 /// Adds the token at the front of what is left of a text, of a long one 72 bytes, or that the text ends.
-fn push_found(out: &mut String, rest: &[u8]) -> Result<(), AllocError> {
+fn push_found(out: &mut String, rest: &[u8]) -> Result<(), AllocError>
+    ensures { OnOk result (string_bytes out.new ≡ string_bytes out.old ++ found_text rest.now) }
+{
     if rest.is_empty() {
         return out.push_str("the end of the text");
     }
@@ -178,27 +208,30 @@ fn push_found(out: &mut String, rest: &[u8]) -> Result<(), AllocError> {
     out.push('\'')
 }
 
-/// What stands before a kind, of so many.
-fn joint(number: usize, count: usize) -> &'static str
-    requires { number < count }
+/// Adds a kind, and what stands before it.
+fn push_joined(out: &mut String, joint: &str, kind: &str) -> Result<(), AllocError>
+    ensures { OnOk result (string_bytes out.new ≡ string_bytes out.old ++ joint.now ++ kind.now) }
 {
-    if number == 0 {
-        "; only "
-    } else if number + 1 == count {
-        " or "
-    } else {
-        ", "
-    }
+    out.push_str(joint)?;
+    out.push_str(kind)
 }
 
 /// Adds the kinds of tokens that the grammar allows, where they are few.
-fn push_kinds(out: &mut String, kinds: &[&str]) -> Result<(), AllocError> {
-    if kinds.is_empty() || kinds.len() > TOLD_MAX {
-        return Ok(());
-    }
-    for (number, kind) in kinds.iter().enumerate() {
-        out.push_str(joint(number, kinds.len()))?;
-        out.push_str(kind)?;
+fn push_kinds(out: &mut String, kinds: &[&str]) -> Result<(), AllocError>
+    ensures { OnOk result (string_bytes out.new ≡ string_bytes out.old ++ choice_text (map (λ t. t.now) kinds.now)) }
+{
+    match kinds.len() {
+        1 => push_joined(out, "; only ", kinds[0])?,
+        2 => {
+            push_joined(out, "; only ", kinds[0])?;
+            push_joined(out, " or ", kinds[1])?;
+        }
+        3 => {
+            push_joined(out, "; only ", kinds[0])?;
+            push_joined(out, ", ", kinds[1])?;
+            push_joined(out, " or ", kinds[2])?;
+        }
+        _ => return Ok(()),
     }
     out.push_str(" can stand here")
 }
@@ -206,7 +239,9 @@ fn push_kinds(out: &mut String, kinds: &[&str]) -> Result<(), AllocError> {
 /// Tells of a place where the grammar doesn't allow the token of a text which one stands there, and what could: the kinds of
 /// tokens that the grammar allows there, where these are three at most. All others are refused at that place, whatever follows
 /// them. The line is indented by two and ends with a line feed. An `Err` is want of memory.
-pub fn allowed(alloc: Global, text: &[u8], place: usize) -> Result<String, AllocError> {
+pub fn allowed(alloc: Global, text: &[u8], place: usize) -> Result<String, AllocError>
+    ensures { IfOk result (λ t. string_bytes t ≡ allowed_line text.now place) }
+{
     let (front, rest) = text.split_at(cmp::min(place, text.len()));
     let kinds = allowed_kinds(alloc, front)?;
     let mut out = String::new(alloc);

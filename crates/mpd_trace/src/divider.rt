@@ -3,8 +3,8 @@ ghost use Rattle.std.specs.Prelude.{◌≡◌, ◌+◌, ◌<◌, ◌≤◌, [], 
 ghost use Rattle.mpd_model.specs.texts.Lines.{same_bytes, is_divider};
 ghost use Rattle.mpd_trace.specs.Divided.{may_divide, ends_script, splits, begun, added, IsHeld, PieceBrings, ByteBrings, Measures};
 
-use mpd_lines::{push_all, without_return};
-use mpd_model::SCRIPT_MAX;
+use mpd_lines::push_all;
+use mpd_model::{SCRIPT_MAX, without_return};
 use std::alloc::{AllocError, Global};
 use std::marker::Model;
 

@@ -11,7 +11,7 @@ pub mod plain_trace;
 pub mod state_text;
 pub mod tracer;
 
-pub use allowed_tokens::{TOLD_MAX, allowed};
+pub use allowed_tokens::allowed;
 pub use desk::TraceDesk;
 pub use divider::{Divider, Division};
 pub use enabled_list::listed;

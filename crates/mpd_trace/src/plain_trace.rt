@@ -11,7 +11,7 @@ ghost use Rattle.mpd_trace.specs.PlainFaults.{fault_line, fault_status, refused_
 
 use crate::divider::{Divider, Division};
 use crate::tracer::trace_behind;
-use mpd_code::lower;
+use mpd_code::{Subject, lower};
 use mpd_device::{Sink, Source};
 use mpd_lines::{EngineFault, READ_MAX};
 use mpd_model::{FaultCode, Mode, READS_MAX, ReadFault, Script};
@@ -206,7 +206,11 @@ fn trace_script<S: Source, W: Sink>(
     let Ok(code) = lower(alloc, script) else {
         return Err(EngineFault::Memory);
     };
-    trace_behind(alloc, &code, Mode::Rendezvous, source, sink, before, turns)
+    let subject = Subject {
+        code: &code,
+        mode: Mode::Rendezvous,
+    };
+    trace_behind(alloc, subject, source, sink, before, turns)
 }
 
 /// Reads a script up to a line `---` (docs/FORMATS.md) and answers the trace words behind it. Standard sends are not

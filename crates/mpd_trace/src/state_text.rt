@@ -8,7 +8,7 @@ ghost use Rattle.mpd_model.specs.steps.Outcomes.{outcome};
 ghost use Rattle.mpd_model.specs.texts.Texts.{spaced, depth_line, rank_line, values_line, handle_text, handles_line, call_line, call_lines, cell_lines, rank_lines, numbers_line, pending_line, pending_lines, posted_line, set_line, outcome_line, show_text};
 
 use mpd_core::Core;
-use mpd_device::Steps;
+use mpd_counter::Counter;
 use mpd_match::Board;
 use mpd_model::{CallId, MatchSet, print_outcome};
 use std::alloc::{AllocError, Global};
@@ -169,7 +169,7 @@ fn push_pending(
     requires receiver { receiver < length board.now.board.calls }
     ensures { OnOk result (string_bytes out.new ≡ string_bytes out.old ++ pending_line board.now.board sender receiver) }
 {
-    let mut looks = Steps::new();
+    let mut looks = Counter::new();
     let mut here = board.first_pending(sender, receiver, &mut looks);
     if here.is_none() {
         return Ok(());
@@ -203,7 +203,7 @@ fn push_posted(out: &mut String, board: &Board, rank: usize) -> Result<(), Alloc
     requires { rank < length board.now.board.calls }
     ensures { OnOk result (string_bytes out.new ≡ string_bytes out.old ++ posted_line board.now.board rank) }
 {
-    let mut looks = Steps::new();
+    let mut looks = Counter::new();
     let mut here = board.first_posted(rank, &mut looks);
     if here.is_none() {
         return Ok(());

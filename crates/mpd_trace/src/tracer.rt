@@ -8,10 +8,10 @@ ghost use Rattle.mpd_lines.specs.Served.{Served, Counted};
 ghost use Rattle.mpd_lines.specs.Telling.{waiting_below};
 
 use crate::desk::TraceDesk;
-use mpd_code::Code;
+use mpd_code::Subject;
 use mpd_device::{Sink, Source};
 use mpd_lines::{EngineFault, run_behind};
-use mpd_model::{Mode, READS_MAX};
+use mpd_model::READS_MAX;
 use std::alloc::Global;
 
 /// Answers the trace words of a source (docs/FORMATS.md, "Trace words") from the start of a script, and writes exactly
@@ -20,31 +20,29 @@ use std::alloc::Global;
 /// 1,000,000 reads none of which was the end, and `Memory` only before anything was read or written.
 pub fn trace<S: Source, W: Sink>(
     alloc: Global,
-    code: &Code,
-    mode: Mode,
+    subject: Subject<'_>,
     source: &mut S,
     sink: &mut W,
 ) -> Result<(), EngineFault>
-    ensures served { (e : Standing) × Served AnswerOrMemory (waiting_below true) (first_standing code.now.program mode) [] READS_MAX (S.seen source.old) (S.seen source.new) (W.seen sink.old) (W.seen sink.new) e result }
+    ensures served { (e : Standing) × Served AnswerOrMemory (waiting_below true) (first_standing subject.entry.code.now.program subject.entry.mode) [] READS_MAX (S.seen source.old) (S.seen source.new) (W.seen sink.old) (W.seen sink.new) e result }
     ensures counted { Counted READS_MAX (failed_reads result) (failed_writes result) (S.seen source.old) (S.seen source.new) (W.seen sink.old) (W.seen sink.new) }
 {
-    trace_behind(alloc, code, mode, source, sink, &[], READS_MAX)
+    trace_behind(alloc, subject, source, sink, &[], READS_MAX)
 }
 
 /// The same behind bytes that were read before, in so many reads at most.
 pub(crate) fn trace_behind<S: Source, W: Sink>(
     alloc: Global,
-    code: &Code,
-    mode: Mode,
+    subject: Subject<'_>,
     source: &mut S,
     sink: &mut W,
     before: &[u8],
     turns: usize,
 ) -> Result<(), EngineFault>
-    ensures served { (e : Standing) × Served AnswerOrMemory (waiting_below true) (first_standing code.now.program mode) before.now turns (S.seen source.old) (S.seen source.new) (W.seen sink.old) (W.seen sink.new) e result }
+    ensures served { (e : Standing) × Served AnswerOrMemory (waiting_below true) (first_standing subject.entry.code.now.program subject.entry.mode) before.now turns (S.seen source.old) (S.seen source.new) (W.seen sink.old) (W.seen sink.new) e result }
     ensures counted { Counted turns (failed_reads result) (failed_writes result) (S.seen source.old) (S.seen source.new) (W.seen sink.old) (W.seen sink.new) }
 {
-    let Ok(mut desk) = TraceDesk::start(alloc, code, mode) else {
+    let Ok(mut desk) = TraceDesk::start(alloc, subject.code, subject.mode) else {
         return Err(EngineFault::Memory);
     };
     run_behind(alloc, source, sink, &mut desk, before, turns)

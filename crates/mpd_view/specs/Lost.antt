@@ -11,7 +11,7 @@ use Rattle.mpd_model.specs.steps.World.{RankWorld, World, Board, call_id, kind_a
 use Rattle.mpd_model.specs.steps.Next.{blocks}
 use Rattle.mpd_model.specs.runs.Breakpoints.{is_number}
 use Rattle.mpd_model.specs.texts.Texts.{line}
-use Rattle.mpd_explain.specs.Explained.{placed}
+use Rattle.mpd_names.specs.Placed.{placed}
 
 -- a call that its rank doesn't wait for as it issues it
 abbrev pub is_request : Option CallKind → Bool

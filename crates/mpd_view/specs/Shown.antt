@@ -12,7 +12,7 @@ use Rattle.mpd_model.specs.steps.World.{RankWorld, World, Board, call_id, rank_n
 use Rattle.mpd_model.specs.steps.Next.{enabled, can_wake}
 use Rattle.mpd_model.specs.steps.Outcomes.{has_ended}
 use Rattle.mpd_model.specs.texts.Texts.{line, id_text, call_text, trap_name}
-use Rattle.mpd_explain.specs.Explained.{placed}
+use Rattle.mpd_names.specs.Placed.{placed}
 use Rattle.mpd_view.specs.Steps.{line_of, call_line_of, step_line}
 
 -- lines, or one that says that there are none

@@ -13,7 +13,7 @@ use Rattle.mpd_model.specs.steps.World.{World, Board, last_call, id_eq}
 use Rattle.mpd_model.specs.runs.Decisions.{decision}
 use Rattle.mpd_model.specs.texts.Texts.{line, outcome_text}
 use Rattle.mpd_model.specs.runs.Trail.{Trail}
-use Rattle.mpd_explore.specs.declared.report.Ending.TheVariants.{Ended}
+use Rattle.mpd_walk.specs.declared.ending.Ending.TheVariants.{Ended}
 use Rattle.mpd_explain.specs.Explained.{told}
 use Rattle.mpd_policy.specs.Single.{sole}
 use Rattle.mpd_names.specs.Sources.{source}

@@ -8,7 +8,7 @@ use Rattle.mpd_model.specs.script.Program.{Program}
 use Rattle.mpd_model.specs.steps.World.{World, Board, call_at, last_call}
 use Rattle.mpd_model.specs.steps.Next.{any_call}
 use Rattle.mpd_model.specs.texts.Texts.{line, step_text}
-use Rattle.mpd_explain.specs.Explained.{issue_line, rank_line, placed}
+use Rattle.mpd_names.specs.Placed.{issue_line, rank_line, placed}
 
 -- the line that a rank stands at, and that of the call which it issued last
 abbrev pub line_of : Program → World → ℕ → ℕ

@@ -10,7 +10,8 @@ use Rattle.mpd_model.specs.steps.World.{World, Board, kind_at, rank_numbers, is_
 use Rattle.mpd_model.specs.steps.Next.{waits, can_wake}
 use Rattle.mpd_model.specs.texts.Texts.{line}
 use Rattle.mpd_model.specs.steps.Why.{why}
-use Rattle.mpd_explain.specs.Explained.{placed, wish, helps, absent_line}
+use Rattle.mpd_names.specs.Placed.{placed}
+use Rattle.mpd_explain.specs.Explained.{wish, helps, absent_line}
 use Rattle.mpd_explain.specs.Requests.{requests}
 use Rattle.mpd_view.specs.Shown.{call_line, or_none}
 

@@ -9,8 +9,8 @@ ghost use Rattle.mpd_view.specs.Shown as shown;
 use crate::steps::push_step_line;
 use crate::why::can_wake;
 use mpd_core::Core;
-use mpd_explain::{issue_line, push_placed, rank_line};
 use mpd_model::{Activity, CallId, CallKind, Step, Trap};
+use mpd_names::{issue_line, push_placed, rank_line};
 use std::alloc::{AllocError, Global};
 
 /// Adds lines, or one that says that there are none.

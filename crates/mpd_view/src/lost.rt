@@ -7,8 +7,8 @@ ghost use Rattle.mpd_model.specs.runs.Breakpoints.{is_number};
 ghost use Rattle.mpd_view.specs.Lost as lost;
 
 use mpd_core::Core;
-use mpd_explain::push_placed;
 use mpd_model::{Call, CallId, CallKind, blocks};
+use mpd_names::push_placed;
 use std::alloc::{AllocError, Global};
 
 /// Whether its rank doesn't wait for a call of this kind as it issues it.
@@ -45,24 +45,14 @@ fn is_waitany(kind: CallKind) -> bool
 fn has_waitany(calls: &[Call]) -> bool
     ensures { result ≡ lost.has_waitany calls.now }
 {
-    for call in calls {
-        if is_waitany(call.kind) {
-            return true;
-        }
-    }
-    false
+    calls.iter().any(|call| is_waitany(call.kind))
 }
 
 /// Whether one of these calls is a request.
 fn has_request(calls: &[Call]) -> bool
     ensures { result ≡ list_any (λ c. lost.is_request (Some c.kind)) calls.now }
 {
-    for call in calls {
-        if is_request(Some(call.kind)) {
-            return true;
-        }
-    }
-    false
+    calls.iter().any(|call| is_request(Some(call.kind)))
 }
 
 /// Notes that the call of a number is kept, where there is one.

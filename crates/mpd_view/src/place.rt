@@ -8,10 +8,10 @@ ghost use Rattle.mpd_view.specs.Standing as standing;
 use crate::lost::push_all_lost;
 use crate::steps::{push_issued, push_step};
 use mpd_core::Core;
-use mpd_explain::{issue_line, push_told, rank_line};
+use mpd_explain::push_told;
 use mpd_explore::Ending;
 use mpd_model::{CallId, Decision, Outcome, Step, print_outcome};
-use mpd_names::push_source;
+use mpd_names::{issue_line, push_source, rank_line};
 use mpd_policy::{decide, sole};
 use mpd_trail::Debugger;
 use std::alloc::{AllocError, Global};
@@ -104,12 +104,7 @@ fn is_call(call: Option<CallId>, wanted: CallId) -> bool
 fn are_all_for(core: &Core<'_>, steps: &[Step], call: CallId) -> bool
     ensures { result ≡ list_all (λ a. standing.is_call (standing.chooser core.now.world.board a) call) steps.now }
 {
-    for step in steps {
-        if !is_call(chooser(core, *step), call) {
-            return false;
-        }
-    }
-    true
+    steps.iter().all(|step| is_call(chooser(core, *step), call))
 }
 
 /// The one call that all candidates are chosen for, where there is one.

@@ -1,12 +1,12 @@
 //! Steps in words (docs/CONSOLE.md, "Steps in words").
 
-ghost use Rattle.std.specs.Prelude.{◌≡◌, ◌<◌, ◌≤◌, ◌++◌, OnOk, IfSome, IfNone, Some, string_bytes};
-ghost use Rattle.mpd_model.specs.steps.Next.{any_call, request_handle as handle_of};
+ghost use Rattle.std.specs.Prelude.{◌≡◌, ◌++◌, OnOk, string_bytes};
+ghost use Rattle.mpd_model.specs.steps.Next.{any_call};
 ghost use Rattle.mpd_view.specs.Steps as words;
 
 use mpd_core::Core;
-use mpd_explain::{issue_line, push_placed, rank_line};
-use mpd_model::{CallId, CallKind, Step};
+use mpd_model::{CallId, Step};
+use mpd_names::{issue_line, push_placed, rank_line};
 use std::alloc::AllocError;
 
 /// Adds a step, and one line that it is about.
@@ -49,34 +49,12 @@ fn push_match(
     push_issuer(core, out, recv)
 }
 
-/// The handle of the request of an index, where it is one of so many handles.
-fn request_handle(kind: Option<CallKind>, index: usize, handles: usize) -> Option<usize>
-    ensures some { IfSome result (λ handle. handle_of kind index ≡ Some handle) }
-    ensures within { IfSome result (λ handle. handle < handles) }
-    ensures none { IfNone result (IfSome (handle_of kind index) (λ handle. handles ≤ handle)) }
-{
-    let Some(CallKind::Waitany(wait)) = kind else {
-        return None;
-    };
-    if index >= wait.count || index >= handles || wait.first >= handles - index {
-        return None;
-    }
-    Some(wait.first + index)
-}
-
 /// The call of the request of an index, of the waitany that a rank has issued last, where its handle has one.
-#[tactic(auto, using(mpd_core::proofs::RankLemmas::reading, mpd_core::proofs::AnyLemmas::requesting))]
 fn request_call(core: &Core<'_>, rank: usize, index: usize) -> Option<CallId>
     ensures { result ≡ any_call core.now.world rank index }
 {
-    if rank >= core.rank_count() {
-        return None;
-    }
-    let state = core.rank(rank);
-    let kind = core.board().kind(core.board().last_call(rank));
-    let handle = request_handle(kind, index, state.handle_count())?;
-    let call = state.held_call(handle)?;
-    Some(CallId { rank, index: call })
+    let request = core.request(rank, index)?;
+    Some(request.call)
 }
 
 /// Adds the request that a rank goes on by, where it has a call.

@@ -7,8 +7,9 @@ ghost use Rattle.mpd_view.specs.Whys as whys;
 
 use crate::looks::{push_call, push_or_none};
 use mpd_core::Core;
-use mpd_explain::{push_all_absent, push_helps, push_placed, push_wish, requests};
+use mpd_explain::{push_all_absent, push_helps, push_wish, requests};
 use mpd_model::{Activity, CallId, CallKind};
+use mpd_names::push_placed;
 use std::alloc::{AllocError, Global};
 
 /// Adds the call that holds a match back, where one does.

@@ -6,9 +6,9 @@ ghost use Rattle.mpd_model.specs.texts.Words.{words};
 ghost use Rattle.mpd_model.specs.texts.Texts.{line};
 ghost use Rattle.mpd_vocabulary.specs.Faults as spec;
 
-use crate::read::next_word;
 use crate::topic::{TOPICS, Topic, details_of, forms_of, nearest, purpose_of, shorts_of, usage_of};
 use crate::word::WordFault;
+use mpd_model::next_word;
 use std::alloc::AllocError;
 
 /// How wide the forms of a word stand in the lines of help.

@@ -1,99 +1,17 @@
 //! Reads a line of the console (docs/CONSOLE.md, "Words").
 
 ghost use Rattle.std.specs.Prelude.{◌≡◌, ◌≤◌, ◌∷◌, [], length, MatchOption};
-ghost use Rattle.mpd_model.specs.texts.Words.{words, stop_len, is_blank, is_no_blank, is_dot, number_of, call_of};
+ghost use Rattle.mpd_model.specs.texts.Words.{words, number_of, call_of};
 ghost use Rattle.mpd_vocabulary.specs.Reading as spec;
 
 use crate::topic::{Topic, topic_of};
 use crate::word::{Word, WordFault};
 use mpd_code::Code;
-use mpd_model::{Break, CallId, DeclKind, STEPS_MAX, TraceWord, has_word, trace_word_of};
+use mpd_model::{
+    Break, CallId, DeclKind, STEPS_MAX, TraceWord, call_of, has_word, next_word, number_of,
+    trace_word_of,
+};
 use mpd_names::{NameFault, Named, find_named};
-
-/// How many blanks a text begins with.
-fn blank_len(text: &[u8]) -> usize
-    ensures value { result ≡ stop_len is_no_blank text.now }
-    ensures bound { result ≤ length text.now }
-{
-    for (i, byte) in text.iter().enumerate() {
-        if *byte != b' ' && *byte != b'\t' {
-            return i;
-        }
-    }
-    text.len()
-}
-
-/// How many bytes stand before the first blank, or all.
-fn word_len(text: &[u8]) -> usize
-    ensures value { result ≡ stop_len is_blank text.now }
-    ensures bound { result ≤ length text.now }
-{
-    for (i, byte) in text.iter().enumerate() {
-        if *byte == b' ' || *byte == b'\t' {
-            return i;
-        }
-    }
-    text.len()
-}
-
-/// The first word, and what stands behind it.
-#[tactic(auto, using(mpd_model::proofs::WordLemmas::cutting))]
-pub(crate) fn next_word(text: &[u8]) -> Option<(&[u8], &[u8])>
-    ensures { MatchOption result (words text.now ≡ []) (λ q. words text.now ≡ q.0.now ∷ words q.1.now) }
-{
-    let (_, start) = text.split_at(blank_len(text));
-    if start.is_empty() {
-        return None;
-    }
-    Some(start.split_at(word_len(start)))
-}
-
-/// How many bytes stand before the first `.`, or all.
-fn dot_len(text: &[u8]) -> usize
-    ensures value { result ≡ stop_len is_dot text.now }
-    ensures bound { result ≤ length text.now }
-{
-    for (i, byte) in text.iter().enumerate() {
-        if *byte == b'.' {
-            return i;
-        }
-    }
-    text.len()
-}
-
-/// A number of 1 to 9 digits.
-fn number_of(word: &[u8]) -> Option<usize>
-    ensures { result ≡ number_of word.now }
-{
-    if word.is_empty() || word.len() > 9 {
-        return None;
-    }
-    let mut value = 0;
-    for byte in word {
-        if !byte.is_ascii_digit() {
-            return None;
-        }
-        value = value * 10 + (*byte - b'0') as usize;
-    }
-    Some(value)
-}
-
-/// A call: two numbers with one `.` between them.
-#[tactic(auto, using(mpd_model::proofs::WordLemmas::cutting))]
-fn call_of(word: &[u8]) -> Option<CallId>
-    ensures { result ≡ call_of word.now }
-{
-    let dot = dot_len(word);
-    if dot == word.len() {
-        return None;
-    }
-    let (rank, behind) = word.split_at(dot);
-    let (_, index) = behind.split_at(1);
-    Some(CallId {
-        rank: number_of(rank)?,
-        index: number_of(index)?,
-    })
-}
 
 /// The only word left.
 fn only_word(rest: &[u8]) -> Option<&[u8]>

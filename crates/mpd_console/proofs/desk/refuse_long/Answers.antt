@@ -1,5 +1,5 @@
 use Rattle.mpd_console.specs.Says.{too_long_line, prompt}
-use Rattle.mpd_console.proofs.JoinLemmas.{grown}
+use Rattle.mpd_names.proofs.JoinLemmas.{grown}
 use Rattle.mpd_console.proofs.desk.refuse_long.Goals as goal
 
 pub returns-clause-text : goal.returns-clause-text

@@ -1,6 +1,6 @@
 use Rattle.std.proofs.Common.{string_bytes}
 use Rattle.mpd_core.proofs.RangeLemmas.{on_ok}
-use Rattle.mpd_explain.proofs.JoinLemmas.{grown}
+use Rattle.mpd_names.proofs.JoinLemmas.{grown}
 use Rattle.mpd_picture.specs.Pictures.{head_elements}
 use Rattle.mpd_picture.proofs.drawing.push_head.Goals as goal
 

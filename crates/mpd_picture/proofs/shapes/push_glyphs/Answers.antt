@@ -1,7 +1,7 @@
 use Rattle.std.proofs.Common.{◌+◌, drop}
 use Rattle.std.proofs.lemmas.List.{drop_more}
 use Rattle.mpd_picture.specs.Shapes.{glyph_shapes}
-use Rattle.mpd_explain.proofs.JoinLemmas.{joined_more}
+use Rattle.mpd_names.proofs.JoinLemmas.{joined_more}
 use Rattle.mpd_picture.proofs.shapes.push_glyphs.Goals as goal
 
 pub loop-glyph-preserved : goal.loop-glyph-preserved

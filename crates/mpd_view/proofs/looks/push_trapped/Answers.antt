@@ -1,6 +1,6 @@
 use Rattle.std.proofs.Common.{List, ℕ, ◌++◌, codes, string_bytes, ap, ◌∙◌}
 use Rattle.std.specs.Fmt.{decimal}
-use Rattle.mpd_explain.proofs.JoinLemmas.{grown}
+use Rattle.mpd_names.proofs.JoinLemmas.{grown}
 use Rattle.mpd_view.specs.Steps.{line_of}
 use Rattle.mpd_view.proofs.looks.push_trapped.Goals as goal
 
