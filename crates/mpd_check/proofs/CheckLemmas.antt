@@ -9,6 +9,7 @@ use Rattle.mpd_model.specs.steps.World.{start}
 use Rattle.mpd_model.specs.runs.Trail.{Standing, first_standing}
 use Rattle.mpd_device.specs.Seen.{SinkSeen}
 use Rattle.mpd_lines.specs.declared.engine.EngineFault.TheVariants.{ReadFailed, WriteFailed, TooManyTurns, Memory}
+use Rattle.mpd_explore.specs.Sleeping.{decides_by}
 use Rattle.mpd_pieces.specs.declared.splitter.TheConstants.{PIECES_MAX}
 use Rattle.mpd_pieces.specs.declared.splitter.Piece.{Piece}
 use Rattle.mpd_pieces.specs.declared.splitter.SplitFault.{SplitFault}
@@ -85,9 +86,9 @@ piece_told text s mode plan ps number p told is within read few told_so tally = 
 pub none_told : (text : List ℕ → List ℕ) (s : Program) (mode : Mode) (plan : CheckPlan) (ps : List Piece) (number : ℕ) → ps ≡ numbered 0 (pieces_of s mode plan) → length ps ≤ number → AreFew s mode plan → PartTold text s mode plan number (Err (NoSuchPiece number (length ps)))
 none_told text s mode plan ps number is past few = (refl, count_is (pieces_of s mode plan) ps is, past, few)
 
-pub reached_number : (s : Program) (mode : Mode) (plan : CheckPlan) (ps : List Piece) (number : ℕ) (p : Piece) (d : Standing) → d ≡ first_standing s mode → ps ≡ numbered 0 (pieces_of s mode plan) → number < length ps → p ≡ get_or ps number p → Reaches plan.limits.fuel p.choices d.world
+pub reached_number : (s : Program) (mode : Mode) (plan : CheckPlan) (ps : List Piece) (number : ℕ) (p : Piece) (d : Standing) → d ≡ first_standing s mode → ps ≡ numbered 0 (pieces_of s mode plan) → number < length ps → p ≡ get_or ps number p → Reaches (decides_by plan.limits.ends) plan.limits.fuel p.choices d.world
 reached_number s mode plan ps number p d is pieces within read =
-    reached_at plan.limits.fuel (start s mode) d.world ps number p p.choices within read refl (ap (λ (x : Standing). x.world) is) (level_reached plan.limits.fuel plan.split (start s mode) ps pieces)
+    reached_at (decides_by plan.limits.ends) plan.limits.fuel (start s mode) d.world ps number p p.choices within read refl (ap (λ (x : Standing). x.world) is) (level_reached (decides_by plan.limits.ends) plan.limits.fuel plan.split (start s mode) ps pieces)
 
 pub same_start : (t : Telling) (s : Program) (mode : Mode) (plan : CheckPlan) (number : ℕ) (d : Standing) (r : Result Told CheckFault) → d ≡ first_standing s mode → PartTold (part_text t d.trail.program d.trail.mode plan) d.trail.program d.trail.mode plan number r → PartTold (part_text t s mode plan) s mode plan number r
 same_start t s mode plan number d r is h = subst (λ (x : Standing). PartTold (part_text t x.trail.program x.trail.mode plan) x.trail.program x.trail.mode plan number r) is h

@@ -1,3 +1,4 @@
 mod VerdictLemmas
 mod CheckLemmas
 pub mod ListingLemmas
+pub mod WholeLemmas

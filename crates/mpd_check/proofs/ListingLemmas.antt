@@ -7,6 +7,7 @@ use Rattle.mpd_explore.specs.declared.report.Limits.{Limits}
 use Rattle.mpd_model.specs.steps.World.{start}
 use Rattle.mpd_model.specs.runs.Trail.{first_standing}
 use Rattle.mpd_explore.specs.declared.report.Leaf.{Leaf}
+use Rattle.mpd_explore.specs.Sleeping.{decides_by}
 use Rattle.mpd_explore.specs.ReportText.{report_text}
 use Rattle.mpd_explore.specs.Printed.{told_text}
 use Rattle.mpd_explore.specs.WitnessTexts.{witness_texts}
@@ -21,7 +22,7 @@ use Rattle.mpd_check.specs.Checked.{leaves_at, more_at, PartAnswered}
 use Rattle.mpd_check.specs.declared.fault.CheckFault.{CheckFault}
 use Rattle.mpd_check.specs.declared.fault.CheckFault.TheVariants.{BadWorkers, TooManyPieces, NoSuchPiece, Engine}
 use Rattle.mpd_check.specs.declared.listing.Telling.{Telling}
-use Rattle.mpd_check.specs.Listing.{explained_at, listing_text, part_text, plain_part, IsPlain, sample_leaves, sample_more, PutSample, SampledBy}
+use Rattle.mpd_check.specs.Listing.{explained_at, report_listing, part_text, plain_part, IsPlain, sample_leaves, sample_more, PutSample, SampledBy}
 
 pub put_sampled : (want : List ℕ) (s : Program) (mode : Mode) (seed : ℕ) (l : Limits) (old new : SinkSeen) (text : List ℕ) (told : Tally) (r : Result Tally EngineFault) → text ≡ want → told ≡ tally_of (sample_leaves s mode seed l) (sample_more s mode seed l)
     → PutSample text told old new r → SampledBy want s mode seed l old new r
@@ -33,11 +34,11 @@ put_sampled want s mode seed l old new text told (Err Memory) is tells h = absur
 
 -- ---- nothing beside the leaves
 
-listing_plain : (t : Telling) (s : Program) (mode : Mode) (l : Limits) (leaves : List Leaf) (more : Bool) → IsPlain t → listing_text t s mode l leaves more ≡ report_text l.witnesses [] l.fuel (start s mode) leaves more
+listing_plain : (t : Telling) (s : Program) (mode : Mode) (l : Limits) (leaves : List Leaf) (more : Bool) → IsPlain t → report_listing t s mode l leaves more ≡ report_text (decides_by l.ends) l.witnesses [] l.fuel (start s mode) leaves more
 listing_plain t s mode l leaves more plain =
-    let texts = witness_texts l.witnesses [] l.fuel (start s mode) leaves in
-    plain_told {A = Unit {0}} {E = Unit {0}} (Ok tt) (λ (u : Unit {0}). listing_text t s mode l leaves more) t.group texts (explained_at t.explain l.fuel (first_standing s mode) leaves) leaves more plain.1 (ap (λ (b : Bool). explained_at b l.fuel (first_standing s mode) leaves) plain.0) refl
-    ∙ told_reports {A = Unit {0}} {E = Unit {0}} (Ok tt) (λ (u : Unit {0}). told_text texts leaves more) l.witnesses [] l.fuel (start s mode) texts leaves more refl refl
+    let texts = witness_texts (decides_by l.ends) l.witnesses [] l.fuel (start s mode) leaves in
+    plain_told {A = Unit {0}} {E = Unit {0}} (Ok tt) (λ (u : Unit {0}). report_listing t s mode l leaves more) t.group texts (explained_at (decides_by l.ends) t.explain l.fuel (first_standing s mode) leaves) leaves more plain.1 (ap (λ (b : Bool). explained_at (decides_by l.ends) b l.fuel (first_standing s mode) leaves) plain.0) refl
+    ∙ told_reports (decides_by l.ends) {A = Unit {0}} {E = Unit {0}} (Ok tt) (λ (u : Unit {0}). told_text texts leaves more) l.witnesses [] l.fuel (start s mode) texts leaves more refl refl
 
 part_plain : (t : Telling) (s : Program) (mode : Mode) (plan : CheckPlan) (choices : List ℕ) → IsPlain t → part_text t s mode plan choices ≡ plain_part s mode plan choices
 part_plain t s mode plan choices plain = listing_plain t s mode plan.limits (leaves_at s mode plan choices) (more_at s mode plan choices) plain

@@ -8,6 +8,7 @@ use Rattle.mpd_model.specs.steps.World.{start}
 use Rattle.mpd_model.specs.texts.Texts.{line}
 use Rattle.mpd_device.specs.Seen.{SinkSeen}
 use Rattle.mpd_explore.specs.declared.report.Leaf.{Leaf}
+use Rattle.mpd_explore.specs.Sleeping.{decides_by}
 use Rattle.mpd_explore.specs.ReportText.{report_text}
 use Rattle.mpd_pieces.specs.declared.splitter.TheConstants.{PIECES_MAX}
 use Rattle.mpd_pieces.specs.Pieces.{pieces, part, part_left, split_report, split_more}
@@ -26,7 +27,7 @@ use Rattle.mpd_check.specs.ModeText.{mode_line, least_line}
 
 -- the choices of each piece
 abbrev pub pieces_of : Program → Mode → CheckPlan → List (List ℕ)
-pieces_of s mode plan = pieces plan.split plan.limits.fuel (start s mode)
+pieces_of s mode plan = pieces (decides_by plan.limits.ends) plan.split plan.limits.fuel (start s mode)
 
 -- the leaves that are listed, and whether there are more
 abbrev pub leaves_of : Program → Mode → CheckPlan → List Leaf
@@ -44,7 +45,7 @@ more_at s mode plan choices = part_left plan.limits choices (start s mode)
 
 -- a report of these leaves
 abbrev pub text_of : Program → Mode → CheckPlan → List Leaf → Bool → List ℕ
-text_of s mode plan leaves more = report_text plan.limits.witnesses [] plan.limits.fuel (start s mode) leaves more
+text_of s mode plan leaves more = report_text (decides_by plan.limits.ends) plan.limits.witnesses [] plan.limits.fuel (start s mode) leaves more
 
 -- how many pieces there are: `pieces 225`
 abbrev pub count_text : ℕ → List ℕ

@@ -2,12 +2,15 @@
 use Rattle.std.specs.Prelude.{◌≡◌, ℕ, Bool, true, false, nat_lt, List, [], length, map, Result, Ok, Err}
 use Rattle.mpd_model.specs.declared.call.Mode.{Mode}
 use Rattle.mpd_model.specs.script.Program.{Program}
-use Rattle.mpd_model.specs.steps.World.{start}
+use Rattle.mpd_model.specs.declared.decision.Decision.{Decision}
+use Rattle.mpd_model.specs.steps.World.{World, start}
 use Rattle.mpd_model.specs.runs.Trail.{Standing, first_standing, done_steps}
+use Rattle.mpd_policy.specs.Wide.{wide_decision}
 use Rattle.mpd_device.specs.Seen.{SinkSeen}
 use Rattle.mpd_explore.specs.declared.report.Leaf.{Leaf}
 use Rattle.mpd_explore.specs.declared.report.Limits.{Limits}
-use Rattle.mpd_explore.specs.Walk.{walk}
+use Rattle.mpd_walk.specs.Walk.{wide_walk}
+use Rattle.mpd_explore.specs.Sleeping.{decides_by}
 use Rattle.mpd_explore.specs.Report.{shown}
 use Rattle.mpd_explore.specs.WitnessTexts.{witness_texts}
 use Rattle.mpd_explain.specs.Explanations.{explanations}
@@ -22,26 +25,30 @@ use Rattle.mpd_check.specs.declared.listing.Telling.{Telling}
 use Rattle.mpd_check.specs.Tally.{tally_of}
 use Rattle.mpd_check.specs.Checked.{leaves_of, more_of, leaves_at, more_at, text_of, Wrote, WrotePart, AnsweredBy}
 
--- the explanations of leaves from where a debugger stands, where they are asked for
-abbrev pub explained_at : Bool → ℕ → Standing → List Leaf → List (List ℕ)
-explained_at false fuel d leaves = []
-explained_at true fuel d leaves = explanations d.trail.program d.trail.mode (done_steps d.trail) fuel d.world leaves
+-- the explanations of leaves from where a debugger stands, where they are asked for; what comes next along their runs is told by a function
+abbrev pub explained_at : (World → Decision) → Bool → ℕ → Standing → List Leaf → List (List ℕ)
+explained_at decide false fuel d leaves = []
+explained_at decide true fuel d leaves = explanations decide d.trail.program d.trail.mode (done_steps d.trail) fuel d.world leaves
 
 -- the text of a report of these leaves, made where a debugger stands
-abbrev pub listing_at : Telling → Limits → Standing → List Leaf → Bool → List ℕ
-listing_at t l d leaves more = explained_text t.group (witness_texts l.witnesses (done_steps d.trail) l.fuel d.world leaves) (explained_at t.explain l.fuel d leaves) leaves more
+abbrev pub listing_at : (World → Decision) → Telling → Limits → Standing → List Leaf → Bool → List ℕ
+listing_at decide t l d leaves more = explained_text t.group (witness_texts decide l.witnesses (done_steps d.trail) l.fuel d.world leaves) (explained_at decide t.explain l.fuel d leaves) leaves more
 
 -- the same from the start of a script
-abbrev pub listing_text : Telling → Program → Mode → Limits → List Leaf → Bool → List ℕ
-listing_text t s mode l leaves more = listing_at t l (first_standing s mode) leaves more
+abbrev pub listing_text : (World → Decision) → Telling → Program → Mode → Limits → List Leaf → Bool → List ℕ
+listing_text decide t s mode l leaves more = listing_at decide t l (first_standing s mode) leaves more
+
+-- that of a report, by what its limits ask for
+abbrev pub report_listing : Telling → Program → Mode → Limits → List Leaf → Bool → List ℕ
+report_listing t s mode l leaves more = listing_text (decides_by l.ends) t s mode l leaves more
 
 -- the whole report was written so
 abbrev pub ListingAnswered : Telling → Program → Mode → CheckPlan → ℕ → SinkSeen → SinkSeen → Result Tally CheckFault → Type 0
-ListingAnswered t s mode plan workers old new result = AnsweredBy (listing_text t s mode plan.limits (leaves_of s mode plan) (more_of s mode plan)) s mode plan workers old new result
+ListingAnswered t s mode plan workers old new result = AnsweredBy (report_listing t s mode plan.limits (leaves_of s mode plan) (more_of s mode plan)) s mode plan workers old new result
 
 -- the same of the runs that begin with some choices, of which a part of a report tells
 abbrev pub part_text : Telling → Program → Mode → CheckPlan → List ℕ → List ℕ
-part_text t s mode plan choices = listing_text t s mode plan.limits (leaves_at s mode plan choices) (more_at s mode plan choices)
+part_text t s mode plan choices = report_listing t s mode plan.limits (leaves_at s mode plan choices) (more_at s mode plan choices)
 
 -- nothing is asked for beside the leaves
 abbrev pub IsPlain : Telling → Type 0
@@ -53,12 +60,12 @@ plain_part s mode plan choices = text_of s mode plan (leaves_at s mode plan choi
 
 -- ---- a sample
 
--- the leaves of the runs that are drawn, each once, and whether the script has others
+-- the leaves of the runs that are drawn, each once, and whether the wide walk has others
 abbrev pub sample_leaves : Program → Mode → ℕ → Limits → List Leaf
 sample_leaves s mode seed l = map shown (sampled (draws l.until_bad l.fuel l.runs (start s mode) (seeded seed)) l.fuel (start s mode))
 
 abbrev pub sample_more : Program → Mode → ℕ → Limits → Bool
-sample_more s mode seed l = nat_lt (length (sample_leaves s mode seed l)) (length (walk l.fuel (start s mode)))
+sample_more s mode seed l = nat_lt (length (sample_leaves s mode seed l)) (length (wide_walk l.fuel (start s mode)))
 
 -- this text was written, or a part of it until a write failed
 abbrev pub PutSample : List ℕ → Tally → SinkSeen → SinkSeen → Result Tally EngineFault → Type 0
@@ -77,4 +84,4 @@ SampledBy text s mode seed l old new (Err ReadFailed) = ⊥
 SampledBy text s mode seed l old new (Err TooManyTurns) = ⊥
 
 abbrev pub SampleAnswered : Telling → Program → Mode → ℕ → Limits → SinkSeen → SinkSeen → Result Tally EngineFault → Type 0
-SampleAnswered t s mode seed l old new result = SampledBy (listing_text t s mode l (sample_leaves s mode seed l) (sample_more s mode seed l)) s mode seed l old new result
+SampleAnswered t s mode seed l old new result = SampledBy (listing_text wide_decision t s mode l (sample_leaves s mode seed l) (sample_more s mode seed l)) s mode seed l old new result

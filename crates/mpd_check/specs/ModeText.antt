@@ -1,19 +1,12 @@
 -- What is said of each mode that is tried, and of all of them.
-use Rattle.std.specs.Prelude.{ℕ, ◌++◌, ◌||◌, Bool, List, Option, Some, None, codes, if◌then◌else◌}
+use Rattle.std.specs.Prelude.{ℕ, ◌++◌, ◌||◌, ◌&&◌, Bool, List, Option, Some, None, codes, if◌then◌else◌}
 use Rattle.std.specs.Fmt.{decimal}
 use Rattle.mpd_model.specs.declared.call.Mode.{Mode}
-use Rattle.mpd_model.specs.declared.call.Mode.TheVariants.{Rendezvous, Buffered, Slots}
-use Rattle.mpd_model.specs.texts.Modes.{rendezvous_word, buffered_word, slots_word}
+use Rattle.mpd_model.specs.texts.Modes.{mode_word}
 use Rattle.mpd_model.specs.texts.Texts.{line}
 use Rattle.mpd_check.specs.declared.counts.Tally.{Tally}
 use Rattle.mpd_check.specs.declared.modes.Tried.{Tried}
-use Rattle.mpd_check.specs.Tally.{is_bad}
-
--- the word of a mode
-abbrev pub mode_word : Mode → List ℕ
-mode_word Rendezvous = rendezvous_word
-mode_word Buffered = buffered_word
-mode_word (Slots count) = slots_word ++ decimal count
+use Rattle.mpd_check.specs.Tally.{is_bad, is_whole}
 
 abbrev pub yes_or_no : Bool → List ℕ
 yes_or_no b = if b then codes "yes" else codes "no"
@@ -40,4 +33,4 @@ first_good (Some first) mode t = Some first
 
 -- with one mode more
 abbrev pub tried_more : Tried → Mode → Tally → Tried
-tried_more tried mode t = record { is_bad = tried.is_bad || is_bad t; least = first_good tried.least mode t }
+tried_more tried mode t = record { is_bad = tried.is_bad || is_bad t; are_whole = tried.are_whole && is_whole t; least = first_good tried.least mode t }

@@ -5,9 +5,9 @@ use Rattle.mpd_model.specs.declared.outcome.Outcome.TheVariants as outcome
 use Rattle.mpd_model.specs.steps.World.{is_limited}
 use Rattle.mpd_model.specs.script.Tree.{block_of}
 use Rattle.mpd_model.specs.script.Program.{Program, IsBlockOf}
-use Rattle.mpd_explore.specs.declared.report.Ending.{Ending}
-use Rattle.mpd_explore.specs.declared.report.Ending.TheVariants.{Ended}
-use Rattle.mpd_explore.specs.declared.report.Ending.TheVariants as ends
+use Rattle.mpd_walk.specs.declared.ending.Ending.{Ending}
+use Rattle.mpd_walk.specs.declared.ending.Ending.TheVariants.{Ended}
+use Rattle.mpd_walk.specs.declared.ending.Ending.TheVariants as ends
 use Rattle.mpd_explore.specs.declared.report.Leaf.{Leaf}
 use Rattle.mpd_lines.specs.declared.verdict.Verdict.{Verdict}
 use Rattle.mpd_lines.specs.declared.verdict.Verdict.TheVariants.{Good, Bad, NotWhole}
@@ -41,11 +41,19 @@ is_bad t = nat_lt 0 t.deadlocks || nat_lt 0 t.traps
 abbrev pub is_whole : Tally → Bool
 is_whole t = not t.more && t.cut == 0
 
--- It tells every way in which its script can end in a mode. What a waitany takes, and which sends are buffered where buffers run out, depends
--- on the order of steps, of which a walk tries one: there a report tells of its runs alone.
-abbrev pub TellsAll : Program → Mode → Tally → Type 0
-TellsAll s mode t = (is_whole t ≡ true) × (IsBlockOf 1 (block_of s.body) × (is_limited mode ≡ false))
+-- Whether runs leave out no end of a script in a mode: those of the wide walk leave out none. What a waitany takes, and which sends are buffered
+-- where buffers run out, depends on the order of steps, of which the walk by the decisions tries one.
+abbrev pub LeavesOutNone : Bool → Program → Mode → Type 0
+LeavesOutNone true s mode = Unit {0}
+LeavesOutNone false s mode = IsBlockOf 1 (block_of s.body) × (is_limited mode ≡ false)
 
--- bad where something bad is listed; else not whole where the report must tell all and doesn't; else good
+-- it tells every way in which its script can end in a mode
+abbrev pub TellsAll : Bool → Program → Mode → Tally → Type 0
+TellsAll is_wide s mode t = (is_whole t ≡ true) × LeavesOutNone is_wide s mode
+
+-- bad where something bad is listed; else not whole where all must be told and isn't; else good
+abbrev pub judged : Bool → Bool → Bool → Verdict
+judged complete all bad = if bad then Bad else (if complete && not all then NotWhole else Good)
+
 abbrev pub verdict_of : Bool → Bool → Tally → Verdict
-verdict_of complete tells_all t = if is_bad t then Bad else (if complete && not tells_all then NotWhole else Good)
+verdict_of complete tells_all t = judged complete tells_all (is_bad t)

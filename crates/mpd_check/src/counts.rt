@@ -2,10 +2,9 @@
 
 ghost use Rattle.std.specs.Prelude.{◌≡◌, ◌<◌, Bool, length, count_by};
 ghost use Rattle.std.specs.Bool.{Decides};
-ghost use Rattle.mpd_model.specs.steps.World.{is_limited as limited};
-ghost use Rattle.mpd_check.specs.Tally.{tally_of, is_of, is_bad, is_whole, TellsAll, verdict_of};
+ghost use Rattle.mpd_check.specs.Tally.{tally_of, is_of, is_bad, is_whole, LeavesOutNone, TellsAll, verdict_of};
 
-use mpd_code::Code;
+use mpd_code::Subject;
 use mpd_explore::{Ending, Leaf, Report};
 use mpd_lines::Verdict;
 use mpd_model::{Mode, Outcome};
@@ -48,36 +47,41 @@ impl Tally {
         !self.more && self.cut == 0
     }
 
-    /// Whether it tells every way in which its script can end in a mode: the report is whole, no waitany stands in the script, and the
-    /// mode's buffers don't run out. What a waitany takes, and which sends get a buffer where these are few, depends on the order of
-    /// steps, of which one is tried.
-    pub fn tells_all(self, mode: Mode, code: &Code) -> bool
-        ensures { Decides result (TellsAll code.now.program mode self) }
+    /// Whether it tells, where it is of all pieces, every way in which its script can end in a mode: the report is whole, and its runs are
+    /// those of the wide walk (`is_wide`), or no waitany stands in the script and the mode's buffers don't run out. What a waitany takes, and
+    /// which sends get a buffer where these are few, depends on the order of steps, of which the walk by the decisions tries one. A piece that
+    /// is whole tells nothing of the others. Of modes that are tried in turn it is asked whether the report of each is whole, and not this
+    /// (`Tried::verdict`).
+    pub fn tells_all(self, subject: Subject<'_>, is_wide: bool) -> bool
+        ensures { Decides result (TellsAll is_wide subject.entry.code.now.program subject.entry.mode self) }
     {
-        self.is_whole() && (code.has_no_waitany() && !is_limited(mode))
+        self.is_whole() && leaves_out_none(subject, is_wide)
     }
 
-    /// The verdict of a check of this script in a mode: bad where a deadlock or a trap is listed; else not whole where the report must tell
-    /// every way in which the script can end, and doesn't; else good.
+    /// The verdict of a check of this script in a mode, by runs of the wide walk or not: bad where a deadlock or a trap is listed; else not
+    /// whole where the report must tell every way in which the script can end, and doesn't; else good.
     #[tactic(auto, using(crate::proofs::VerdictLemmas::telling))]
-    pub fn verdict(self, complete: bool, mode: Mode, code: &Code) -> Verdict
-        ensures { (all : Bool) → Decides all (TellsAll code.now.program mode self) → result ≡ verdict_of complete all self }
+    pub fn verdict(self, complete: bool, subject: Subject<'_>, is_wide: bool) -> Verdict
+        ensures { (all : Bool) → Decides all (TellsAll is_wide subject.entry.code.now.program subject.entry.mode self) → result ≡ verdict_of complete all self }
     {
         if self.is_bad() {
             return Verdict::Bad;
         }
-        if complete && !self.tells_all(mode, code) {
+        if complete && !self.tells_all(subject, is_wide) {
             return Verdict::NotWhole;
         }
         Verdict::Good
     }
 }
 
-/// Whether the buffers of a mode run out.
-pub fn is_limited(mode: Mode) -> bool
-    ensures { result ≡ limited mode }
+/// Whether runs, of the wide walk or not, leave out no end of a script in a mode.
+fn leaves_out_none(subject: Subject<'_>, is_wide: bool) -> bool
+    ensures { Decides result (LeavesOutNone is_wide subject.entry.code.now.program subject.entry.mode) }
 {
-    matches!(mode, Mode::Slots(_))
+    if is_wide {
+        return true;
+    }
+    subject.code.has_no_waitany() && !subject.mode.is_limited()
 }
 
 /// Whether a run ends so.

@@ -13,21 +13,20 @@ ghost use Rattle.mpd_check.specs.Refused.{refused_by};
 ghost use Rattle.mpd_check.specs.Tally.{tally_of};
 
 use crate::counts::tally_of;
-pub use counts::{Tally, is_limited};
+pub use counts::Tally;
 pub use fault::CheckFault;
-pub use listing::{Telling, check_listing, check_sample};
+pub use listing::{SamplePlan, Telling, Wanted, check_listing, check_sample};
 pub use modes::{Tried, check_mode, put_least};
-use mpd_code::Code;
+use mpd_code::Subject;
 use mpd_device::Sink;
 use mpd_lines::{EngineFault, write_all};
-use mpd_model::{Mode, STEPS_MAX};
+use mpd_model::STEPS_MAX;
 use mpd_pieces::PIECES_MAX;
-use mpd_pool::{CheckPlan, Gate, PoolFault, WORKERS_MAX, print_report};
+use mpd_pool::{CheckPlan, Crew, Gate, PoolFault, WORKERS_MAX, print_report};
 use mpd_trail::Debugger;
 pub use part::{check_piece, count_pieces};
 use std::alloc::Global;
 use std::marker::Sync;
-use std::sync::Wait;
 use std::thread::Threads;
 
 /// A report as text, and what it tells.
@@ -66,26 +65,24 @@ pub(crate) fn put<W: Sink>(told: Told, sink: &mut W) -> Result<Tally, CheckFault
 }
 
 /// Explores a script from its start by so many workers, and has them make the report's text.
-fn tell<G: Gate, R: Threads + Wait + Sync>(
-    rt: &R,
+fn tell<G: Gate, R: Threads + Sync>(
+    crew: Crew<'_, R>,
     alloc: Global,
-    code: &Code,
-    mode: Mode,
+    subject: Subject<'_>,
     plan: CheckPlan,
-    workers: usize,
     gate: &G,
 ) -> Result<Told, PoolFault>
     requires { plan.limits.fuel ≤ STEPS_MAX }
-    ensures text { IfOk result (λ told. string_bytes told.text ≡ text_of code.now.program mode plan (leaves_of code.now.program mode plan) (more_of code.now.program mode plan)) }
-    ensures tally { IfOk result (λ told. told.tally ≡ tally_of (leaves_of code.now.program mode plan) (more_of code.now.program mode plan)) }
-    ensures workers { IsErrOf result PoolFault.BadWorkers → (workers ≡ 0) ⊎ (WORKERS_MAX < workers) }
-    ensures few { OnOk result (AreFew code.now.program mode plan) }
-    ensures many { IsErrOf result PoolFault.TooManyPieces → PIECES_MAX < length (pieces_of code.now.program mode plan) }
+    ensures text { IfOk result (λ told. string_bytes told.text ≡ text_of subject.entry.code.now.program subject.entry.mode plan (leaves_of subject.entry.code.now.program subject.entry.mode plan) (more_of subject.entry.code.now.program subject.entry.mode plan)) }
+    ensures tally { IfOk result (λ told. told.tally ≡ tally_of (leaves_of subject.entry.code.now.program subject.entry.mode plan) (more_of subject.entry.code.now.program subject.entry.mode plan)) }
+    ensures workers { IsErrOf result PoolFault.BadWorkers → (crew.entry.workers ≡ 0) ⊎ (WORKERS_MAX < crew.entry.workers) }
+    ensures few { OnOk result (AreFew subject.entry.code.now.program subject.entry.mode plan) }
+    ensures many { IsErrOf result PoolFault.TooManyPieces → PIECES_MAX < length (pieces_of subject.entry.code.now.program subject.entry.mode plan) }
 {
-    let Ok(mut debugger) = Debugger::start(alloc, code, mode) else {
+    let Ok(mut debugger) = Debugger::start(alloc, subject.code, subject.mode) else {
         return Err(PoolFault::Memory);
     };
-    let report = match mpd_pool::check(rt, alloc, &mut debugger, plan, workers, gate) {
+    let report = match mpd_pool::check(crew, alloc, &mut debugger, plan, gate) {
         Ok(report) => report,
         Err(fault) => {
             drop(debugger);
@@ -93,7 +90,7 @@ fn tell<G: Gate, R: Threads + Wait + Sync>(
         }
     };
     drop(debugger);
-    let printed = print_report(rt, alloc, &report, workers);
+    let printed = print_report(crew, alloc, &report);
     let tally = tally_of(&report);
     drop(report);
     match printed {
@@ -108,23 +105,21 @@ fn tell<G: Gate, R: Threads + Wait + Sync>(
 /// more than 1,024 pieces (31); `WriteFailed` (46) comes only where a write failed, and `Memory` only before anything is written. The fuel
 /// is at most 1,000,000 steps. `gate` is told how far the exploration is, and of its end before anything is written; nothing else
 /// depends on it.
-pub fn check<W: Sink, G: Gate, R: Threads + Wait + Sync>(
-    rt: &R,
+pub fn check<W: Sink, G: Gate, R: Threads + Sync>(
+    crew: Crew<'_, R>,
     alloc: Global,
-    code: &Code,
-    mode: Mode,
+    subject: Subject<'_>,
     plan: CheckPlan,
-    workers: usize,
     sink: &mut W,
     gate: &G,
 ) -> Result<Tally, CheckFault>
     requires { plan.limits.fuel ≤ STEPS_MAX }
-    ensures { Answered code.now.program mode plan workers (W.seen sink.old) (W.seen sink.new) result }
+    ensures { Answered subject.entry.code.now.program subject.entry.mode plan crew.entry.workers (W.seen sink.old) (W.seen sink.new) result }
 {
-    if !is_crew(workers) {
+    if !is_crew(crew.workers) {
         return Err(CheckFault::BadWorkers);
     }
-    let told = tell(rt, alloc, code, mode, plan, workers, gate);
+    let told = tell(crew, alloc, subject, plan, gate);
     gate.done();
     match told {
         Ok(told) => put(told, sink),

@@ -4,28 +4,30 @@ ghost use Rattle.std.specs.Prelude.{◌≡◌, ◌≤◌, ◌<◌, ◌+◌, ◌�
 ghost use Rattle.std.specs.List.{AllByRecursion};
 ghost use Rattle.mpd_model.specs.runs.Trail.{done_steps, IsReached};
 ghost use Rattle.mpd_trail.specs.Views.{standing_of};
+ghost use Rattle.mpd_policy.specs.Wide.{wide_decision};
+ghost use Rattle.mpd_explore.specs.Sleeping.{decides_by};
 ghost use Rattle.mpd_explore.specs.Witness.{HasWitness};
 ghost use Rattle.mpd_explain.specs.Told.{explained_text};
 ghost use Rattle.mpd_check.specs.Checked.{pieces_of, leaves_of, more_of, AreFew};
-ghost use Rattle.mpd_check.specs.Listing.{explained_at, listing_text, sample_leaves, sample_more, ListingAnswered, PutSample, SampleAnswered};
+ghost use Rattle.mpd_check.specs.Listing.{explained_at, listing_text, report_listing, sample_leaves, sample_more, ListingAnswered, PutSample, SampleAnswered};
 ghost use Rattle.mpd_check.specs.Tally.{tally_of};
 
 use crate::counts::{Tally, tally_of};
 use crate::fault::CheckFault;
 use crate::{Told, is_crew, put, refused};
-use mpd_code::Code;
+use mpd_code::Subject;
 use mpd_device::Sink;
 use mpd_explain::{explain_all, print_explained};
 use mpd_explore::{Limits, Report, Watch};
 use mpd_lines::{EngineFault, write_all};
-use mpd_model::{Mode, STEPS_MAX};
+use mpd_model::STEPS_MAX;
 use mpd_pieces::PIECES_MAX;
-use mpd_pool::{CheckPlan, Gate, PoolFault, WORKERS_MAX};
+use mpd_pool::{CheckPlan, Crew, Gate, PoolFault, WORKERS_MAX};
 use mpd_sample::sample;
 use mpd_trail::Debugger;
+use mpd_walk::{Plain, Schedule, Wide};
 use std::alloc::{AllocError, Global};
 use std::marker::Sync;
-use std::sync::Wait;
 use std::thread::Threads;
 
 /// What a report has beside its leaves.
@@ -37,9 +39,28 @@ pub struct Telling {
     pub group: bool,
 }
 
+/// What is wanted of a report: of which runs it is, and what it has beside its leaves.
+#[derive(Clone, Copy)]
+pub struct Wanted {
+    /// How the runs are cut into pieces, and the limits of each.
+    pub plan: CheckPlan,
+    /// What it has beside its leaves.
+    pub telling: Telling,
+}
+
+/// Which runs are drawn.
+#[derive(Clone, Copy)]
+pub struct SamplePlan {
+    /// What the generator is seeded with.
+    pub seed: u64,
+    /// How many runs are drawn, the fuel of each, and what else is asked of a report.
+    pub limits: Limits,
+}
+
 /// The explanations of the leaves of a report, where they are asked for. The debugger is left as found.
-fn explanations_of(
+fn explanations_of<S: Schedule>(
     alloc: Global,
+    schedule: &S,
     debugger: &mut Debugger<'_>,
     report: &Report,
     fuel: usize,
@@ -47,18 +68,19 @@ fn explanations_of(
 ) -> Result<Vec<String>, AllocError>
     requires clean { length debugger.old.trail.steps ≡ debugger.old.trail.depth }
     requires fits { debugger.old.trail.depth + fuel ≤ STEPS_MAX }
-    requires listed { AllByRecursion (HasWitness debugger.old.trail.program debugger.old.trail.mode (done_steps debugger.old.trail) fuel debugger.old.world) report.now.leaves.items }
-    ensures texts { IfOk result (λ texts. map string_bytes texts.items ≡ explained_at asked fuel (standing_of debugger.old) report.now.leaves.items) }
+    requires listed { AllByRecursion (HasWitness S.decides debugger.old.trail.program debugger.old.trail.mode (done_steps debugger.old.trail) fuel debugger.old.world) report.now.leaves.items }
+    ensures texts { IfOk result (λ texts. map string_bytes texts.items ≡ explained_at S.decides asked fuel (standing_of debugger.old) report.now.leaves.items) }
 {
     if !asked {
         return Ok(Vec::new(alloc));
     }
-    explain_all(alloc, debugger, report, fuel)
+    explain_all(alloc, schedule, debugger, report, fuel)
 }
 
-/// The text of a report, and what it tells.
-pub(crate) fn told_of(
+/// The text of a report whose leaves were listed along a schedule, and what it tells.
+fn told_of<S: Schedule>(
     alloc: Global,
+    schedule: &S,
     debugger: &mut Debugger<'_>,
     report: &Report,
     fuel: usize,
@@ -66,45 +88,68 @@ pub(crate) fn told_of(
 ) -> Result<Told, AllocError>
     requires clean { length debugger.old.trail.steps ≡ debugger.old.trail.depth }
     requires fits { debugger.old.trail.depth + fuel ≤ STEPS_MAX }
-    requires listed { AllByRecursion (HasWitness debugger.old.trail.program debugger.old.trail.mode (done_steps debugger.old.trail) fuel debugger.old.world) report.now.leaves.items }
-    ensures text { IfOk result (λ told. string_bytes told.text ≡ explained_text telling.group (map string_bytes report.now.witnesses.items) (explained_at telling.explain fuel (standing_of debugger.old) report.now.leaves.items) report.now.leaves.items report.now.more) }
+    requires listed { AllByRecursion (HasWitness S.decides debugger.old.trail.program debugger.old.trail.mode (done_steps debugger.old.trail) fuel debugger.old.world) report.now.leaves.items }
+    ensures text { IfOk result (λ told. string_bytes told.text ≡ explained_text telling.group (map string_bytes report.now.witnesses.items) (explained_at S.decides telling.explain fuel (standing_of debugger.old) report.now.leaves.items) report.now.leaves.items report.now.more) }
     ensures tally { IfOk result (λ told. told.tally ≡ tally_of report.now.leaves.items report.now.more) }
 {
-    let texts = explanations_of(alloc, debugger, report, fuel, telling.explain)?;
+    let texts = explanations_of(alloc, schedule, debugger, report, fuel, telling.explain)?;
     let text = print_explained(alloc, report, &texts, telling.group)?;
     let tally = tally_of(report);
     Ok(Told { text, tally })
 }
 
-/// Explores a script from its start by so many workers, and makes the text of the report.
-fn tell_listing<G: Gate, R: Threads + Wait + Sync>(
-    rt: &R,
+/// The text of a report that was made with these limits, and what it tells.
+pub(crate) fn told_by(
     alloc: Global,
-    code: &Code,
-    mode: Mode,
-    plan: CheckPlan,
-    workers: usize,
+    debugger: &mut Debugger<'_>,
+    report: &Report,
+    limits: Limits,
     telling: Telling,
+) -> Result<Told, AllocError>
+    requires clean { length debugger.old.trail.steps ≡ debugger.old.trail.depth }
+    requires fits { debugger.old.trail.depth + limits.fuel ≤ STEPS_MAX }
+    requires listed { AllByRecursion (HasWitness (decides_by limits.ends) debugger.old.trail.program debugger.old.trail.mode (done_steps debugger.old.trail) limits.fuel debugger.old.world) report.now.leaves.items }
+    ensures text { IfOk result (λ told. string_bytes told.text ≡ explained_text telling.group (map string_bytes report.now.witnesses.items) (explained_at (decides_by limits.ends) telling.explain limits.fuel (standing_of debugger.old) report.now.leaves.items) report.now.leaves.items report.now.more) }
+    ensures tally { IfOk result (λ told. told.tally ≡ tally_of report.now.leaves.items report.now.more) }
+{
+    if limits.ends {
+        return told_of(alloc, &Wide, debugger, report, limits.fuel, telling);
+    }
+    told_of(alloc, &Plain, debugger, report, limits.fuel, telling)
+}
+
+/// Explores a script from its start by so many workers, and makes the text of the report.
+fn tell_listing<G: Gate, R: Threads + Sync>(
+    crew: Crew<'_, R>,
+    alloc: Global,
+    subject: Subject<'_>,
+    wanted: Wanted,
     gate: &G,
 ) -> Result<Told, PoolFault>
-    requires { plan.limits.fuel ≤ STEPS_MAX }
-    ensures text { IfOk result (λ told. string_bytes told.text ≡ listing_text telling code.now.program mode plan.limits (leaves_of code.now.program mode plan) (more_of code.now.program mode plan)) }
-    ensures tally { IfOk result (λ told. told.tally ≡ tally_of (leaves_of code.now.program mode plan) (more_of code.now.program mode plan)) }
-    ensures workers { IsErrOf result PoolFault.BadWorkers → (workers ≡ 0) ⊎ (WORKERS_MAX < workers) }
-    ensures few { OnOk result (AreFew code.now.program mode plan) }
-    ensures many { IsErrOf result PoolFault.TooManyPieces → PIECES_MAX < length (pieces_of code.now.program mode plan) }
+    requires { wanted.plan.limits.fuel ≤ STEPS_MAX }
+    ensures text { IfOk result (λ told. string_bytes told.text ≡ report_listing wanted.telling subject.entry.code.now.program subject.entry.mode wanted.plan.limits (leaves_of subject.entry.code.now.program subject.entry.mode wanted.plan) (more_of subject.entry.code.now.program subject.entry.mode wanted.plan)) }
+    ensures tally { IfOk result (λ told. told.tally ≡ tally_of (leaves_of subject.entry.code.now.program subject.entry.mode wanted.plan) (more_of subject.entry.code.now.program subject.entry.mode wanted.plan)) }
+    ensures workers { IsErrOf result PoolFault.BadWorkers → (crew.entry.workers ≡ 0) ⊎ (WORKERS_MAX < crew.entry.workers) }
+    ensures few { OnOk result (AreFew subject.entry.code.now.program subject.entry.mode wanted.plan) }
+    ensures many { IsErrOf result PoolFault.TooManyPieces → PIECES_MAX < length (pieces_of subject.entry.code.now.program subject.entry.mode wanted.plan) }
 {
-    let Ok(mut debugger) = Debugger::start(alloc, code, mode) else {
+    let Ok(mut debugger) = Debugger::start(alloc, subject.code, subject.mode) else {
         return Err(PoolFault::Memory);
     };
-    let report = match mpd_pool::check(rt, alloc, &mut debugger, plan, workers, gate) {
+    let report = match mpd_pool::check(crew, alloc, &mut debugger, wanted.plan, gate) {
         Ok(report) => report,
         Err(fault) => {
             drop(debugger);
             return Err(fault);
         }
     };
-    let told = told_of(alloc, &mut debugger, &report, plan.limits.fuel, telling);
+    let told = told_by(
+        alloc,
+        &mut debugger,
+        &report,
+        wanted.plan.limits,
+        wanted.telling,
+    );
     drop(report);
     drop(debugger);
     match told {
@@ -115,24 +160,21 @@ fn tell_listing<G: Gate, R: Threads + Wait + Sync>(
 
 /// Explores a script from its start in a mode, as `check` does, and writes the report with what is asked for beside its leaves
 /// (docs/FORMATS.md, "Reports"). It is refused as `check` is.
-pub fn check_listing<W: Sink, G: Gate, R: Threads + Wait + Sync>(
-    rt: &R,
+pub fn check_listing<W: Sink, G: Gate, R: Threads + Sync>(
+    crew: Crew<'_, R>,
     alloc: Global,
-    code: &Code,
-    mode: Mode,
-    plan: CheckPlan,
-    workers: usize,
-    telling: Telling,
+    subject: Subject<'_>,
+    wanted: Wanted,
     sink: &mut W,
     gate: &G,
 ) -> Result<Tally, CheckFault>
-    requires { plan.limits.fuel ≤ STEPS_MAX }
-    ensures { ListingAnswered telling code.now.program mode plan workers (W.seen sink.old) (W.seen sink.new) result }
+    requires { wanted.plan.limits.fuel ≤ STEPS_MAX }
+    ensures { ListingAnswered wanted.telling subject.entry.code.now.program subject.entry.mode wanted.plan crew.entry.workers (W.seen sink.old) (W.seen sink.new) result }
 {
-    if !is_crew(workers) {
+    if !is_crew(crew.workers) {
         return Err(CheckFault::BadWorkers);
     }
-    let told = tell_listing(rt, alloc, code, mode, plan, workers, telling, gate);
+    let told = tell_listing(crew, alloc, subject, wanted, gate);
     gate.done();
     match told {
         Ok(told) => put(told, sink),
@@ -143,20 +185,19 @@ pub fn check_listing<W: Sink, G: Gate, R: Threads + Wait + Sync>(
 /// Draws runs of a script from its start, and makes the text of the report.
 fn tell_sample<P: Watch>(
     alloc: Global,
-    code: &Code,
-    mode: Mode,
-    seed: u64,
-    limits: Limits,
+    subject: Subject<'_>,
+    plan: SamplePlan,
     telling: Telling,
     watch: &mut P,
 ) -> Result<Told, AllocError>
-    requires { limits.fuel ≤ STEPS_MAX }
-    ensures text { IfOk result (λ told. string_bytes told.text ≡ listing_text telling code.now.program mode limits (sample_leaves code.now.program mode seed limits) (sample_more code.now.program mode seed limits)) }
-    ensures tally { IfOk result (λ told. told.tally ≡ tally_of (sample_leaves code.now.program mode seed limits) (sample_more code.now.program mode seed limits)) }
+    requires { plan.limits.fuel ≤ STEPS_MAX }
+    ensures text { IfOk result (λ told. string_bytes told.text ≡ listing_text wide_decision telling subject.entry.code.now.program subject.entry.mode plan.limits (sample_leaves subject.entry.code.now.program subject.entry.mode plan.seed plan.limits) (sample_more subject.entry.code.now.program subject.entry.mode plan.seed plan.limits)) }
+    ensures tally { IfOk result (λ told. told.tally ≡ tally_of (sample_leaves subject.entry.code.now.program subject.entry.mode plan.seed plan.limits) (sample_more subject.entry.code.now.program subject.entry.mode plan.seed plan.limits)) }
 {
-    let mut debugger = Debugger::start(alloc, code, mode)?;
-    let report = sample(alloc, &mut debugger, seed, limits, watch)?;
-    let told = told_of(alloc, &mut debugger, &report, limits.fuel, telling);
+    let mut debugger = Debugger::start(alloc, subject.code, subject.mode)?;
+    let report = sample(alloc, &mut debugger, plan.seed, plan.limits, watch)?;
+    let fuel = plan.limits.fuel;
+    let told = told_of(alloc, &Wide, &mut debugger, &report, fuel, telling);
     drop(report);
     drop(debugger);
     told
@@ -172,25 +213,23 @@ fn put_sample<W: Sink>(told: Told, sink: &mut W) -> Result<Tally, EngineFault>
     Ok(told.tally)
 }
 
-/// Draws as many runs of a script from its start in a mode as the limits say, by a generator that is seeded with this number, and writes
-/// the report with what is asked for beside its leaves (docs/FORMATS.md, "Samples"): each different list of choices once, in order. It
-/// answers what the report tells. `WriteFailed` (46) comes only where a write failed, and `Memory` only before anything is written. The
-/// fuel is at most 1,000,000 steps. `watch` is told of each run that is drawn, and of the end before anything is written; nothing else
-/// depends on it.
+/// Draws as many runs of the wide walk of a script from its start in a mode as the plan says, by a generator that is seeded with its
+/// number, and writes the report with what is asked for beside its leaves (docs/FORMATS.md, "Samples"): each different list of choices
+/// once, in order. It answers what the report tells. `WriteFailed` (46) comes only where a write failed, and `Memory` only before anything
+/// is written. The fuel is at most 1,000,000 steps. `watch` is told of each run that is drawn, and of the end before anything is written;
+/// nothing else depends on it.
 pub fn check_sample<W: Sink, P: Watch>(
     alloc: Global,
-    code: &Code,
-    mode: Mode,
-    seed: u64,
-    limits: Limits,
+    subject: Subject<'_>,
+    plan: SamplePlan,
     telling: Telling,
     sink: &mut W,
     watch: &mut P,
 ) -> Result<Tally, EngineFault>
-    requires { limits.fuel ≤ STEPS_MAX }
-    ensures { SampleAnswered telling code.now.program mode seed limits (W.seen sink.old) (W.seen sink.new) result }
+    requires { plan.limits.fuel ≤ STEPS_MAX }
+    ensures { SampleAnswered telling subject.entry.code.now.program subject.entry.mode plan.seed plan.limits (W.seen sink.old) (W.seen sink.new) result }
 {
-    let told = tell_sample(alloc, code, mode, seed, limits, telling, watch);
+    let told = tell_sample(alloc, subject, plan, telling, watch);
     watch.end();
     match told {
         Ok(told) => put_sample(told, sink),

@@ -1,23 +1,22 @@
 //! What a script does in several modes, a line for each (docs/FORMATS.md, "Modes tried in turn").
 
-ghost use Rattle.std.specs.Prelude.{◌≡◌, ◌++◌, ◌<◌, ◌≤◌, ◌⊎◌, IfOk, OnOk, IsErrOf, Some, None, true, false, if◌then◌else◌, length, string_bytes};
+ghost use Rattle.std.specs.Prelude.{◌≡◌, ◌++◌, ◌<◌, ◌≤◌, ◌⊎◌, IfOk, OnOk, IsErrOf, Some, None, true, false, length, string_bytes};
 ghost use Rattle.mpd_check.specs.Checked.{pieces_of, leaves_of, more_of, AreFew, ModeAnswered, PutCount, LeastPut};
-ghost use Rattle.mpd_check.specs.ModeText.{mode_word, yes_or_no, counts_text, mode_line, least_line, tried_more};
-ghost use Rattle.mpd_check.specs.Tally.{tally_of};
+ghost use Rattle.mpd_check.specs.ModeText.{yes_or_no, counts_text, mode_line, least_line, tried_more};
+ghost use Rattle.mpd_check.specs.Tally.{judged, tally_of};
 
 use crate::counts::{Tally, tally_of};
 use crate::fault::CheckFault;
 use crate::{Told, is_crew, put, refused};
-use mpd_code::Code;
+use mpd_code::Subject;
 use mpd_device::Sink;
 use mpd_lines::{EngineFault, Verdict, write_all};
 use mpd_model::{Mode, STEPS_MAX};
 use mpd_pieces::PIECES_MAX;
-use mpd_pool::{CheckPlan, Gate, PoolFault, WORKERS_MAX};
+use mpd_pool::{CheckPlan, Crew, Gate, PoolFault, WORKERS_MAX};
 use mpd_trail::Debugger;
 use std::alloc::{AllocError, Global};
 use std::marker::Sync;
-use std::sync::Wait;
 use std::thread::Threads;
 
 /// What modes that were tried one after another have told.
@@ -25,6 +24,8 @@ use std::thread::Threads;
 pub struct Tried {
     /// Whether a deadlock or a trap is listed in one of them.
     pub is_bad: bool,
+    /// Whether the report of each of them is whole.
+    pub are_whole: bool,
     /// The first of them in which none is.
     pub least: Option<Mode>,
 }
@@ -32,10 +33,11 @@ pub struct Tried {
 impl Tried {
     /// Before the first.
     pub fn none() -> Tried
-        ensures { result ≡ record { is_bad = false; least = None } }
+        ensures { result ≡ record { is_bad = false; are_whole = true; least = None } }
     {
         Tried {
             is_bad: false,
+            are_whole: true,
             least: None,
         }
     }
@@ -51,30 +53,24 @@ impl Tried {
         };
         Tried {
             is_bad: self.is_bad || tally.is_bad(),
+            are_whole: self.are_whole && tally.is_whole(),
             least,
         }
     }
 
-    /// The verdict of a check of these modes: bad where a deadlock or a trap is listed in one of them, else good.
-    pub fn verdict(self) -> Verdict
-        ensures { result ≡ if self.is_bad then Verdict.Bad else Verdict.Good }
+    /// The verdict of a check of these modes: bad where a deadlock or a trap is listed in one of them; else not whole where the report of
+    /// each must be, and one isn't; else good. A whole report needn't tell every way in which the script can end (`Tally::tells_all`), but
+    /// by the wide walk it does.
+    pub fn verdict(self, complete: bool) -> Verdict
+        ensures { result ≡ judged complete self.are_whole self.is_bad }
     {
         if self.is_bad {
-            Verdict::Bad
-        } else {
-            Verdict::Good
+            return Verdict::Bad;
         }
-    }
-}
-
-/// Adds the word of a mode.
-fn push_mode(out: &mut String, mode: Mode) -> Result<(), AllocError>
-    ensures { OnOk result (string_bytes out.new ≡ string_bytes out.old ++ mode_word mode) }
-{
-    match mode {
-        Mode::Rendezvous => out.push_str("rendezvous"),
-        Mode::Buffered => out.push_str("buffered"),
-        Mode::Slots(count) => write!(out, "slots:{count}"),
+        if complete && !self.are_whole {
+            return Verdict::NotWhole;
+        }
+        Verdict::Good
     }
 }
 
@@ -101,7 +97,7 @@ fn line_of(alloc: Global, mode: Mode, tally: Tally) -> Result<String, AllocError
     ensures { IfOk result (λ t. string_bytes t ≡ mode_line mode tally) }
 {
     let mut out = String::new(alloc);
-    push_mode(&mut out, mode)?;
+    write!(out, "{mode}")?;
     push_counts(&mut out, tally)?;
     out.push_str(" more ")?;
     out.push_str(yes_or_no(tally.more))?;
@@ -110,25 +106,23 @@ fn line_of(alloc: Global, mode: Mode, tally: Tally) -> Result<String, AllocError
 }
 
 /// What the report of a mode tells.
-fn tally_in<G: Gate, R: Threads + Wait + Sync>(
-    rt: &R,
+fn tally_in<G: Gate, R: Threads + Sync>(
+    crew: Crew<'_, R>,
     alloc: Global,
-    code: &Code,
-    mode: Mode,
+    subject: Subject<'_>,
     plan: CheckPlan,
-    workers: usize,
     gate: &G,
 ) -> Result<Tally, PoolFault>
     requires { plan.limits.fuel ≤ STEPS_MAX }
-    ensures tally { IfOk result (λ t. t ≡ tally_of (leaves_of code.now.program mode plan) (more_of code.now.program mode plan)) }
-    ensures workers { IsErrOf result PoolFault.BadWorkers → (workers ≡ 0) ⊎ (WORKERS_MAX < workers) }
-    ensures few { OnOk result (AreFew code.now.program mode plan) }
-    ensures many { IsErrOf result PoolFault.TooManyPieces → PIECES_MAX < length (pieces_of code.now.program mode plan) }
+    ensures tally { IfOk result (λ t. t ≡ tally_of (leaves_of subject.entry.code.now.program subject.entry.mode plan) (more_of subject.entry.code.now.program subject.entry.mode plan)) }
+    ensures workers { IsErrOf result PoolFault.BadWorkers → (crew.entry.workers ≡ 0) ⊎ (WORKERS_MAX < crew.entry.workers) }
+    ensures few { OnOk result (AreFew subject.entry.code.now.program subject.entry.mode plan) }
+    ensures many { IsErrOf result PoolFault.TooManyPieces → PIECES_MAX < length (pieces_of subject.entry.code.now.program subject.entry.mode plan) }
 {
-    let Ok(mut debugger) = Debugger::start(alloc, code, mode) else {
+    let Ok(mut debugger) = Debugger::start(alloc, subject.code, subject.mode) else {
         return Err(PoolFault::Memory);
     };
-    match mpd_pool::check(rt, alloc, &mut debugger, plan, workers, gate) {
+    match mpd_pool::check(crew, alloc, &mut debugger, plan, gate) {
         Ok(report) => {
             drop(debugger);
             let tally = tally_of(&report);
@@ -144,26 +138,24 @@ fn tally_in<G: Gate, R: Threads + Wait + Sync>(
 
 /// Explores a script from its start in a mode, as `check` does, and writes one line of what the report tells: how many runs it lists,
 /// how many of them end in a deadlock, with a trap, or cut, and whether there are more. It is refused as `check` is.
-pub fn check_mode<W: Sink, G: Gate, R: Threads + Wait + Sync>(
-    rt: &R,
+pub fn check_mode<W: Sink, G: Gate, R: Threads + Sync>(
+    crew: Crew<'_, R>,
     alloc: Global,
-    code: &Code,
-    mode: Mode,
+    subject: Subject<'_>,
     plan: CheckPlan,
-    workers: usize,
     sink: &mut W,
     gate: &G,
 ) -> Result<Tally, CheckFault>
     requires { plan.limits.fuel ≤ STEPS_MAX }
-    ensures { ModeAnswered code.now.program mode plan workers (W.seen sink.old) (W.seen sink.new) result }
+    ensures { ModeAnswered subject.entry.code.now.program subject.entry.mode plan crew.entry.workers (W.seen sink.old) (W.seen sink.new) result }
 {
-    if !is_crew(workers) {
+    if !is_crew(crew.workers) {
         return Err(CheckFault::BadWorkers);
     }
-    let told = tally_in(rt, alloc, code, mode, plan, workers, gate);
+    let told = tally_in(crew, alloc, subject, plan, gate);
     gate.done();
     match told {
-        Ok(tally) => match line_of(alloc, mode, tally) {
+        Ok(tally) => match line_of(alloc, subject.mode, tally) {
             Ok(text) => put(Told { text, tally }, sink),
             Err(_) => Err(CheckFault::Engine(EngineFault::Memory)),
         },
@@ -179,7 +171,7 @@ fn least_of(alloc: Global, least: Option<Mode>) -> Result<String, AllocError>
     out.push_str("least ")?;
     match least {
         None => out.push_str("none")?,
-        Some(mode) => push_mode(&mut out, mode)?,
+        Some(mode) => write!(out, "{mode}")?,
     }
     out.push_str("\n")?;
     Ok(out)

@@ -3,6 +3,7 @@
 ghost use Rattle.std.specs.Prelude.{◌≡◌, ◌≤◌, ◌<◌, IfOk, OnOk, IsErrOf, length, string_bytes};
 ghost use Rattle.mpd_model.specs.runs.Trail.{first_standing};
 ghost use Rattle.mpd_trail.specs.Views.{standing_of};
+ghost use Rattle.mpd_explore.specs.Sleeping.{decides_by};
 ghost use Rattle.mpd_pieces.specs.Pieces.{numbered, Reaches};
 ghost use Rattle.mpd_check.specs.Checked.{pieces_of, leaves_at, more_at, count_text, AreFew, Counted, PartAnswered, PartTold};
 ghost use Rattle.mpd_check.specs.Listing.{part_text, plain_part, IsPlain};
@@ -11,14 +12,14 @@ ghost use Rattle.mpd_check.specs.Tally.{tally_of};
 
 use crate::counts::Tally;
 use crate::fault::CheckFault;
-use crate::listing::{Telling, told_of};
+use crate::listing::{Wanted, told_by};
 use crate::modes::put_text;
 use crate::{Told, put};
-use mpd_code::Code;
+use mpd_code::Subject;
 use mpd_device::Sink;
 use mpd_explore::Watch;
 use mpd_lines::EngineFault;
-use mpd_model::{Mode, STEPS_MAX};
+use mpd_model::STEPS_MAX;
 use mpd_pieces::{PIECES_MAX, Piece, SplitFault, explore_at, split};
 use mpd_pool::CheckPlan;
 use mpd_trail::Debugger;
@@ -32,22 +33,17 @@ struct Begun<'c> {
 }
 
 /// Starts a script, and cuts its runs into pieces.
-fn begin<'c>(
-    alloc: Global,
-    code: &'c Code,
-    mode: Mode,
-    plan: CheckPlan,
-) -> Result<Begun<'c>, SplitFault>
+fn begin<'c>(alloc: Global, subject: Subject<'c>, plan: CheckPlan) -> Result<Begun<'c>, SplitFault>
     requires { plan.limits.fuel ≤ STEPS_MAX }
-    ensures standing { IfOk result (λ b. standing_of b.debugger ≡ first_standing code.now.program mode) }
-    ensures pieces { IfOk result (λ b. b.pieces.items ≡ numbered 0 (pieces_of code.now.program mode plan)) }
-    ensures few { OnOk result (AreFew code.now.program mode plan) }
-    ensures many { IsErrOf result SplitFault.TooManyPieces → PIECES_MAX < length (pieces_of code.now.program mode plan) }
+    ensures standing { IfOk result (λ b. standing_of b.debugger ≡ first_standing subject.entry.code.now.program subject.entry.mode) }
+    ensures pieces { IfOk result (λ b. b.pieces.items ≡ numbered 0 (pieces_of subject.entry.code.now.program subject.entry.mode plan)) }
+    ensures few { OnOk result (AreFew subject.entry.code.now.program subject.entry.mode plan) }
+    ensures many { IsErrOf result SplitFault.TooManyPieces → PIECES_MAX < length (pieces_of subject.entry.code.now.program subject.entry.mode plan) }
 {
-    let Ok(mut debugger) = Debugger::start(alloc, code, mode) else {
+    let Ok(mut debugger) = Debugger::start(alloc, subject.code, subject.mode) else {
         return Err(SplitFault::Memory);
     };
-    match split(alloc, &mut debugger, plan.split, plan.limits.fuel) {
+    match split(alloc, &mut debugger, plan.split, plan.limits) {
         Ok(pieces) => Ok(Begun { debugger, pieces }),
         Err(fault) => {
             drop(debugger);
@@ -80,15 +76,14 @@ fn count_text(alloc: Global, count: usize) -> Result<String, AllocError>
 /// 1,000,000 steps.
 pub fn count_pieces<W: Sink>(
     alloc: Global,
-    code: &Code,
-    mode: Mode,
+    subject: Subject<'_>,
     plan: CheckPlan,
     sink: &mut W,
 ) -> Result<(), CheckFault>
     requires { plan.limits.fuel ≤ STEPS_MAX }
-    ensures { Counted code.now.program mode plan (W.seen sink.old) (W.seen sink.new) result }
+    ensures { Counted subject.entry.code.now.program subject.entry.mode plan (W.seen sink.old) (W.seen sink.new) result }
 {
-    let begun = match begin(alloc, code, mode, plan) {
+    let begun = match begin(alloc, subject, plan) {
         Ok(begun) => begun,
         Err(fault) => return Err(refused(fault)),
     };
@@ -104,19 +99,19 @@ pub fn count_pieces<W: Sink>(
 fn tell_at<P: Watch>(
     alloc: Global,
     debugger: &mut Debugger<'_>,
-    plan: CheckPlan,
+    wanted: Wanted,
     piece: &Piece,
-    telling: Telling,
     watch: &mut P,
 ) -> Result<Told, AllocError>
-    requires fuel { plan.limits.fuel ≤ STEPS_MAX }
+    requires fuel { wanted.plan.limits.fuel ≤ STEPS_MAX }
     requires standing { standing_of debugger.old ≡ first_standing debugger.old.trail.program debugger.old.trail.mode }
-    requires reaches { Reaches plan.limits.fuel piece.now.choices debugger.old.world }
-    ensures text { IfOk result (λ told. string_bytes told.text ≡ part_text telling debugger.old.trail.program debugger.old.trail.mode plan piece.now.choices) }
-    ensures tally { IfOk result (λ told. told.tally ≡ tally_of (leaves_at debugger.old.trail.program debugger.old.trail.mode plan piece.now.choices) (more_at debugger.old.trail.program debugger.old.trail.mode plan piece.now.choices)) }
+    requires reaches { Reaches (decides_by wanted.plan.limits.ends) wanted.plan.limits.fuel piece.now.choices debugger.old.world }
+    ensures text { IfOk result (λ told. string_bytes told.text ≡ part_text wanted.telling debugger.old.trail.program debugger.old.trail.mode wanted.plan piece.now.choices) }
+    ensures tally { IfOk result (λ told. told.tally ≡ tally_of (leaves_at debugger.old.trail.program debugger.old.trail.mode wanted.plan piece.now.choices) (more_at debugger.old.trail.program debugger.old.trail.mode wanted.plan piece.now.choices)) }
 {
-    let report = explore_at(alloc, debugger, &piece.choices.items, plan.limits, watch)?;
-    let told = told_of(alloc, debugger, &report, plan.limits.fuel, telling);
+    let limits = wanted.plan.limits;
+    let report = explore_at(alloc, debugger, &piece.choices.items, limits, watch)?;
+    let told = told_by(alloc, debugger, &report, limits, wanted.telling);
     drop(report);
     told
 }
@@ -125,23 +120,22 @@ fn tell_at<P: Watch>(
 fn tell_number<P: Watch>(
     alloc: Global,
     debugger: &mut Debugger<'_>,
-    plan: CheckPlan,
+    wanted: Wanted,
     pieces: &[Piece],
     number: usize,
-    telling: Telling,
     watch: &mut P,
 ) -> Result<Told, CheckFault>
-    requires fuel { plan.limits.fuel ≤ STEPS_MAX }
+    requires fuel { wanted.plan.limits.fuel ≤ STEPS_MAX }
     requires standing { standing_of debugger.old ≡ first_standing debugger.old.trail.program debugger.old.trail.mode }
-    requires pieces { pieces.now ≡ numbered 0 (pieces_of debugger.old.trail.program debugger.old.trail.mode plan) }
-    requires few { AreFew debugger.old.trail.program debugger.old.trail.mode plan }
-    ensures { PartTold (part_text telling debugger.old.trail.program debugger.old.trail.mode plan) debugger.old.trail.program debugger.old.trail.mode plan number result }
+    requires pieces { pieces.now ≡ numbered 0 (pieces_of debugger.old.trail.program debugger.old.trail.mode wanted.plan) }
+    requires few { AreFew debugger.old.trail.program debugger.old.trail.mode wanted.plan }
+    ensures { PartTold (part_text wanted.telling debugger.old.trail.program debugger.old.trail.mode wanted.plan) debugger.old.trail.program debugger.old.trail.mode wanted.plan number result }
 {
     let count = pieces.len();
     if number >= count {
         return Err(CheckFault::NoSuchPiece { number, count });
     }
-    match tell_at(alloc, debugger, plan, &pieces[number], telling, watch) {
+    match tell_at(alloc, debugger, wanted, &pieces[number], watch) {
         Ok(told) => Ok(told),
         Err(_) => Err(CheckFault::Engine(EngineFault::Memory)),
     }
@@ -150,17 +144,15 @@ fn tell_number<P: Watch>(
 /// The same from the start of a script on.
 fn tell_piece<P: Watch>(
     alloc: Global,
-    code: &Code,
-    mode: Mode,
-    plan: CheckPlan,
+    subject: Subject<'_>,
+    wanted: Wanted,
     number: usize,
-    telling: Telling,
     watch: &mut P,
 ) -> Result<Told, CheckFault>
-    requires { plan.limits.fuel ≤ STEPS_MAX }
-    ensures { PartTold (part_text telling code.now.program mode plan) code.now.program mode plan number result }
+    requires { wanted.plan.limits.fuel ≤ STEPS_MAX }
+    ensures { PartTold (part_text wanted.telling subject.entry.code.now.program subject.entry.mode wanted.plan) subject.entry.code.now.program subject.entry.mode wanted.plan number result }
 {
-    let begun = match begin(alloc, code, mode, plan) {
+    let begun = match begin(alloc, subject, wanted.plan) {
         Ok(begun) => begun,
         Err(fault) => return Err(refused(fault)),
     };
@@ -168,24 +160,22 @@ fn tell_piece<P: Watch>(
         mut debugger,
         pieces,
     } = begun;
-    tell_number(alloc, &mut debugger, plan, &pieces, number, telling, watch)
+    tell_number(alloc, &mut debugger, wanted, &pieces, number, watch)
 }
 
 /// Writes the part of the report that the piece of a number has.
 fn write_piece<W: Sink, P: Watch>(
     alloc: Global,
-    code: &Code,
-    mode: Mode,
-    plan: CheckPlan,
+    subject: Subject<'_>,
+    wanted: Wanted,
     number: usize,
-    telling: Telling,
     sink: &mut W,
     watch: &mut P,
 ) -> Result<Tally, CheckFault>
-    requires { plan.limits.fuel ≤ STEPS_MAX }
-    ensures { PartAnswered (part_text telling code.now.program mode plan) code.now.program mode plan number (W.seen sink.old) (W.seen sink.new) result }
+    requires { wanted.plan.limits.fuel ≤ STEPS_MAX }
+    ensures { PartAnswered (part_text wanted.telling subject.entry.code.now.program subject.entry.mode wanted.plan) subject.entry.code.now.program subject.entry.mode wanted.plan number (W.seen sink.old) (W.seen sink.new) result }
 {
-    let told = tell_piece(alloc, code, mode, plan, number, telling, watch);
+    let told = tell_piece(alloc, subject, wanted, number, watch);
     watch.end();
     match told {
         Ok(told) => put(told, sink),
@@ -201,17 +191,15 @@ fn write_piece<W: Sink, P: Watch>(
 /// else depends on it.
 pub fn check_piece<W: Sink, P: Watch>(
     alloc: Global,
-    code: &Code,
-    mode: Mode,
-    plan: CheckPlan,
+    subject: Subject<'_>,
+    wanted: Wanted,
     number: usize,
-    telling: Telling,
     sink: &mut W,
     watch: &mut P,
 ) -> Result<Tally, CheckFault>
-    requires { plan.limits.fuel ≤ STEPS_MAX }
-    ensures told { PartAnswered (part_text telling code.now.program mode plan) code.now.program mode plan number (W.seen sink.old) (W.seen sink.new) result }
-    ensures plain { IsPlain telling → PartAnswered (plain_part code.now.program mode plan) code.now.program mode plan number (W.seen sink.old) (W.seen sink.new) result }
+    requires { wanted.plan.limits.fuel ≤ STEPS_MAX }
+    ensures told { PartAnswered (part_text wanted.telling subject.entry.code.now.program subject.entry.mode wanted.plan) subject.entry.code.now.program subject.entry.mode wanted.plan number (W.seen sink.old) (W.seen sink.new) result }
+    ensures plain { IsPlain wanted.telling → PartAnswered (plain_part subject.entry.code.now.program subject.entry.mode wanted.plan) subject.entry.code.now.program subject.entry.mode wanted.plan number (W.seen sink.old) (W.seen sink.new) result }
 {
-    write_piece(alloc, code, mode, plan, number, telling, sink, watch)
+    write_piece(alloc, subject, wanted, number, sink, watch)
 }

@@ -175,6 +175,10 @@ teller_fuel : (lie : Lies) → rules_row (name_of the_fuel) (rules lie teller) �
 unfolding clap_on_literals
 teller_fuel lie = refl
 
+teller_ends : (lie : Lies) → rules_row (name_of the_ends) (rules lie teller) ≡ default_row the_ends
+unfolding clap_on_literals
+teller_ends lie = refl
+
 translator_file : (lie : Lies) → rules_row (name_of the_file) (rules lie translator) ≡ default_row the_file
 unfolding clap_on_literals
 translator_file lie = refl
@@ -202,6 +206,10 @@ painter_words lie = refl
 painter_fuel : (lie : Lies) → rules_row (name_of the_fuel) (rules lie painter) ≡ default_row the_fuel
 unfolding clap_on_literals
 painter_fuel lie = refl
+
+painter_ends : (lie : Lies) → rules_row (name_of the_ends) (rules lie painter) ≡ default_row the_ends
+unfolding clap_on_literals
+painter_ends lie = refl
 
 -- ---- what is found at last
 
@@ -264,15 +272,16 @@ text_ended lie the_words said h = first_ended lie checker the_words said (checke
 verify_same : (f f' w w' m m' l l' : Option Text) → f ≡ f' → w ≡ w' → m ≡ m' → l ≡ l' → found_verify f w m (number_if_given 0 most_leaf l) ≡ found_verify f' w' m' (number_if_given 0 most_leaf l')
 verify_same f f' w w' m m' l l' a b c d = rw (a, b, c, d) refl
 
-words_same : (f f' c c' m m' n n' : Option Text) → f ≡ f' → c ≡ c' → m ≡ m' → n ≡ n' → found_words f c m (option_and_then (number_in 1 most_fuel) n) ≡ found_words f' c' m' (option_and_then (number_in 1 most_fuel) n')
-words_same f f' c c' m m' n n' a b d e = rw (a, b, d, e) refl
+words_same : (f f' c c' m m' n n' s s' : Option Text) → f ≡ f' → c ≡ c' → m ≡ m' → n ≡ n' → s ≡ s'
+    → found_words f c m (option_and_then (number_in 1 most_fuel) n) (option_and_then flag_in s) ≡ found_words f' c' m' (option_and_then (number_in 1 most_fuel) n') (option_and_then flag_in s')
+words_same f f' c c' m m' n n' s s' a b d e g = rw (a, b, d, e, g) refl
 
 debug_same : (f f' m m' w w' : Option Text) → f ≡ f' → m ≡ m' → w ≡ w' → found_of_file (λ file mode. debug file mode w) f m ≡ found_of_file (λ file mode. debug file mode w') f' m'
 debug_same f f' m m' w w' a b c = rw (a, b, c) refl
 
-picture_same : (f f' m m' n n' c c' w w' x x' : Option Text) → f ≡ f' → m ≡ m' → n ≡ n' → c ≡ c' → w ≡ w' → x ≡ x'
-    → found_picture f m (option_and_then (number_in 1 most_fuel) n) c w x ≡ found_picture f' m' (option_and_then (number_in 1 most_fuel) n') c' w' x'
-picture_same f f' m m' n n' c c' w w' x x' a b d e g h = rw (a, b, d, e, g, h) refl
+picture_same : (f f' m m' n n' s s' c c' w w' x x' : Option Text) → f ≡ f' → m ≡ m' → n ≡ n' → s ≡ s' → c ≡ c' → w ≡ w' → x ≡ x'
+    → found_picture f m (option_and_then (number_in 1 most_fuel) n) (option_and_then flag_in s) c w x ≡ found_picture f' m' (option_and_then (number_in 1 most_fuel) n') (option_and_then flag_in s') c' w' x'
+picture_same f f' m m' n n' s s' c c' w w' x x' a b d e g h i = rw (a, b, d, e, g, h, i) refl
 
 pub found_ended : (lie : Lies) (t : Tool) (said : Said) → Valid said → found_in t (ended lie t said) ≡ found t (text_of said)
 found_ended lie tracer said h = ap₂ (found_of_file trace) (first_ended lie tracer the_file said (tracer_file lie) h) (first_ended lie tracer the_mode said (tracer_mode lie) h)
@@ -286,12 +295,12 @@ found_ended lie verifier said h =
     verify_same _ _ _ _ _ _ _ _ (first_ended lie verifier the_file said (verifier_file lie) h) (first_ended lie verifier the_witness_file said (verifier_witness lie) h) (first_ended lie verifier the_mode said (verifier_mode lie) h)
     (one_ended lie verifier the_leaf said (verifier_leaf lie) h)
 found_ended lie teller said h =
-    words_same _ _ _ _ _ _ _ _ (first_ended lie teller the_file said (teller_file lie) h) (first_ended lie teller the_choices said (teller_choices lie) h) (first_ended lie teller the_mode said (teller_mode lie) h)
-    (one_ended lie teller the_fuel said (teller_fuel lie) h)
+    words_same _ _ _ _ _ _ _ _ _ _ (first_ended lie teller the_file said (teller_file lie) h) (first_ended lie teller the_choices said (teller_choices lie) h) (first_ended lie teller the_mode said (teller_mode lie) h)
+    (one_ended lie teller the_fuel said (teller_fuel lie) h) (one_ended lie teller the_ends said (teller_ends lie) h)
 found_ended lie translator said h = ap (option_map translate) (first_ended lie translator the_file said (translator_file lie) h)
 found_ended lie painter said h =
-    picture_same _ _ _ _ _ _ _ _ _ _ _ _ (first_ended lie painter the_file said (painter_file lie) h) (first_ended lie painter the_mode said (painter_mode lie) h) (one_ended lie painter the_fuel said (painter_fuel lie) h)
-    (first_ended lie painter the_choices said (painter_choices lie) h) (first_ended lie painter the_laid_witness said (painter_witness lie) h) (first_ended lie painter the_words said (painter_words lie) h)
+    picture_same _ _ _ _ _ _ _ _ _ _ _ _ _ _ (first_ended lie painter the_file said (painter_file lie) h) (first_ended lie painter the_mode said (painter_mode lie) h) (one_ended lie painter the_fuel said (painter_fuel lie) h)
+    (one_ended lie painter the_ends said (painter_ends lie) h) (first_ended lie painter the_choices said (painter_choices lie) h) (first_ended lie painter the_laid_witness said (painter_witness lie) h) (first_ended lie painter the_words said (painter_words lie) h)
 
 -- ---- something is asked for where all was said that must be
 
@@ -428,22 +437,24 @@ is_verify (Some f) (Some w) None d (Some l) e = refl
 is_verify (Some f) (Some w) (Some m) d (Some l) e = refl
 is_verify (Some f) (Some w) m d None e = cc
 
-is_words : (f c m : Option Text) (d : Text) (n : Option ℕ) → is_some n ≡ true → is_some (found_words (or_default f None) (or_default c None) (or_default m (Some d)) n) ≡ (is_some f && is_some c)
-is_words None c m d n e = refl
-is_words (Some f) None m d n e = refl
-is_words (Some f) (Some c) None d (Some n) e = refl
-is_words (Some f) (Some c) (Some m) d (Some n) e = refl
-is_words (Some f) (Some c) m d None e = cc
+is_words : (f c m : Option Text) (d : Text) (n : Option ℕ) (s : Option Bool) → is_some n ≡ true → is_some s ≡ true → is_some (found_words (or_default f None) (or_default c None) (or_default m (Some d)) n s) ≡ (is_some f && is_some c)
+is_words None c m d n s e g = refl
+is_words (Some f) None m d n s e g = refl
+is_words (Some f) (Some c) None d (Some n) (Some s) e g = refl
+is_words (Some f) (Some c) (Some m) d (Some n) (Some s) e g = refl
+is_words (Some f) (Some c) m d (Some n) None e g = cc
+is_words (Some f) (Some c) m d None s e g = cc
 
 is_translate : (f : Option Text) → is_some (option_map translate (or_default f None)) ≡ is_some f
 is_translate None = refl
 is_translate (Some f) = refl
 
-is_picture : (f m : Option Text) (d : Text) (n : Option ℕ) (c w x : Option Text) → is_some n ≡ true → is_some (found_picture (or_default f None) (or_default m (Some d)) n c w x) ≡ is_some f
-is_picture None m d n c w x e = refl
-is_picture (Some f) None d (Some n) c w x e = refl
-is_picture (Some f) (Some m) d (Some n) c w x e = refl
-is_picture (Some f) m d None c w x e = cc
+is_picture : (f m : Option Text) (d : Text) (n : Option ℕ) (s : Option Bool) (c w x : Option Text) → is_some n ≡ true → is_some s ≡ true → is_some (found_picture (or_default f None) (or_default m (Some d)) n s c w x) ≡ is_some f
+is_picture None m d n s c w x e g = refl
+is_picture (Some f) None d (Some n) (Some s) c w x e g = refl
+is_picture (Some f) (Some m) d (Some n) (Some s) c w x e g = refl
+is_picture (Some f) m d (Some n) None c w x e g = cc
+is_picture (Some f) m d None s c w x e g = cc
 
 -- each item is there that must be: the files, and the options that have no default, where the command wants them
 abbrev has_needed : Tool → (Item → Bool) → Bool
@@ -474,12 +485,14 @@ asks_if_needed verifier said h =
     is_verify (said_of the_file said) (said_of the_witness_file said) (said_of the_mode said) (codes "rendezvous") (number_if_given 0 most_leaf (text_of said the_leaf))
     (given_number 0 most_leaf (said_of the_leaf said) (λ v e. said_fits the_leaf v said h e))
 asks_if_needed teller said h =
-    is_words (said_of the_file said) (said_of the_choices said) (said_of the_mode said) (codes "rendezvous") (option_and_then (number_in 1 most_fuel) (text_of said the_fuel))
+    is_words (said_of the_file said) (said_of the_choices said) (said_of the_mode said) (codes "rendezvous") (option_and_then (number_in 1 most_fuel) (text_of said the_fuel)) (option_and_then flag_in (text_of said the_ends))
     (read_said (number_in 1 most_fuel) (codes "100000") (said_of the_fuel said) refl (λ v e. said_fits the_fuel v said h e))
+    (read_said flag_in (codes "false") (said_of the_ends said) refl (λ v e. said_fits the_ends v said h e))
 asks_if_needed translator said h = is_translate (said_of the_file said)
 asks_if_needed painter said h =
-    is_picture (said_of the_file said) (said_of the_mode said) (codes "rendezvous") (option_and_then (number_in 1 most_fuel) (text_of said the_fuel)) (text_of said the_choices) (text_of said the_laid_witness) (text_of said the_words)
+    is_picture (said_of the_file said) (said_of the_mode said) (codes "rendezvous") (option_and_then (number_in 1 most_fuel) (text_of said the_fuel)) (option_and_then flag_in (text_of said the_ends)) (text_of said the_choices) (text_of said the_laid_witness) (text_of said the_words)
     (read_said (number_in 1 most_fuel) (codes "100000") (said_of the_fuel said) refl (λ v e. said_fits the_fuel v said h e))
+    (read_said flag_in (codes "false") (said_of the_ends said) refl (λ v e. said_fits the_ends v said h e))
 
 -- ---- faults at the end
 
@@ -568,9 +581,9 @@ takes_defaults lie runner = (refl, (refl, (refl, tt)))
 takes_defaults lie server = (refl, (refl, (refl, (refl, (refl, tt)))))
 takes_defaults lie checker = (refl, (refl, (refl, (refl, (refl, (refl, (refl, (refl, (refl, (refl, (refl, (refl, (refl, (refl, (refl, (refl, (refl, (refl, tt))))))))))))))))))
 takes_defaults lie verifier = (refl, (refl, (refl, (refl, (refl, tt)))))
-takes_defaults lie teller = (refl, (refl, (refl, (refl, (refl, tt)))))
+takes_defaults lie teller = (refl, (refl, (refl, (refl, (refl, (refl, tt))))))
 takes_defaults lie translator = (refl, (refl, tt))
-takes_defaults lie painter = (refl, (refl, (refl, (refl, (refl, (refl, (refl, tt)))))))
+takes_defaults lie painter = (refl, (refl, (refl, (refl, (refl, (refl, (refl, (refl, tt))))))))
 
 -- ---- what is held is settled
 

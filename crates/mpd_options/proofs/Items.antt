@@ -272,28 +272,32 @@ flags checker the_group = true
 flags checker the_witness = true
 flags checker the_complete = true
 flags checker the_pieces = true
+flags teller the_ends = true
+flags painter the_ends = true
 flags _ _ = false
 
-pub each_flag : (P : Tool → Item → Type 0) → P checker the_ends × P checker the_explain × P checker the_group × P checker the_witness × P checker the_complete × P checker the_pieces → (t : Tool) (i : Item) → flags t i ≡ true → P t i
-each_flag P f checker the_ends e = f.0
-each_flag P f checker the_explain e = f.1
-each_flag P f checker the_group e = f.2
-each_flag P f checker the_witness e = f.3
-each_flag P f checker the_complete e = f.4
-each_flag P f checker the_pieces e = f.5
-each_flag P f checker _ e = cc
-each_flag P f tracer i e = cc
-each_flag P f debugger i e = cc
-each_flag P f runner i e = cc
-each_flag P f server i e = cc
-each_flag P f verifier i e = cc
-each_flag P f teller i e = cc
-each_flag P f translator i e = cc
-each_flag P f painter i e = cc
+pub each_flag : (P : Tool → Item → Type 0) → P checker the_ends × P checker the_explain × P checker the_group × P checker the_witness × P checker the_complete × P checker the_pieces → P teller the_ends → P painter the_ends → (t : Tool) (i : Item) → flags t i ≡ true → P t i
+each_flag P c w q checker the_ends e = c.0
+each_flag P c w q checker the_explain e = c.1
+each_flag P c w q checker the_group e = c.2
+each_flag P c w q checker the_witness e = c.3
+each_flag P c w q checker the_complete e = c.4
+each_flag P c w q checker the_pieces e = c.5
+each_flag P c w q checker _ e = cc
+each_flag P c w q teller the_ends e = w
+each_flag P c w q teller _ e = cc
+each_flag P c w q painter the_ends e = q
+each_flag P c w q painter _ e = cc
+each_flag P c w q tracer i e = cc
+each_flag P c w q debugger i e = cc
+each_flag P c w q runner i e = cc
+each_flag P c w q server i e = cc
+each_flag P c w q verifier i e = cc
+each_flag P c w q translator i e = cc
 
 pub flag_by_long : (lie : Lies) (t : Tool) (i : Item) → flags t i ≡ true → arg_by_long (rules lie t) (spelling_of i) ≡ Some (arg lie t i)
 unfolding clap_on_literals
-flag_by_long lie = each_flag (λ t i. arg_by_long (rules lie t) (spelling_of i) ≡ Some (arg lie t i)) (refl, refl, refl, refl, refl, refl)
+flag_by_long lie = each_flag (λ t i. arg_by_long (rules lie t) (spelling_of i) ≡ Some (arg lie t i)) (refl, refl, refl, refl, refl, refl) refl refl
 
 -- ---- a use of an item
 
@@ -363,7 +367,7 @@ use_is lie v rows = each_keeps (λ t i. use_fault false (arg lie t i) (v ∷ [])
 
 flag_use_is : (lie : Lies) (rows : List Row) (t : Tool) (i : Item) → flags t i ≡ true → use_fault false (arg lie t i) [] rows ≡ or_else (again_fault (has_row (name_of i) rows)) []
 unfolding clap_on_literals
-flag_use_is lie rows = each_flag (λ t i. use_fault false (arg lie t i) [] rows ≡ or_else (again_fault (has_row (name_of i) rows)) []) (refl, refl, refl, refl, refl, refl)
+flag_use_is lie rows = each_flag (λ t i. use_fault false (arg lie t i) [] rows ≡ or_else (again_fault (has_row (name_of i) rows)) []) (refl, refl, refl, refl, refl, refl) refl refl
 
 abbrev fault_by : ErrorKind → Bool → Bool → Kinds
 fault_by k again taken = or_else (again_fault again) (value_fault k taken)
@@ -453,7 +457,7 @@ used_once lie t i v rows k h = used_is lie v rows t i k ∙ at_end_of i v rows h
 
 flag_used_is : (lie : Lies) (rows : List Row) (t : Tool) (i : Item) → flags t i ≡ true → used (arg lie t i) [] rows ≡ with_values (name_of i) AsWritten CommandLine (codes "true" ∷ []) (without (name_of i) rows)
 unfolding clap_on_literals
-flag_used_is lie rows = each_flag (λ t i. used (arg lie t i) [] rows ≡ with_values (name_of i) AsWritten CommandLine (codes "true" ∷ []) (without (name_of i) rows)) (refl, refl, refl, refl, refl, refl)
+flag_used_is lie rows = each_flag (λ t i. used (arg lie t i) [] rows ≡ with_values (name_of i) AsWritten CommandLine (codes "true" ∷ []) (without (name_of i) rows)) (refl, refl, refl, refl, refl, refl) refl refl
 
 pub flag_used_once : (lie : Lies) (t : Tool) (i : Item) (rows : List Row) → flags t i ≡ true → has_row (name_of i) rows ≡ false → used (arg lie t i) [] rows ≡ rows ++ row_for i (codes "true") CommandLine ∷ []
 flag_used_once lie t i rows flag h = flag_used_is lie rows t i flag ∙ at_end_of i (codes "true") rows h

@@ -15,7 +15,7 @@ use Rattle.clap.specs.declared.parser.matches.ArgMatches.TheViews.{out-ArgMatche
 use Rattle.clap.specs.declared.parser.matches.Found.{Found}
 use Rattle.clap.proofs.OnLiterals.{clap_on_literals}
 use Rattle.clap.proofs.WalkLemmas.{first_value-rows, one_text-rows}
-use Rattle.mpd_options.specs.Asked.{Asked, IsFound, IsInRange, AreInRange, Item, Tool, asked, check, checker, debug, debugger, found, found_by, found_check, found_in, found_of_command, found_of_file, found_options, found_picture, found_serve, found_verify, found_words, given_word, meant, most_clients, most_fuel, most_leaf, most_modes, most_piece, most_port, most_runs, most_sample, most_seed, most_split, most_workers, number_if_given, paint, painter, text_in, the_choices, the_clients, the_file, the_fuel, the_laid_witness, the_leaf, the_mode, the_modes, the_piece, the_port, the_runs, the_sample, the_seed, the_split, the_witness_file, the_words, the_workers, tell, teller, tool_named, run, runner, serve, server, trace, tracer, translate, translator, until_bad_in, verifier, verify}
+use Rattle.mpd_options.specs.Asked.{Asked, IsFound, IsInRange, AreInRange, Item, Tool, asked, check, checker, debug, debugger, found, found_by, found_check, found_in, found_of_command, found_of_file, found_options, found_picture, found_serve, found_verify, found_words, given_word, meant, most_clients, most_fuel, most_leaf, most_modes, most_piece, most_port, most_runs, most_sample, most_seed, most_split, most_workers, number_if_given, paint, painter, text_in, the_choices, the_clients, the_ends, the_file, the_fuel, the_laid_witness, the_leaf, the_mode, the_modes, the_piece, the_port, the_runs, the_sample, the_seed, the_split, the_witness_file, the_words, the_workers, tell, teller, tool_named, run, runner, serve, server, trace, tracer, translate, translator, until_bad_in, verifier, verify}
 use Rattle.mpd_options.specs.Numbers.{flag_in, most_usize, number_in}
 use Rattle.mpd_options.specs.declared.options.CheckOptions.{CheckOptions}
 use Rattle.mpd_options.specs.declared.options.Options.{Options}
@@ -160,18 +160,20 @@ some_verified (Some f) (Some w) None l e = cc
 some_verified (Some f) (Some w) (Some m) None e = cc
 some_verified (Some f) (Some w) (Some m) (Some l) e = record { file = refl; witness = refl; mode = refl; leaf = refl }
 
-pub record HasWords (f c m : Option Text) (n : Option ℕ) : Type 0 where
+pub record HasWords (f c m : Option Text) (n : Option ℕ) (s : Option Bool) : Type 0 where
   pub file : is_some f ≡ true
   pub choices : is_some c ≡ true
   pub mode : is_some m ≡ true
   pub fuel : is_some n ≡ true
+  pub ends : is_some s ≡ true
 
-some_words_found : (f c m : Option Text) (n : Option ℕ) → is_some (found_words f c m n) ≡ true → HasWords f c m n
-some_words_found None c m n e = cc
-some_words_found (Some f) None m n e = cc
-some_words_found (Some f) (Some c) None n e = cc
-some_words_found (Some f) (Some c) (Some m) None e = cc
-some_words_found (Some f) (Some c) (Some m) (Some n) e = record { file = refl; choices = refl; mode = refl; fuel = refl }
+some_words_found : (f c m : Option Text) (n : Option ℕ) (s : Option Bool) → is_some (found_words f c m n s) ≡ true → HasWords f c m n s
+some_words_found None c m n s e = cc
+some_words_found (Some f) None m n s e = cc
+some_words_found (Some f) (Some c) None n s e = cc
+some_words_found (Some f) (Some c) (Some m) None s e = cc
+some_words_found (Some f) (Some c) (Some m) (Some n) None e = cc
+some_words_found (Some f) (Some c) (Some m) (Some n) (Some s) e = record { file = refl; choices = refl; mode = refl; fuel = refl; ends = refl }
 
 pub record HasServed (f m : Option Text) (p c : Option ℕ) : Type 0 where
   pub file : is_some f ≡ true
@@ -196,16 +198,18 @@ some_translated : (f : Option Text) → is_some (option_map translate f) ≡ tru
 some_translated None e = cc
 some_translated (Some f) e = refl
 
-pub record HasPicture (f m : Option Text) (n : Option ℕ) : Type 0 where
+pub record HasPicture (f m : Option Text) (n : Option ℕ) (s : Option Bool) : Type 0 where
   pub file : is_some f ≡ true
   pub mode : is_some m ≡ true
   pub fuel : is_some n ≡ true
+  pub ends : is_some s ≡ true
 
-some_picture : (f m : Option Text) (n : Option ℕ) (c w x : Option Text) → is_some (found_picture f m n c w x) ≡ true → HasPicture f m n
-some_picture None m n c w x e = cc
-some_picture (Some f) None n c w x e = cc
-some_picture (Some f) (Some m) None c w x e = cc
-some_picture (Some f) (Some m) (Some n) c w x e = record { file = refl; mode = refl; fuel = refl }
+some_picture : (f m : Option Text) (n : Option ℕ) (s : Option Bool) (c w x : Option Text) → is_some (found_picture f m n s c w x) ≡ true → HasPicture f m n s
+some_picture None m n s c w x e = cc
+some_picture (Some f) None n s c w x e = cc
+some_picture (Some f) (Some m) None s c w x e = cc
+some_picture (Some f) (Some m) (Some n) None c w x e = cc
+some_picture (Some f) (Some m) (Some n) (Some s) c w x e = record { file = refl; mode = refl; fuel = refl; ends = refl }
 
 pub has_file : (t : Tool) (rows : List Row) → is_some (found_in t rows) ≡ true → is_some (first_of (codes "FILE") rows) ≡ true
 has_file tracer rows e = (some_both trace _ _ e).0
@@ -214,9 +218,9 @@ has_file runner rows e = (some_both run _ _ e).0
 has_file server rows e = (some_served _ _ _ _ e).file
 has_file checker rows e = (some_check _ _ _ e).0
 has_file verifier rows e = (some_verified _ _ _ _ e).file
-has_file teller rows e = (some_words_found _ _ _ _ e).file
+has_file teller rows e = (some_words_found _ _ _ _ _ e).file
 has_file translator rows e = some_translated _ e
-has_file painter rows e = (some_picture _ _ _ _ _ _ e).file
+has_file painter rows e = (some_picture _ _ _ _ _ _ _ e).file
 
 pub has_mode : (t : Tool) (rows : List Row) → asks t the_mode ≡ true → is_some (found_in t rows) ≡ true → is_some (first_of (codes "mode") rows) ≡ true
 has_mode tracer rows has e = (some_both trace _ _ e).1
@@ -225,9 +229,9 @@ has_mode runner rows has e = (some_both run _ _ e).1
 has_mode server rows has e = (some_served _ _ _ _ e).mode
 has_mode checker rows has e = (some_check _ _ _ e).1
 has_mode verifier rows has e = (some_verified _ _ _ _ e).mode
-has_mode teller rows has e = (some_words_found _ _ _ _ e).mode
+has_mode teller rows has e = (some_words_found _ _ _ _ _ e).mode
 has_mode translator rows has e = cc
-has_mode painter rows has e = (some_picture _ _ _ _ _ _ e).mode
+has_mode painter rows has e = (some_picture _ _ _ _ _ _ _ e).mode
 
 not_found : (r : Option (Bor Text)) (o : Option Text) → o ≡ text_at r → r ≡ None → is_some o ≡ true → ⊥
 not_found r o e none some = (let bad : false ≡ true = sym (ap is_some (e ∙ ap text_at none)) ∙ some in cc)
@@ -236,7 +240,7 @@ pub has_witness : (rows : List Row) → is_some (found_in verifier rows) ≡ tru
 has_witness rows e = (some_verified _ _ _ _ e).witness
 
 pub has_choices : (rows : List Row) → is_some (found_in teller rows) ≡ true → is_some (first_of (codes "choices") rows) ≡ true
-has_choices rows e = (some_words_found _ _ _ _ e).choices
+has_choices rows e = (some_words_found _ _ _ _ _ e).choices
 
 pub no_word : (f : Found) (r : Option (Bor Text)) (id : Text) → text_at r ≡ first_value f id → r ≡ None → is_some (first_of id (rows_of f)) ≡ true → ⊥
 no_word f r id e none some = not_found r _ (value_is f r id e) none some
@@ -258,22 +262,25 @@ pub verify_found : {f w m : Option Text} {l : Option (Option ℕ)} (file witness
     → Some (verify file witness mode leaf) ≡ found_verify f w m l
 verify_found file witness mode leaf a b c d = rw (a, b, c, d) refl
 
-pub words_found : {f c m : Option Text} {n : Option ℕ} (file choices mode : Text) (fuel : ℕ) → f ≡ Some file → c ≡ Some choices → m ≡ Some mode → n ≡ Some fuel → Some (tell file choices mode fuel) ≡ found_words f c m n
-words_found file choices mode fuel a b c d = rw (a, b, c, d) refl
+pub words_found : {f c m : Option Text} {n : Option ℕ} {s : Option Bool} (file choices mode : Text) (fuel : ℕ) (ends : Bool) → f ≡ Some file → c ≡ Some choices → m ≡ Some mode → n ≡ Some fuel → s ≡ Some ends
+    → Some (tell file choices mode fuel ends) ≡ found_words f c m n s
+words_found file choices mode fuel ends a b c d e = rw (a, b, c, d, e) refl
 
 pub translate_found : {f : Option Text} (file : Text) → f ≡ Some file → Some (translate file) ≡ option_map translate f
 translate_found file a = rw a refl
 
-picture_of : {f m : Option Text} {n : Option ℕ} {c w x : Option Text} (file mode : Text) (fuel : ℕ) (choices witness words : Option Text) → f ≡ Some file → m ≡ Some mode → n ≡ Some fuel → c ≡ choices → w ≡ witness → x ≡ words
-    → Some (paint file mode choices witness words fuel) ≡ found_picture f m n c w x
-picture_of file mode fuel choices witness words a b d e g h = rw (a, b, d, e, g, h) refl
+picture_of : {f m : Option Text} {n : Option ℕ} {s : Option Bool} {c w x : Option Text} (file mode : Text) (fuel : ℕ) (ends : Bool) (choices witness words : Option Text)
+    → f ≡ Some file → m ≡ Some mode → n ≡ Some fuel → s ≡ Some ends → c ≡ choices → w ≡ witness → x ≡ words
+    → Some (paint file mode choices witness words fuel ends) ≡ found_picture f m n s c w x
+picture_of file mode fuel ends choices witness words a b d i e g h = rw (a, b, d, i, e, g, h) refl
 
 -- with the words of choices, a witness's file and a file of trace words, where there are such
-pub picture_found : (f : Found) (file mode : Text) (fuel : ℕ) (c w x : Option (Bor Text)) → first_of (codes "FILE") (rows_of f) ≡ Some file → first_of (codes "mode") (rows_of f) ≡ Some mode
-    → option_and_then (number_in 1 most_fuel) (one_of (codes "fuel") (rows_of f)) ≡ Some fuel → text_at c ≡ first_value f (codes "choices") → text_at w ≡ first_value f (codes "laid_witness") → text_at x ≡ first_value f (codes "words")
-    → Some (paint file mode (text_at c) (text_at w) (text_at x) fuel) ≡ found_in painter (rows_of f)
-picture_found f file mode fuel c w x a b d e g h =
-    picture_of file mode fuel (text_at c) (text_at w) (text_at x) a b d (value_is f c (codes "choices") e) (value_is f w (codes "laid_witness") g) (value_is f x (codes "words") h)
+pub picture_found : (f : Found) (file mode : Text) (fuel : ℕ) (ends : Bool) (c w x : Option (Bor Text)) → first_of (codes "FILE") (rows_of f) ≡ Some file → first_of (codes "mode") (rows_of f) ≡ Some mode
+    → option_and_then (number_in 1 most_fuel) (one_of (codes "fuel") (rows_of f)) ≡ Some fuel → option_and_then flag_in (one_of (codes "ends") (rows_of f)) ≡ Some ends
+    → text_at c ≡ first_value f (codes "choices") → text_at w ≡ first_value f (codes "laid_witness") → text_at x ≡ first_value f (codes "words")
+    → Some (paint file mode (text_at c) (text_at w) (text_at x) fuel ends) ≡ found_in painter (rows_of f)
+picture_found f file mode fuel ends c w x a b d i e g h =
+    picture_of file mode fuel ends (text_at c) (text_at w) (text_at x) a b d i (value_is f c (codes "choices") e) (value_is f w (codes "laid_witness") g) (value_is f x (codes "words") h)
 
 -- ---- numbers and the flag
 
@@ -371,10 +378,16 @@ pub has_verified : (f : Found) → is_some (found_in verifier (rows_of f)) ≡ t
 has_verified f e = (some_verified _ _ _ _ e).leaf
 
 pub has_fuel : (f : Found) → is_some (found_in teller (rows_of f)) ≡ true → is_some (number_at 1 most_fuel (codes "fuel") f) ≡ true
-has_fuel f e = (some_words_found _ _ _ _ e).fuel
+has_fuel f e = (some_words_found _ _ _ _ _ e).fuel
 
 pub has_picture_fuel : (f : Found) → is_some (found_in painter (rows_of f)) ≡ true → is_some (number_at 1 most_fuel (codes "fuel") f) ≡ true
-has_picture_fuel f e = (some_picture _ _ _ _ _ _ e).fuel
+has_picture_fuel f e = (some_picture _ _ _ _ _ _ _ e).fuel
+
+pub has_words_ends : (f : Found) → is_some (found_in teller (rows_of f)) ≡ true → is_some (flag_at (codes "ends") f) ≡ true
+has_words_ends f e = (some_words_found _ _ _ _ _ e).ends
+
+pub has_picture_ends : (f : Found) → is_some (found_in painter (rows_of f)) ≡ true → is_some (flag_at (codes "ends") f) ≡ true
+has_picture_ends f e = (some_picture _ _ _ _ _ _ _ e).ends
 
 pub has_options : (f : Found) → is_some (found_in checker (rows_of f)) ≡ true → is_some (found_options (text_in (rows_of f))) ≡ true
 has_options f e = (some_check _ _ _ e).2
@@ -436,8 +449,8 @@ abbrev HasRange : Asked → Type 0
 HasRange (serve file mode port clients) = (1 ≤ port) × (port ≤ most_port) × (1 ≤ clients) × (clients ≤ most_clients)
 HasRange (check file mode options) = AreInRange options
 HasRange (verify file witness mode leaf) = IfSome leaf (λ n. n ≤ most_leaf)
-HasRange (tell file choices mode fuel) = (1 ≤ fuel) × (fuel ≤ most_fuel)
-HasRange (paint file mode choices witness words fuel) = (1 ≤ fuel) × (fuel ≤ most_fuel)
+HasRange (tell file choices mode fuel ends) = (1 ≤ fuel) × (fuel ≤ most_fuel)
+HasRange (paint file mode choices witness words fuel ends) = (1 ≤ fuel) × (fuel ≤ most_fuel)
 HasRange _ = Unit {0}
 
 range_asked : (options : Options) → HasRange (asked options) → IsInRange options
@@ -448,9 +461,9 @@ range_asked (Run file mode) h = tt
 range_asked (Serve file mode port clients) h = h
 range_asked (Check file mode options) h = h
 range_asked (Verify file witness mode leaf) h = h
-range_asked (Words file choices mode fuel) h = h
+range_asked (Words file choices mode fuel ends) h = h
 range_asked (Translate file) h = tt
-range_asked (Picture file mode choices witness words fuel) h = h
+range_asked (Picture file mode choices witness words fuel ends) h = h
 
 abbrev RangeOf : Option Asked → Type 0
 RangeOf None = Unit {0}
@@ -486,22 +499,24 @@ verify_range (Some f) (Some w) None l a = tt
 verify_range (Some f) (Some w) (Some m) None a = tt
 verify_range (Some f) (Some w) (Some m) (Some l) a = at_most 0 most_leaf l a
 
-words_range : (f c m : Option Text) (n : Option ℕ) → Within 1 most_fuel n → RangeOf (found_words f c m n)
-words_range None c m n a = tt
-words_range (Some f) None m n a = tt
-words_range (Some f) (Some c) None n a = tt
-words_range (Some f) (Some c) (Some m) None a = tt
-words_range (Some f) (Some c) (Some m) (Some n) a = a
+words_range : (f c m : Option Text) (n : Option ℕ) (s : Option Bool) → Within 1 most_fuel n → RangeOf (found_words f c m n s)
+words_range None c m n s a = tt
+words_range (Some f) None m n s a = tt
+words_range (Some f) (Some c) None n s a = tt
+words_range (Some f) (Some c) (Some m) None s a = tt
+words_range (Some f) (Some c) (Some m) (Some n) None a = tt
+words_range (Some f) (Some c) (Some m) (Some n) (Some s) a = a
 
 translate_range : (f : Option Text) → RangeOf (option_map translate f)
 translate_range None = tt
 translate_range (Some f) = tt
 
-picture_range : (f m : Option Text) (n : Option ℕ) (c w x : Option Text) → Within 1 most_fuel n → RangeOf (found_picture f m n c w x)
-picture_range None m n c w x a = tt
-picture_range (Some f) None n c w x a = tt
-picture_range (Some f) (Some m) None c w x a = tt
-picture_range (Some f) (Some m) (Some n) c w x a = a
+picture_range : (f m : Option Text) (n : Option ℕ) (s : Option Bool) (c w x : Option Text) → Within 1 most_fuel n → RangeOf (found_picture f m n s c w x)
+picture_range None m n s c w x a = tt
+picture_range (Some f) None n s c w x a = tt
+picture_range (Some f) (Some m) None s c w x a = tt
+picture_range (Some f) (Some m) (Some n) None c w x a = tt
+picture_range (Some f) (Some m) (Some n) (Some s) c w x a = a
 
 found_range : (t : Tool) (text : Item → Option Text) → RangeOf (found t text)
 found_range tracer text = file_range trace (text the_file) (text the_mode) (λ f m. tt)
@@ -511,10 +526,11 @@ found_range server text =
     serve_range (text the_file) (text the_mode) (option_and_then (number_in 1 most_port) (text the_port)) (option_and_then (number_in 1 most_clients) (text the_clients)) (read_within 1 most_port (text the_port)) (read_within 1 most_clients (text the_clients))
 found_range checker text = check_range (text the_file) (text the_mode) (found_options text) (options_range text)
 found_range verifier text = verify_range (text the_file) (text the_witness_file) (text the_mode) (number_if_given 0 most_leaf (text the_leaf)) (given_within 0 most_leaf (text the_leaf))
-found_range teller text = words_range (text the_file) (text the_choices) (text the_mode) (option_and_then (number_in 1 most_fuel) (text the_fuel)) (read_within 1 most_fuel (text the_fuel))
+found_range teller text =
+    words_range (text the_file) (text the_choices) (text the_mode) (option_and_then (number_in 1 most_fuel) (text the_fuel)) (option_and_then flag_in (text the_ends)) (read_within 1 most_fuel (text the_fuel))
 found_range translator text = translate_range (text the_file)
 found_range painter text =
-    picture_range (text the_file) (text the_mode) (option_and_then (number_in 1 most_fuel) (text the_fuel)) (text the_choices) (text the_laid_witness) (text the_words) (read_within 1 most_fuel (text the_fuel))
+    picture_range (text the_file) (text the_mode) (option_and_then (number_in 1 most_fuel) (text the_fuel)) (option_and_then flag_in (text the_ends)) (text the_choices) (text the_laid_witness) (text the_words) (read_within 1 most_fuel (text the_fuel))
 
 range_by : (o : Option Tool) (rows : List Row) → RangeOf (found_by o rows)
 range_by None rows = tt

@@ -13,7 +13,8 @@ use Rattle.mpd_options.specs.declared.options.Options.TheVariants.{Plain, Trace,
 -- what is asked for: a script and its trace on standard input, the trace of a file, a console on one, with a witness or none, answers to
 -- requests on one, of one or of several clients, a look for deadlocks in one, a check of a witness, the trace words of a run, a script in C,
 -- or a picture of a run, by its choices, a witness, or trace words, each given or not; with the words of files, mode and choices, the port,
--- how many clients, how deadlocks are looked for, the number of a leaf, and the fuel
+-- how many clients, how deadlocks are looked for, the number of a leaf, the fuel, and whether choices are those of a report of `--ends` or
+-- `--sample`
 pub data Asked : Type 0 where
   plain : Asked
   trace : List ℕ → List ℕ → Asked
@@ -22,9 +23,9 @@ pub data Asked : Type 0 where
   serve : List ℕ → List ℕ → ℕ → ℕ → Asked
   check : List ℕ → List ℕ → CheckOptions → Asked
   verify : List ℕ → List ℕ → List ℕ → Option ℕ → Asked
-  tell : List ℕ → List ℕ → List ℕ → ℕ → Asked
+  tell : List ℕ → List ℕ → List ℕ → ℕ → Bool → Asked
   translate : List ℕ → Asked
-  paint : List ℕ → List ℕ → Option (List ℕ) → Option (List ℕ) → Option (List ℕ) → ℕ → Asked
+  paint : List ℕ → List ℕ → Option (List ℕ) → Option (List ℕ) → Option (List ℕ) → ℕ → Bool → Asked
 
 -- a word that need not be there
 abbrev pub given_word : Option (Bor (List ℕ)) → Option (List ℕ)
@@ -38,9 +39,9 @@ asked (Run file mode) = run file.now mode.now
 asked (Serve file mode port clients) = serve file.now mode.now port clients
 asked (Check file mode options) = check file.now mode.now options
 asked (Verify file witness mode leaf) = verify file.now witness.now mode.now leaf
-asked (Words file choices mode fuel) = tell file.now choices.now mode.now fuel
+asked (Words file choices mode fuel ends) = tell file.now choices.now mode.now fuel ends
 asked (Translate file) = translate file.now
-asked (Picture file mode choices witness words fuel) = paint file.now mode.now (given_word choices) (given_word witness) (given_word words) fuel
+asked (Picture file mode choices witness words fuel ends) = paint file.now mode.now (given_word choices) (given_word witness) (given_word words) fuel ends
 
 abbrev pub most_port : ℕ
 most_port = 65535
@@ -98,9 +99,9 @@ IsInRange (Run file mode) = ⊤
 IsInRange (Serve file mode port clients) = (1 ≤ port) × (port ≤ most_port) × (1 ≤ clients) × (clients ≤ most_clients)
 IsInRange (Check file mode options) = AreInRange options
 IsInRange (Verify file witness mode leaf) = IfSome leaf (λ n. n ≤ most_leaf)
-IsInRange (Words file choices mode fuel) = (1 ≤ fuel) × (fuel ≤ most_fuel)
+IsInRange (Words file choices mode fuel ends) = (1 ≤ fuel) × (fuel ≤ most_fuel)
 IsInRange (Translate file) = ⊤
-IsInRange (Picture file mode choices witness words fuel) = (1 ≤ fuel) × (fuel ≤ most_fuel)
+IsInRange (Picture file mode choices witness words fuel ends) = (1 ≤ fuel) × (fuel ≤ most_fuel)
 
 -- the commands
 pub data Tool : Type 0 where
@@ -192,9 +193,9 @@ options_of server = the_mode ∷ the_port ∷ the_clients ∷ []
 options_of checker =
     the_mode ∷ the_modes ∷ the_runs ∷ the_fuel ∷ the_split ∷ the_workers ∷ the_ends ∷ the_sample ∷ the_seed ∷ the_explain ∷ the_group ∷ the_until ∷ the_witness ∷ the_complete ∷ the_piece ∷ the_pieces ∷ []
 options_of verifier = the_mode ∷ the_leaf ∷ []
-options_of teller = the_mode ∷ the_choices ∷ the_fuel ∷ []
+options_of teller = the_mode ∷ the_choices ∷ the_fuel ∷ the_ends ∷ []
 options_of translator = []
-options_of painter = the_mode ∷ the_choices ∷ the_laid_witness ∷ the_words ∷ the_fuel ∷ []
+options_of painter = the_mode ∷ the_choices ∷ the_laid_witness ∷ the_words ∷ the_fuel ∷ the_ends ∷ []
 
 -- what the words that are no options name, in this order
 abbrev pub files_of : Tool → List Item
@@ -427,13 +428,13 @@ abbrev pub found_verify : Option (List ℕ) → Option (List ℕ) → Option (Li
 found_verify (Some file) (Some witness) (Some mode) (Some leaf) = Some (verify file witness mode leaf)
 found_verify _ _ _ _ = None
 
-abbrev pub found_words : Option (List ℕ) → Option (List ℕ) → Option (List ℕ) → Option ℕ → Option Asked
-found_words (Some file) (Some choices) (Some mode) (Some fuel) = Some (tell file choices mode fuel)
-found_words _ _ _ _ = None
+abbrev pub found_words : Option (List ℕ) → Option (List ℕ) → Option (List ℕ) → Option ℕ → Option Bool → Option Asked
+found_words (Some file) (Some choices) (Some mode) (Some fuel) (Some ends) = Some (tell file choices mode fuel ends)
+found_words _ _ _ _ _ = None
 
-abbrev pub found_picture : Option (List ℕ) → Option (List ℕ) → Option ℕ → Option (List ℕ) → Option (List ℕ) → Option (List ℕ) → Option Asked
-found_picture (Some file) (Some mode) (Some fuel) choices witness words = Some (paint file mode choices witness words fuel)
-found_picture _ _ _ _ _ _ = None
+abbrev pub found_picture : Option (List ℕ) → Option (List ℕ) → Option ℕ → Option Bool → Option (List ℕ) → Option (List ℕ) → Option (List ℕ) → Option Asked
+found_picture (Some file) (Some mode) (Some fuel) (Some ends) choices witness words = Some (paint file mode choices witness words fuel ends)
+found_picture _ _ _ _ _ _ _ = None
 
 -- what a command asks for, by the text of each of its items: each must have one, but those that need not be there, and each number lies in its range
 abbrev pub found : Tool → (Item → Option (List ℕ)) → Option Asked
@@ -443,9 +444,9 @@ found runner text = found_of_file run (text the_file) (text the_mode)
 found server text = found_serve (text the_file) (text the_mode) (option_and_then (number_in 1 most_port) (text the_port)) (option_and_then (number_in 1 most_clients) (text the_clients))
 found checker text = found_check (text the_file) (text the_mode) (found_options text)
 found verifier text = found_verify (text the_file) (text the_witness_file) (text the_mode) (number_if_given 0 most_leaf (text the_leaf))
-found teller text = found_words (text the_file) (text the_choices) (text the_mode) (option_and_then (number_in 1 most_fuel) (text the_fuel))
+found teller text = found_words (text the_file) (text the_choices) (text the_mode) (option_and_then (number_in 1 most_fuel) (text the_fuel)) (option_and_then flag_in (text the_ends))
 found translator text = option_map translate (text the_file)
-found painter text = found_picture (text the_file) (text the_mode) (option_and_then (number_in 1 most_fuel) (text the_fuel)) (text the_choices) (text the_laid_witness) (text the_words)
+found painter text = found_picture (text the_file) (text the_mode) (option_and_then (number_in 1 most_fuel) (text the_fuel)) (option_and_then flag_in (text the_ends)) (text the_choices) (text the_laid_witness) (text the_words)
 
 abbrev pub or_default : Option (List ℕ) → Option (List ℕ) → Option (List ℕ)
 or_default None value = value

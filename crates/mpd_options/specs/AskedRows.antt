@@ -75,9 +75,13 @@ picks words leaf = (codes "verify" ∷ codes "a" ∷ codes "b" ∷ words, Some (
 abbrev undoes : List (List ℕ) → Row
 undoes words = (codes "verify" ∷ codes "a" ∷ codes "b" ∷ words, None)
 
--- words behind `words`, and the choices, the mode and the fuel that they ask for, of the file `a`
+-- words behind `words`, and the choices, the mode and the fuel that they ask for, of the file `a`, without `--ends`
 abbrev tells : List (List ℕ) → List ℕ → List ℕ → ℕ → Row
-tells words choices mode fuel = (codes "words" ∷ words, Some (tell (codes "a") choices mode fuel))
+tells words choices mode fuel = (codes "words" ∷ words, Some (tell (codes "a") choices mode fuel false))
+
+-- and with it
+abbrev tells_ends : List (List ℕ) → List ℕ → List ℕ → ℕ → Row
+tells_ends words choices mode fuel = (codes "words" ∷ words, Some (tell (codes "a") choices mode fuel true))
 
 -- words behind `words a` that make them ask for nothing
 abbrev loses : List (List ℕ) → Row
@@ -363,9 +367,19 @@ rows =
     ∷ tells (codes "--fuel=1000000" ∷ codes "a" ∷ codes "--choices" ∷ codes "0" ∷ []) (codes "0") (codes "rendezvous") 1000000
     ∷ tells (codes "--fuel" ∷ codes "+020" ∷ codes "--mode" ∷ codes "buffered" ∷ codes "--choices" ∷ codes "5" ∷ codes "--" ∷ codes "a" ∷ []) (codes "5") (codes "buffered") 20
     ∷ tells (codes "--choices" ∷ codes "1" ∷ codes "--mode=" ∷ codes "a" ∷ codes "--" ∷ []) (codes "1") [] 100000
-    ∷ (codes "words" ∷ codes "--choices" ∷ codes "1" ∷ codes "--" ∷ codes "--choices" ∷ [], Some (tell (codes "--choices") (codes "1") (codes "rendezvous") 100000))
-    ∷ (codes "words" ∷ codes "words" ∷ codes "--choices" ∷ codes "words" ∷ [], Some (tell (codes "words") (codes "words") (codes "rendezvous") 100000))
-    ∷ (codes "words" ∷ codes "" ∷ codes "--choices=2" ∷ [], Some (tell [] (codes "2") (codes "rendezvous") 100000))
+    ∷ (codes "words" ∷ codes "--choices" ∷ codes "1" ∷ codes "--" ∷ codes "--choices" ∷ [], Some (tell (codes "--choices") (codes "1") (codes "rendezvous") 100000 false))
+    ∷ (codes "words" ∷ codes "words" ∷ codes "--choices" ∷ codes "words" ∷ [], Some (tell (codes "words") (codes "words") (codes "rendezvous") 100000 false))
+    ∷ (codes "words" ∷ codes "" ∷ codes "--choices=2" ∷ [], Some (tell [] (codes "2") (codes "rendezvous") 100000 false))
+    ∷ tells_ends (codes "a" ∷ codes "--choices" ∷ codes "0 1 0" ∷ codes "--ends" ∷ []) (codes "0 1 0") (codes "rendezvous") 100000
+    ∷ tells_ends (codes "--ends" ∷ codes "a" ∷ codes "--choices=0" ∷ []) (codes "0") (codes "rendezvous") 100000
+    ∷ tells_ends (codes "--choices=" ∷ codes "--ends" ∷ codes "a" ∷ []) [] (codes "rendezvous") 100000
+    ∷ tells_ends (codes "a" ∷ codes "--fuel=7" ∷ codes "--ends" ∷ codes "--choices" ∷ codes "2" ∷ codes "--mode=b" ∷ []) (codes "2") (codes "b") 7
+    ∷ tells_ends (codes "--mode" ∷ codes "buffered" ∷ codes "--ends" ∷ codes "--fuel" ∷ codes "1" ∷ codes "--choices" ∷ codes "5" ∷ codes "--" ∷ codes "a" ∷ []) (codes "5") (codes "buffered") 1
+    ∷ tells_ends (codes "--choices" ∷ codes "ends" ∷ codes "a" ∷ codes "--ends" ∷ codes "--" ∷ []) (codes "ends") (codes "rendezvous") 100000
+    ∷ tells (codes "a" ∷ codes "--choices=--ends" ∷ []) (codes "--ends") (codes "rendezvous") 100000
+    ∷ (codes "words" ∷ codes "--choices" ∷ codes "1" ∷ codes "--" ∷ codes "--ends" ∷ [], Some (tell (codes "--ends") (codes "1") (codes "rendezvous") 100000 false))
+    ∷ (codes "words" ∷ codes "--ends" ∷ codes "--choices" ∷ codes "1" ∷ codes "--" ∷ codes "--ends" ∷ [], Some (tell (codes "--ends") (codes "1") (codes "rendezvous") 100000 true))
+    ∷ (codes "words" ∷ codes "ends" ∷ codes "--choices" ∷ codes "1" ∷ [], Some (tell (codes "ends") (codes "1") (codes "rendezvous") 100000 false))
     ∷ names (codes "words" ∷ []) (codes "words") (codes "rendezvous")
     ∷ nothing (codes "words" ∷ [])
     ∷ nothing (codes "words" ∷ codes "--choices" ∷ codes "0" ∷ [])
@@ -398,6 +412,27 @@ rows =
     ∷ loses (codes "--choices" ∷ codes "0" ∷ codes "--seed" ∷ codes "5" ∷ [])
     ∷ loses (codes "--choices" ∷ codes "0" ∷ codes "--leaf" ∷ codes "1" ∷ [])
     ∷ loses (codes "--choices" ∷ codes "0" ∷ codes "--help" ∷ [])
+    ∷ loses (codes "--ends" ∷ [])
+    ∷ loses (codes "--choices" ∷ codes "--ends" ∷ [])
+    ∷ loses (codes "--choices" ∷ codes "--ends" ∷ codes "0" ∷ [])
+    ∷ loses (codes "--choices" ∷ codes "0" ∷ codes "--ends" ∷ codes "--ends" ∷ [])
+    ∷ loses (codes "--ends" ∷ codes "--choices" ∷ codes "0" ∷ codes "--ends" ∷ [])
+    ∷ loses (codes "--ends" ∷ codes "--choices=0" ∷ codes "--fuel" ∷ codes "5" ∷ codes "--ends" ∷ [])
+    ∷ loses (codes "--choices" ∷ codes "0" ∷ codes "--ends" ∷ codes "--choices" ∷ codes "0" ∷ [])
+    ∷ loses (codes "--choices" ∷ codes "0" ∷ codes "--ends=true" ∷ [])
+    ∷ loses (codes "--choices" ∷ codes "0" ∷ codes "--ends=false" ∷ [])
+    ∷ loses (codes "--choices" ∷ codes "0" ∷ codes "--ends=" ∷ [])
+    ∷ loses (codes "--choices" ∷ codes "0" ∷ codes "--ends" ∷ codes "true" ∷ [])
+    ∷ loses (codes "--choices" ∷ codes "0" ∷ codes "--ends" ∷ codes "--" ∷ codes "b" ∷ [])
+    ∷ loses (codes "--choices" ∷ codes "0" ∷ codes "--" ∷ codes "--ends" ∷ [])
+    ∷ loses (codes "--choices" ∷ codes "0" ∷ codes "--end" ∷ [])
+    ∷ loses (codes "--choices" ∷ codes "0" ∷ codes "--Ends" ∷ [])
+    ∷ loses (codes "--choices" ∷ codes "0" ∷ codes "-e" ∷ [])
+    ∷ loses (codes "--choices" ∷ codes "0" ∷ codes "--ends" ∷ codes "--fuel" ∷ codes "0" ∷ [])
+    ∷ loses (codes "--choices" ∷ codes "0" ∷ codes "--ends" ∷ codes "--sample" ∷ codes "5" ∷ [])
+    ∷ nothing (codes "words" ∷ codes "--ends" ∷ [])
+    ∷ nothing (codes "words" ∷ codes "--ends" ∷ codes "--choices" ∷ codes "0" ∷ [])
+    ∷ nothing (codes "--ends" ∷ codes "words" ∷ codes "a" ∷ codes "--choices" ∷ codes "0" ∷ [])
     ∷ nothing (codes "words" ∷ codes "-h" ∷ [])
     ∷ nothing (codes "help" ∷ codes "words" ∷ [])
     ∷ nothing (codes "word" ∷ codes "a" ∷ codes "--choices" ∷ codes "0" ∷ [])
@@ -409,6 +444,9 @@ rows =
     ∷ nothing (codes "run" ∷ codes "a" ∷ codes "--choices" ∷ codes "0" ∷ [])
     ∷ nothing (codes "check" ∷ codes "a" ∷ codes "--choices" ∷ codes "0" ∷ [])
     ∷ nothing (codes "verify" ∷ codes "a" ∷ codes "b" ∷ codes "--choices=0" ∷ [])
+    ∷ nothing (codes "run" ∷ codes "a" ∷ codes "--ends" ∷ [])
+    ∷ nothing (codes "serve" ∷ codes "a" ∷ codes "--port" ∷ codes "1" ∷ codes "--clients" ∷ codes "1" ∷ codes "--ends" ∷ [])
+    ∷ nothing (codes "verify" ∷ codes "a" ∷ codes "b" ∷ codes "--ends" ∷ [])
     ∷ debugs (codes "a" ∷ []) (codes "a") (codes "rendezvous") None
     ∷ debugs (codes "" ∷ []) [] (codes "rendezvous") None
     ∷ debugs (codes "-" ∷ []) (codes "-") (codes "rendezvous") None
@@ -466,6 +504,7 @@ rows =
     ∷ strays (codes "--leaf" ∷ codes "1" ∷ [])
     ∷ strays (codes "--choices" ∷ codes "0" ∷ [])
     ∷ strays (codes "--complete" ∷ [])
+    ∷ strays (codes "--ends" ∷ [])
     ∷ strays (codes "--explain" ∷ [])
     ∷ strays (codes "--help" ∷ [])
     ∷ nothing (codes "debug" ∷ codes "-h" ∷ [])

@@ -238,7 +238,7 @@ rows =
     ∷ nothing (codes "serve" ∷ codes "a" ∷ codes "--port" ∷ codes "1" ∷ codes "--clients" ∷ codes "1" ∷ codes "--group" ∷ [])
     ∷ nothing (codes "verify" ∷ codes "a" ∷ codes "b" ∷ codes "--sample" ∷ codes "5" ∷ [])
     ∷ nothing (codes "verify" ∷ codes "a" ∷ codes "b" ∷ codes "--explain" ∷ [])
-    ∷ nothing (codes "words" ∷ codes "a" ∷ codes "--choices" ∷ codes "0" ∷ codes "--ends" ∷ [])
+    ∷ nothing (codes "words" ∷ codes "a" ∷ codes "--choices" ∷ codes "0" ∷ codes "--group" ∷ [])
     ∷ nothing (codes "trace" ∷ codes "a" ∷ codes "--seed=5" ∷ [])
     ∷ nothing (codes "--ends" ∷ codes "check" ∷ codes "a" ∷ [])
     ∷ nothing (codes "--sample" ∷ codes "5" ∷ codes "check" ∷ codes "a" ∷ [])

@@ -1,5 +1,5 @@
 -- Worked rows of what the words behind `c` and `picture` ask for, and of their faults.
-use Rattle.std.specs.Prelude.{◌≡◌, ℕ, List, [], ◌∷◌, map, Option, Some, None, codes, refl}
+use Rattle.std.specs.Prelude.{◌≡◌, ℕ, true, false, List, [], ◌∷◌, map, Option, Some, None, codes, refl}
 use Rattle.std.specs.Char.{encode_utf8}
 use Rattle.std.specs.Str.{chars}
 use Rattle.clap.specs.Kinds.{Kinds}
@@ -18,9 +18,13 @@ Row = List (List ℕ) × Option Asked
 abbrev writes : List (List ℕ) → List ℕ → Row
 writes words file = (codes "c" ∷ words, Some (translate file))
 
--- words behind `picture`, and the mode, the choices, the witness, the trace words and the fuel that they ask for, of the file `a`
+-- words behind `picture`, and the mode, the choices, the witness, the trace words and the fuel that they ask for, of the file `a`, without `--ends`
 abbrev draws : List (List ℕ) → List ℕ → Option (List ℕ) → Option (List ℕ) → Option (List ℕ) → ℕ → Row
-draws words mode choices witness trace_words fuel = (codes "picture" ∷ words, Some (paint (codes "a") mode choices witness trace_words fuel))
+draws words mode choices witness trace_words fuel = (codes "picture" ∷ words, Some (paint (codes "a") mode choices witness trace_words fuel false))
+
+-- and with it
+abbrev draws_ends : List (List ℕ) → List ℕ → Option (List ℕ) → Option (List ℕ) → Option (List ℕ) → ℕ → Row
+draws_ends words mode choices witness trace_words fuel = (codes "picture" ∷ words, Some (paint (codes "a") mode choices witness trace_words fuel true))
 
 -- words behind `picture a` that make them ask for nothing
 abbrev smears : List (List ℕ) → Row
@@ -49,6 +53,7 @@ rows =
     ∷ nothing (codes "c" ∷ codes "a" ∷ codes "--fuel" ∷ codes "5" ∷ [])
     ∷ nothing (codes "c" ∷ codes "a" ∷ codes "--witness" ∷ codes "w" ∷ [])
     ∷ nothing (codes "c" ∷ codes "a" ∷ codes "--words=w" ∷ [])
+    ∷ nothing (codes "c" ∷ codes "a" ∷ codes "--ends" ∷ [])
     ∷ nothing (codes "c" ∷ codes "a" ∷ codes "-c" ∷ [])
     ∷ nothing (codes "c" ∷ codes "a" ∷ codes "--help" ∷ [])
     ∷ nothing (codes "c" ∷ codes "-h" ∷ [])
@@ -83,8 +88,18 @@ rows =
     ∷ draws (codes "--choices" ∷ codes "1" ∷ codes "--witness" ∷ codes "2" ∷ codes "--words" ∷ codes "3" ∷ codes "--fuel" ∷ codes "4" ∷ codes "--mode" ∷ codes "5" ∷ codes "--" ∷ codes "a" ∷ []) (codes "5") (Some (codes "1")) (Some (codes "2")) (Some (codes "3")) 4
     ∷ draws (codes "--words=1" ∷ codes "--witness=2" ∷ codes "a" ∷ codes "--choices=3" ∷ []) (codes "rendezvous") (Some (codes "3")) (Some (codes "2")) (Some (codes "1")) 100000
     ∷ draws (codes "a" ∷ codes "--words" ∷ codes "w" ∷ codes "--" ∷ []) (codes "rendezvous") None None (Some (codes "w")) 100000
-    ∷ (codes "picture" ∷ codes "--words" ∷ codes "picture" ∷ codes "picture" ∷ [], Some (paint (codes "picture") (codes "rendezvous") None None (Some (codes "picture")) 100000))
-    ∷ (codes "picture" ∷ codes "--" ∷ codes "--words" ∷ [], Some (paint (codes "--words") (codes "rendezvous") None None None 100000))
+    ∷ (codes "picture" ∷ codes "--words" ∷ codes "picture" ∷ codes "picture" ∷ [], Some (paint (codes "picture") (codes "rendezvous") None None (Some (codes "picture")) 100000 false))
+    ∷ (codes "picture" ∷ codes "--" ∷ codes "--words" ∷ [], Some (paint (codes "--words") (codes "rendezvous") None None None 100000 false))
+    ∷ draws_ends (codes "a" ∷ codes "--choices" ∷ codes "0 1" ∷ codes "--ends" ∷ []) (codes "rendezvous") (Some (codes "0 1")) None None 100000
+    ∷ draws_ends (codes "--ends" ∷ codes "--choices=" ∷ codes "a" ∷ []) (codes "rendezvous") (Some []) None None 100000
+    ∷ draws_ends (codes "a" ∷ codes "--ends" ∷ []) (codes "rendezvous") None None None 100000
+    ∷ draws_ends (codes "a" ∷ codes "--ends" ∷ codes "--fuel" ∷ codes "5" ∷ codes "--mode" ∷ codes "buffered" ∷ []) (codes "buffered") None None None 5
+    ∷ draws_ends (codes "--witness" ∷ codes "w" ∷ codes "--ends" ∷ codes "a" ∷ []) (codes "rendezvous") None (Some (codes "w")) None 100000
+    ∷ draws_ends (codes "a" ∷ codes "--ends" ∷ codes "--words=w" ∷ []) (codes "rendezvous") None None (Some (codes "w")) 100000
+    ∷ draws_ends (codes "--choices" ∷ codes "1" ∷ codes "--witness" ∷ codes "2" ∷ codes "--ends" ∷ codes "--words" ∷ codes "3" ∷ codes "--fuel" ∷ codes "4" ∷ codes "--mode" ∷ codes "5" ∷ codes "--" ∷ codes "a" ∷ []) (codes "5") (Some (codes "1")) (Some (codes "2")) (Some (codes "3")) 4
+    ∷ draws (codes "a" ∷ codes "--choices=--ends" ∷ []) (codes "rendezvous") (Some (codes "--ends")) None None 100000
+    ∷ (codes "picture" ∷ codes "--" ∷ codes "--ends" ∷ [], Some (paint (codes "--ends") (codes "rendezvous") None None None 100000 false))
+    ∷ (codes "picture" ∷ codes "--ends" ∷ codes "--" ∷ codes "--ends" ∷ [], Some (paint (codes "--ends") (codes "rendezvous") None None None 100000 true))
     ∷ smears (codes "b" ∷ [])
     ∷ smears (codes "--" ∷ codes "b" ∷ [])
     ∷ smears (codes "--choices" ∷ [])
@@ -121,6 +136,22 @@ rows =
     ∷ smears (codes "--complete" ∷ [])
     ∷ smears (codes "--explain" ∷ [])
     ∷ smears (codes "-c" ∷ codes "0" ∷ [])
+    ∷ smears (codes "--ends" ∷ codes "--ends" ∷ [])
+    ∷ smears (codes "--ends" ∷ codes "--choices" ∷ codes "0" ∷ codes "--ends" ∷ [])
+    ∷ smears (codes "--ends" ∷ codes "--choices" ∷ codes "0" ∷ codes "--choices" ∷ codes "0" ∷ [])
+    ∷ smears (codes "--ends=true" ∷ [])
+    ∷ smears (codes "--ends=false" ∷ [])
+    ∷ smears (codes "--ends=" ∷ [])
+    ∷ smears (codes "--ends" ∷ codes "true" ∷ [])
+    ∷ smears (codes "--ends" ∷ codes "--" ∷ codes "b" ∷ [])
+    ∷ smears (codes "--" ∷ codes "--ends" ∷ [])
+    ∷ smears (codes "--choices" ∷ codes "--ends" ∷ [])
+    ∷ smears (codes "--words" ∷ codes "--ends" ∷ [])
+    ∷ smears (codes "--end" ∷ [])
+    ∷ smears (codes "--Ends" ∷ [])
+    ∷ smears (codes "-e" ∷ [])
+    ∷ smears (codes "--ends" ∷ codes "--fuel" ∷ codes "0" ∷ [])
+    ∷ smears (codes "--ends" ∷ codes "--sample" ∷ codes "5" ∷ [])
     ∷ smears (codes "--help" ∷ [])
     ∷ nothing (codes "picture" ∷ [])
     ∷ nothing (codes "picture" ∷ codes "--" ∷ [])
@@ -128,6 +159,8 @@ rows =
     ∷ nothing (codes "picture" ∷ codes "--witness" ∷ codes "a" ∷ [])
     ∷ nothing (codes "picture" ∷ codes "--words" ∷ codes "a" ∷ [])
     ∷ nothing (codes "picture" ∷ codes "--fuel=5" ∷ codes "--" ∷ [])
+    ∷ nothing (codes "picture" ∷ codes "--ends" ∷ [])
+    ∷ nothing (codes "picture" ∷ codes "--ends" ∷ codes "--choices" ∷ codes "0" ∷ [])
     ∷ nothing (codes "picture" ∷ codes "-h" ∷ [])
     ∷ nothing (codes "help" ∷ codes "picture" ∷ [])
     ∷ nothing (codes "pictures" ∷ codes "a" ∷ [])
@@ -135,6 +168,7 @@ rows =
     ∷ nothing (codes "Picture" ∷ codes "a" ∷ [])
     ∷ nothing (codes "picture=a" ∷ [])
     ∷ nothing (codes "--words" ∷ codes "w" ∷ codes "picture" ∷ codes "a" ∷ [])
+    ∷ nothing (codes "--ends" ∷ codes "picture" ∷ codes "a" ∷ [])
     ∷ nothing (codes "--" ∷ codes "picture" ∷ codes "a" ∷ [])
     ∷ nothing (codes "trace" ∷ codes "a" ∷ codes "--words" ∷ codes "w" ∷ [])
     ∷ nothing (codes "run" ∷ codes "a" ∷ codes "--words=w" ∷ [])
@@ -183,6 +217,7 @@ fault_rows =
     ∷ wrong kind.UnknownArgument (codes "c" ∷ codes "--mode=b" ∷ codes "a" ∷ [])
     ∷ wrong kind.UnknownArgument (codes "c" ∷ codes "a" ∷ codes "--choices" ∷ codes "0" ∷ [])
     ∷ wrong kind.UnknownArgument (codes "c" ∷ codes "a" ∷ codes "--fuel=5" ∷ [])
+    ∷ wrong kind.UnknownArgument (codes "c" ∷ codes "a" ∷ codes "--ends" ∷ [])
     ∷ wrong kind.UnknownArgument (codes "c" ∷ codes "a" ∷ codes "--version" ∷ [])
     ∷ wrong kind.UnknownArgument (codes "c" ∷ codes "a" ∷ codes "-c" ∷ [])
     ∷ wrong kind.UnknownArgument (codes "c" ∷ codes "a" ∷ codes "--" ∷ codes "--help" ∷ [])
@@ -193,6 +228,8 @@ fault_rows =
     ∷ help_on (codes "help" ∷ codes "picture" ∷ [])
     ∷ help (codes "picture" ∷ codes "a" ∷ codes "--choices" ∷ codes "0" ∷ codes "--words" ∷ codes "w" ∷ codes "--help" ∷ [])
     ∷ help (codes "picture" ∷ codes "--witness=w" ∷ codes "--help" ∷ codes "--fly" ∷ [])
+    ∷ help (codes "picture" ∷ codes "a" ∷ codes "--choices" ∷ codes "0" ∷ codes "--ends" ∷ codes "--help" ∷ [])
+    ∷ help (codes "picture" ∷ codes "--ends" ∷ codes "-h" ∷ [])
     ∷ stray (codes "pictur" ∷ [])
     ∷ stray (codes "Picture" ∷ codes "a" ∷ [])
     ∷ stray (codes "--" ∷ codes "picture" ∷ codes "a" ∷ [])
@@ -210,6 +247,16 @@ fault_rows =
     ∷ wrong kind.UnknownArgument (codes "debug" ∷ codes "a" ∷ codes "--words=w" ∷ [])
     ∷ wrong kind.UnknownArgument (codes "words" ∷ codes "a" ∷ codes "--choices" ∷ codes "0" ∷ codes "--words" ∷ codes "w" ∷ [])
     ∷ wrong kind.UnknownArgument (codes "check" ∷ codes "a" ∷ codes "--words" ∷ codes "w" ∷ [])
+    ∷ wrong kind.UnknownArgument (codes "--ends" ∷ codes "picture" ∷ codes "a" ∷ [])
+    ∷ wrong kind.UnknownArgument (codes "picture" ∷ codes "a" ∷ codes "--end" ∷ [])
+    ∷ wrong kind.UnknownArgument (codes "picture" ∷ codes "a" ∷ codes "-e" ∷ [])
+    ∷ wrong kind.UnknownArgument (codes "picture" ∷ codes "a" ∷ codes "--ends" ∷ codes "b" ∷ [])
+    ∷ wrong kind.MissingRequiredArgument (codes "picture" ∷ codes "--ends" ∷ [])
+    ∷ wrong kind.InvalidValue (codes "picture" ∷ codes "a" ∷ codes "--choices" ∷ codes "--ends" ∷ [])
+    ∷ wrong kind.TooManyValues (codes "picture" ∷ codes "a" ∷ codes "--ends=true" ∷ [])
+    ∷ wrong kind.TooManyValues (codes "picture" ∷ codes "a" ∷ codes "--choices" ∷ codes "0" ∷ codes "--ends=" ∷ [])
+    ∷ wrong kind.ArgumentConflict (codes "picture" ∷ codes "a" ∷ codes "--ends" ∷ codes "--ends" ∷ [])
+    ∷ wrong kind.ArgumentConflict (codes "picture" ∷ codes "--ends" ∷ codes "a" ∷ codes "--choices" ∷ codes "0" ∷ codes "--ends" ∷ [])
     ∷ wrong kind.MissingRequiredArgument (codes "picture" ∷ [])
     ∷ wrong kind.MissingRequiredArgument (codes "picture" ∷ codes "--" ∷ [])
     ∷ wrong kind.MissingRequiredArgument (codes "picture" ∷ codes "--choices" ∷ codes "0" ∷ [])

@@ -153,13 +153,13 @@ abbrev pub verify_app : App
 verify_app = with_rule (with_rule (script_app (codes "verify")) (file_rule (codes "WITNESS"))) leaf_rule
 
 abbrev pub words_app : App
-words_app = with_rule (with_rule (script_app (codes "words")) choices_rule) fuel_rule
+words_app = with_rule (with_rule (with_rule (script_app (codes "words")) choices_rule) fuel_rule) ends_rule
 
 abbrev pub translate_app : App
 translate_app = file_app (codes "c")
 
 abbrev pub picture_app : App
-picture_app = with_rule (with_rule (with_rule (with_rule (script_app (codes "picture")) (word_rule (codes "choices"))) laid_witness_rule) (word_rule (codes "words"))) fuel_rule
+picture_app = with_rule (with_rule (with_rule (with_rule (with_rule (script_app (codes "picture")) (word_rule (codes "choices"))) laid_witness_rule) (word_rule (codes "words"))) fuel_rule) ends_rule
 
 abbrev pub named_app : App
 named_app = let app = new_app (codes "mpdbg") in record app { top = record app.top { has_version = true; no_binary_name = true; subcommand_required = true } }

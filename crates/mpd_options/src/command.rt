@@ -112,6 +112,7 @@ const WORDS_ABOUT: &str = "Write the trace words of the run with these choices";
 
 const WORDS_EXAMPLE: &str =
     "The choices are those of a leaf of `mpdbg check`: the run of `leaf 3 [0 1 0] ..` is that of --choices '0 1 0'.
+Those of a leaf of `mpdbg check --ends` or `mpdbg check --sample` want --ends beside them.
 
 Example:
   ./mpdbg words examples/race.mpd --choices '0' | ./mpdbg trace examples/race.mpd";
@@ -128,7 +129,8 @@ const PICTURE_ABOUT: &str = "Draw a run of the script of a file, as SVG";
 
 const PICTURE_EXAMPLE: &str =
     "One of --choices, --witness and --words says which run is drawn. Without them it is the run of the
-first candidates. --fuel is for a run of choices or of first candidates.
+first candidates. --fuel is for a run of choices or of first candidates. Choices of a leaf of
+`mpdbg check --ends` or `mpdbg check --sample` want --ends beside them.
 
 Example:
   ./mpdbg picture examples/race.mpd --choices '1' > race.svg";
@@ -229,11 +231,10 @@ fn valued_option<'a>(
     word_option(alloc, name, value_name, help).value_parser(parser)
 }
 
-/// An option whose value is a number from `least` to `most`.
+/// An option whose value, `N`, is a number from `least` to `most`.
 fn number_option<'a>(
     alloc: Global,
     name: &'a str,
-    value_name: &'a str,
     least: u64,
     most: u64,
     default: &'a str,
@@ -243,7 +244,7 @@ fn number_option<'a>(
     ensures own { result.global ≡ false }
 {
     let numbers = ValueParser::unsigned(least, most);
-    valued_option(alloc, name, value_name, numbers, help).default_value(default)
+    valued_option(alloc, name, "N", numbers, help).default_value(default)
 }
 
 /// An option that must be there, whose value is a number from 1 to `most`.
@@ -305,7 +306,7 @@ fn fuel_option<'a>(alloc: Global) -> Arg<'a>
     ensures own { result.global ≡ false }
 {
     let help = "How many steps a run takes at most, 1 to 1000000";
-    number_option(alloc, FUEL, "N", 1, MOST_FUEL, "100000", help)
+    number_option(alloc, FUEL, 1, MOST_FUEL, "100000", help)
 }
 
 /// `--split K`.
@@ -324,7 +325,7 @@ fn workers_option<'a>(alloc: Global) -> Arg<'a>
     ensures own { result.global ≡ false }
 {
     let help = "How many workers make the report, 1 to 16";
-    number_option(alloc, WORKERS, "N", 0, MOST_WORKERS, "4", help)
+    number_option(alloc, WORKERS, 0, MOST_WORKERS, "4", help)
 }
 
 /// `--sample N`.
@@ -374,12 +375,22 @@ fn flag<'a>(alloc: Global, name: &'a str, help: &'a str) -> Arg<'a>
         .help(help)
 }
 
-/// `--ends`.
+/// `--ends` of `check`.
 fn ends_flag<'a>(alloc: Global) -> Arg<'a>
     ensures rule { rule_of result ≡ ends_rule }
     ensures own { result.global ≡ false }
 {
-    let help = "List one of runs that differ only in the order of choices that share no call";
+    let help =
+        "List each end once: leave out runs that differ only in the order of steps that don't conflict";
+    flag(alloc, ENDS, help)
+}
+
+/// `--ends` of `words` and `picture`, which says whose choices are given.
+fn chosen_ends_flag<'a>(alloc: Global) -> Arg<'a>
+    ensures rule { rule_of result ≡ ends_rule }
+    ensures own { result.global ≡ false }
+{
+    let help = "The choices are those of a leaf of `check --ends` or `check --sample`";
     flag(alloc, ENDS, help)
 }
 
@@ -415,7 +426,8 @@ fn complete_flag<'a>(alloc: Global) -> Arg<'a>
     ensures rule { rule_of result ≡ complete_rule }
     ensures own { result.global ≡ false }
 {
-    let help = "End with status 4 where nothing was found and not all was tried";
+    let help =
+        "End with status 4 where nothing was found and not all was tried, with --modes in each mode; not beside --piece or --pieces";
     flag(alloc, COMPLETE, help)
 }
 
@@ -615,7 +627,7 @@ fn verify_command<'a>(alloc: Global) -> Made<'a>
     with_help(command, Topic::Verify)
 }
 
-/// `mpdbg words FILE --mode M --choices C --fuel N`.
+/// `mpdbg words FILE --mode M --choices C --fuel N --ends`.
 fn words_command<'a>(alloc: Global) -> Made<'a>
     ensures app { IfOk result (λ c. app_of c ≡ words_app) }
     ensures own { IfOk result (λ c. (fields_of c).has_globals ≡ false) }
@@ -623,6 +635,7 @@ fn words_command<'a>(alloc: Global) -> Made<'a>
 {
     let command = with_arg(script_command(alloc, WORDS), choices_option(alloc));
     let command = with_arg(command, fuel_option(alloc));
+    let command = with_arg(command, chosen_ends_flag(alloc));
     with_help(command, Topic::Words)
 }
 
@@ -635,7 +648,7 @@ fn translate_command<'a>(alloc: Global) -> Made<'a>
     with_help(file_command(alloc, TRANSLATE), Topic::Translate)
 }
 
-/// `mpdbg picture FILE --mode M --choices C --witness WITNESS --words WORDS --fuel N`.
+/// `mpdbg picture FILE --mode M --choices C --witness WITNESS --words WORDS --fuel N --ends`.
 fn picture_command<'a>(alloc: Global) -> Made<'a>
     ensures app { IfOk result (λ c. app_of c ≡ picture_app) }
     ensures own { IfOk result (λ c. (fields_of c).has_globals ≡ false) }
@@ -649,6 +662,7 @@ fn picture_command<'a>(alloc: Global) -> Made<'a>
     let command = with_arg(command, laid_witness_option(alloc, witness));
     let command = with_arg(command, word_option(alloc, WORDS_FILE, "WORDS", words));
     let command = with_arg(command, fuel_option(alloc));
+    let command = with_arg(command, chosen_ends_flag(alloc));
     with_help(command, Topic::Picture)
 }
 

@@ -1,9 +1,11 @@
 //! The command line: its words, what they ask for, and why they ask for nothing that can be done.
 #![tactic(auto)]
 
+pub mod clash;
 pub mod command;
 mod names;
 pub mod options;
 
+pub use clash::{CheckOption, Clash};
 pub use command::Topic;
 pub use options::{CheckOptions, Options, UsageFault, read_options};

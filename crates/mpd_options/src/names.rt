@@ -27,7 +27,7 @@ pub(crate) const SPLIT: &str = "split";
 /// The option of how many workers make the report, without its hyphens.
 pub(crate) const WORKERS: &str = "workers";
 
-/// The flag that asks for the runs that differ in more than the order of choices, without its hyphens.
+/// The flag that asks for each end once, and that says of choices whose they are, without its hyphens.
 pub(crate) const ENDS: &str = "ends";
 
 /// The option of how many runs are drawn at random, without its hyphens.

@@ -39,7 +39,7 @@ pub struct CheckOptions {
     pub split_given: bool,
     /// How many workers make the report.
     pub workers: usize,
-    /// Whether one is listed of runs that differ only in the order of choices that share no call.
+    /// Whether each end is listed once: of runs that differ only in the order of steps that don't conflict, one.
     pub ends: bool,
     /// How many runs are drawn at random, in place of all being tried.
     pub sample: Option<usize>,
@@ -130,6 +130,8 @@ pub enum Options<'a> {
         mode: &'a str,
         /// How many steps the run takes at most.
         fuel: usize,
+        /// Whether the choices are those of a report of `--ends` or `--sample`.
+        ends: bool,
     },
     /// Write the script of a file as a C program.
     Translate {
@@ -150,6 +152,8 @@ pub enum Options<'a> {
         words: Option<&'a str>,
         /// How many steps the run takes at most, where it is told by choices or by nothing.
         fuel: usize,
+        /// Whether the choices are those of a report of `--ends` or `--sample`.
+        ends: bool,
     },
 }
 
@@ -418,11 +422,13 @@ fn words_in<'a>(words: &ArgMatches<'a>) -> Options<'a>
     let choices = word_in(words, CHOICES);
     let mode = word_in(words, MODE);
     let fuel = number_of(words, FUEL);
+    let ends = flag_of(words, ENDS);
     Options::Words {
         file,
         choices,
         mode,
         fuel,
+        ends,
     }
 }
 
@@ -446,6 +452,7 @@ fn picture_in<'a>(picture: &ArgMatches<'a>) -> Options<'a>
     let witness_file = picture.get_str(LAID_WITNESS);
     let words_file = picture.get_str(WORDS_FILE);
     let fuel = number_of(picture, FUEL);
+    let ends = flag_of(picture, ENDS);
     Options::Picture {
         file,
         mode,
@@ -453,6 +460,7 @@ fn picture_in<'a>(picture: &ArgMatches<'a>) -> Options<'a>
         witness: witness_file,
         words: words_file,
         fuel,
+        ends,
     }
 }
 

@@ -3,22 +3,21 @@
 ghost use Rattle.std.specs.Prelude.{◌≡◌, ◌≤◌};
 
 use crate::progress::{OfPiece, Progress};
-use crate::summary::{Limit, say_least, say_part, say_tally};
+use crate::summary::{Limit, Made, say_least, say_part, say_tally};
 use crate::tell::Fault;
 use mpd_check::{
-    CheckFault, Tally, Telling, Tried, check, check_listing, check_mode, check_piece, check_sample,
-    count_pieces, is_crew, put_least,
+    CheckFault, SamplePlan, Tally, Telling, Tried, Wanted, check, check_listing, check_mode,
+    check_piece, check_sample, count_pieces, is_crew, put_least,
 };
-use mpd_code::Code;
+use mpd_code::{Code, Subject};
 use mpd_device::Sink;
 use mpd_explore::Limits;
 use mpd_lines::Verdict;
-use mpd_model::{Mode, STEPS_MAX};
-use mpd_options::CheckOptions;
-use mpd_pool::CheckPlan;
+use mpd_model::{Mode, RUNS_MAX, STEPS_MAX};
+use mpd_options::{CheckOptions, Clash};
+use mpd_pool::{CheckPlan, Crew};
 use std::marker::Sync;
 use std::rt::Clock;
-use std::sync::Wait;
 use std::thread::Threads;
 
 /// What is looked at.
@@ -67,100 +66,80 @@ fn plan_of(options: CheckOptions) -> CheckPlan
 }
 
 /// What is asked of a sample of so many runs.
-fn limits_of(options: CheckOptions, runs: usize) -> Limits
-    ensures { result.fuel ≡ options.fuel }
+fn sample_plan_of(options: CheckOptions, runs: usize) -> SamplePlan
+    ensures { result.limits.fuel ≡ options.fuel }
 {
-    Limits {
-        runs,
-        fuel: options.fuel,
-        witnesses: options.witness,
-        until_bad: options.until_bad,
-        ends: false,
+    SamplePlan {
+        seed: options.seed.unwrap_or(0),
+        limits: Limits {
+            runs,
+            fuel: options.fuel,
+            witnesses: options.witness,
+            until_bad: options.until_bad,
+            ends: false,
+        },
     }
 }
 
-/// Which options leave runs out.
-fn limit_of(options: CheckOptions) -> Limit {
-    match (options.sample.is_some(), options.until_bad) {
+/// Whether a report's runs are those of the wide walk: each end once, or drawn.
+fn is_wide(options: CheckOptions) -> bool {
+    options.ends || options.sample.is_some()
+}
+
+/// How a report is made.
+fn made_by(options: CheckOptions) -> Made {
+    let limit = match (options.sample.is_some(), options.until_bad) {
         (false, false) => Limit::Runs,
         (false, true) => Limit::UntilBad,
         (true, false) => Limit::Sample,
         (true, true) => Limit::UntilBadSample,
+    };
+    Made {
+        limit,
+        is_most: options.sample.unwrap_or(options.runs) == RUNS_MAX,
+        is_wide: is_wide(options),
     }
-}
-
-/// The first option that can't stand beside `--sample`, where there is one.
-fn clash_of(options: CheckOptions) -> Option<&'static str> {
-    if options.ends {
-        return Some("--ends");
-    }
-    if options.runs_given {
-        return Some("--runs");
-    }
-    if options.split_given {
-        return Some("--split");
-    }
-    if options.piece.is_some() {
-        return Some("--piece");
-    }
-    if options.count_pieces {
-        return Some("--pieces");
-    }
-    if options.modes.is_some() {
-        return Some("--modes");
-    }
-    None
 }
 
 /// Refuses options that can't stand together.
 pub(crate) fn fit_together<'a>(options: CheckOptions) -> Result<(), Fault<'a>> {
-    if options.sample.is_none() {
-        return match options.seed {
-            Some(_) => Err(Fault::SeedAlone),
-            None => Ok(()),
-        };
-    }
-    match clash_of(options) {
-        Some(option) => Err(Fault::Clash("--sample", option)),
+    match options.clash() {
         None => Ok(()),
+        Some(Clash::Both(one, other)) => Err(Fault::Clash(one.word(), other.word())),
+        Some(Clash::SeedAlone) => Err(Fault::SeedAlone),
     }
 }
 
 /// Explores all pieces, and has the report written as it is asked for.
-fn check_told<R: Clock + Eprint + Threads + Wait + Sync + AllocGlobal, W: Sink>(
+fn check_told<R: Clock + Eprint + Threads + Sync + AllocGlobal, W: Sink>(
     rt: &R,
-    script: &(Mode, Code),
+    subject: Subject<'_>,
     options: CheckOptions,
     sink: &mut W,
     progress: &Progress<'_, R>,
 ) -> Result<Tally, CheckFault>
     requires { options.fuel ≤ STEPS_MAX }
 {
-    let (mode, code) = script;
-    let plan = plan_of(options);
+    let crew = crew_of(rt, options);
     if !options.explain && !options.group {
-        return check(
-            rt,
-            rt.alloc(),
-            code,
-            *mode,
-            plan,
-            options.workers,
-            sink,
-            progress,
-        );
+        return check(crew, rt.alloc(), subject, plan_of(options), sink, progress);
     }
     check_listing(
-        rt,
+        crew,
         rt.alloc(),
-        code,
-        *mode,
-        plan,
-        options.workers,
-        telling_of(options),
+        subject,
+        wanted_of(options),
         sink,
         progress,
     )
+}
+
+/// Who explores.
+fn crew_of<'r, R>(rt: &'r R, options: CheckOptions) -> Crew<'r, R> {
+    Crew {
+        rt,
+        workers: options.workers,
+    }
 }
 
 /// What a report has beside its leaves.
@@ -171,10 +150,20 @@ fn telling_of(options: CheckOptions) -> Telling {
     }
 }
 
+/// What is wanted of a report.
+fn wanted_of(options: CheckOptions) -> Wanted
+    ensures { result.plan.limits.fuel ≡ options.fuel }
+{
+    Wanted {
+        plan: plan_of(options),
+        telling: telling_of(options),
+    }
+}
+
 /// Draws runs, and tells at a terminal how many there are so far and what came of it.
 fn check_drawn<R: Clock + Eprint + AllocGlobal, W: Sink>(
     rt: &R,
-    script: &(Mode, Code),
+    subject: Subject<'_>,
     options: CheckOptions,
     runs: usize,
     sink: &mut W,
@@ -186,13 +175,10 @@ fn check_drawn<R: Clock + Eprint + AllocGlobal, W: Sink>(
     let mut watch = OfPiece {
         progress: &progress,
     };
-    let (mode, code) = script;
     let drawn = check_sample(
         rt.alloc(),
-        code,
-        *mode,
-        options.seed.unwrap_or(0),
-        limits_of(options, runs),
+        subject,
+        sample_plan_of(options, runs),
         telling_of(options),
         sink,
         &mut watch,
@@ -202,15 +188,15 @@ fn check_drawn<R: Clock + Eprint + AllocGlobal, W: Sink>(
         Err(fault) => return Err(CheckFault::Engine(fault)),
     };
     if is_terminal {
-        let _unwritten = say_tally(rt, script, tally, limit_of(options));
+        let _unwritten = say_tally(rt, subject, tally, made_by(options));
     }
     Ok(tally)
 }
 
 /// Explores all pieces, and tells at a terminal how far that is and what came of it.
-fn check_all<R: Clock + Eprint + Threads + Wait + Sync + AllocGlobal, W: Sink>(
+fn check_all<R: Clock + Eprint + Threads + Sync + AllocGlobal, W: Sink>(
     rt: &R,
-    script: &(Mode, Code),
+    subject: Subject<'_>,
     options: CheckOptions,
     sink: &mut W,
     is_terminal: bool,
@@ -218,9 +204,9 @@ fn check_all<R: Clock + Eprint + Threads + Wait + Sync + AllocGlobal, W: Sink>(
     requires { options.fuel ≤ STEPS_MAX }
 {
     let progress = Progress::new(rt, is_terminal);
-    let tally = check_told(rt, script, options, sink, &progress)?;
+    let tally = check_told(rt, subject, options, sink, &progress)?;
     if is_terminal {
-        let _unwritten = say_tally(rt, script, tally, limit_of(options));
+        let _unwritten = say_tally(rt, subject, tally, made_by(options));
     }
     Ok(tally)
 }
@@ -228,7 +214,7 @@ fn check_all<R: Clock + Eprint + Threads + Wait + Sync + AllocGlobal, W: Sink>(
 /// Explores one piece, and tells at a terminal how far that is, and what of it wasn't tried. That all of it was says nothing of others.
 fn check_one<R: Clock + Eprint + AllocGlobal, W: Sink>(
     rt: &R,
-    script: &(Mode, Code),
+    subject: Subject<'_>,
     options: CheckOptions,
     number: usize,
     sink: &mut W,
@@ -240,29 +226,18 @@ fn check_one<R: Clock + Eprint + AllocGlobal, W: Sink>(
     let mut watch = OfPiece {
         progress: &progress,
     };
-    let (mode, code) = script;
-    let plan = plan_of(options);
-    let tally = check_piece(
-        rt.alloc(),
-        code,
-        *mode,
-        plan,
-        number,
-        telling_of(options),
-        sink,
-        &mut watch,
-    )?;
-    if is_terminal && !tally.tells_all(*mode, code) {
-        let _unwritten = say_part(rt, script, tally, limit_of(options));
+    let wanted = wanted_of(options);
+    let tally = check_piece(rt.alloc(), subject, wanted, number, sink, &mut watch)?;
+    if is_terminal {
+        let _unwritten = say_part(rt, subject, tally, made_by(options));
     }
     Ok(tally)
 }
 
 /// Explores all pieces in one mode more, and writes what came of it.
-fn check_one_mode<R: Clock + Eprint + Threads + Wait + Sync + AllocGlobal, W: Sink>(
+fn check_one_mode<R: Clock + Eprint + Threads + Sync + AllocGlobal, W: Sink>(
     rt: &R,
-    code: &Code,
-    mode: Mode,
+    subject: Subject<'_>,
     options: CheckOptions,
     tried: Tried,
     sink: &mut W,
@@ -272,21 +247,19 @@ fn check_one_mode<R: Clock + Eprint + Threads + Wait + Sync + AllocGlobal, W: Si
 {
     let progress = Progress::new(rt, is_terminal);
     let tally = check_mode(
-        rt,
+        crew_of(rt, options),
         rt.alloc(),
-        code,
-        mode,
+        subject,
         plan_of(options),
-        options.workers,
         sink,
         &progress,
     )?;
-    Ok(tried.and(mode, tally))
+    Ok(tried.and(subject.mode, tally))
 }
 
 /// Explores all pieces in rendezvous, with 1 slot and more up to `most`, and buffered, and tells at a terminal which modes list a deadlock
 /// or a trap.
-fn check_modes<R: Clock + Eprint + Threads + Wait + Sync + AllocGlobal, W: Sink>(
+fn check_modes<R: Clock + Eprint + Threads + Sync + AllocGlobal, W: Sink>(
     rt: &R,
     code: &Code,
     most: usize,
@@ -296,21 +269,18 @@ fn check_modes<R: Clock + Eprint + Threads + Wait + Sync + AllocGlobal, W: Sink>
 ) -> Result<Tried, CheckFault>
     requires { options.fuel ≤ STEPS_MAX }
 {
-    let mut tried = Tried::none();
-    tried = check_one_mode(
-        rt,
+    let mut subject = Subject {
         code,
-        Mode::Rendezvous,
-        options,
-        tried,
-        sink,
-        is_terminal,
-    )?;
+        mode: Mode::Rendezvous,
+    };
+    let mut tried = Tried::none();
+    tried = check_one_mode(rt, subject, options, tried, sink, is_terminal)?;
     for before in 0..most {
-        let mode = Mode::Slots(before + 1);
-        tried = check_one_mode(rt, code, mode, options, tried, sink, is_terminal)?;
+        subject.mode = Mode::Slots(before + 1);
+        tried = check_one_mode(rt, subject, options, tried, sink, is_terminal)?;
     }
-    tried = check_one_mode(rt, code, Mode::Buffered, options, tried, sink, is_terminal)?;
+    subject.mode = Mode::Buffered;
+    tried = check_one_mode(rt, subject, options, tried, sink, is_terminal)?;
     put_least(rt.alloc(), tried.least, sink)?;
     if is_terminal {
         let _unwritten = say_least(rt, tried);
@@ -329,9 +299,9 @@ fn fault_of<'a>(fault: CheckFault) -> Fault<'a> {
 }
 
 /// Looks for deadlocks and traps in a script.
-fn verdict_of<R: Clock + Eprint + Threads + Wait + Sync + AllocGlobal, W: Sink>(
+fn verdict_of<R: Clock + Eprint + Threads + Sync + AllocGlobal, W: Sink>(
     rt: &R,
-    script: &(Mode, Code),
+    subject: Subject<'_>,
     options: CheckOptions,
     sink: &mut W,
     is_terminal: bool,
@@ -343,34 +313,31 @@ fn verdict_of<R: Clock + Eprint + Threads + Wait + Sync + AllocGlobal, W: Sink>(
     }
     let tally = match part_of(options) {
         Part::Modes(most) => {
-            let (_, code) = script;
-            let tried = check_modes(rt, code, most, options, sink, is_terminal)?;
-            return Ok(tried.verdict());
+            let tried = check_modes(rt, subject.code, most, options, sink, is_terminal)?;
+            return Ok(tried.verdict(options.complete));
         }
-        Part::Sample(runs) => check_drawn(rt, script, options, runs, sink, is_terminal)?,
-        Part::Whole => check_all(rt, script, options, sink, is_terminal)?,
-        Part::Piece(number) => check_one(rt, script, options, number, sink, is_terminal)?,
+        Part::Sample(runs) => check_drawn(rt, subject, options, runs, sink, is_terminal)?,
+        Part::Whole => check_all(rt, subject, options, sink, is_terminal)?,
+        Part::Piece(number) => check_one(rt, subject, options, number, sink, is_terminal)?,
         Part::Count => {
-            let (mode, code) = script;
-            count_pieces(rt.alloc(), code, *mode, plan_of(options), sink)?;
+            count_pieces(rt.alloc(), subject, plan_of(options), sink)?;
             return Ok(Verdict::Good);
         }
     };
-    let (mode, code) = script;
-    Ok(tally.verdict(options.complete, *mode, code))
+    Ok(tally.verdict(options.complete, subject, is_wide(options)))
 }
 
 /// Looks for deadlocks and traps in a script. The number of workers is tested first.
-pub(crate) fn check_script<'a, R: Clock + Eprint + Threads + Wait + Sync + AllocGlobal, W: Sink>(
+pub(crate) fn check_script<'a, R: Clock + Eprint + Threads + Sync + AllocGlobal, W: Sink>(
     rt: &R,
-    script: &(Mode, Code),
+    subject: Subject<'_>,
     options: CheckOptions,
     sink: &mut W,
     is_terminal: bool,
 ) -> Result<Verdict, Fault<'a>>
     requires { options.fuel ≤ STEPS_MAX }
 {
-    match verdict_of(rt, script, options, sink, is_terminal) {
+    match verdict_of(rt, subject, options, sink, is_terminal) {
         Ok(verdict) => Ok(verdict),
         Err(fault) => Err(fault_of(fault)),
     }

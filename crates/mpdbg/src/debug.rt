@@ -1,35 +1,24 @@
 //! `mpdbg debug`: a console for a person, or for a file of words (docs/CONSOLE.md).
 
+use crate::outside::Outside;
 use crate::tell::Fault;
-use mpd_code::Code;
-use mpd_console::{OpenFault, Opened, UntilQuit, open, open_with, run_console};
+use mpd_code::Subject;
+use mpd_console::{OpenFault, Opened, Screen, UntilQuit, open, open_with, run_console};
 use mpd_device::{Sink, Source};
 use mpd_explore::Witness;
 use mpd_lines::{EngineFault, write_all};
-use mpd_model::Mode;
 use std::alloc::Global;
-
-/// Where a person sits.
-#[derive(Clone, Copy)]
-pub(crate) struct Terminals {
-    /// Whether standard input and output are a terminal: there prompts are written.
-    pub(crate) is_prompting: bool,
-    /// Whether standard error is one.
-    pub(crate) is_terminal: bool,
-}
 
 /// A console at the start of a script, with the steps of a witness ahead where there is one.
 fn console_of<'c, 't, 'a>(
     alloc: Global,
-    script: &'c (Mode, Code),
-    text: &'t [u8],
+    subject: Subject<'c>,
+    screen: Screen<'t>,
     witness: Option<Witness>,
-    is_prompting: bool,
 ) -> Result<Opened<'c, 't>, Fault<'a>> {
-    let (mode, code) = script;
     let opened = match witness {
-        None => open(alloc, code, *mode, text, is_prompting),
-        Some(witness) => open_with(alloc, code, *mode, text, is_prompting, witness),
+        None => open(alloc, subject, screen),
+        Some(witness) => open_with(alloc, subject, screen, witness),
     };
     match opened {
         Ok(opened) => Ok(opened),
@@ -73,15 +62,22 @@ fn talk<'a, S: Source, W: Sink>(
 /// Answers the words of a source on a script, up to `quit` or its end. At a terminal it says first how to go on.
 pub(crate) fn debug_script<'a, R: Eprint + AllocGlobal, S: Source, W: Sink>(
     rt: &R,
-    script: &(Mode, Code),
+    subject: Subject<'_>,
     text: &[u8],
     witness: Option<Witness>,
-    terminals: Terminals,
-    source: &mut S,
-    sink: &mut W,
+    outside: Outside<'_, S, W>,
 ) -> Result<(), Fault<'a>> {
+    let Outside {
+        source,
+        sink,
+        terminals,
+    } = outside;
     let is_prompting = terminals.is_prompting;
-    let mut opened = console_of(rt.alloc(), script, text, witness, is_prompting)?;
+    let screen = Screen {
+        script: text,
+        is_prompting,
+    };
+    let mut opened = console_of(rt.alloc(), subject, screen, witness)?;
     if terminals.is_terminal {
         let _unwritten = eprintln!(rt;
             "help lists the words, an empty line repeats the last, quit ends; docs/CONSOLE.md"

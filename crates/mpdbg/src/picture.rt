@@ -3,24 +3,35 @@
 ghost use Rattle.std.specs.Prelude.{◌≤◌};
 
 use crate::tell::Fault;
-use mpd_code::Code;
+use mpd_code::Subject;
 use mpd_device::Sink;
 use mpd_explore::{Witness, WitnessFault, verify};
 use mpd_lines::{EngineFault, write_all};
-use mpd_model::{Mode, STEPS_MAX, Step, StepList};
+use mpd_model::{STEPS_MAX, Step, StepList};
 use mpd_picture::{DrawFault, draw};
-use mpd_route::{ReadFault, StepsFault, lead_first, steps_of, take_steps};
+use mpd_runs::{
+    ChoicesFault, ReadFault, StepsFault, WordsFault, choices_of, lead_first, steps_by_choices,
+    steps_of, take_steps,
+};
 use mpd_trail::Debugger;
-use mpd_words::{ChoicesFault, WordsFault, choices_of, steps_by_choices};
+use mpd_walk::{Plain, Wide};
 use std::alloc::Global;
+
+/// The choices of a run, as a word of the command line names them.
+#[derive(Clone, Copy)]
+pub(crate) struct NamedChoices<'a> {
+    pub(crate) word: &'a str,
+    /// Whether their numbers are among the candidates of the wide walk.
+    pub(crate) ends: bool,
+}
 
 /// Which run is drawn.
 #[derive(Drop)]
 pub(crate) enum Asked<'a> {
-    /// That of the first candidates.
-    First,
+    /// That of the first candidates: of the wide walk, or of the decisions.
+    First { ends: bool },
     /// That of the choices of a word.
-    Choices(&'a str),
+    Choices(NamedChoices<'a>),
     /// That of a witness, which is checked first.
     Witness(Witness),
     /// That of a text of trace words.
@@ -28,9 +39,8 @@ pub(crate) enum Asked<'a> {
 }
 
 /// A debugger at the start of a script.
-fn started<'c, 'a>(alloc: Global, script: &'c (Mode, Code)) -> Result<Debugger<'c>, Fault<'a>> {
-    let (mode, code) = script;
-    match Debugger::start(alloc, code, *mode) {
+fn started<'c, 'a>(alloc: Global, subject: Subject<'c>) -> Result<Debugger<'c>, Fault<'a>> {
+    match Debugger::start(alloc, subject.code, subject.mode) {
         Ok(debugger) => Ok(debugger),
         Err(_) => Err(Fault::from(EngineFault::Memory)),
     }
@@ -39,22 +49,26 @@ fn started<'c, 'a>(alloc: Global, script: &'c (Mode, Code)) -> Result<Debugger<'
 /// The steps of the run with the choices of a word.
 fn steps_of_choices<'a>(
     alloc: Global,
-    script: &(Mode, Code),
-    word: &'a str,
+    subject: Subject<'_>,
+    named: NamedChoices<'a>,
     fuel: usize,
 ) -> Result<StepList, Fault<'a>>
     requires { fuel ≤ STEPS_MAX }
 {
+    let NamedChoices { word, ends } = named;
     let choices = match choices_of(alloc, word.as_bytes()) {
         Ok(choices) => choices,
         Err(ChoicesFault::NotANumber) => return Err(Fault::NotChoices(word)),
         Err(ChoicesFault::Memory) => return Err(Fault::from(EngineFault::Memory)),
     };
-    let (mode, code) = script;
-    let Ok(mut debugger) = Debugger::start(alloc, code, *mode) else {
+    let Ok(mut debugger) = Debugger::start(alloc, subject.code, subject.mode) else {
         return Err(Fault::from(EngineFault::Memory));
     };
-    let found = steps_by_choices(alloc, &mut debugger, &choices.items, fuel);
+    let found = if ends {
+        steps_by_choices(alloc, &Wide, &mut debugger, &choices.items, fuel)
+    } else {
+        steps_by_choices(alloc, &Plain, &mut debugger, &choices.items, fuel)
+    };
     drop(debugger);
     match found {
         Ok(steps) => Ok(steps),
@@ -63,12 +77,12 @@ fn steps_of_choices<'a>(
     }
 }
 
-/// Takes steps. Where one isn't enabled, its number from 1 is that of its line.
+/// Takes steps. Where one isn't enabled, its number from 1 is that of its line. Of words alone there can be too many.
 fn take_all<'a>(debugger: &mut Debugger<'_>, steps: &[Step]) -> Result<(), Fault<'a>> {
     match take_steps(debugger, steps) {
         Ok(()) => Ok(()),
         Err(StepsFault::NotEnabled(place)) => Err(Fault::Words(place.saturating_add(1))),
-        Err(StepsFault::Full) => Err(Fault::LongWitness),
+        Err(StepsFault::Full) => Err(Fault::ManyWords),
         Err(StepsFault::Memory) => Err(Fault::from(EngineFault::Memory)),
     }
 }
@@ -76,15 +90,14 @@ fn take_all<'a>(debugger: &mut Debugger<'_>, steps: &[Step]) -> Result<(), Fault
 /// Takes the steps of a witness, which is checked first.
 fn take_witness<'a>(
     alloc: Global,
-    script: &(Mode, Code),
+    subject: Subject<'_>,
     debugger: &mut Debugger<'_>,
     witness: &Witness,
 ) -> Result<(), Fault<'a>> {
     if witness.steps.items.len() > STEPS_MAX {
         return Err(Fault::LongWitness);
     }
-    let (mode, code) = script;
-    match verify(alloc, code, *mode, witness) {
+    match verify(alloc, subject.code, subject.mode, witness) {
         Ok(()) => take_all(debugger, &witness.steps.items),
         Err(WitnessFault::Memory) => Err(Fault::from(EngineFault::Memory)),
         Err(fault) => Err(Fault::Witness(fault)),
@@ -104,10 +117,28 @@ fn take_words<'a>(
     }
 }
 
+/// Takes the steps of the run of the first candidates.
+fn lead_on<'a>(
+    alloc: Global,
+    debugger: &mut Debugger<'_>,
+    fuel: usize,
+    ends: bool,
+) -> Result<(), Fault<'a>> {
+    let led = if ends {
+        lead_first(alloc, &Wide, debugger, fuel)
+    } else {
+        lead_first(alloc, &Plain, debugger, fuel)
+    };
+    match led {
+        Ok(()) => Ok(()),
+        Err(_) => Err(Fault::from(EngineFault::Memory)),
+    }
+}
+
 /// Takes the steps of the run that is asked for.
 fn lead<'a>(
     alloc: Global,
-    script: &(Mode, Code),
+    subject: Subject<'_>,
     debugger: &mut Debugger<'_>,
     asked: Asked<'a>,
     fuel: usize,
@@ -115,15 +146,12 @@ fn lead<'a>(
     requires { fuel ≤ STEPS_MAX }
 {
     match asked {
-        Asked::First => match lead_first(alloc, debugger, fuel) {
-            Ok(()) => Ok(()),
-            Err(_) => Err(Fault::from(EngineFault::Memory)),
-        },
-        Asked::Choices(word) => {
-            let steps = steps_of_choices(alloc, script, word, fuel)?;
+        Asked::First { ends } => lead_on(alloc, debugger, fuel, ends),
+        Asked::Choices(named) => {
+            let steps = steps_of_choices(alloc, subject, named, fuel)?;
             take_all(debugger, &steps.items)
         }
-        Asked::Witness(witness) => take_witness(alloc, script, debugger, &witness),
+        Asked::Witness(witness) => take_witness(alloc, subject, debugger, &witness),
         Asked::Words(text) => take_words(alloc, debugger, &text),
     }
 }
@@ -148,7 +176,7 @@ fn write_drawing<'a, W: Sink>(
 /// Takes the steps of the run that is asked for, and writes its drawing.
 fn draw_from<'a, W: Sink>(
     alloc: Global,
-    script: &(Mode, Code),
+    subject: Subject<'_>,
     debugger: &mut Debugger<'_>,
     asked: Asked<'a>,
     fuel: usize,
@@ -156,22 +184,22 @@ fn draw_from<'a, W: Sink>(
 ) -> Result<(), Fault<'a>>
     requires { fuel ≤ STEPS_MAX }
 {
-    lead(alloc, script, debugger, asked, fuel)?;
+    lead(alloc, subject, debugger, asked, fuel)?;
     write_drawing(alloc, debugger, sink)
 }
 
 /// Draws the run that is asked for, and writes it.
 pub(crate) fn draw_run<'a, W: Sink>(
     alloc: Global,
-    script: &(Mode, Code),
+    subject: Subject<'_>,
     asked: Asked<'a>,
     fuel: usize,
     sink: &mut W,
 ) -> Result<(), Fault<'a>>
     requires { fuel ≤ STEPS_MAX }
 {
-    let mut debugger = started(alloc, script)?;
-    let drawn = draw_from(alloc, script, &mut debugger, asked, fuel, sink);
+    let mut debugger = started(alloc, subject)?;
+    let drawn = draw_from(alloc, subject, &mut debugger, asked, fuel, sink);
     drop(debugger);
     drawn
 }

@@ -1,7 +1,7 @@
 //! What a report tells of all runs, in one line for a person (docs/FORMATS.md, "Reports").
 
-use mpd_check::{Tally, Tried, is_limited};
-use mpd_code::Code;
+use mpd_check::{Tally, Tried};
+use mpd_code::Subject;
 use mpd_model::Mode;
 use std::io;
 
@@ -16,6 +16,32 @@ pub(crate) enum Limit {
     Sample,
     /// The same, and that the drawing ends with the first deadlock or trap.
     UntilBadSample,
+}
+
+/// How a report was made, as far as what is said of it depends on that.
+#[derive(Clone, Copy)]
+pub(crate) struct Made {
+    /// What leaves runs out.
+    pub(crate) limit: Limit,
+    /// Whether as many runs were asked for as can be.
+    pub(crate) is_most: bool,
+    /// Whether its runs are those of the wide walk.
+    pub(crate) is_wide: bool,
+}
+
+impl Made {
+    /// The options that list more runs.
+    fn options(self, is_bad: bool) -> &'static str {
+        match (self.limit, self.is_most, self.is_wide) {
+            (Limit::UntilBad | Limit::UntilBadSample, _, _) if is_bad => "--until",
+            (Limit::Sample | Limit::UntilBadSample, false, _) => "--sample",
+            (Limit::Sample | Limit::UntilBadSample, true, _) => "--ends",
+            (Limit::Runs | Limit::UntilBad, false, false) => "--ends, --runs",
+            (Limit::Runs | Limit::UntilBad, true, false) => "--ends",
+            (Limit::Runs | Limit::UntilBad, false, true) => "--runs, --sample",
+            (Limit::Runs | Limit::UntilBad, true, true) => "--sample",
+        }
+    }
 }
 
 /// Says how many of something there are, and what it is.
@@ -44,16 +70,11 @@ fn say_whole<R: Eprint>(rt: &R, tally: Tally) -> io::Result<()> {
 }
 
 /// Says that there are more runs than are listed, and how these are listed too.
-fn say_more<R: Eprint>(rt: &R, tally: Tally, limit: Limit) -> io::Result<()> {
+fn say_more<R: Eprint>(rt: &R, tally: Tally, made: Made) -> io::Result<()> {
     let runs = tally.runs;
     let are = if runs == 1 { "run was" } else { "runs were" };
-    let option = match limit {
-        Limit::UntilBad if tally.is_bad() => "--until",
-        Limit::UntilBad | Limit::Runs => "--runs",
-        Limit::UntilBadSample if tally.is_bad() => "--until",
-        Limit::UntilBadSample | Limit::Sample => "--sample",
-    };
-    eprint!(rt; "{runs} {are} listed, and there are more ({option})")
+    let options = made.options(tally.is_bad());
+    eprint!(rt; "{runs} {are} listed, and there are more ({options})")
 }
 
 /// Says how many runs were cut.
@@ -69,8 +90,8 @@ fn say_cut<R: Eprint>(rt: &R, tally: Tally) -> io::Result<()> {
     eprint!(rt; "{cut} {are} cut (--fuel)")
 }
 
-/// Says what a report leaves open where what is tried depends on the order of steps, even where it is whole: what a waitany takes, and
-/// which sends are buffered where buffers run out.
+/// Says what a report that isn't of the wide walk leaves open, where what is tried depends on the order of steps, even where it is whole:
+/// what a waitany takes, and which sends are buffered where buffers run out.
 fn say_order<R: Eprint>(
     rt: &R,
     has_waitany: bool,
@@ -79,7 +100,7 @@ fn say_order<R: Eprint>(
 ) -> io::Result<()> {
     if has_waitany {
         let comma = if tally.is_whole() { "" } else { ", " };
-        eprint!(rt; "{comma}what a waitany takes may depend on the order of steps")?;
+        eprint!(rt; "{comma}what a waitany takes may depend on the order of steps (--ends)")?;
     }
     if is_limited {
         let comma = if tally.is_whole() && !has_waitany {
@@ -87,42 +108,66 @@ fn say_order<R: Eprint>(
         } else {
             ", "
         };
-        eprint!(rt; "{comma}which sends are buffered may depend on the order of steps")?;
+        eprint!(rt; "{comma}which sends are buffered may depend on the order of steps (--ends)")?;
     }
     Ok(())
 }
 
 /// Says what wasn't tried.
-pub(crate) fn say_part<R: Eprint>(
+fn say_untried<R: Eprint>(
     rt: &R,
-    script: &(Mode, Code),
+    subject: Subject<'_>,
     tally: Tally,
-    limit: Limit,
+    made: Made,
 ) -> io::Result<()> {
-    let (mode, code) = script;
     eprint!(rt; "not everything was tried: ")?;
     if tally.more {
-        say_more(rt, tally, limit)?;
+        say_more(rt, tally, made)?;
     }
     say_cut(rt, tally)?;
-    say_order(rt, !code.has_no_waitany(), is_limited(*mode), tally)?;
+    if !made.is_wide {
+        let has_waitany = !subject.code.has_no_waitany();
+        say_order(rt, has_waitany, subject.mode.is_limited(), tally)?;
+    }
     eprintln!(rt; "")
+}
+
+/// Says how other commands take the choices of a report of the wide walk, where these may be others than those of the decisions.
+fn say_choices<R: Eprint>(rt: &R, subject: Subject<'_>, made: Made) -> io::Result<()> {
+    let may_differ = !subject.code.has_no_waitany() || subject.mode.is_limited();
+    if made.is_wide && may_differ {
+        eprintln!(rt; "words and picture take the choices of these leaves with --ends")?;
+    }
+    Ok(())
+}
+
+/// Says of one piece what wasn't tried; that all of it was says nothing of others.
+pub(crate) fn say_part<R: Eprint>(
+    rt: &R,
+    subject: Subject<'_>,
+    tally: Tally,
+    made: Made,
+) -> io::Result<()> {
+    if !tally.tells_all(subject, made.is_wide) {
+        say_untried(rt, subject, tally, made)?;
+    }
+    say_choices(rt, subject, made)
 }
 
 /// Says in one line what a report tells of all runs: that every way is listed in which the script can end, or what wasn't tried.
 /// Where a listing ends with the first deadlock or trap, that is why there are more.
 pub(crate) fn say_tally<R: Eprint>(
     rt: &R,
-    script: &(Mode, Code),
+    subject: Subject<'_>,
     tally: Tally,
-    limit: Limit,
+    made: Made,
 ) -> io::Result<()> {
-    let (mode, code) = script;
-    if tally.tells_all(*mode, code) {
-        say_whole(rt, tally)
+    if tally.tells_all(subject, made.is_wide) {
+        say_whole(rt, tally)?;
     } else {
-        say_part(rt, script, tally, limit)
+        say_untried(rt, subject, tally, made)?;
     }
+    say_choices(rt, subject, made)
 }
 
 /// Says of the modes that were tried which ones list a deadlock or a trap, as far as the first that lists none.

@@ -5,8 +5,9 @@ use mpd_lines::EngineFault;
 use mpd_model::{FaultCode, ReadFault, SLOTS_MAX};
 use mpd_options::UsageFault;
 use mpd_pool::PoolFault;
+use mpd_server::ServeFault;
 use mpd_trace::{PlainFault, allowed, excerpt};
-use mpd_witness::ReportFault;
+use mpd_witness::{ReportFault, WITNESS_MAX};
 use std::io;
 use std::io::{Error, ErrorKind};
 
@@ -47,6 +48,10 @@ pub(crate) enum Fault<'a> {
     BadChoices(usize),
     /// This line of the file of `--words` is no step, or one that isn't enabled.
     Words(usize),
+    /// That file has more than 33,554,432 bytes.
+    LongWords,
+    /// It has more than 1,000,000 steps.
+    ManyWords,
     /// The run shows too much to be drawn.
     LongPicture,
     /// A script, standard input or output, or memory.
@@ -72,6 +77,21 @@ impl<'a> From<PlainFault> for Fault<'a> {
 impl<'a> From<EngineFault> for Fault<'a> {
     fn from(fault: EngineFault) -> Fault<'a> {
         Fault::Plain(PlainFault::Engine(fault))
+    }
+}
+
+impl<'a> From<ServeFault> for Fault<'a> {
+    fn from(fault: ServeFault) -> Fault<'a> {
+        match fault {
+            ServeFault::Memory => Fault::from(EngineFault::Memory),
+            ServeFault::WriteFailed => Fault::from(EngineFault::WriteFailed),
+            ServeFault::NoPort(error) => Fault::Listener(error),
+            ServeFault::NotAccepted(error) => match error.kind() {
+                ErrorKind::OutOfMemory => Fault::from(EngineFault::Memory),
+                _ => Fault::Listener(error),
+            },
+            ServeFault::Settle(fault) => Fault::Settle(fault.number()),
+        }
     }
 }
 
@@ -306,6 +326,14 @@ pub(crate) fn tell<R: Print + Eprint + AllocGlobal>(
         }
         Fault::Words(line) => {
             let _unwritten = eprintln!(rt; "mpdbg: words refused at line {line}");
+            WRONG
+        }
+        Fault::LongWords => {
+            let _unwritten = eprintln!(rt; "mpdbg: words of more than {WITNESS_MAX} bytes");
+            WRONG
+        }
+        Fault::ManyWords => {
+            let _unwritten = eprintln!(rt; "mpdbg: words of more than 1000000 steps");
             WRONG
         }
         Fault::LongPicture => {

@@ -6,7 +6,8 @@ returns-clause-app c =
     let laid = c.with_arg-command-2.ensures.app _ _ chosen c.laid_witness_option.ensures.rule c.laid_witness_option.ensures.own in
     let worded = c.with_arg-command-3.ensures.app _ _ laid c.word_option-2.ensures.rule c.word_option-2.ensures.own in
     let fuel = c.with_arg-command-4.ensures.app _ _ worded c.fuel_option.ensures.rule c.fuel_option.ensures.own in
-    c.with_help.ensures.app _ fuel
+    let ends = c.with_arg-command-5.ensures.app _ _ fuel c.chosen_ends_flag.ensures.rule c.chosen_ends_flag.ensures.own in
+    c.with_help.ensures.app _ ends
 
 pub returns-clause-own : goal.returns-clause-own
 returns-clause-own c =
@@ -14,7 +15,8 @@ returns-clause-own c =
     let laid = c.with_arg-command-2.ensures.own chosen c.laid_witness_option.ensures.own in
     let worded = c.with_arg-command-3.ensures.own laid c.word_option-2.ensures.own in
     let fuel = c.with_arg-command-4.ensures.own worded c.fuel_option.ensures.own in
-    c.with_help.ensures.own fuel
+    let ends = c.with_arg-command-5.ensures.own fuel c.chosen_ends_flag.ensures.own in
+    c.with_help.ensures.own ends
 
 pub returns-clause-example : goal.returns-clause-example
 returns-clause-example c = c.with_help.ensures.example

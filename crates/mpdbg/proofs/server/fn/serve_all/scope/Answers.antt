@@ -1,5 +1,0 @@
-use denote.Param.Send.{sendable}
-use Rattle.mpdbg.proofs.server.fn.serve_all.scope.Goals as goal
-
-pub start_all-requires-clause-seats : goal.start_all-requires-clause-seats
-start_all-requires-clause-seats g c κs within = search (sendable) depth 20

@@ -1,6 +1,0 @@
-use denote.Param.Send.{sendable}
-use Rattle.mpd_shared.proofs.Crossing.{shared_sync}
-use Rattle.mpdbg.proofs.server.serve_seats.Goals as goal
-
-pub serve_all-requires-sync-T : goal.serve_all-requires-sync-T
-serve_all-requires-sync-T g c κs within = search (shared_sync, sendable) depth 20
