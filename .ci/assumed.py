@@ -19,7 +19,7 @@ OF_TESTS = re.compile(r'(?m)^#\[cfg\(test\)\]\n(?:pub(?:\([^)]*\))? )?mod (\w+);
 DROPS = '+Destruct'
 
 # The types of these take no bytes, and the prover writes itself what drops them: with a proof there a check has to be made again.
-COUNTERS = 'mpd_device++steps++'
+COUNTERS = 'mpd_counter++counter++'
 
 # A line that is a comment.
 COMMENT = re.compile(r'(?m)^ *//.*\n')

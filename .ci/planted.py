@@ -2,13 +2,13 @@
 """Shows that the comparison with the model refuses wrong bodies that no contract can.
 
     .ci/planted.py [--builds N] [--jobs N] [PROGRAM]    at the top of the repository
-    .ci/planted.py --read                               only whether each body can be made
+    .ci/planted.py --read                               only whether each body can be made, those of other runs too
 
 A body that answers want of memory where there is no want of it may still be proved. Each file of compare/broken/ is such a body:
 an edit as those of must-fail/, with its crate and an input that meets it:
 
     crate: mpd_core
-    fn: Core::apply, file:, old:, new:    as in must-fail/ (.ci/edits.py); the function is for whoever reads
+    fn: Core::apply, file:, old:, new:    as in must-fail/ (.ci/edits.py); the function is the one that what it changes stands in
     in: TEXT                              a line of the input; `in N: TEXT` is N such lines, `wide N: TEXT` one line of N such texts
     words: check FILE --runs 1            the words of the command line, where there are any: FILE stands for a file that has the input
     witness: TEXT                         a line of the file that WITNESS stands for in `words: verify FILE WITNESS`
@@ -20,8 +20,14 @@ copies. Its input must be answered wrongly in each copy that has it, and rightly
 are so many copies that no two bodies are in the same ones: then it is this body that the input shows, and no other. With
 `--builds 2`, as in .ci/run, this is shown of the bodies in the other half. Status 1 where that isn't so; the last line is
 `N refused, M not`.
+
+Other runs of compare/ plant wrong bodies, too (`served/broken/`, `probe/broken*/`), and make copies with other changes (`probe/*.edit`);
+not all of them are stages of the gate. With `--read` each file below compare/ that ends in `.edit` is read: its old texts must stand in
+the sources, once, and of a wrong body in the function that it names, and the scenario that is to find it must be there. So a body that
+a change of the sources has left behind fails the gate's first stages, whichever run plants it.
 """
 import argparse
+import glob
 import itertools
 import math
 import os
@@ -37,17 +43,48 @@ sys.path[:0] = [HERE, f'{os.path.dirname(HERE)}/compare']
 sys.dont_write_bytecode = True
 
 from cases.explore_cases import Case
-from edit_files import BadEdit, Edit, merged, touches
+from copies import head_around
+from edit_files import BadEdit, Edit, merged, text_of, touches
 from model import explorer, session, witness
 from model.debugger import RENDEZVOUS, answer
 from model.files import held
+from runs.serving import BY_NAME as SCENARIOS
 
 FOLDER = 'compare/broken'
 # What the words of a command line have in place of paths.
 FILE, WITNESS = 'FILE', 'WITNESS'
 
 
-class Planted(Edit):
+class InCrate(Edit):
+    """A change of the sources of a crate that it names."""
+
+    def reads(self, key, value):
+        if key == 'crate':
+            self.folder = f'crates/{value.strip()}'
+        return key == 'crate'
+
+
+class Body(InCrate):
+    """A wrong body: what it changes stands in the function that it names."""
+
+    def regions(self):
+        found, name = super().regions(), self.function.rpartition('::')[2]
+        heads = [head_around(text_of(f'{self.folder}/{file}'), begin, end) for file, (begin, end, _) in found.items()]
+        if name not in [head and head[3] for head in heads]:
+            raise BadEdit(f'what it changes stands in {" and ".join(head[3] if head else "no one function" for head in heads)}, and not in {name}')
+        return found
+
+
+class OfOthers(Body):
+    """A wrong body that another run plants, and the scenario that is to find it, where it names one."""
+
+    def reads(self, key, value):
+        if key == 'scenario' and value.strip() not in SCENARIOS:
+            raise BadEdit(f'no scenario: {value.strip()}')
+        return key in ('scenario', 'row', 'said') or super().reads(key, value)
+
+
+class Planted(Body):
     """A wrong body, and the input that meets it."""
 
     def __init__(self, path):
@@ -64,9 +101,7 @@ class Planted(Edit):
     def reads(self, key, value):
         word, _, count = key.partition(' ')
         times = int(count) if count.isdigit() else 1
-        if key == 'crate':
-            self.folder = f'crates/{value.strip()}'
-        elif word == 'in':
+        if word == 'in':
             self.lines += [value] * times
         elif word == 'wide':
             self.lines.append(value * times)
@@ -77,7 +112,7 @@ class Planted(Edit):
         elif key == 'script':
             self.script_lines.append(value)
         else:
-            return False
+            return super().reads(key, value)
         return True
 
     def answer_of_model(self):
@@ -179,6 +214,21 @@ def read_bodies():
     return bodies, failed
 
 
+def unmade():
+    """How many changes there are that other runs make, and why some can't be made."""
+    paths = sorted(it for it in glob.glob('compare/**/*.edit', recursive=True) if os.path.dirname(it) != FOLDER)
+    said = []
+    for path in paths:
+        # (what stands in probe/ itself makes a copy for a run, and is no wrong body)
+        change = (InCrate if os.path.dirname(path) == 'compare/probe' else OfOthers)('', path)
+        try:
+            change.read()
+            change.regions()
+        except BadEdit as error:
+            said.append(f'{path}: BAD EDIT: {error}')
+    return len(paths), said
+
+
 def main():
     given = argparse.ArgumentParser(description=__doc__, formatter_class=argparse.RawDescriptionHelpFormatter)
     given.add_argument('program', nargs='?', metavar='PROGRAM')
@@ -188,8 +238,10 @@ def main():
     given = given.parse_args()
     bodies, failed = read_bodies()
     if given.read:
-        print(f'{len(bodies)} wrong bodies can be made, {failed} not')
-        return 1 if failed or not bodies else 0
+        others, said = unmade()
+        failed += len(said)
+        print(*said, f'{len(bodies) + others - len(said)} wrong bodies and other changes can be made, {failed} not', sep='\n')
+        return 1 if failed or not bodies or not others else 0
     if given.program:
         for body in bodies:
             if differs(os.path.abspath(given.program), body):

@@ -4,6 +4,8 @@ Those of what is remembered of a run are in .ci/test_record.py, and run with the
 
     .ci/test_harness.py    at the top of the repository
 """
+import contextlib
+import io
 import os
 import re
 import sys
@@ -14,9 +16,11 @@ sys.dont_write_bytecode = True
 sys.path.insert(0, os.path.dirname(os.path.abspath(__file__)))
 
 import assumed
+import cited
 import copies
 import edit_files
 import growing
+import planted
 import read_lines
 import processes
 import record
@@ -195,7 +199,7 @@ class Bodies(WithFolder):
         self.write('src/list.rt', SOURCE)
         self.write('src/lib.rt', '#[cfg(test)]\nmod rows;\nmod list;\n')
         self.write('src/rows.rt', 'fn of_tests() {\n    1\n}\n')
-        return assumed.grants(self.folder, ['small::mpd_device++steps++A+Destruct::drop', 'small::List+Destruct::drop'])
+        return assumed.grants(self.folder, ['small::mpd_counter++counter++A+Destruct::drop', 'small::List+Destruct::drop'])
 
     def test_what_is_granted(self):
         found = {it.folder for it in self.granted()}
@@ -473,6 +477,59 @@ class Edits(WithFolder):
             self.assertEqual(edit_files.touches(regions, {file: (begin, end, 'y')}), wanted)
 
 
+class Planted(WithFolder):
+    """Which wrong bodies of compare/ can be made, whichever run plants them."""
+
+    def setUp(self):
+        super().setUp()
+        self.addCleanup(os.chdir, os.getcwd())
+        os.chdir(self.folder)
+        self.write('crates/low/src/list.rt', SOURCE)
+
+    def body(self, path, function, old, *more):
+        self.write(path, '\n'.join(('crate: low', f'fn: {function}', 'file: src/list.rt', f'old: {old}', 'new: 7', *more)) + '\n')
+
+    def said(self, *of):
+        """What is said where another run has this body alone."""
+        self.body('compare/served/broken/body.edit', *of)
+        count, said = planted.unmade()
+        self.assertEqual(count, 1)
+        return said
+
+    def test_what_can_be_made(self):
+        self.assertEqual(self.said('List::len', 'self.items.len()', 'scenario: a dialogue'), [])
+        self.assertEqual(self.said('list::left', 'right(count - 1);', 'row: one', 'said: memory'), [])
+
+    def test_a_text_that_is_gone(self):
+        [said] = self.said('List::len', 'self.items.count()', 'scenario: a dialogue')
+        self.assertIn('compare/served/broken/body.edit: BAD EDIT: an old text stands in src/list.rt 0 times', said)
+
+    def test_a_text_that_has_come_to_another_function(self):
+        [said] = self.said('List::first', 'self.items.len()')
+        self.assertIn('what it changes stands in len, and not in first', said)
+        [said] = self.said('List::len', 'items: Vec<u64>,')
+        self.assertIn('what it changes stands in no one function, and not in len', said)
+
+    def test_a_scenario_that_is_gone(self):
+        self.assertEqual(len(self.said('List::len', 'self.items.len()', 'scenario: a monologue')), 1)
+
+    def test_what_makes_a_copy_for_a_run(self):
+        self.body('compare/probe/copy.edit', 'answer', 'items: Vec<u64>,')
+        self.assertEqual(planted.unmade(), (1, []))
+        self.body('compare/probe/copy.edit', 'answer', 'items: Vec<u8>,')
+        self.assertEqual(len(planted.unmade()[1]), 1)
+
+    def test_those_that_the_gate_plants(self):
+        self.body('compare/broken/first.edit', 'List::first', 'self.items[0]', 'in: mpd 1;')
+        self.body('compare/broken/gone.edit', 'List::first', 'self.items[1]', 'in: mpd 1;')
+        self.body('compare/broken/other.edit', 'List::len', 'self.items[0]', 'in: mpd 1;')
+        with contextlib.redirect_stdout(io.StringIO()) as told:
+            bodies, failed = planted.read_bodies()
+        self.assertEqual(([it.name for it in bodies], failed), (['first'], 2))
+        self.assertEqual(re.findall(r'(\w+)\.edit: BAD EDIT', told.getvalue()), ['gone', 'other'])
+        self.assertEqual(planted.unmade(), (0, []))
+
+
 class Growing(WithFolder):
     """What the page on growing names."""
 
@@ -501,6 +558,89 @@ class Growing(WithFolder):
 
     def test_what_is_no_file(self):
         self.assertEqual(self.gone('`lib`, `Lines`, `a / b`, and gone.rt'), [])
+
+
+class Cited(WithFolder):
+    """Functions and clauses that pages name."""
+
+    def setUp(self):
+        super().setUp()
+        self.write('crates/low/src/list.rt', SOURCE + """
+/// A law.
+pub fn law_of_more()
+    ensures { more }
+{}
+
+pub trait Desk {
+    ghost says: { Self → Type 0 };
+}
+""")
+        self.write('crates/high/src/main.rt', 'pub fn left()\n    ensures ok { true }\n    ensures err { true }\n{\n}\n')
+        self.write('crates/low/specs/steps/Told.antt', """-- A record, and one that has it.
+pub record Room (old new : ℕ) : Type 0 where
+  pub taken : old ≤ new + 1
+
+pub record Told {D : Type 0} (old new : ℕ) : Type 0 where
+  -- of the room
+  pub room : Room old new
+  pub more : old ≤ new
+
+abbrev pub ToldTwice : ℕ → ℕ → Type 0
+ToldTwice old new =
+    Told old new
+
+pub record Other (old : ℕ) : Type 0 where
+  pub less : old ≤ 9
+""")
+        self.write('crates/high/src/told.rt', """ghost use Rattle.low.specs.steps.Told.{Told};
+ghost use Rattle.low.specs.steps.Told.{Room, ToldTwice};
+
+pub fn tell(n: u64) -> u64
+    ensures told { Told n result }
+    ensures { Other n }
+{
+    n
+}
+
+pub fn tell_twice(n: u64) -> u64
+    ensures { ToldTwice n result }
+{
+    n
+}
+""")
+        self.found = cited.clauses(self.folder)
+
+    def of(self, line):
+        return list(cited.faults(line, self.found))
+
+    def test_what_is_there(self):
+        for line in ('`List::len` (`exact`, `few`)', '`List::len` (`few`, which is `Few`; `exact`), `high::left` (`ok`)', '`List::{len, first}`; `Desk` (`says`)',
+                     '| few | `left` (`ok`, `err`) |', '`left` of `high` (`ok`)', '`law_of_more` (its only one)', '`low::right`; `left` (only the first)'):
+            self.assertEqual(self.of(line), [], line)
+
+    def test_what_is_not(self):
+        for line, name in (('`List::len` (`exact`, `many`)', 'List::len'), ('`List::{len, first}` (`few`)', 'List::first'), ('`List::len`, and over both `right` (`few`)', 'right'),
+                           ('`List::len` and `left` (`exact`)', 'left'), ('`left` of `low` (`ok`)', 'left'), ('`gone` (`few`)', 'gone'), ('`Desk` (`hears`)', 'Desk')):
+            self.assertEqual([it.partition(' has not all of ')[0] for it in self.of(line)], [name], line)
+        self.assertEqual(self.of('`List::last`, `low::last` and `List::{len, last}`'), ['no function List::last', 'no function low::last', 'no function List::last'])
+        for line in ('`List::len` (its only one)', '`right` (its only one)', '`gone` (its only one)'):
+            self.assertEqual(len(self.of(line)), 1, line)
+
+    def test_a_clause_is_of_the_function_that_it_stands_in(self):
+        self.assertEqual(self.found['law'], [[('', [])]])
+        self.assertEqual(self.found['List::first'], [[]])
+
+    def test_fields_of_a_record_that_is_a_clause(self):
+        for line in ('`tell` (`told`, `room`, `taken`, `more`)', '`tell_twice` (its only one)', '`high::tell_twice` (`taken`, `more`)'):
+            self.assertEqual(self.of(line), [], line)
+        for line in ('`tell` (`less`)', '`tell` (`taken`, `less`)', '`tell_twice` (`told`)', '`tell` (its only one)', '`List::len` (`more`)'):
+            self.assertEqual(len(self.of(line)), 1, line)
+        self.assertEqual(list(cited.faults_in_row('| a row, `tell` | `taken`, `less` | `Told` | 12 |', self.found)), ['none has less'])
+
+    def test_the_table_of_theorems(self):
+        for row, said in (('| a row, `List::len`, `left` | `few`, `ok`; `exact` of `mpd_low` | `Some` | 1,226 |', []), ('| a row, `List::len` | `few`, `ok` | `Some` | 12 |', ['none has ok']),
+                          ('| a row, `List::last` of `mpd_low` | its only one | `Some` | 12 |', ['no function List::last']), ('| Theorem `a` | Clauses | Files | Lines |', [])):
+            self.assertEqual(list(cited.faults_in_row(row, self.found)), said, row)
 
 
 class ReadLines(WithFolder):

@@ -14,15 +14,17 @@ from cases import explained_cases, session_cases
 from cases.explore_cases import Beside
 from cases.session_cases import is_short
 from cases.walks import random_step, respaced, step_line
-from model import debugger, explorer, policy
+from model import debugger, explorer, policy, walks, wide
 from model.console import NO_FILE, Console, debug, is_blank, way
 from model.console_words import ALL, STEPS, TABLE, Asked, NotAsked, full_name, names_of
 from model.debugger import RENDEZVOUS, Debugger, enabled_steps, last_call, lines_of, next_world, step_text
-from model.explorer import CUT, leaf_lines, walk
+from model.explorer import leaf_lines
 from model.files import held
 from model.language import Fault, read_script
 from model.modes import MODES, by_turns
 from model.policy import Choice, Forced
+from model.walks import CUT, Run, walk
+from model.wide import ASLEEP, wide_ways
 from model.worlds import Step
 
 # What takes the model more steps or runs than these isn't asked for.
@@ -77,12 +79,14 @@ ALL_HABITS = (MOVING, MOVING, MOVING, STOPPING, STOPPING, HITTING, HITTING, HITT
 
 def is_tried_soon(walked, is_last):
     """Whether the runs from here, up to the first that is the last one by how many stand before it and by itself, end within few steps, and
-    are few."""
-    for count, leaf in enumerate(walk(walked.world, MOST_FUEL)):
-        if leaf.outcome == CUT or count > MOST_RUNS:
+    are few, with the dead ways between them."""
+    count = 0
+    for number, found in enumerate(wide_ways(walked.world, MOST_FUEL)):
+        if found.outcome == CUT or number > MOST_RUNS:
             return False
-        if is_last(count, leaf):
+        if found.outcome != ASLEEP and is_last(count, found):
             return True
+        count += found.outcome != ASLEEP
     return True
 
 
@@ -502,7 +506,16 @@ class Talk:
         self.note_single(asked)
         self.met['why of several ranks'] += asked == Asked('why') and sum(rank.mode == 'blocked' for rank in self.world.ranks) > 1
         self.met['a run laid ahead in the place of others'] += asked.word in ('follow', *SOUGHT) and bool(self.console.ahead)
+        self.note_walks(asked)
 
+    def note_walks(self, asked):
+        """Counts where the runs from here have other choices than those along decisions, and where a run isn't what lies ahead."""
+        if asked.word in ('check', 'follow', *SOUGHT):
+            found = [follow(Run(self.world, MOST_FUEL))[1] for follow in (wide.followed, walks.followed)]
+            self.met['runs by other candidates than along decisions'] += found[0] != found[1]
+        decided = self.console.decided
+        is_left = asked.word == 'run' and asked.given != (0,) and bool(self.console.ahead) and isinstance(decided, Forced)
+        self.met['a run that leaves the steps ahead'] += is_left and decided.step != self.console.ahead[0]
 
     def singles(self):
         """The depths up to this one where there is a single candidate."""

@@ -23,7 +23,6 @@ TOLD_BY = {
     'several values on the way': r'rank \d+ prints -?\d+( -?\d+)+', 'no statement at a line': r'no statement begins at line \d+',
     'a depth': r'depth \d+', 'a deadlock ahead': r'deadlock .* is \d+ steps? ahead', 'a trap ahead': r'trap .* is \d+ steps? ahead',
     **{f'no {way}': rf'no {way} from here: .*' for way in ('deadlock', 'trap')},
-    **{f'no {way} found': rf'no {way} found from here: .*' for way in ('deadlock', 'trap')},
     **{f'a run that is {way} ahead': rf'run \d+, {way}.*, is \d+ steps? ahead' for way in ('done', 'leftovers', 'deadlock', 'trap')},
     'more runs': r'\d+ runs?, and there are more \(.*\)', 'no more runs': r'\d+ runs?, and no more \(.*\)', 'one run': r'1 run, .*',
     **{f'runs that are {way}': rf'.*runs?, and .*[(,] ?\d+ {way}\b.*' for way in ('done', 'leftovers', 'deadlock', 'trap')},
@@ -75,8 +74,8 @@ OF_ERRORS = {'a witness that is refused': rb'mpdbg: witness refused .*', 'a witn
 HITS = ('a breakpoint hit by next', 'a breakpoint hit by next and a number', 'a breakpoint hit by next at a choice',
         'a breakpoint hit by run at a choice', 'a breakpoint hit by redo', 'a breakpoint hit by a step by hand', 'several hit by one step',
         'a breakpoint that goto goes past')
-# Why the runs that were looked at needn't be all ways to end, and where they are all.
-OF_LOOKS = 'none found beside a wait for any', 'none found in slots', 'none in version 2', 'none with buffers'
+# Where there is none among all ways to end. (That more might be found, where runs are cut or too many, rows alone show.)
+OF_LOOKS = 'none beside a wait for any', 'none in slots', 'none in version 2', 'none with buffers'
 OF_DIALOGUES = ('slots', 'buffered', 'rendezvous', 'no mode', 'version 2', 'a witness', 'a last line without an end', 'words behind the end',
                 'a script with carriage returns', 'a script whose last line does not end', 'an empty line that does the last word again',
                 'an empty line behind next and a number', 'an empty line at a choice, behind next and a number',
@@ -87,7 +86,8 @@ OF_DIALOGUES = ('slots', 'buffered', 'rendezvous', 'no mode', 'version 2', 'a wi
                 'a choice undone, and forced steps', 'a choice undone, and steps that were undone', 'so many steps by next', 'why of several ranks',
                 'a run laid ahead in the place of others', 'a single candidate by next', 'a single candidate by next and a number',
                 'a single candidate by run', 'a single candidate, and steps ahead', 'a single candidate that undo-choice goes past',
-                'a breakpoint of a request', *HITS, *OF_LOOKS,
+                'a breakpoint of a request', 'runs by other candidates than along decisions', 'a run that leaves the steps ahead',
+                *HITS, *OF_LOOKS,
                 *(f'the name {name}' for row in TABLE for name in names_of(row) if 'quit' not in row.words))
 # What may stand between the line of a step and the breakpoint that it hits.
 ON_THE_WAY = r'(( {8}|rank \d+ (prints|has lost) ).*\n)*'
@@ -117,13 +117,11 @@ MUST_MEET = (*TOLD_BY, *OF_EXPLANATIONS, *OF_ERRORS, *OF_DIALOGUES, *OF_LINES)
 
 
 def looks_met(case, lines):
-    """Why looks that found nothing may not have seen all, and where they have."""
-    is_found, is_none = (any(re.match(rf'no (deadlock|trap){word} from here: ', line) for line in lines) for word in (' found', ''))
-    is_in_slots, has_any = (case.mode or '').startswith('slots'), b'waitany' in case.script
-    yield from ['none found beside a wait for any'] * (is_found and has_any and not is_in_slots)
-    yield from ['none found in slots'] * (is_found and is_in_slots and not has_any)
-    yield from ['none in version 2'] * (is_none and case.script.startswith(b'mpd 2'))
-    yield from ['none with buffers'] * (is_none and case.mode == BUFFERED)
+    """Of what kind the dialogue is, where no run ends as was sought."""
+    if any(re.match(r'no (deadlock|trap) from here: ', line) for line in lines):
+        is_in_slots, has_any = (case.mode or '').startswith('slots'), b'waitany' in case.script
+        yield from ['none beside a wait for any'] * (has_any and not is_in_slots) + ['none in slots'] * (is_in_slots and not has_any)
+        yield from ['none in version 2'] * case.script.startswith(b'mpd 2') + ['none with buffers'] * (case.mode == BUFFERED)
 
 
 def met_in(case, wanted):

@@ -1,7 +1,7 @@
 """Checks that list the ends of a script, each once, and checks whose leaves are grouped by how they end (ends.py).
 
 They are of the scripts of explore_cases.py, and of races that share nothing; in all modes, by pieces, and of both versions. A script has few
-leaves, so that the model can follow all of its runs, those behind what is asleep too.
+leaves, so that the model can follow all of its runs, those behind what is asleep too, along decisions and along the wide walk.
 """
 
 from random import Random
@@ -45,16 +45,16 @@ def kinds(number):
 
 
 def with_short_runs(script, options):
-    """The options with so little fuel that there are few leaves, asleep or not."""
+    """The options with so little fuel that there are few leaves, asleep or not, along decisions and along the wide walk."""
     options = options._replace(fuel=filled(options).fuel)
-    while not has_few_leaves(script, options):
+    while not has_few_leaves(script, options._replace(ends=True)):
         options = options._replace(fuel=max(1, options.fuel // 2))
     return options
 
 
 def with_few_ends(random, script, options):
     """The options with as many runs of each piece as one of the pieces has ends, or nearly, now and then."""
-    if options.runs is None or random.random() < 0.6:
+    if not options.ends or options.runs is None or random.random() < 0.6:
         return options
     found = cut(script, options)
     most = max(1, MOST_LEAVES // len(found))
@@ -64,25 +64,27 @@ def with_few_ends(random, script, options):
 def first_case(seed, number):
     """A check of a script that lists ends or groups, the same each time; and its script, None where it is refused before it is explored."""
     random = Random(f'ends/{seed}/{number}')
-    of_kinds = kinds(number)
+    of_kinds, draw = kinds(number), random.random()
     name = kind_of(random, of_kinds)
     text = script_of(random, of_kinds[name])
-    options = asked(random, of_kinds[name], text, number)._replace(split=random.choice(SPLITS), workers=workers(random))
+    options = asked(random, of_kinds[name], text, number)._replace(split=random.choice(SPLITS), workers=workers(random), ends=draw < 0.9, group=draw > 0.7)
     case = Case(f'{name}-{seed}-{number}', text, options)
     script = read_script_of(case)
     if script is not None:
         options = made_small(random, script, with_short_runs(script, options), MOST_LEAVES)
         options = with_few_ends(random, script, options)
-    draw = random.random()
-    return case._replace(asked=options._replace(ends=draw < 0.9, group=draw > 0.7)), script
+    return case._replace(asked=options), script
 
 
 def beside(seed, number, case, script):
-    """The same script once more: grouped or not, with its leaves or its ends, one of its pieces, up to its first deadlock, or in several modes."""
+    """The same script once more: grouped or not, with all its ends, with its leaves or its ends, one of its pieces, up to its first deadlock, or in
+    several modes."""
     random = Random(f'ends-beside/{seed}/{number}')
     options, draw = case.asked, random.random()
-    if draw < 0.25:
+    if draw < 0.15:
         other = options._replace(group=not options.group)
+    elif draw < 0.25:
+        other = options._replace(ends=True, complete=True, runs=None)
     elif draw < 0.35:
         other = options._replace(ends=not options.ends)
     elif draw < 0.65:

@@ -1,7 +1,8 @@
 """All ends that a small script has, whatever steps are taken in whatever order, beside those that a report of a program lists.
 
 It knows nothing of a walk that lets sleep what was tried: worlds are tried breadth first, step by step, where two that differ in the order of
-their match sets alone count as one. compare/runs/ends.py uses it.
+their match sets alone count as one. Scripts are of both versions and in all kinds of modes; without a wait for any, and in no mode of slots, no
+end may come twice. compare/runs/ends.py uses it.
 """
 
 from random import Random
@@ -9,30 +10,34 @@ from typing import NamedTuple, Optional
 
 from cases.ends_cases import RACES
 from cases.explore_cases import kind_of, script_of
-from cases.small_cases import SMALL
+from cases.small_cases import SMALL, SMALL_OF_2, SMALL_OF_SLOTS
 from model import debugger
 from model.complete import end_of, key
 from model.debugger import first_world, next_world, outcome
-from model.explorer import MOST_FUEL, Asked, Run
+from model.explorer import MOST_FUEL, Asked, tells_all
 from model.language import Fault, read_script
 from model.modes import MODES
 from model.report_lines import NoReport, must_be, read_report
 from model.run_words import BadChoices, run_by
+from model.walks import Run
 
 # A script is small where it has so many worlds at most, none behind more steps than so many.
 MOST_WORLDS, MOST_STEPS = 1000, 70
 # As many runs of each piece as there may be.
 ALL = 65536
-KINDS = SMALL | RACES
+# Kinds of scripts, and their modes, in turn.
+IN_TURN = ((SMALL | RACES, MODES), (SMALL_OF_2, (*MODES, 'slots:1')), (SMALL | SMALL_OF_SLOTS, ('slots:1', 'slots:2')))
 
 
 class Small(NamedTuple):
-    """A script in a mode: its text, its first world, and its ends: each world, told by what tells worlds apart, with its outcome."""
+    """A script in a mode: its text, its first world, its ends, each a world that is told by what tells worlds apart, with its outcome, and
+    whether each of these must come once."""
     name: str
     text: bytes
     mode: str
     start: object
     ends: dict
+    is_once: bool
 
     def asked(self):
         """How a program is asked for all of them: by some number of choices, the same each time."""
@@ -59,17 +64,18 @@ def ends_of(start):
     return None
 
 
-def small(seed, number, mode) -> Optional[Small]:
+def small(seed, number, kinds, mode) -> Optional[Small]:
     """The script of a number in a mode; None where it isn't small, or is none."""
     random = Random(f'every-end/{seed}/{number}')
-    name = kind_of(random, KINDS)
-    text = script_of(random, KINDS[name])
+    name = kind_of(random, kinds)
+    text = script_of(random, kinds[name])
     try:
-        start = first_world(read_script(text), mode)
+        script = read_script(text)
     except Fault:
         return None
+    start = first_world(script, mode)
     ends = ends_of(start)
-    return None if ends is None else Small(f'{name}-{seed}-{number}-{mode}', text, mode, start, ends)
+    return None if ends is None else Small(f'{name}-{seed}-{number}-{mode}', text, mode, start, ends, tells_all(script, mode, is_wide=False))
 
 
 def told_of(script, result):
@@ -89,12 +95,12 @@ def ends_wrong(script, told, status):
     reached = {}
     for leaf in told.leaves:
         try:
-            run = run_by(Run(script.start, MOST_FUEL), leaf.choices)
+            run = run_by(Run(script.start, MOST_FUEL), leaf.choices, ends=True)
         except BadChoices as bad:
             return f'{leaf.choices} is no run, by its choice {bad.place}'
         must_be(run.outcome == leaf.outcome, f'{leaf.choices} ends {run.outcome}, and not {leaf.outcome}')
         place = key(end_of(script.start, run.steps))
-        must_be(place not in reached, f'{leaf.choices} ends as {reached.get(place)} does')
+        must_be(place not in reached or not script.is_once, f'{leaf.choices} ends as {reached.get(place)} does')
         reached[place] = leaf.choices
     missing = script.ends.keys() - reached.keys()
     must_be(not missing, f'no leaf ends {script.ends[next(iter(missing), None)] if missing else ""}')
@@ -106,6 +112,7 @@ def ends_wrong(script, told, status):
 
 
 def smalls(seed, number):
-    """A script in both modes, as far as it is small."""
-    found = [small(seed, number, mode) for mode in MODES]
+    """A script in some modes, as far as it is small."""
+    kinds, modes = IN_TURN[number % len(IN_TURN)]
+    found = [small(seed, number, kinds, mode) for mode in modes]
     return [one for one in found if one is not None]

@@ -146,8 +146,8 @@ def missing(random, message, ranks, *parts):
     return message._replace(**{part: other[part] for part in parts})
 
 
-def missed(random, ranks):
-    """What each rank does where one call waits, and many others nearly fit it."""
+def missed(random, ranks, version):
+    """What each rank does where one call waits, and many others nearly fit it; or a wait for any of several requests."""
     message, parts, is_send = any_message(random, ranks), [[] for _ in range(ranks)], random.random() < 0.5
     for number in range(random.randint(2, 6)):
         near = missing(random, message, ranks, *random.choice([('tag',), ('sender',), ('receiver',), ('tag', 'sender')]))
@@ -160,7 +160,8 @@ def missed(random, ranks):
     word, handle = random.choice([('', ''), ('i', 'r[0] ')])
     rank, source, tag = message.sender if is_send else message.receiver, *(part if random.random() < 0.85 else 'any' for part in message[::2])
     call = f'ssend {handle}7 to {message.receiver} tag {message.tag};' if is_send else f'recv {handle}x from {source} tag {tag};'
-    parts[rank] = [*([] if handle else random.choice([parts[rank], []])), f'{word}{call}', *parts[rank] * bool(handle), *(['wait r[0];'] * bool(handle))]
+    waits = [random.choice(['wait r[0];', 'waitany r to i;'][:version])] if handle else []
+    parts[rank] = [*([] if handle else random.choice([parts[rank], []])), f'{word}{call}', *parts[rank] * bool(handle), *waits]
     return parts
 
 
@@ -193,7 +194,7 @@ def nearly_script(random, version):
         ranks = random.randint(2, 5)
         parts = around(random, ranks)
     else:
-        parts = missed(random, ranks) if draw < 0.35 else nearly(random, ranks, version)
+        parts = missed(random, ranks, version) if draw < 0.35 else nearly(random, ranks, version)
     if random.random() < 0.25:
         parts = with_barrier(random, parts)
     text = f'{" ".join(header(ranks, version))} {DECLARED} {in_branches(parts)} {random.choice(["", "", "print y;", "barrier;", "assert x < 8;"])}'
@@ -239,7 +240,7 @@ class Drawn(NamedTuple):
         """What must be answered."""
         script, asked = explorer.read_script(self.script), filled(self.asked)
         found = sampled(Debugger(script, asked.mode), self.runs, asked.fuel, self.seed, asked.until)
-        return explorer.told(script, asked, found)
+        return explorer.told(script, asked, found, is_wide=True)
 
 
 def drawn_case(random, case):

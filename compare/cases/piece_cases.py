@@ -9,9 +9,11 @@ from random import Random
 from cases.explore_cases import next_to, random_case
 from model import explorer
 from model.debugger import RENDEZVOUS
-from model.explorer import MOST_PIECES, MOST_SPLIT, MOST_WORKERS, USUAL, Run, part, pieces
+from model.explorer import MOST_PIECES, MOST_SPLIT, MOST_WORKERS, USUAL, ends_part, part
 from model.language import Fault
 from model.modes import is_mode
+from model.walks import walk
+from model.wide import ways_behind
 from model.witness import Verification
 
 SPLITS = (None, None, None, 0, 0, 1, 2, 2, 3, 4, 5, 6, 7, 8)
@@ -47,7 +49,7 @@ def filled(asked):
 def cut(script, asked):
     """The pieces of a script by these options, and one more than there may be at most."""
     usual = filled(asked)
-    return list(islice(pieces(Run(explorer.first_world(script, usual.mode), usual.fuel), usual.split), MOST_PIECES + 1))
+    return explorer.cut_into(script, usual.mode, usual)
 
 
 def with_less_fuel(asked, count):
@@ -72,13 +74,19 @@ def with_few_runs(random, script, asked, most):
     room = max(1, most // len(found))
     runs = min(filled(asked).runs, room)
     if random.random() < 0.4:
-        runs = min(room, next_to(random, len(part(random.choice(found), runs + 1).leaves)))
+        runs = min(room, next_to(random, len((ends_part if asked.ends else part)(random.choice(found), runs + 1).leaves)))
     return asked._replace(runs=runs)
 
 
+def are_few(leaves):
+    """Whether there are few leaves."""
+    return len(list(islice(leaves, FEW_LEAVES + 1))) <= FEW_LEAVES
+
+
 def has_few_leaves(script, asked):
-    """Whether there are few leaves, by whatever number of choices."""
-    return not part(cut(script, asked._replace(split=0))[0], FEW_LEAVES).more
+    """Whether there are few leaves, by whatever number of choices; of ends there must be few with the dead ways between them, too."""
+    begun = cut(script, asked._replace(split=0))[0]
+    return are_few(walk(begun.world, begun.fuel)) and (not asked.ends or are_few(ways_behind(begun)))
 
 
 def made_small(random, script, asked, most):

@@ -10,11 +10,11 @@ from typing import NamedTuple
 
 from cases.ends_cases import filled, first_case
 from cases.explore_cases import next_to
-from model.debugger import RENDEZVOUS, Step, step_text
-from model.explorer import Run, candidates, ending, first_world, followed
+from model.debugger import RENDEZVOUS, Step, first_world, step_text
 from model.modes import MODES
 from model.report_lines import read_report
-from model.run_words import Words
+from model.run_words import Words, follower
+from model.walks import Run, candidates, ending
 from model.witness import Verification
 
 # The largest number of a leaf, where each of as many pieces as there may be lists as many runs.
@@ -51,9 +51,9 @@ def text_of(random, choices):
     return front + between.join(str(choice).zfill(random.choice([1, 2, 9]) if draw > 0.95 else 0) for choice in choices) + behind
 
 
-def candidates_at(begun, choices):
+def candidates_at(begun, choices, ends):
     """How many candidates there are where a run has made some of its choices; 0 where it makes no other."""
-    run = begun
+    run, followed = begun, follower(ends)
     for choice in choices:
         run, decided = followed(run)
         run = list(candidates(run, decided.steps))[choice]
@@ -61,23 +61,24 @@ def candidates_at(begun, choices):
     return 0 if ending(decided, run.fuel) is not None else len(decided.steps)
 
 
-def other_choices(random, begun, choices):
+def other_choices(random, begun, choices, ends):
     """Lists of choices that are mostly none of a run: more, fewer, and others."""
     yield (*choices, random.choice([0, 0, 1, 999999999]))
     if choices:
         yield from [choices[:-1], choices[:random.randrange(len(choices))]]
         place = random.randrange(len(choices))
-        count = candidates_at(begun, choices[:place])
+        count = candidates_at(begun, choices[:place], ends)
         yield from [(*choices[:place], other, *choices[place + 1:]) for other in (count, random.choice([count + 1, 999999999, count - 1]))]
     yield (*choices, *choices)
 
 
 def words_of(random, case, script, leaf):
     """What `words` is asked of a leaf: the first is the run of its choices."""
-    mode, fuel = case.asked.mode, case.asked.fuel
-    asked = Words(case.script, text_of(random, leaf.choices), None if mode == RENDEZVOUS and random.random() < 0.5 else mode, fuel)
+    mode, fuel, ends = case.asked.mode, case.asked.fuel, case.asked.ends
+    asked = Words(case.script, text_of(random, leaf.choices), None if mode == RENDEZVOUS and random.random() < 0.5 else mode, fuel, ends=ends)
     yield asked._replace(choices=' '.join(map(str, leaf.choices)), name=OF_LEAF)
-    others = list(dict.fromkeys(other_choices(random, Run(first_world(script, mode), fuel), leaf.choices)))
+    yield asked._replace(ends=not ends)
+    others = list(dict.fromkeys(other_choices(random, Run(first_world(script, mode), fuel), leaf.choices, ends)))
     yield from [asked._replace(choices=text_of(random, choices)) for choices in random.sample(others, min(3, len(others)))]
     yield asked
     steps = len(leaf.steps or ()) or 20

@@ -12,6 +12,7 @@ from cases.piece_cases import script_of as read_script_of
 from cases.rare_cases import Hang, Races, hang
 from model.modes import is_mode
 from model.samples import MOST_SEED, Sampling
+from rows.worked_ends import FREED_SLOT, ORDER_DECIDES
 from rows.worked_explorer import gathering
 from rows.worked_pieces import BY_FIRST
 from rows.worked_runs import THREE
@@ -46,19 +47,23 @@ def hang_sampling(seed, number):
 
 
 class Spread(NamedTuple):
-    """A script, and the share of all runs that each list of choices has where each candidate is as likely as the others."""
+    """A script in a mode, and the share of all runs that each list of choices has where each candidate is as likely as the others."""
     name: str
     script: str
     shares: dict
     fuel: Optional[int] = None
+    mode: Optional[str] = None
 
 
-# Rank 0 chooses among three senders, and then once or three times; two races of one receive; four senders of one message.
+# Rank 0 chooses among three senders, and then once or three times; two races of one receive; four senders of one message; a run that is cut;
+# and what the wide walk alone comes to (worked_ends.py).
 SPREADS = (
     Spread('a race behind one candidate', BY_FIRST, {(0, 0, 0): 1 / 6, (0, 1, 0): 1 / 6, (1,): 1 / 3, (2,): 1 / 3}),
     Spread('two races', Races(2, 2, 1).script(), {(first, second): 1 / 8 for first in range(4) for second in range(2)}),
     Spread('four senders', gathering(5, 1), {(first,): 1 / 4 for first in range(4)}),
-    Spread('a run that is cut', THREE, {(0,): 1 / 2, (1,): 1 / 2}, 12))
+    Spread('a run that is cut', THREE, {(0,): 1 / 2, (1,): 1 / 2}, 12),
+    Spread('a waitany', ORDER_DECIDES, {(0, 0): 1 / 2, (1, 0): 1 / 4, (1, 1): 1 / 4}),
+    Spread('a slot', FREED_SLOT, {(0, 0): 1 / 2, (1,): 1 / 2}, mode='slots:1'))
 # So many seeds are counted, and so far from what it should be a count may be, in times of how far it is mostly.
 MANY_SEEDS, MOST_DEVIATIONS = 400, 4.5
 # Of two races all eight runs are as likely; of so many that are drawn, so many are different ones, in the mean of so many seeds.

@@ -1,6 +1,6 @@
 """Small random scripts, of which all interleavings can be tried."""
 
-from cases.explore_cases import KINDS, Kind
+from cases.explore_cases import KINDS, KINDS_OF_2, KINDS_OF_SLOTS, Kind
 from cases.wildcard_cases import in_branches
 
 FORWARD = ('', '', 'send x to 0 tag 0;', 'isend h x to 0 tag 0;', 'if x == 3 { recv y from any tag 9; }', 'assert x == 2;')
@@ -18,6 +18,12 @@ def several(random, ranks):
     return in_branches([[part] for part in (first, second, *senders)]) + '\n'
 
 
-SMALL = {'several': Kind(several, 30, (3, 4, 4))} | {
-    name: kind._replace(ranks=tuple(ranks for ranks in kind.ranks if ranks <= 3)) for name, kind in KINDS.items()
-    if min(kind.ranks) <= 3 and name not in ('any', 'refused')}
+def of_few_ranks(kinds):
+    """Kinds of scripts with three ranks at most; none of texts that may be refused, and none of any statements."""
+    return {name: kind._replace(ranks=tuple(ranks for ranks in kind.ranks if ranks <= 3)) for name, kind in kinds.items()
+            if min(kind.ranks) <= 3 and name not in ('any', 'any_script', 'refused')}
+
+
+SMALL = {'several': Kind(several, 30, (3, 4, 4))} | of_few_ranks(KINDS)
+# Those with waits for any, and those that stand beside the others in a mode of slots.
+SMALL_OF_2, SMALL_OF_SLOTS = of_few_ranks(KINDS_OF_2), of_few_ranks(KINDS_OF_SLOTS)

@@ -6,7 +6,7 @@ pass something by or say that they are whole, and a walk that sleeps too much or
 
 from faults.explore_faults import SOUND, choosing, ended_by_trap, forgotten, free_choices, of_report, outcome_word, without_cut
 from faults.policy_faults import Breakage, any_source_first
-from model import debugger, explorer, policy
+from model import debugger, explorer, policy, walks
 from model.debugger import enabled_steps
 from model.policy import Choice, Forced
 
@@ -68,7 +68,7 @@ def independence_faults(complete):
 
 def decision_faults():
     """Forced steps that can be disabled, or that take something from a choice, and candidates that are passed by."""
-    return ([Breakage(name, explorer, 'decision', decided) for name, decided in (
+    return ([Breakage(name, walks, 'decision', decided) for name, decided in (
                 ('the first match is forced', deciding(lambda found: Forced(found.steps[0]))),
                 ('the last match is forced', deciding(lambda found: Forced(found.steps[-1]))),
                 ('an open match is forced as soon as it is enabled', early(lambda found: Forced(found[0]))),
@@ -86,10 +86,10 @@ def decision_faults():
 def walk_faults():
     """Walks and reports that say that they are whole, or aren't whole where they are."""
     return [
-        Breakage('a choice takes no fuel', explorer, 'taken', free_choices),
+        Breakage('a choice takes no fuel', walks, 'taken', free_choices),
         Breakage('runs that are cut are left out', explorer, 'walk', without_cut),
-        Breakage('no outcome where no fuel is left', explorer, 'ending', forgotten),
-        Breakage('outcomes without calls', explorer, 'ending', outcome_word),
+        Breakage('no outcome where no fuel is left', walks, 'ending', forgotten),
+        Breakage('outcomes without calls', walks, 'ending', outcome_word),
         Breakage('never more', explorer, 'part', of_report(lambda found, runs: found._replace(more=False))),
         Breakage('the first leaf alone', explorer, 'walk', lambda world, fuel: [next(SOUND.walk(world, fuel))])]
 

@@ -285,11 +285,6 @@ def number_at_end(self, number=None):
     return self.run(number) if is_end else SOUND['next'](self, number)
 
 
-def next_is_redo(self, number=None):
-    """What takes the step ahead, where there is one."""
-    return self.redo() if number is None and self.debugger.depth < len(self.debugger.steps) else SOUND['next'](self, number)
-
-
 def refused_at_end(self, number=None):
     return [console.REFUSALS[session.NOT_ENABLED]] if isinstance(self.decided, policy.Leaf) else SOUND['next'](self, number)
 
@@ -456,7 +451,6 @@ def move_faults():
             'one step whatever the number': one_whatever,
             'one step as it is taken': one_as_taken,
             'the number at an end too': number_at_end,
-            'the step ahead': next_is_redo,
             'refused at an end': refused_at_end,
             'the first candidate where none is said': lambda self, number=1: SOUND['next'](self, number),
             'candidates from 0': lambda self, number=None: SOUND['next'](self, None if number is None else number + 1),

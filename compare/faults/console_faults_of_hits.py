@@ -7,10 +7,10 @@ from inspect import isfunction
 from faults.policy_faults import Breakage
 from model import console, explorer
 from model.console import Console
-from model.debugger import RENDEZVOUS
 from model.language import WaitAny
-from model.modes import slots_of
+from model.modes import BUFFERED, slots_of
 from model.policy import ChangeBreak, HandleBreak, LineBreak, MatchBreak, is_hit
+from model.walks import CUT
 
 SOUND = {name: value for name, value in vars(Console).items() if isfunction(value)}
 # The line of a single step.
@@ -166,20 +166,19 @@ def all_where(is_all):
 def way_count_faults():
     return named('are_all_ways', {
         'where there are no more': lambda self, leaves, more: not more,
-        'a run that is cut is whole': lambda self, leaves, more: not more and explorer.tells_all(self.script, self.mode),
         'where not all runs are cut': lambda self, leaves, more: SOUND['are_all_ways'](
-            self, [leaf for leaf in leaves if leaf.outcome != explorer.CUT] or leaves, more),
+            self, [leaf for leaf in leaves if leaf.outcome != CUT] or leaves, more),
         'there are no more, ever': lambda self, leaves, more: SOUND['are_all_ways'](self, leaves, False),
-        'with a wait for any': all_where(lambda self: slots_of(self.mode) is None),
-        'in slots': all_where(lambda self: not explorer.has_waitany(self.script.body)),
-        'in more slots than none': all_where(
-            lambda self: not explorer.has_waitany(self.script.body) and slots_of(self.mode) != 0),
-        'not in version 2': all_where(lambda self: self.script.version == 1 and slots_of(self.mode) is None),
-        'not with buffers': all_where(lambda self: not explorer.has_waitany(self.script.body) and self.mode == RENDEZVOUS),
-        'with a wait for any in a block': all_where(
-            lambda self: not any(isinstance(one, WaitAny) for one in self.script.body) and slots_of(self.mode) is None),
-        'with a wait for any that no rank has come to': all_where(lambda self: not was_issued(self.world) and slots_of(self.mode) is None),
-        'not with the word in a comment': all_where(lambda self: b'waitany' not in self.text and slots_of(self.mode) is None)})
+        'as a report along decisions': all_where(lambda self: explorer.tells_all(self.script, self.mode, is_wide=False)),
+        'not with a wait for any': all_where(lambda self: not explorer.has_waitany(self.script.body)),
+        'not in slots': all_where(lambda self: slots_of(self.mode) is None),
+        'not without any slot': all_where(lambda self: slots_of(self.mode) != 0),
+        'not in more slots than none': all_where(lambda self: not slots_of(self.mode)),
+        'not in version 2': all_where(lambda self: self.script.version == 1),
+        'not with buffers': all_where(lambda self: self.mode != BUFFERED),
+        'not with a wait for any in no block': all_where(lambda self: not any(isinstance(one, WaitAny) for one in self.script.body)),
+        'not behind a wait for any': all_where(lambda self: not was_issued(self.world)),
+        'not with the word in a comment': all_where(lambda self: b'waitany' not in self.text)})
 
 
 def hit_faults():

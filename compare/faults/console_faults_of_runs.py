@@ -5,11 +5,12 @@ from inspect import isfunction
 from itertools import islice
 
 from faults.policy_faults import Breakage
-from model import console, explorer, policy, session
+from model import console, explorer, policy, session, walks, wide
 from model.console import Console
 from model.debugger import enabled_steps
 from model.policy import Choice
 from model.session import must_be
+from model.walks import CUT, Run
 
 SOUND = {name: value for name, value in vars(Console).items() if isfunction(value)}
 SOUND_COUNTED, SOUND_RUN_LINE, SOUND_NONE_FOUND, BAD_RUNS = console.counted, console.run_line, console.none_found, console.REFUSALS[console.BAD_RUNS]
@@ -28,14 +29,66 @@ def cleared(self, told):
     return told
 
 
+# ---- other walks
+
+def along_decisions(self):
+    """All runs along decisions."""
+    return walks.walk(self.world, self.fuel())
+
+
+def ends_along_decisions(self):
+    """Those along decisions of which each end comes once, where no order of other steps is tried."""
+    begun = Run(self.world, self.fuel())
+    return (leaf for leaf in walks.leaves_behind(begun, wide.awake) if leaf.outcome != wide.ASLEEP)
+
+
+def all_wide(self):
+    """All runs of the wide walk, whose ends may come more than once."""
+    return wide.wide_walk(self.world, self.fuel())
+
+
+def from_the_start(self):
+    """The runs from the start of the script, and not from here."""
+    return explorer.walk_of_ends(Run(self.debugger.worlds[0], self.fuel()))
+
+
+def by_awake(self):
+    """The runs whose choices are numbered among the candidates that are awake."""
+    for leaf in SOUND['walk'](self):
+        yield leaf._replace(choices=numbers_of_awake(self, leaf))
+
+
+def numbers_of_awake(self, leaf):
+    """The choices of a run as numbers among those that are awake."""
+    run, found = Run(self.world, self.fuel()), []
+    for choice in leaf.choices:
+        run, decided = wide.followed(run)
+        chosen = list(wide.awake(run, decided.steps))
+        found.append(next(number for number, other in enumerate(chosen) if other.choices[-1] == choice))
+        run = chosen[found[-1]]
+    return tuple(found)
+
+
+OTHER_WALKS = {'along decisions': along_decisions, 'ends along decisions': ends_along_decisions, 'all runs of the wide walk': all_wide}
+
+
+def with_walk(method, walk):
+    """What a method does by another walk."""
+    def other(self, *given):
+        self.walk = lambda: walk(self)
+        try:
+            return SOUND[method](self, *given)
+        finally:
+            del self.walk
+    return other
+
+
+def by_other_walks(method):
+    """What a method does by each of the other walks, by what they are."""
+    return {name: with_walk(method, walk) for name, walk in OTHER_WALKS.items()}
+
+
 # ---- runs by number
-
-def by_ends(self, runs=console.TRIED):
-    """What tries of runs that differ only in the order of choices one."""
-    must_be(1 <= runs <= explorer.MOST_RUNS, console.BAD_RUNS)
-    found = explorer.ends_part(explorer.Run(self.world, self.fuel()), runs)
-    return [*(console.run_line(number, leaf) for number, leaf in enumerate(found.leaves, 1)), console.counted(found.leaves, found.more)]
-
 
 def numbered_run(number, leaf):
     """What tells the candidates of a run from 0."""
@@ -70,17 +123,11 @@ def leaf_by(walk, number):
     return next(islice(walk, number, None), None)
 
 
-def run_by_ends(self, number):
-    """What follows the run of a number where those that differ only in the order of choices count once."""
-    found = leaf_by(explorer.walk_of_ends(explorer.Run(self.world, self.fuel())), number - 1) if number else None
-    return SOUND['follow'](self, number) if found is None else self.laid_ahead(f'run {number}, {found.outcome},', found)
-
-
 def last_where_none(self, number):
     """What follows the last run where there are fewer."""
     if not 1 <= number <= explorer.MOST_RUNS:
         return [console.NO_RUN]
-    found = list(islice(explorer.walk(self.world, self.fuel()), min(number, SOME)))
+    found = list(islice(self.walk(), min(number, SOME)))
     return self.laid_ahead(f'run {number}, {found[-1].outcome},', found[-1])
 
 
@@ -96,7 +143,7 @@ def too_many_asked_for(self, number):
 
 def no_bound(self, number):
     """What follows any run that there is."""
-    leaf = leaf_by(explorer.walk(self.world, self.fuel()), number - 1) if explorer.MOST_RUNS < number <= SOME else None
+    leaf = leaf_by(self.walk(), number - 1) if explorer.MOST_RUNS < number <= SOME else None
     return SOUND['follow'](self, number) if leaf is None else self.laid_ahead(f'run {number}, {leaf.outcome},', leaf)
 
 
@@ -114,7 +161,9 @@ def as_sought(self, number):
 def number_faults():
     return [
         *named('check', {
-            'by ends': by_ends,
+            **by_other_walks('check'),
+            'from the start': with_walk('check', from_the_start),
+            'candidates numbered among those that are awake': with_walk('check', by_awake),
             'one run': lambda self, runs=1: SOUND['check'](self, runs),
             '999 runs': lambda self, runs=999: SOUND['check'](self, runs),
             '1,001 runs': lambda self, runs=1001: SOUND['check'](self, runs),
@@ -131,12 +180,12 @@ def number_faults():
             'all ways': all_ways,
             'ways by the alphabet': ways_by(lambda text: text.split()[1]),
             'the most runs first': ways_by(lambda text: -int(text.split()[0])),
-            'a cut run is none': lambda leaves, more: SOUND_COUNTED([leaf for leaf in leaves if leaf.outcome != explorer.CUT], more),
+            'a cut run is none': lambda leaves, more: SOUND_COUNTED([leaf for leaf in leaves if leaf.outcome != CUT], more),
             'runs of one': runs_of_one,
             'there are no more': lambda leaves, more: SOUND_COUNTED(leaves, False)}, owner=console),
         *named('follow', {
+            **by_other_walks('follow'),
             'from 0': lambda self, number: SOUND['follow'](self, number + 1),
-            'by ends': run_by_ends,
             'the last one where there is none': last_where_none,
             'how many runs can be asked for, of 0': none_asked_for,
             'how many runs can be asked for, of more': too_many_asked_for,
@@ -148,16 +197,15 @@ def number_faults():
 
 # ---- deadlocks and traps that are sought
 
-def looking(*walks):
-    """What looks at runs by other walks."""
-    found = {'all': lambda self: explorer.walk(self.world, self.fuel()),
-             'ends': lambda self: explorer.walk_of_ends(explorer.Run(self.world, self.fuel()))}
-    return lambda self: (found[walk](self) for walk in walks)
+def first_along_decisions(self, sought):
+    """What looks at the runs along decisions first, and where none of them ends so at those of the wide walk."""
+    found = next((leaf for leaf in islice(along_decisions(self), SOME) if console.way(leaf) == sought), None)
+    return SOUND['seek'](self, sought) if found is None else self.found(found)
 
 
 def bad_too(self, sought):
     """What takes the first deadlock or trap for what is sought."""
-    found = next((leaf for leaf in islice(explorer.walk(self.world, self.fuel()), SOME) if explorer.is_bad(leaf)), None)
+    found = next((leaf for leaf in islice(self.walk(), SOME) if explorer.is_bad(leaf)), None)
     return SOUND['seek'](self, sought) if found is None else self.found(found)
 
 
@@ -168,21 +216,21 @@ def none_of(self, sought, found):
 
 def ends_at_bad(self, sought):
     """What looks no further than to the first deadlock or trap."""
-    found = explorer.up_to_bad(explorer.part(explorer.Run(self.world, self.fuel()), SOME))
+    found = explorer.up_to_bad(explorer.ends_part(Run(self.world, self.fuel()), SOME))
     bad = found.leaves[-1]
     return [none_of(self, sought, found)] if console.way(bad) not in (sought, 'done') else SOUND['seek'](self, sought)
 
 
 def last_one(self, sought):
     """What takes the last of some runs that end so."""
-    found = [leaf for leaf in islice(explorer.walk(self.world, self.fuel()), SOME) if console.way(leaf) == sought]
+    found = [leaf for leaf in islice(self.walk(), SOME) if console.way(leaf) == sought]
     return self.found(found[-1]) if found else SOUND['seek'](self, sought)
 
 
-def told_of_first(self, sought):
-    """What tells of the runs that were looked at first where there is none."""
+def told_of_decisions(self, sought):
+    """What tells of the runs along decisions where there is none."""
     told = SOUND['seek'](self, sought)
-    found = explorer.part(explorer.Run(self.world, self.fuel()), explorer.MOST_RUNS)
+    found = explorer.part(Run(self.world, self.fuel()), min(SOME, explorer.MOST_RUNS))
     return [none_of(self, sought, found)] if told[0].startswith('no ') else told
 
 
@@ -221,16 +269,14 @@ def seek_faults():
             'whatever is kept': lambda self: console.MOST_FUEL,
             'one step more': lambda self: min(console.MOST_FUEL + 1, console.debugger.MOST_STEPS - self.debugger.depth),
             'what is left of all': lambda self: max(0, min(console.MOST_FUEL, console.debugger.MOST_STEPS) - self.debugger.depth)}),
-        *named('walks', {
-            'no second look': looking('all'),
-            'the second look alone': looking('ends'),
-            'the second look first': looking('ends', 'all'),
-            'all runs in both looks': looking('all', 'all')}),
+        *named('walk', OTHER_WALKS),
         *named('seek', {
+            **by_other_walks('seek'),
+            'along decisions first': first_along_decisions,
             'what is bad in any way': bad_too,
             'up to what is bad in any way': ends_at_bad,
             'the last one': last_one,
-            'told of the first look': told_of_first,
+            'told of the runs along decisions': told_of_decisions,
             'what is ahead is dropped where there is none': dropped_where_none}),
         *named('none_found', {
             'found where all were looked at': lambda sought, leaves, more, are_all: SOUND_NONE_FOUND(sought, leaves, more, False),

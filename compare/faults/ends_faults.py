@@ -5,49 +5,59 @@ other counts, numbers and witnesses of the different ends.
 """
 
 from faults.policy_faults import Breakage
-from model import explorer
-from model.explorer import CUT, End, Report, candidates
+from model import explorer, policy, wide
+from model.explorer import End, Report
+from model.modes import slots_of
+from model.walks import CUT, candidates, leaves_behind
 
-SOUND = {name: getattr(explorer, name) for name in (
-    'with_asleep', 'awake', 'walk_of_ends', 'ends_part', 'part', 'pieces', 'ends_of', 'group_text', 'checked')}
+SOUND = {name: getattr(explorer, name) for name in ('walk_of_ends', 'ends_part', 'part', 'pieces', 'ends_of', 'group_text', 'checked')}
+SOUND |= {name: getattr(wide, name) for name in ('asleep_below', 'awake', 'still_asleep', 'passed', 'in_conflict', 'is_quiet', 'falling_asleep')}
 
 
-# ---- what falls asleep
+# ---- what falls asleep, and what wakes
 
 def other_tried(change):
     """What lets other steps sleep behind each candidate, by what is asleep before, all candidates, and its number."""
-    def asleep_behind(asleep, steps):
+    def asleep_below(asleep, steps):
         for number, step in enumerate(steps):
             yield None if asleep is None or step in asleep else tuple(dict.fromkeys(change(asleep, steps, number)))
-    return asleep_behind
+    return asleep_below
 
 
 def passed_over(is_asleep):
     """What passes over other candidates, by what is asleep."""
-    def asleep_behind(asleep, steps):
+    def asleep_below(asleep, steps):
         for step in steps:
             yield None if asleep is None or is_asleep(asleep, step) else asleep
             if asleep is not None:
                 asleep = (*asleep, step)
-    return asleep_behind
+    return asleep_below
+
+
+def slept_at_once(asleep, steps):
+    """What lets the candidates of one choice sleep behind one another, and forgets them behind the next."""
+    return SOUND['asleep_below'](asleep and asleep[:2], steps)
 
 
 def of_ranks(step):
-    """The ranks of a match."""
+    """The ranks of a match, or of another step."""
     return {step.first.rank, step.second.rank} if step.kind == 'match' else {step.first}
 
 
-def woken_by_rank(run, steps):
-    """What wakes matches as soon as a rank of theirs is in another match."""
-    for chosen, step in zip(SOUND['with_asleep'](run, steps), steps):
-        if chosen.asleep is not None:
-            chosen = chosen._replace(asleep=tuple(other for other in chosen.asleep if not of_ranks(other) & of_ranks(step)))
-        yield chosen
+def kept_asleep(is_kept):
+    """What keeps other steps asleep, by the run, what is taken, and what was asleep."""
+    return lambda run, step: run.asleep and tuple(other for other in run.asleep if is_kept(run, step, other))
 
 
-def slept_at_once(run, steps):
-    """What lets the candidates of one choice sleep behind one another, and forgets them behind the next."""
-    return SOUND['with_asleep'](run._replace(asleep=run.asleep and run.asleep[:2]), steps)
+def sound_conflict(run, step, other):
+    return SOUND['in_conflict'](run.world, step, other)
+
+
+def forgotten(is_forgotten):
+    """What forgets all that sleeps before some steps: forced ones have no choice."""
+    def passed(run, step, *choice):
+        return SOUND['passed'](run._replace(asleep=run.asleep and ()) if is_forgotten(choice) else run, step, *choice)
+    return passed
 
 
 def numbered_by_awake(run, steps):
@@ -63,10 +73,8 @@ def all_but_last(run, steps):
 
 def cut_where_all_sleep(begun):
     """What lists a run that is cut where all candidates of a choice are asleep."""
-    def behind(run, steps):
-        found = list(SOUND['awake'](run, steps))
-        return iter(found or [run._replace(fuel=0, asleep=())])
-    return iter(()) if begun.asleep is None else explorer.leaves_behind(begun, behind)
+    ways = () if begun.asleep is None else wide.ways_behind(begun)
+    return (way._replace(outcome=CUT) if way.outcome == wide.ASLEEP else way for way in ways)
 
 
 def without_leaves_that_are_cut(begun):
@@ -85,7 +93,8 @@ def each_outcome_once(begun):
 def cut_runs_of_all(begun):
     """What lists all runs that are cut, and of the others those that are awake."""
     awake = {leaf.choices for leaf in SOUND['walk_of_ends'](begun)}
-    return (leaf for leaf in explorer.leaves_behind(begun, candidates) if leaf.outcome == CUT or leaf.choices in awake)
+    leaves = leaves_behind(begun._replace(asleep=()), candidates, wide.followed)
+    return (leaf for leaf in leaves if leaf.outcome == CUT or leaf.choices in awake)
 
 
 def walk_faults():
@@ -107,24 +116,69 @@ def walk_faults():
             other.first for other in asleep if other.kind == 'match'}),
         ('all matches of one sender sleep', lambda asleep, step: step.kind == 'match' and step.first.rank in {
             other.first.rank for other in asleep if other.kind == 'match'}))
-    return ([Breakage('nothing falls asleep', explorer, 'falls_asleep', lambda step: False),
-             Breakage('wakes fall asleep', explorer, 'falls_asleep', lambda step: True)]
-            + [Breakage(name, explorer, 'asleep_behind', other_tried(change)) for name, change in tried]
-            + [Breakage(name, explorer, 'asleep_behind', passed_over(is_asleep)) for name, is_asleep in passed]
-            + [Breakage(name, explorer, 'with_asleep', replacement) for name, replacement in (
-                ('what shares a rank wakes up', woken_by_rank), ('two matches sleep at most', slept_at_once))]
-            + [Breakage(name, explorer, 'awake', replacement) for name, replacement in (
+    return ([Breakage('nothing falls asleep', wide, 'falling_asleep', lambda asleep, step: asleep),
+             Breakage('matches alone fall asleep', wide, 'falling_asleep', lambda asleep, step: (
+                 SOUND['falling_asleep'](asleep, step) if step.kind == 'match' else asleep))]
+            + [Breakage(name, wide, 'asleep_below', other_tried(change)) for name, change in tried]
+            + [Breakage(name, wide, 'asleep_below', passed_over(is_asleep)) for name, is_asleep in passed]
+            + [Breakage('two steps sleep at most', wide, 'asleep_below', slept_at_once)]
+            + [Breakage(name, wide, 'still_asleep', kept_asleep(is_kept)) for name, is_kept in (
+                ('what shares a rank wakes up', lambda run, step, other: not of_ranks(other) & of_ranks(step)),
+                ('what sleeps does not wake', lambda run, step, other: True),
+                ('a send that gets a slot does not wake', lambda run, step, other: step.kind == 'match' or not sound_conflict(run, step, other)),
+                ('a request does not wake where another is taken', lambda run, step, other: (
+                    other.kind == 'wakeany' or not sound_conflict(run, step, other))),
+                ('all wakes at each step', lambda run, step, other: False))]
+            + [Breakage(name, wide, 'passed', forgotten(is_forgotten)) for name, is_forgotten in (
+                ('sleepers are lost at a forced step', lambda choice: not choice), ('sleepers are lost at a choice', bool))]
+            + [Breakage(name, wide, 'awake', replacement) for name, replacement in (
                 ('candidates numbered among those that are awake', numbered_by_awake), ('the last candidate that is awake is lost', all_but_last))]
             + [Breakage(name, explorer, 'walk_of_ends', replacement) for name, replacement in (
                 ('a leaf where all candidates sleep', cut_where_all_sleep), ('ends that are cut are left out', without_leaves_that_are_cut),
                 ('each outcome once', each_outcome_once), ('all runs that are cut', cut_runs_of_all))])
 
 
+# ---- what is decided
+
+def along_decisions(world, sharper=False):
+    """What goes along decisions."""
+    return policy.decision(world)
+
+
+def along_decisions_but(test):
+    """What goes along decisions in some worlds."""
+    return lambda world, sharper=False: policy.decision(world) if test(world) else SOUND_DECISION(world, sharper)
+
+
+SOUND_DECISION = wide.wide_decision
+
+
+def quiet_too(test):
+    """What takes more steps for quiet."""
+    return lambda world, step, sharper=False: test(world, step) or SOUND['is_quiet'](world, step, sharper)
+
+
+def decision_faults():
+    """Those of what is forced, and what is to be chosen."""
+    return ([Breakage(name, wide, 'wide_decision', decided) for name, decided in (
+                ('ends along decisions', along_decisions),
+                ('ends along decisions in modes of slots', along_decisions_but(lambda world: slots_of(world.mode) is not None)),
+                ('ends along decisions in other modes', along_decisions_but(lambda world: slots_of(world.mode) is None)))]
+            + [Breakage(name, wide, 'is_quiet', quiet) for name, quiet in (
+                ('a send that lacks a slot is forced', quiet_too(lambda world, step: step.kind == 'local')),
+                ('a match that gives a slot back is forced', quiet_too(
+                    lambda world, step: step.kind == 'match' and policy.names_source(world, step))),
+                ('a request of a waitany is forced', quiet_too(lambda world, step: step.kind == 'wakeany')),
+                ('the sharper rule', lambda world, step, sharper=False: SOUND['is_quiet'](world, step, True)),
+                ('no match is forced in modes of slots', lambda world, step, sharper=False: (
+                    SOUND['is_quiet'](world, step, sharper) and (step.kind != 'match' or slots_of(world.mode) is None))))])
+
+
 # ---- pieces, and what is listed of each
 
 def of_pieces(change):
     """What cuts a script into other pieces, by those that there are."""
-    return lambda begun, split: change(list(SOUND['pieces'](begun, split)))
+    return lambda begun, split, ends=False: change(list(SOUND['pieces'](begun, split, ends)))
 
 
 def not_asleep(found):
@@ -179,6 +233,7 @@ def piece_faults():
     return ([Breakage(name, explorer, 'pieces', of_pieces(change)) for name, change in (
                 ('pieces of what is awake alone', not_asleep), ('pieces that know nothing of what sleeps', awake_all),
                 ('a piece that takes what sleeps', awake_where_asleep))]
+            + [Breakage('pieces along decisions', explorer, 'pieces', lambda begun, split, ends=False: SOUND['pieces'](begun, split))]
             + [Breakage(name, explorer, 'ends_part', replacement) for name, replacement in parts])
 
 
@@ -301,19 +356,28 @@ def status_faults():
         said = SOUND['checked'](script, asked)
         return said._replace(status=0) if asked.ends and said.status == 4 else said
 
-    return [Breakage(name, explorer, 'checked', replacement) for name, replacement in (
-        ('no report of ends is whole', not_with_ends), ('each report of ends is whole', always_with_ends))]
+    return ([Breakage(name, explorer, 'checked', replacement) for name, replacement in (
+                ('no report of ends is whole', not_with_ends), ('each report of ends is whole', always_with_ends))]
+            + [Breakage(name, explorer, 'tells_all', told) for name, told in (
+                ('with a waitany no report is whole', lambda script, mode, is_wide: (
+                    not explorer.has_waitany(script.body) and (is_wide or slots_of(mode) is None))),
+                ('in modes of slots no report is whole', lambda script, mode, is_wide: (
+                    slots_of(mode) is None and (is_wide or not explorer.has_waitany(script.body)))),
+                ('a report along decisions is whole, too', lambda script, mode, is_wide: True))])
 
 
 def breakages():
     """All that reports show beside those of the model."""
-    return [*walk_faults(), *piece_faults(), *group_faults(), *status_faults()]
+    return [*walk_faults(), *decision_faults(), *piece_faults(), *group_faults(), *status_faults()]
 
 
 # Those by which an end of a small script is lost, comes twice, or isn't as it is told: all interleavings must show them.
 OF_EVERY_END = ('nothing falls asleep', 'what was not tried sleeps', 'what was taken sleeps in the place of what was tried',
                 'what slept above is forgotten', 'the first candidate alone sleeps', 'all matches of one rank that receives sleep',
-                'all matches of one sender sleep', 'what shares a rank wakes up',
+                'all matches of one sender sleep', 'what shares a rank wakes up', 'what sleeps does not wake', 'a send that gets a slot does not wake',
+                'sleepers are lost at a forced step', 'ends along decisions', 'ends along decisions in modes of slots',
+                'ends along decisions in other modes', 'a send that lacks a slot is forced', 'a match that gives a slot back is forced',
+                'a request of a waitany is forced', 'with a waitany no report is whole', 'in modes of slots no report is whole',
                 'the last candidate that is awake is lost', 'candidates numbered among those that are awake', 'each outcome once',
                 'a leaf where all candidates sleep', 'pieces that know nothing of what sleeps', 'a piece that takes what sleeps', 'all runs',
                 'one leaf of each piece at least')

@@ -6,11 +6,12 @@ from os.path import commonprefix
 from typing import NamedTuple
 
 from faults.policy_faults import Breakage, without_forced_match
-from model import explorer, policy, witness
+from model import explorer, policy, walks, witness
 from model.debugger import BAD_FILE, BAD_MODE, BUFFERED, RENDEZVOUS, blocked_calls, enabled_steps, first_world, next_world, outcome, step_text
-from model.explorer import CUT, NO_SUCH_STEP, NOT_STUCK, WRONG_BLOCKED, Leaf, Refusal, Report
+from model.explorer import NO_SUCH_STEP, NOT_STUCK, WRONG_BLOCKED, Refusal, Report
 from model.modes import is_mode
 from model.policy import Choice, Forced
+from model.walks import CUT, Leaf
 from model.witness import BadWitness
 
 
@@ -28,7 +29,7 @@ class Sound(NamedTuple):
     check: object
 
 
-SOUND = Sound(*(getattr(explorer, name) for name in Sound._fields))
+SOUND = Sound(walks.taken, walks.ending, *(getattr(explorer, name) for name in Sound._fields[2:]))
 # What is not broken of the texts of witnesses.
 LINES_OF, READ, TOLD, TELL = witness.lines_of, witness.read_witness, witness.told, witness.verify
 LINES = witness.FIRST_LINE, witness.SECOND_LINE
@@ -285,19 +286,19 @@ def walk_faults():
         ('a choice where a receive names its source', without_forced_match),
         ('a run that ends where a rank is trapped', ended_by_trap),
     )
-    walks = (
+    others = (
         ('cut one step early', lambda world, fuel: SOUND.walk(world, max(0, fuel - 1))),
         ('cut one step late', lambda world, fuel: SOUND.walk(world, fuel + 1)),
         ('fuel for all runs together', for_all_runs),
         ('choices of the leaf before', choices_kept),
         ('runs that are cut are left out', without_cut),
     )
-    return ([Breakage(name, explorer, 'decision', replacement) for name, replacement in decisions]
-            + [Breakage(name, explorer, 'walk', replacement) for name, replacement in walks]
-            + [Breakage('a choice takes no fuel', explorer, 'taken', free_choices),
-               Breakage('candidates counted from one', explorer, 'candidates', counted_from_one),
-               Breakage('no outcome where no fuel is left', explorer, 'ending', forgotten),
-               Breakage('an outcome without its calls or ranks', explorer, 'ending', outcome_word)])
+    return ([Breakage(name, walks, 'decision', replacement) for name, replacement in decisions]
+            + [Breakage(name, explorer, 'walk', replacement) for name, replacement in others]
+            + [Breakage('a choice takes no fuel', walks, 'taken', free_choices),
+               Breakage('candidates counted from one', walks, 'candidates', counted_from_one),
+               Breakage('no outcome where no fuel is left', walks, 'ending', forgotten),
+               Breakage('an outcome without its calls or ranks', walks, 'ending', outcome_word)])
 
 
 def report_faults():

@@ -1,7 +1,7 @@
 """Faults that are put into pictures of the model on purpose: pictures.py must notice each."""
 
 from faults.policy_faults import Breakage
-from model import picture_model
+from model import picture_model, run_words
 from model.picture_model import ISSUED, PAIRED, RELEASED, WENT_ON, Drawing, Picture
 
 SOUND_GLYPHS = picture_model.glyphs_of_step
@@ -57,4 +57,8 @@ def breakages():
         Breakage('all ranks end', model, 'end_of', all_end),
         Breakage('lanes are too near', model, 'lane_x', lambda rank: 96 + 80 * rank),
         Breakage('rows are too near', model, 'row_y', lambda row: 80 + 18 * row),
-        Breakage('every match is to the right', model, 'sign_of_pair', straight)]
+        Breakage('every match is to the right', model, 'sign_of_pair', straight),
+        Breakage('--ends is not looked at', model, 'follower', lambda ends: run_words.follower(False)),
+        Breakage('first candidates along the wide walk without --ends', model, 'follower', lambda ends: run_words.follower(True)),
+        Breakage('choices along decisions with --ends', model, 'run_by', lambda begun, choices, ends=False: run_words.run_by(begun, choices)),
+        Breakage('choices along the wide walk without --ends', model, 'run_by', lambda begun, choices, ends=False: run_words.run_by(begun, choices, True))]

@@ -6,13 +6,13 @@ from itertools import islice
 from typing import NamedTuple
 
 from faults.policy_faults import Breakage
-from model import explorer
-from model.explorer import CUT, USUAL, Report
+from model import explorer, walks
+from model.explorer import USUAL, Report
+from model.walks import CUT
 
 
 class Sound(NamedTuple):
     """What is not broken."""
-    followed: object
     pieces: object
     part: object
     joined: object
@@ -32,8 +32,8 @@ ENOUGH = 1100
 
 
 def of_whole(replacement):
-    """What cuts the whole into other pieces; what is behind a choice is cut as ever."""
-    return lambda begun, split: SOUND.pieces(begun, split) if begun.choices else replacement(begun, split)
+    """What cuts the whole of all runs into other pieces; what is behind a choice is cut as ever."""
+    return lambda begun, split, ends=False: SOUND.pieces(begun, split, ends) if begun.choices else replacement(begun, split)
 
 
 def other_pieces(change):
@@ -52,13 +52,13 @@ def ended_early_joined(found, begun, split):
     return [piece for piece in found if piece not in early[1:]]
 
 
-def one_candidate_not_counted(begun, split):
+def one_candidate_not_counted(begun, split, ends=False):
     """What doesn't count a choice of one candidate."""
-    run, decided = explorer.followed(begun)
-    if not split or explorer.ending(decided, run.fuel) is not None:
+    run, decided = walks.followed(begun)
+    if not split or walks.ending(decided, run.fuel) is not None:
         yield run
         return
-    for chosen in explorer.candidates(run, decided.steps):
+    for chosen in walks.candidates(run, decided.steps):
         yield from one_candidate_not_counted(chosen, split - (len(decided.steps) > 1))
 
 

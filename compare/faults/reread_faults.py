@@ -3,10 +3,11 @@
 import re
 
 from faults.policy_faults import Breakage
-from model import run_words, witness
+from model import run_words, wide, witness
 from model.debugger import BUFFERED, RENDEZVOUS
-from model.explorer import USUAL, ending, followed, listed, taken
-from model.run_words import BadChoices
+from model.explorer import USUAL
+from model.run_words import BadChoices, follower
+from model.walks import Leaf, ending, listed, taken
 from model.witness import FIRST_LINE, LAST_LINE, LEAF_LINE, PASSED_LINE, WITNESS_LINE, BadWitness
 
 SOUND = {name: getattr(run_words, name) for name in ('run_by', 'answer')} | {name: getattr(witness, name) for name in (
@@ -17,33 +18,33 @@ SOUND = {name: getattr(run_words, name) for name in ('run_by', 'answer')} | {nam
 
 def other_run(change):
     """What tells other steps of a run."""
-    def run_by(begun, choices):
-        leaf = SOUND['run_by'](begun, choices)
+    def run_by(begun, choices, ends=False):
+        leaf = SOUND['run_by'](begun, choices, ends)
         return leaf._replace(steps=tuple(change(leaf.steps)))
     return run_by
 
 
-def up_to_last_choice(begun, choices):
+def up_to_last_choice(begun, choices, ends=False):
     """What ends right behind the last choice."""
-    leaf = SOUND['run_by'](begun, choices)
-    run = begun
+    leaf = SOUND['run_by'](begun, choices, ends)
+    run, followed = begun, follower(ends)
     for choice in choices:
         run, decided = followed(run)
         run = taken(run, decided.steps[choice], choice)
     return leaf._replace(steps=listed(run.steps) if choices else leaf.steps)
 
 
-def from_last_choice(begun, choices):
+def from_last_choice(begun, choices, ends=False):
     """What begins at the last choice."""
-    leaf = SOUND['run_by'](begun, choices)
-    return leaf._replace(steps=leaf.steps[max(0, len(up_to_last_choice(begun, choices).steps) - 1):]) if choices else leaf
+    leaf = SOUND['run_by'](begun, choices, ends)
+    return leaf._replace(steps=leaf.steps[max(0, len(up_to_last_choice(begun, choices, ends).steps) - 1):]) if choices else leaf
 
 
 def other_place(change):
     """What tells another place, by the right one, the choices, and where the run begins."""
-    def run_by(begun, choices):
+    def run_by(begun, choices, ends=False):
         try:
-            return SOUND['run_by'](begun, choices)
+            return SOUND['run_by'](begun, choices, ends)
         except BadChoices as bad:
             raise BadChoices(change(bad.place, choices)) from None
     return run_by
@@ -51,15 +52,15 @@ def other_place(change):
 
 def lenient(number_at, is_refused=lambda place, choices, ended: False):
     """What takes other numbers where a choice is none: by the number that is given, or None, and how many candidates there are."""
-    def run_by(begun, choices):
-        run = begun
+    def run_by(begun, choices, ends=False):
+        run, followed = begun, follower(ends)
         while True:
             run, decided = followed(run)
             place, ended = len(run.choices), ending(decided, run.fuel)
             if ended is not None:
                 if is_refused(place, choices, ended):
                     raise BadChoices(place)
-                return SOUND['run_by'](begun, run.choices)
+                return SOUND['run_by'](begun, run.choices, ends)
             given = choices[place] if place < len(choices) else None
             number = number_at(given, len(decided.steps))
             if number is None:
@@ -84,20 +85,20 @@ def too_many(place, choices, ended):
 
 def by_fuel(change):
     """What has other fuel."""
-    return lambda begun, choices: SOUND['run_by'](begun._replace(fuel=max(0, change(begun.fuel))), choices)
+    return lambda begun, choices, ends=False: SOUND['run_by'](begun._replace(fuel=max(0, change(begun.fuel))), choices, ends)
 
 
 def no_cut(place, choices, ended):
     return place < len(choices) or ended == 'cut'
 
 
-def of_one_candidate(begun, choices):
+def of_one_candidate(begun, choices, ends=False):
     """What counts no choice of one candidate."""
-    run, given = begun, list(choices)
+    run, given, followed = begun, list(choices), follower(ends)
     while True:
         run, decided = followed(run)
         if ending(decided, run.fuel) is not None:
-            return SOUND['run_by'](begun, run.choices)
+            return SOUND['run_by'](begun, run.choices, ends)
         if len(decided.steps) > 1 and not given:
             raise BadChoices(len(choices))
         number = 0 if len(decided.steps) == 1 else given.pop(0)
@@ -106,15 +107,39 @@ def of_one_candidate(begun, choices):
         run = taken(run, decided.steps[number], number)
 
 
+def along_where_bad(begun, choices, ends=False):
+    """What takes choices for those along the wide walk where they are none along decisions."""
+    try:
+        return SOUND['run_by'](begun, choices, ends)
+    except BadChoices:
+        return SOUND['run_by'](begun, choices, True)
+
+
+def by_awake(begun, choices, ends=False):
+    """What takes numbers for those among the candidates that are awake, along the wide walk."""
+    if not ends:
+        return SOUND['run_by'](begun, choices)
+    run = begun
+    while True:
+        run, decided = wide.followed(run)
+        place, ended = len(run.choices), ending(decided, run.fuel)
+        if ended is not None and place == len(choices):
+            return Leaf(run.choices, listed(run.steps), ended)
+        chosen = [] if ended is not None else list(wide.awake(run, decided.steps))
+        if place == len(choices) or choices[place] >= len(chosen):
+            raise BadChoices(place)
+        run = chosen[choices[place]]
+
+
 def other_answer(change):
     """What answers otherwise, by the right result."""
-    return lambda text, choices, mode, fuel: change(SOUND['answer'](text, choices, mode, fuel), text, choices, mode, fuel)
+    return lambda *asked: change(SOUND['answer'](*asked), *asked)
 
 
-def steps_before(said, text, choices, mode, fuel):
+def steps_before(said, text, choices, *more):
     """What writes the steps up to the place that is bad."""
     for count in reversed(range(len(choices) + 1 if b'bad choices' in said.errors else 0)):
-        found = SOUND['answer'](text, choices[:count], mode, fuel)
+        found = SOUND['answer'](text, choices[:count], *more)
         if found.status == 0:
             return said._replace(output=found.output)
     return said
@@ -144,8 +169,13 @@ def words_faults():
          lenient(lambda given, count: None if given is None else min(given, count - 1), too_many)),
         ('the run is cut one step early', by_fuel(lambda fuel: fuel - 1)), ('the run is cut one step late', by_fuel(lambda fuel: fuel + 1)),
         ('fuel is not looked at', by_fuel(lambda fuel: USUAL.fuel)), ('no run that is cut', lenient(there, no_cut)),
-        ('a choice of one candidate is none', of_one_candidate), ('candidates counted from one', lambda begun, choices: SOUND['run_by'](
-            begun, tuple(choice - 1 for choice in choices if choice))))
+        ('a choice of one candidate is none', of_one_candidate), ('candidates counted from one', lambda begun, choices, ends=False: SOUND['run_by'](
+            begun, tuple(choice - 1 for choice in choices if choice), ends)),
+        ('--ends is not looked at', lambda begun, choices, ends=False: SOUND['run_by'](begun, choices)),
+        ('always along the wide walk', lambda begun, choices, ends=False: SOUND['run_by'](begun, choices, True)),
+        ('along the wide walk without --ends', lambda begun, choices, ends=False: SOUND['run_by'](begun, choices, not ends)),
+        ('along the wide walk where no run along decisions has the choices', along_where_bad),
+        ('numbered among those that are awake', by_awake))
     answers = (
         ('steps before what is bad', steps_before), ('status 1', bad(lambda said: said._replace(status=1))),
         ('status 0', bad(lambda said: said._replace(status=0))),
@@ -154,10 +184,10 @@ def words_faults():
         ('steps on one line', lambda said, *asked: said._replace(output=said.output.replace(b'\n', b', ', max(0, said.output.count(b'\n') - 1)))),
         ('no last line feed', lambda said, *asked: said._replace(output=said.output.removesuffix(b'\n'))),
         ('how it ends, behind the steps', lambda said, *asked: said._replace(output=said.output + b'done\n') if said.status == 0 else said),
-        ('always rendezvous', lambda said, text, choices, mode, fuel: SOUND['answer'](text, choices, RENDEZVOUS, fuel)),
-        ('always buffered', lambda said, text, choices, mode, fuel: SOUND['answer'](text, choices, BUFFERED, fuel)),
+        ('always rendezvous', lambda said, text, choices, mode, *more: SOUND['answer'](text, choices, RENDEZVOUS, *more)),
+        ('always buffered', lambda said, text, choices, mode, *more: SOUND['answer'](text, choices, BUFFERED, *more)),
         ('choices before the script',
-         lambda said, text, choices, mode, fuel: said._replace(errors=b'mpdbg: bad choices at 0\n') if b'script' in said.errors else said))
+         lambda said, *asked: said._replace(errors=b'mpdbg: bad choices at 0\n') if b'script' in said.errors else said))
     texts = (('ten digits', ' *(?:[0-9]{1,10}(?: +[0-9]{1,10})* *)?'), ('any blanks', ' *(?:[0-9]{1,9}(?:[ \\t]+[0-9]{1,9})* *)?'),
              ('commas', ' *(?:[0-9]{1,9}(?:[ ,]+[0-9]{1,9})* *)?'),
              ('no space in front or behind', '(?:[0-9]{1,9}(?: +[0-9]{1,9})*)?'),

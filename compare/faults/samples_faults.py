@@ -4,8 +4,12 @@ from itertools import islice
 from random import Random
 
 from faults.policy_faults import Breakage
-from model import explorer, samples
-from model.explorer import CUT, Leaf, ending, followed, is_bad, listed, taken
+from model import explorer, samples, walks
+from model.debugger import RENDEZVOUS
+from model.explorer import is_bad
+from model.modes import slots_of
+from model.walks import CUT, Leaf, ending, listed, taken
+from model.wide import followed, wide_walk
 
 SOUND = {name: getattr(samples, name) for name in ('runs_drawn', 'sampled', 'answer')}
 
@@ -34,7 +38,7 @@ def one_draw_a_run(begun, random):
 
 def of_all_leaves(begun, random):
     """What draws among the leaves, each as likely as the others."""
-    leaves = list(islice(explorer.walk(begun.world, begun.fuel), 300))
+    leaves = list(islice(wide_walk(begun.world, begun.fuel), 300))
     return random.choice(leaves)
 
 
@@ -103,7 +107,8 @@ def drawing_faults():
     asked = (('workers draw other runs', other_by_workers), ('other runs with witnesses', other_by('witnesses')),
              ('other runs with groups', other_by('group')), ('other runs with --complete', other_by('complete')),
              ('other runs with --until', other_by('until')))
-    return ([Breakage(name, samples, 'drawn', replacement) for name, replacement in numbers]
+    return ([Breakage('runs along decisions are drawn', samples, 'followed', walks.followed)]
+            + [Breakage(name, samples, 'drawn', replacement) for name, replacement in numbers]
             + [Breakage(name, samples, 'generator', replacement) for name, replacement in seeds]
             + [Breakage(name, samples, 'runs_drawn', replacement) for name, replacement in runs]
             + [Breakage(name, samples, 'drawn_run', replacement) for name, replacement in (
@@ -133,6 +138,14 @@ def said_otherwise(change):
     return lambda asked: change(SOUND['answer'](asked), asked)
 
 
+def not_whole(test):
+    """What ends with 4 where all runs are listed, and something is so of the script and its mode."""
+    def change(said, asked):
+        is_so = asked.complete and said.status == 0 and test(explorer.read_script(asked.script), asked.mode or RENDEZVOUS)
+        return said._replace(status=4) if is_so else said
+    return change
+
+
 def saying_faults():
     """Those of what is said of the runs that were drawn."""
     reports = (
@@ -160,10 +173,13 @@ def saying_faults():
         ('status 0', lambda said, asked: said._replace(status=0)), ('status 4 without --complete', lambda said, asked: said._replace(
             status=4 if said.status == 0 and b'more yes' in said.output else said.status)),
         ('no status 4', lambda said, asked: said._replace(status=0 if said.status == 4 else said.status)),
+        ('a waitany is never told whole', not_whole(lambda script, mode: explorer.has_waitany(script.body))),
+        ('a mode of slots is never told whole', not_whole(lambda script, mode: slots_of(mode) is not None)),
         ('leaves numbered by when they were drawn', lambda said, asked: said._replace(output=said.output.replace(b'leaf 0 ', b'leaf 1 '))),
         ('leaves in the place of groups', lambda said, asked: SOUND['answer'](asked._replace(group=False))),
         ('no witness', lambda said, asked: SOUND['answer'](asked._replace(witnesses=False))))
-    return ([Breakage(name, samples, 'sampled', other_report(change)) for name, change in reports]
+    return ([Breakage('more by the runs along decisions', samples, 'wide_walk', walks.walk)]
+            + [Breakage(name, samples, 'sampled', other_report(change)) for name, change in reports]
             + [Breakage(name, samples, 'in_order', change) for name, change in orders]
             + [Breakage(name, samples, 'answer', said_otherwise(change)) for name, change in said])
 

@@ -7,9 +7,11 @@ notice each of those that are of them.
 import re
 
 from faults.breakages import Breakage
-from model import debugger, explorer, modes
+from model import debugger, explorer, modes, policy, wide
 from model.debugger import CallId, find_call, free_calls, partner
-from model.modes import BUFFERED, RENDEZVOUS, is_mode, slots_of
+from model.modes import RENDEZVOUS, is_mode, slots_of
+
+WIDE_DECISION = wide.wide_decision
 
 
 def is_standard(call):
@@ -234,23 +236,37 @@ def pair_faults(session):
         ('no send buffered in slots that has a handle', 'is_buffered', in_slots(lambda call: is_standard(call) and call.blocks)))
     dropped = [fault for fault in undo_faults() if 'drops the buffer' in fault.name]
     return ([Breakage(name, 'slots', debugger, attribute, replacement) for name, attribute, replacement in taking] + dropped + text_faults()
-            + line_faults(session) + telling_faults())
+            + line_faults(session) + telling_faults() + ends_faults())
 
 
 def report_faults():
     """Those of reports: by what ends, and by what is said of a report that tells all its runs."""
-    def not_in_buffered(script, mode):
-        return not explorer.has_waitany(script.body) and mode != BUFFERED and slots_of(mode) is None
+    return taking_faults() + telling_faults() + [
+        Breakage('no whole report in the mode buffered', 'slots', explorer, 'tells_all', told_where(lambda mode: mode == RENDEZVOUS))]
 
-    return taking_faults() + telling_faults() + [Breakage('no whole report in the mode buffered', 'slots', explorer, 'tells_all', not_in_buffered)]
+
+def told_where(test):
+    """What takes a report along decisions for one that tells every way to end by its mode, where the script has no wait for any."""
+    return lambda script, mode, is_wide: is_wide or not explorer.has_waitany(script.body) and test(mode)
+
+
+def ends_faults():
+    """Those of reports that list ends in a mode of slots."""
+    def along_decisions(world, sharper=False):
+        return WIDE_DECISION(world, sharper) if slots_of(world.mode) is None else policy.decision(world)
+
+    def never_whole(script, mode, is_wide):
+        return slots_of(mode) is None and (is_wide or not explorer.has_waitany(script.body))
+
+    return [Breakage('ends along decisions in a mode of slots', 'slots', wide, 'wide_decision', along_decisions),
+            Breakage('no whole report of ends in a mode of slots', 'slots', explorer, 'tells_all', never_whole)]
 
 
 def telling_faults():
     """Those of whether a report tells every way to end."""
-    telling = (('a whole report in a mode of slots', lambda script, mode: not explorer.has_waitany(script.body)),
-               ('a whole report without slots', lambda script, mode: not explorer.has_waitany(script.body) and not slots_of(mode)),
-               ('a whole report with slots', lambda script, mode: not explorer.has_waitany(script.body) and slots_of(mode) != 0))
-    return [Breakage(name, 'slots', explorer, 'tells_all', told) for name, told in telling]
+    telling = (('a whole report in a mode of slots', lambda mode: True), ('a whole report without slots', lambda mode: not slots_of(mode)),
+               ('a whole report with slots', lambda mode: slots_of(mode) != 0))
+    return [Breakage(name, 'slots', explorer, 'tells_all', told_where(test)) for name, test in telling]
 
 
 def word_faults():

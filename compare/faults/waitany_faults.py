@@ -5,7 +5,7 @@ policy_probe.py) and by sessions (sessions.py), `walk_faults()` by reports (expl
 """
 
 from faults.breakages import Breakage
-from model import debugger, explorer, language, policy
+from model import debugger, language, policy, walks
 from model.debugger import CallId, enabled_steps, is_at_any, written
 from model.policy import Choice, Forced
 
@@ -474,7 +474,7 @@ def decision_faults():
 
 def walk_faults():
     """The same of reports."""
-    return [Breakage(name, 'waitany', explorer, 'decision', decided) for name, decided in DECISIONS]
+    return [Breakage(name, 'waitany', walks, 'decision', decided) for name, decided in DECISIONS]
 
 
 def hitting(change):

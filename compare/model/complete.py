@@ -7,9 +7,10 @@ from collections import Counter
 from itertools import combinations, islice
 from typing import NamedTuple, Optional
 
-from model import debugger, explorer, policy
+from model import debugger, policy, walks
 from model.debugger import next_world, outcome, step_text
-from model.explorer import CUT, Leaf
+from model.walks import CUT, Leaf
+from model.wide import shares_call
 
 # A script is small where it has so many worlds at most, and so many leaves; its runs are followed so far.
 MOST_WORLDS, MOST_LEAVES, MOST_STEPS = 800, 150, 60
@@ -27,11 +28,6 @@ def left(rank):
 def key(world):
     """What tells worlds apart, but for the order of their match sets."""
     return tuple((left(rank), *rank[1:]) for rank in world.ranks), frozenset(Counter(world.records).items())
-
-
-def shares_call(one, other):
-    """Whether two steps are matches of one call."""
-    return one.kind == other.kind == 'match' and (one.first == other.first or one.second == other.second)
 
 
 def apart(one, other):
@@ -57,10 +53,10 @@ def joined_wrong(one, other, behind):
     return []
 
 
-def beside_wrong(steps, behind, met):
-    """What is wrong with the steps that are enabled in one world, two and two."""
+def beside_wrong(world, behind, met):
+    """What is wrong with the steps that are enabled in a world, two and two."""
     wrong = []
-    for one, other in combinations(steps, 2):
+    for one, other in combinations(behind, 2):
         if apart(one, other):
             wrong += joined_wrong(one, other, behind)
         else:
@@ -68,8 +64,8 @@ def beside_wrong(steps, behind, met):
     return wrong
 
 
-def tried(start, met):
-    """All interleavings from a world, and what is wrong with steps beside one another."""
+def tried(start, met, wrong_beside=beside_wrong):
+    """All interleavings from a world, and what is wrong with steps beside one another, as it is told of each world."""
     level, ends, seen, wrong, depth = {key(start): start}, {}, 0, [], 0
     while level and depth <= MOST_STEPS:
         seen, after = seen + len(level), {}
@@ -80,7 +76,7 @@ def tried(start, met):
             met.update(step.kind for step in behind)
             if not behind:
                 ends[place] = outcome(world)
-            wrong += beside_wrong(behind, behind, met)
+            wrong += wrong_beside(world, behind, met)
             for reached in behind.values():
                 other = after.setdefault(key(reached), reached)
                 met['worlds that sets alone tell apart'] += other.records != reached.records
@@ -93,8 +89,8 @@ def tried(start, met):
 
 def asleep_walk(world, fuel, asleep=(), choices=(), steps=()):
     """The leaves of a walk that takes two steps that share no call in one order alone: what was tried is asleep below later candidates."""
-    decided = explorer.decision(world)
-    ended = explorer.ending(decided, fuel)
+    decided = walks.decision(world)
+    ended = walks.ending(decided, fuel)
     if ended is not None:
         yield Leaf(choices, steps, ended)
     elif isinstance(decided, policy.Forced):
@@ -176,8 +172,17 @@ def report_wrong(found, every, fuel):
     return wrong + ([] if is_enough(every, fuel) else ['a whole report of runs that are longer than its fuel'])
 
 
+def twice_wrong(found):
+    """What is wrong with a walk that must have no end twice, cut or not."""
+    twice = [leaf.outcome for place, leaf in zip(found.keys, found.leaves) if found.keys.count(place) > 1]
+    return [f'an end twice: {twice[0]}'] if twice else []
+
+
+def others_wrong(found, plain):
+    """What is wrong with a walk that sleeps if it has a run that the same walk hasn't where nothing sleeps."""
+    return [] if set(found.leaves) <= set(plain.leaves) else ['a run that only the walk has that sleeps']
+
+
 def asleep_wrong(found, plain):
     """What is wrong with a walk that sleeps beside the one that doesn't: an end twice, cut or not, or a run that the other hasn't."""
-    twice = [leaf.outcome for place, leaf in zip(found.keys, found.leaves) if found.keys.count(place) > 1]
-    wrong = [f'an end twice: {twice[0]}'] if twice else []
-    return wrong + ([] if set(found.leaves) <= set(plain.leaves) else ['a run that only the walk has that sleeps'])
+    return twice_wrong(found) + others_wrong(found, plain)

@@ -20,6 +20,7 @@ from model.language import Declared, Fault, read_script
 from model.modes import is_mode
 from model.policy import BREAK, FULL, MAX, START, ChangeBreak, Choice, Forced, HandleBreak, LineBreak
 from model.session import Refused, Session, must_be
+from model.walks import CUT, Leaf, Run
 from model.witness import BAD_REPORT, REFUSAL_NAMES, BadWitness, witness_of
 from model.worlds import Step
 
@@ -45,7 +46,7 @@ STOPS = {MAX: 'stopped: as many steps as were asked for', FULL: 'stopped: no mor
 BEHIND_CHOICE = 'stopped: behind the choice'
 LISTED, TRIED, MOST_FUEL = 10, 1000, 100000
 # How a run ends, by the first word of its outcome, in the order in which the last line of `check` has them.
-WAYS = 'done', 'leftovers', 'deadlock', 'trap', explorer.CUT
+WAYS = 'done', 'leftovers', 'deadlock', 'trap', CUT
 # What may stand behind the first `[` of a name.
 INDEX = re.compile(rb'([0-9]+)\]')
 # What a terminal is told first, on standard error.
@@ -107,7 +108,7 @@ def none_called(word):
 
 def leaf_of(witness):
     """The run that a witness tells, without its choices."""
-    return explorer.Leaf((), witness.steps, f'deadlock {" ".join(map(str, witness.blocked))}')
+    return Leaf((), witness.steps, f'deadlock {" ".join(map(str, witness.blocked))}')
 
 
 class Console:
@@ -147,6 +148,18 @@ class Console:
     def can_choose_again(self):
         """Whether it stands at a choice, and a step is undone."""
         return bool(self.ahead) and isinstance(self.decided, Choice)
+
+    def leaves_ahead(self, most):
+        """Whether a run on of so many steps would take another step than one that lies ahead."""
+        world = self.world
+        for step in self.ahead[:most]:
+            decided = policy.settled(policy.decision(world))
+            if not isinstance(decided, Forced):
+                return False
+            if decided.step != step:
+                return True
+            world = debugger.next_world(world, step)
+        return False
 
     def prompt(self):
         return f'({self.debugger.depth}) '
@@ -227,7 +240,7 @@ class Console:
     def explanation(self, ended):
         """What is told of a deadlock or a trap."""
         steps = tuple(self.debugger.steps[:self.debugger.depth])
-        return explaining.explanation(self.script, self.mode, explorer.Leaf((), steps, ended))
+        return explaining.explanation(self.script, self.mode, Leaf((), steps, ended))
 
     # ---- forward
 
@@ -250,10 +263,10 @@ class Console:
     def next(self, number=None):
         """Takes what comes next; at a choice a candidate by its number, or without one the step ahead, where one is."""
         decided = self.decided
-        if number is None and self.can_choose_again:
+        if number is None and self.ahead:
             return self.redo()
         if isinstance(decided, Forced):
-            return self.take(decided.step) if number is None else self.run(number)
+            return self.take(decided.step) if number is None else self.run_along(number) if self.leaves_ahead(number) else self.run(number)
         if isinstance(decided, policy.Leaf) or number is None:
             return self.where()
         if not 1 <= number <= len(decided.steps):
@@ -264,8 +277,15 @@ class Console:
         """Runs on past choices of a single candidate; at one that was made before, and undone, it is made again, whatever the number is but 0."""
         if most and self.can_choose_again:
             return self.again([BEHIND_CHOICE])
+        if self.leaves_ahead(most):
+            return self.again([BEHIND_CHOICE]) if min(most, len(self.ahead)) == 1 else self.run_along(most)
         must_be(1 <= most <= session.MOST_COUNT, BAD_STEPS)
         return self.stopped(policy.run_on(self.debugger, self.session.breaks, most), '')
+
+    def run_along(self, most):
+        """Takes so many of the steps ahead, or all of them, past breakpoints and choices."""
+        self.session.redo(min(most, len(self.ahead)))
+        return self.depth_lines()
 
     def stopped(self, stop, back):
         """What is told behind a run."""
@@ -468,16 +488,20 @@ class Console:
         """How many steps a run from here may have."""
         return min(MOST_FUEL, debugger.MOST_STEPS - self.debugger.depth)
 
+    def walk(self):
+        """The runs from here, each end once, in the order of their choices."""
+        return explorer.walk_of_ends(Run(self.world, self.fuel()))
+
     def check(self, runs=TRIED):
         must_be(1 <= runs <= explorer.MOST_RUNS, BAD_RUNS)
-        found = explorer.explored(self.debugger, runs, self.fuel())
-        lines = [run_line(number, leaf) for number, leaf in enumerate(found.leaves, 1)]
-        return [*lines, counted(found.leaves, found.more)]
+        found = list(islice(self.walk(), runs + 1))
+        leaves, more = found[:runs], len(found) > runs
+        return [*(run_line(number, leaf) for number, leaf in enumerate(leaves, 1)), counted(leaves, more)]
 
     def follow(self, number):
         """Lays the steps of the run of a number ahead."""
         is_within = 1 <= number <= explorer.MOST_RUNS
-        leaf = next(islice(explorer.walk(self.world, self.fuel()), number - 1, None), None) if is_within else None
+        leaf = next(islice(self.walk(), number - 1, None), None) if is_within else None
         return [NO_RUN] if leaf is None else self.laid_ahead(f'run {number}, {leaf.outcome},', leaf)
 
     def deadlock(self):
@@ -488,25 +512,17 @@ class Console:
 
     def seek(self, sought):
         """Lays the steps to the first run ahead that ends in a way."""
-        for walk in self.walks():
-            looked = []
-            for leaf in islice(walk, explorer.MOST_RUNS):
-                if way(leaf) == sought:
-                    return self.found(leaf)
-                looked.append(leaf._replace(steps=()))
-            more = next(walk, None) is not None
-            if not more:
-                break
+        walk, looked = self.walk(), []
+        for leaf in islice(walk, explorer.MOST_RUNS):
+            if way(leaf) == sought:
+                return self.found(leaf)
+            looked.append(leaf._replace(steps=()))
+        more = next(walk, None) is not None
         return [none_found(sought, looked, more, self.are_all_ways(looked, more))]
 
     def are_all_ways(self, leaves, more):
-        """Whether the runs that were looked at are all ways to end from here."""
-        return explorer.is_whole(explorer.Report(leaves, more)) and explorer.tells_all(self.script, self.mode)
-
-    def walks(self):
-        """The runs that are looked at, and those that are where none of the first ones is sought: each end once."""
-        yield explorer.walk(self.world, self.fuel())
-        yield explorer.walk_of_ends(explorer.Run(self.world, self.fuel()))
+        """Whether the runs that were looked at are all ways to end from here: where there are no more, and none is cut."""
+        return explorer.is_whole(explorer.Report(leaves, more))
 
     def found(self, leaf):
         return self.laid_ahead(leaf.outcome, leaf)

@@ -1,136 +1,34 @@
-"""The explorer, in the model: the leaves that runs along decisions come to, the report of them, by pieces, and witnesses of deadlocks.
+"""The explorer, in the model: the report of the leaves that runs come to, by pieces, and witnesses of deadlocks.
 
+Runs go along decisions (walks.py), and where each end is asked for once along the wide walk with sleep sets (wide.py).
 compare/rows/worked_explorer.py, compare/rows/worked_pieces.py, compare/rows/worked_ends.py and compare/rows/worked_explained.py have rows of it,
-compare/runs/explore_rules.py checks on random scripts what must hold of it, and compare/runs/explore.py, compare/runs/ends.py and compare/runs/explained.py
-compare a program with it.
+compare/runs/explore_rules.py checks on random scripts what must hold of it, and compare/runs/explore.py, compare/runs/ends.py and
+compare/runs/explained.py compare a program with it.
 """
 
 import argparse
 from itertools import islice
 from typing import NamedTuple, Optional
 
-from model import explaining, policy
+from model import explaining, walks, wide
 from model.debugger import (BAD_FILE, BAD_MODE, BUFFERED, RENDEZVOUS, Debugger, Result, blocked_calls, call_id_of, enabled_steps, first_world,
                             next_world, outcome, refusal, step_text)
 from model.language import Branch, Fault, WaitAny, While, read_script
 from model.modes import is_mode, slots_of
-from model.policy import Forced, decision
+from model.walks import CUT, Leaf, Run, listed, walk
 
 MOST_RUNS, MOST_FUEL = 65536, 1000000
 # Up to how many slots modes are tried one after another.
 MOST_MODES = 1000
 # Of pieces, choices that cut them, and workers; and how many workers can be asked for, though no more than 16 are there.
 MOST_PIECES, MOST_SPLIT, MOST_WORKERS, MOST_WORKERS_ASKED = 1024, 8, 16, 1000
-CUT = 'cut'
 NOT_WHOLE = 4
 NO_SUCH_STEP, NOT_STUCK, WRONG_BLOCKED = 32, 33, 34
 
 
-class Leaf(NamedTuple):
-    """Where a run ended: the numbers of the candidates that it took, its steps, its outcome, or `cut`, and the lines that explain it."""
-    choices: tuple
-    steps: tuple
-    outcome: str
-    explained: tuple = ()
-
-
-class Run(NamedTuple):
-    """A run on its way; its steps are None at the start, else (those before, the last one).
-
-    What is asleep are the matches that the walk of ends doesn't take behind it; it is None where the run has taken one of these itself.
-    """
-    world: object
-    fuel: int
-    choices: tuple = ()
-    steps: Optional[tuple] = None
-    asleep: Optional[tuple] = ()
-
-
-def taken(run, step, *choice):
-    """The run behind a step, which has a number where it was chosen among candidates."""
-    return Run(next_world(run.world, step), run.fuel - 1, run.choices + choice, (run.steps, step), run.asleep)
-
-
-def listed(steps):
-    """The steps of a run, the first one first."""
-    found = []
-    while steps is not None:
-        steps, step = steps
-        found.append(step)
-    return tuple(reversed(found))
-
-
-def followed(run):
-    """A run as far as its steps are forced and its fuel lasts, and what is decided there."""
-    while isinstance(decided := decision(run.world), Forced) and run.fuel:
-        run = taken(run, decided.step)
-    return run, decided
-
-
-def candidates(run, steps):
-    """The runs behind a choice, one after the other; each is begun when it is asked for."""
-    for number, step in enumerate(steps):
-        yield taken(run, step, number)
-
-
-def ending(decided, fuel):
-    """How a run ends where this is decided and so much fuel is left; None where it goes on."""
-    if isinstance(decided, policy.Leaf):
-        return decided.outcome
-    return None if fuel else CUT
-
-
-def leaves_behind(begun, behind):
-    """The leaves of the runs behind one, by their choices, each sought when it is asked for; `behind` gives the runs behind a choice."""
-    ahead = [iter([begun])]
-    while ahead:
-        found = next(ahead[-1], None)
-        if found is None:
-            ahead.pop()
-            continue
-        run, decided = followed(found)
-        ended = ending(decided, run.fuel)
-        if ended is None:
-            ahead.append(behind(run, decided.steps))
-        else:
-            yield Leaf(run.choices, listed(run.steps), ended)
-
-
-def walk(world, fuel):
-    """The leaves of all runs from a world, of so many steps at most."""
-    return leaves_behind(Run(world, fuel), candidates)
-
-
-# ---- the walk of ends, which takes two matches that share no call in one order alone
-
-
-def falls_asleep(step):
-    """Whether a candidate that was tried is not taken behind the later ones: a match isn't, and a wake by one of some handles is."""
-    return step.kind == 'match'
-
-
-def asleep_behind(asleep, steps):
-    """What is asleep behind each candidate of a choice: what was before it, and what was tried there; None where it sleeps itself."""
-    for step in steps:
-        yield None if asleep is None or step in asleep else asleep
-        if asleep is not None and falls_asleep(step):
-            asleep = (*asleep, step)
-
-
-def with_asleep(run, steps):
-    """The runs behind all candidates of a choice, each with what is asleep behind it."""
-    for chosen, asleep in zip(candidates(run, steps), asleep_behind(run.asleep, steps)):
-        yield chosen._replace(asleep=asleep)
-
-
-def awake(run, steps):
-    """The runs behind the candidates of a choice that aren't asleep."""
-    return (chosen for chosen in with_asleep(run, steps) if chosen.asleep is not None)
-
-
 def walk_of_ends(begun):
-    """The leaves of the runs behind one that take nothing that is asleep; none where that one has."""
-    return iter(()) if begun.asleep is None else leaves_behind(begun, awake)
+    """The leaves of the runs behind one along the wide walk with sleep sets; none where that one has taken what is asleep."""
+    return iter(()) if begun.asleep is None else (leaf for leaf in wide.ways_behind(begun) if leaf.outcome != wide.ASLEEP)
 
 
 class Report(NamedTuple):
@@ -139,17 +37,18 @@ class Report(NamedTuple):
     more: bool
 
 
-def pieces(begun, split):
-    """The runs behind one, each stopped right behind so many choices more, or at its leaf where that comes sooner, in order."""
+def pieces(begun, split, ends=False):
+    """The runs behind one, each stopped right behind so many choices more, or at its leaf where that comes sooner, in order. Those of ends go
+    along the wide walk by all candidates, and know what is asleep."""
     if not split:
         yield begun
         return
-    run, decided = followed(begun)
-    if ending(decided, run.fuel) is not None:
+    run, decided = (wide.followed_asleep if ends else walks.followed)(begun)
+    if walks.ending(decided, run.fuel) is not None:
         yield run
         return
-    for chosen in with_asleep(run, decided.steps):
-        yield from pieces(chosen, split - 1)
+    for chosen in (wide.awake_or_not if ends else walks.candidates)(run, decided.steps):
+        yield from pieces(chosen, split - 1, ends)
 
 
 def ends_part(piece, runs):
@@ -178,9 +77,9 @@ def up_to_bad(found):
     return found
 
 
-def explored(walked, runs, fuel):
+def explored(walked, runs, fuel, ends=False):
     """The report of where a debugger is, in one piece: fuel is for the steps from there, and each leaf has all steps from the start."""
-    found = part(Run(walked.world, fuel), runs)
+    found = (ends_part if ends else part)(Run(walked.world, fuel), runs)
     before = tuple(walked.steps[:walked.depth])
     return found._replace(leaves=tuple(leaf._replace(steps=before + leaf.steps) for leaf in found.leaves))
 
@@ -284,16 +183,16 @@ def has_waitany(statements):
                or isinstance(one, While) and has_waitany(one.body) for one in statements)
 
 
-def tells_all(script, mode):
-    """Whether a report where all runs are listed to their ends tells every way in which a script can end in a mode: with a wait for any of
-    some handles none does, and in a mode of slots neither."""
-    return not has_waitany(script.body) and slots_of(mode) is None
+def tells_all(script, mode, is_wide):
+    """Whether a report where all runs are listed to their ends tells every way in which a script can end in a mode: each does along the wide
+    walk, and along decisions none with a wait for any of some handles, nor in a mode of slots."""
+    return is_wide or not has_waitany(script.body) and slots_of(mode) is None
 
 
-def status_of(script, mode, found, complete):
-    """The status of a check of a script in a mode."""
+def status_of(script, mode, found, complete, is_wide):
+    """The status of a check of a script in a mode, along the wide walk or along decisions."""
     told = status(found, complete)
-    return NOT_WHOLE if told == 0 and complete and not tells_all(script, mode) else told
+    return NOT_WHOLE if told == 0 and complete and not tells_all(script, mode, is_wide) else told
 
 
 class Asked(NamedTuple):
@@ -324,6 +223,11 @@ def refused(line):
     return Result(b'', f'mpdbg: {line}\n'.encode(), 2)
 
 
+def cut_into(script, mode, asked):
+    """The pieces of a script in a mode, and one more than there may be at most."""
+    return list(islice(pieces(Run(first_world(script, mode), asked.fuel), asked.split, asked.ends), MOST_PIECES + 1))
+
+
 def reported(cut, asked):
     """The report by the pieces that a script was cut into: of all of them, or of the one that is asked for."""
     chosen = cut if asked.piece is None else [cut[asked.piece]]
@@ -345,24 +249,26 @@ def counted(found):
 
 def modes_tried(script, asked):
     """The result of a check in several modes, one after another: a line for each, up to one that is refused, and which is the first that has
-    nothing bad."""
-    lines, least, status = [], 'none', 0
+    nothing bad. Where all must be told, the report of each must be whole."""
+    lines, least, status, are_whole = [], 'none', 0, True
     for mode in (RENDEZVOUS, *(f'slots:{slots}' for slots in range(1, asked.modes + 1)), BUFFERED):
-        cut = list(islice(pieces(Run(first_world(script, mode), asked.fuel), asked.split), MOST_PIECES + 1))
+        cut = cut_into(script, mode, asked)
         if len(cut) > MOST_PIECES:
             return refused('refused 31 too-many-pieces')._replace(output=''.join(lines).encode())
-        line, bad = counted(reported(cut, asked._replace(mode=mode, piece=None)))
+        found = reported(cut, asked._replace(mode=mode, piece=None))
+        line, bad = counted(found)
         lines.append(f'{mode} {line}\n')
         least = mode if least == 'none' and not bad else least
-        status = 1 if bad else status
-    return Result(''.join([*lines, f'least {least}\n']).encode(), b'', status)
+        status, are_whole = 1 if bad else status, are_whole and is_whole(found)
+    text = ''.join([*lines, f'least {least}\n']).encode()
+    return Result(text, b'', NOT_WHOLE if status == 0 and asked.complete and not are_whole else status)
 
 
-def told(script, asked, found):
-    """The result of a check of a script that comes to a report."""
+def told(script, asked, found, is_wide):
+    """The result of a check of a script that comes to a report, along the wide walk or along decisions."""
     found = explained(script, asked.mode, found) if asked.explain else found
     text = (group_text if asked.group else report_text)(found, asked.witnesses)
-    return Result(text.encode(), b'', status_of(script, asked.mode, found, asked.complete))
+    return Result(text.encode(), b'', status_of(script, asked.mode, found, asked.complete, is_wide))
 
 
 def checked(script, asked):
@@ -371,19 +277,27 @@ def checked(script, asked):
         return refused('refused 35 bad-workers')
     if asked.modes is not None:
         return modes_tried(script, asked)
-    cut = list(islice(pieces(Run(first_world(script, asked.mode), asked.fuel), asked.split), MOST_PIECES + 1))
+    cut = cut_into(script, asked.mode, asked)
     if len(cut) > MOST_PIECES:
         return refused('refused 31 too-many-pieces')
     if asked.pieces:
         return Result(f'pieces {len(cut)}\n'.encode(), b'', 0)
     if asked.piece is not None and asked.piece >= len(cut):
         return refused(f'no piece {asked.piece} of {len(cut)}')
-    return told(script, asked, reported(cut, asked))
+    return told(script, asked, reported(cut, asked), asked.ends)
+
+
+def clash(asked):
+    """What can't stand beside `--complete`, where that is there: a piece, and how many there are, tell nothing of all runs."""
+    given = [name for name, is_given in (('--piece', asked.piece is not None), ('--pieces', asked.pieces)) if is_given]
+    return given[0] if asked.complete and given else None
 
 
 def check(text, asked):
-    """The result of a check of the text of a file, which is None where that can't be read: the mode is tested first, and no option is
-    left out."""
+    """The result of a check of the text of a file, which is None where that can't be read: whether the options can stand together is
+    tested first, then the mode, and no option is left out."""
+    if clash(asked) is not None:
+        return refused(f"--complete and {clash(asked)} can't stand together")
     if not is_mode(asked.mode):
         return BAD_MODE
     if text is None:

@@ -5,13 +5,12 @@ It was written from that page, over the debugger, the runs and the explorer of t
 
 from typing import NamedTuple, Optional
 
-from model import explorer
 from model.console_lines import has_ended, whole_text, reached
 from model.debugger import Debugger, call_word, enabled_steps, find_call, first_world, last_call, outcome, partner
 from model.explaining import next_line, plain_text
-from model.explorer import Run
 from model.modes import slots_of
-from model.run_words import run_by
+from model.run_words import follower, run_by
+from model.walks import Run, ending, listed, taken
 from model.worlds import CallId
 
 MOST_GLYPHS = 20000
@@ -310,14 +309,14 @@ def text_of(walked):
 
 # ---- runs
 
-def first_run(script, mode, fuel):
+def first_run(script, mode, fuel, ends=False):
     """The steps of the run that takes the first candidate of each choice."""
-    run = Run(first_world(script, mode), fuel)
+    run, followed = Run(first_world(script, mode), fuel), follower(ends)
     while True:
-        run, decided = explorer.followed(run)
-        if explorer.ending(decided, run.fuel) is not None:
-            return explorer.listed(run.steps)
-        run = explorer.taken(run, decided.steps[0], 0)
+        run, decided = followed(run)
+        if ending(decided, run.fuel) is not None:
+            return listed(run.steps)
+        run = taken(run, decided.steps[0], 0)
 
 
 def walk(script, mode, steps):
@@ -328,6 +327,6 @@ def walk(script, mode, steps):
     return walked
 
 
-def steps_of(script, mode, choices, fuel):
+def steps_of(script, mode, choices, fuel, ends=False):
     """The steps of the run with some choices, or with the first candidates."""
-    return first_run(script, mode, fuel) if choices is None else run_by(Run(first_world(script, mode), fuel), choices).steps
+    return first_run(script, mode, fuel, ends) if choices is None else run_by(Run(first_world(script, mode), fuel), choices, ends).steps

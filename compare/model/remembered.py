@@ -6,11 +6,14 @@ What is remembered is what functions of worlds give, which depends on nothing el
 from contextlib import ExitStack, contextmanager
 from unittest import mock
 
-from model import explorer
+from model import explorer, walks, wide
 from model.debugger import Step
 
 # So many steps of a script are remembered at most.
 MOST_REMEMBERED = 12000
+# What is remembered, of each module.
+NAMES = ((explorer, 'read_script'), (explorer, 'first_world'), (explorer, 'next_world'), (walks, 'decision'), (walks, 'next_world'),
+         (wide, 'wide_decision'))
 
 
 def remembering(function):
@@ -33,6 +36,6 @@ def remembering(function):
 def steps_remembered():
     """Has the model take a step of a script once alone, whatever number of checks have it in common."""
     with ExitStack() as stack:
-        for name in ('read_script', 'first_world', 'decision', 'next_world'):
-            stack.enter_context(mock.patch.object(explorer, name, remembering(getattr(explorer, name))))
+        for module, name in NAMES:
+            stack.enter_context(mock.patch.object(module, name, remembering(getattr(module, name))))
         yield

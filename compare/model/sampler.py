@@ -1,4 +1,4 @@
-"""Samples, in the model: runs whose choices are drawn at random, by a generator that a number seeds.
+"""Samples, in the model: runs of the wide walk whose choices are drawn at random, by a generator that a number seeds.
 
 The generator is PCG (XSL RR, 128 bits of state, 64-bit words), of which the low 32 bits of each word are taken; its seed of 32 bytes is
 made of the number by PCG (XSH RR). A number below a range is drawn by Canon's method: a word is read as a fraction of 2^32, and one more
@@ -7,7 +7,9 @@ word says whether its further digits carry.
 
 from itertools import islice
 
-from model.explorer import Leaf, Report, Run, ending, followed, is_bad, listed, taken, walk
+from model.explorer import Report, is_bad
+from model.walks import Leaf, Run, ending, listed, taken
+from model.wide import followed, wide_walk
 
 LOW_32, LOW_64, LOW_128 = (1 << 32) - 1, (1 << 64) - 1, (1 << 128) - 1
 SEED_FACTOR, SEED_STEP = 0x5851F42D4C957F2D, 0xA17654E46FBE17F3
@@ -68,4 +70,4 @@ def sampled(walked, runs, fuel, seed, until_bad=False):
             break
     before = tuple(walked.steps[:walked.depth])
     leaves = tuple(leaf._replace(steps=before + leaf.steps) for _, leaf in sorted(found.items()))
-    return Report(leaves, len(list(islice(walk(walked.world, fuel), len(leaves) + 1))) > len(leaves))
+    return Report(leaves, len(list(islice(wide_walk(walked.world, fuel), len(leaves) + 1))) > len(leaves))

@@ -1,4 +1,4 @@
-"""Reports of runs that are drawn at random, in the model: what `check --sample` may say, and what it may not.
+"""Reports of runs of the wide walk that are drawn at random, in the model: what `check --sample` may say, and what it may not.
 
 The model doesn't know the generator of a program, so it can't say which runs are drawn. What it draws itself, by a generator of Python, stands
 for a program where its faults are tried (sampled.py).
@@ -10,10 +10,12 @@ from typing import NamedTuple, Optional
 
 from model import explorer
 from model.debugger import RENDEZVOUS, Result
-from model.explorer import USUAL, Leaf, Report, Run, ending, followed, is_bad, listed, report_text, status_of, taken, walk
+from model.explorer import USUAL, Report, is_bad, report_text, status_of
 from model.files import held
 from model.report_lines import NoReport, must_be, read_report
 from model.run_words import BadChoices, run_by
+from model.walks import Leaf, Run, ending, listed, taken
+from model.wide import followed, wide_walk
 
 MOST_SEED = 18446744073709551615
 
@@ -79,12 +81,17 @@ def runs_drawn(begun, count, random, until):
 
 def is_all(begun, leaves):
     """Whether these are as many leaves as all runs have."""
-    return len(list(islice(walk(begun.world, begun.fuel), len(leaves) + 1))) == len(leaves)
+    return len(list(islice(wide_walk(begun.world, begun.fuel), len(leaves) + 1))) == len(leaves)
 
 
 def in_order(leaves):
     """The different leaves, by their choices."""
     return tuple(sorted(dict.fromkeys(leaves)))
+
+
+def status_by(asked, found):
+    """The status of a check by its report."""
+    return status_of(explorer.read_script(asked.script), asked.mode or RENDEZVOUS, found, asked.complete, is_wide=True)
 
 
 def sampled(asked):
@@ -98,7 +105,7 @@ def answer(asked):
     """What the model says to a check of a script that is one."""
     found = sampled(asked)
     text = (explorer.group_text if asked.group else report_text)(found, asked.witnesses)
-    return Result(text.encode(), b'', status_of(explorer.read_script(asked.script), asked.mode or RENDEZVOUS, found, asked.complete))
+    return Result(text.encode(), b'', status_by(asked, found))
 
 
 # ---- what must hold of a report of runs that are drawn
@@ -106,7 +113,7 @@ def answer(asked):
 def leaf_wrong(asked, begun, leaf):
     """What is wrong with a leaf of a report; None where nothing is."""
     try:
-        run = run_by(begun, leaf.choices)
+        run = run_by(begun, leaf.choices, ends=True)
     except BadChoices as bad:
         return f'{leaf.choices} is no run, by its choice {bad.place}'
     if run.outcome != leaf.outcome:
@@ -126,7 +133,7 @@ def told_in(asked, result):
     must_be(wrong is None, wrong)
     must_be(told.more != is_all(begun, told.leaves), f'more {"yes" if told.more else "no"}, and {len(told.leaves)} leaves are listed')
     must_be(not asked.until or sum(map(is_bad, told.leaves)) <= 1, 'several deadlocks or traps, though it ends behind the first')
-    status = status_of(explorer.read_script(asked.script), asked.mode or RENDEZVOUS, Report(told.leaves, told.more), asked.complete)
+    status = status_by(asked, Report(told.leaves, told.more))
     must_be(result.status == status, f'status {result.status}, wanted {status}')
     return told
 

@@ -12,29 +12,33 @@ BY_WORDS = 'called by the words of the console'
 LEFT_OUT = {
     'mpd_lines': {'run_behind': 'called by trace, plain and serve', 'push_all': 'of room that is kept, called by them'},
     'mpd_trace': {'finish': 'called by plain'},
+    'mpd_options': {'clash': 'called by check', 'word': 'called by check'},
     'mpd_rank': {'anew': 'of a record, called by a step that is taken again'},
-    'mpd_device': {'into_inner': 'of a device that fails', 'tick': 'a counter without bytes'},
+    'mpd_counter': {'tick': 'a counter without bytes'}, 'mpd_device': {'into_inner': 'of a device that fails'},
     'mpd_queue': {'disjoint': 'a law'},
-    'mpd_policy': {'decisions_can_be_followed': 'a law', 'run_on': 'called by the request run-on', **dict.fromkeys(('only_step', 'sole'), BY_WORDS)},
+    'mpd_core': {'all_ranks_are_there': 'a law'},
+    'mpd_policy': {
+        **dict.fromkeys(('decisions_can_be_followed', 'wide_decisions_can_be_followed'), 'a law'), 'run_on': 'called by the request run-on',
+        **dict.fromkeys(('only_step', 'sole'), BY_WORDS)},
     'mpd_trail': {'state_is_reached': 'a law'}, 'mpd_model': {'lines_lose_nothing': 'a law'},
     'mpd_witness': dict.fromkeys(('written_witness_is_read', 'written_witness_of_a_leaf_is_read'), 'a law'),
     'mpd_c': {'text_ends_its_last_line': 'a law'},
-    'mpd_words': {'a_run_or_a_bad_choice': 'a law'}, 'mpd_explain': {
+    'mpd_walk': {'ending_of': 'called by explore', 'is_untaken': 'called by steps_by_choices'},
+    'mpd_explore': {'witness_here': 'called by explore', 'ends_with': 'called by explore', 'ends_with_report': 'called by check'},
+    'mpd_explain': {
         'calls_name_their_statements': 'a law',
-        **dict.fromkeys(('issue_line', 'rank_line', 'push_placed', 'push_wish', 'push_helps', 'push_all_absent', 'push_told', 'requests'), BY_WORDS)},
+        **dict.fromkeys(('push_wish', 'push_helps', 'push_all_absent', 'push_told', 'requests'), BY_WORDS)},
     'mpd_session': dict.fromkeys(('debugger', 'breaks', 'lay'), BY_WORDS),
     'mpd_view': dict.fromkeys(('push_calls', 'push_enabled', 'push_history', 'push_queues', 'push_ranks', 'push_standing', 'push_step', 'push_step_line',
                                'push_why', 'push_why_rank', 'push_why_ranks', 'push_words', 'push_lost', 'push_all_lost', 'push_lost_line',
                                'lost_calls'), BY_WORDS),
-    'mpd_moves': dict.fromkeys(('doing_of', 'known_for', 'lead', 'push_break_line', 'push_reply'), BY_WORDS),
+    'mpd_moves': dict.fromkeys(('doing_of', 'known_for', 'lead_of', 'lead_text', 'push_break_line', 'push_reply'), BY_WORDS),
     'mpd_fold': {'push_folded': BY_WORDS, **dict.fromkeys(('long_lines_keep_their_words', 'long_lines_can_nowhere_be_cut'), 'a law')},
-    'mpd_search': dict.fromkeys(('seek', 'numbered_run', 'last_choice', 'name', 'push_runs', 'push_none', 'push_ahead', 'push_count', 'push_no_run', 'may_hide',
-                                 'push_no_choice'), BY_WORDS),
+    'mpd_runs': {'a_run_or_a_bad_choice': 'a law', **dict.fromkeys((
+        'seek', 'numbered_run', 'last_choice', 'name', 'push_runs', 'push_none', 'push_ahead', 'push_count', 'push_no_run', 'push_no_choice'), BY_WORDS)},
     'mpd_picture': {'arrows_are_pairs': 'a law'}, 'mpd_console': {'has_quit': 'called by the program behind a console'},
     'mpd_vocabulary': dict.fromkeys(('line_of', 'push_fault', 'push_help'), BY_WORDS),
-    'mpd_names': {
-        'bare': 'called by steps_of', 'cut': 'called by steps_of',
-        **dict.fromkeys(('find_named', 'push_break', 'push_cell_name', 'push_list', 'push_list_about', 'push_named', 'push_source', 'push_variables'), BY_WORDS)},
+    'mpd_names': dict.fromkeys(('find_named', 'issue_line', 'rank_line', 'push_placed', 'push_spaced', 'push_break', 'push_cell_name', 'push_list', 'push_list_about', 'push_named', 'push_source', 'push_variables'), BY_WORDS),
     'mpd_pieces': dict.fromkeys(('pieces_join_to_the_walk', 'each_piece_is_reached', 'no_choice_is_the_whole', 'no_more_is_the_whole'), 'a law')}
 
 
@@ -44,12 +48,13 @@ def text_of(path):
 
 
 def public_names():
-    """The crate and the name of each public function: those of types, and those of modules that others see."""
+    """The crate and the name of each public function: those of types, those of modules that others see, and those that a crate hands on."""
     for lib in sorted(glob.glob(f'{TOP}/crates/*/src/lib.rt')):
         crate, modules = lib.split('/')[-3], {'lib', *re.findall(r'^pub mod (\w+);', text_of(lib), re.M)}
+        handed_on = {name for names in re.findall(r'^pub use ([^;]*);', text_of(lib), re.M) for name in re.findall(r'\w+', names)}
         for path in glob.glob(f'{os.path.dirname(lib)}/*.rt') if crate not in NO_CALLS else ():
             is_seen = os.path.basename(path).removesuffix('.rt') in modules
-            yield from ((crate, name) for indent, name in re.findall(r'^( *)pub fn (\w+)', text_of(path), re.M) if is_seen or indent)
+            yield from ((crate, name) for indent, name in re.findall(r'^( *)pub fn (\w+)', text_of(path), re.M) if is_seen or indent or name in handed_on)
 
 
 def not_called():

@@ -3,7 +3,7 @@
 A script and an outcome have one explanation here: whatever run of the script ends so, it ends in calls that are paired in the same way.
 """
 
-from probe.call_scripts import ALL_HANG, ALONE, ASTRAY, AT_A_WAIT, BOTH_SEND, RACE, SKIPPED, TRAPS, TWO_RACES
+from probe.call_scripts import ALL_HANG, ALONE, ASTRAY, AT_A_WAIT, BOTH_SEND, BY_THE_FIRST, EARLY_OR_LATE, RACE, SKIPPED, TRAPS, TWO_RACES
 
 # Rank 0 has the message of rank 2 and wants another of it; rank 1 can't get rid of its own.
 OF_RACE = '''\
@@ -73,6 +73,17 @@ OF_ALONE = '''\
   rank 0 waits for nobody
 '''
 
+# Both messages have come, so no call is free, and none of another tag was taken.
+OF_BY_THE_FIRST = '''\
+  rank 0 waits at line 2, 0.3 recv from 1 tag 9: for a send of rank 1 with tag 9
+  rank 0 waits for rank 1 (ended)
+'''
+
+OF_EARLY_OR_LATE = '''\
+  rank 0 waits at line 2, 0.1 send to 1 tag 1 value 2: for a receive of rank 1 from rank 0 with tag 1
+  rank 0 waits for rank 1 (ended)
+'''
+
 EXPLANATIONS = {
     (RACE, 'deadlock 0.1 1.0'): OF_RACE,
     (BOTH_SEND, 'deadlock 0.0 1.0'): OF_BOTH_SEND,
@@ -81,6 +92,8 @@ EXPLANATIONS = {
     (SKIPPED, 'deadlock 0.0'): OF_SKIPPED,
     (ASTRAY, 'deadlock 0.0 1.0'): OF_ASTRAY,
     (ALONE, 'deadlock 0.0'): OF_ALONE,
+    (BY_THE_FIRST, 'deadlock 0.3'): OF_BY_THE_FIRST,
+    (EARLY_OR_LATE, 'deadlock 0.1'): OF_EARLY_OR_LATE,
     (TRAPS, 'trap 0 zero-divisor 1 zero-divisor'): '  rank 0, line 2: trap zero-divisor\n  rank 1, line 2: trap zero-divisor\n',
     (TWO_RACES, 'trap 0 assert'): '  rank 0, line 2: trap assert\n',
     (TWO_RACES, 'trap 1 assert'): '  rank 1, line 2: trap assert\n',

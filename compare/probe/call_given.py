@@ -3,8 +3,14 @@
 import sys
 from typing import NamedTuple, Optional
 
+from model import policy
 from model.debugger import RENDEZVOUS, CallId, Debugger, show, step_of, step_text
 from model.language import read_script
+
+
+def steps_in(words):
+    """Steps with a comma and a blank between two."""
+    return tuple(step_of(step.encode().split()) for step in words.split(', '))
 
 
 class Row(NamedTuple):
@@ -47,6 +53,14 @@ class Row(NamedTuple):
     def numbers(self):
         """The numbers among the words of the argument."""
         return [int(word) for word in self.argument.split() if word.isdigit()]
+
+    def has(self, word):
+        return word in self.argument.split()
+
+    def asleep(self):
+        """The steps behind the word `asleep`, the last word of the argument that is none of a step."""
+        _, _, words = self.argument.partition('asleep ')
+        return steps_in(words) if words else ()
 
     def call_id(self):
         return CallId(*map(int, self.argument.split('.')))
@@ -95,6 +109,14 @@ def world_of(row):
 
 def steps_line(word, steps):
     return line(f'{word} {", ".join(map(step_text, steps))}'.rstrip())
+
+
+def decided_text(decided):
+    if isinstance(decided, policy.Forced):
+        return line(f'forced {step_text(decided.step)}')
+    if isinstance(decided, policy.Choice):
+        return steps_line('choice', decided.steps)
+    return line(f'leaf {decided.outcome}')
 
 
 def trail_text(walked_to):

@@ -2,8 +2,8 @@
 
 from model.debugger import BUFFERED, RENDEZVOUS
 from probe.call_given import Row, no_state
-from probe.call_scripts import (ALL_HANG, ALONE, ASTRAY, AT_A_WAIT, BOTH_SEND, CHOICE, ENDLESS, MESSAGE, RACE, SKIPPED, TO_ITSELF, TRAPS, TWO_LINES, TWO_RACES,
-                                WHICHEVER)
+from probe.call_scripts import (ALL_HANG, ALONE, ASTRAY, AT_A_WAIT, BOTH_SEND, BY_THE_FIRST, CHOICE, EARLY_OR_LATE, ENDLESS, MESSAGE, ONE_CAME, RACE, SKIPPED,
+                                SLOT_HELD, TO_ITSELF, TRAPS, TWO_LINES, TWO_RACES, WHICHEVER)
 
 HANGS = (BOTH_SEND, ALL_HANG, AT_A_WAIT, SKIPPED, ASTRAY, ALONE)
 # So many of the requests are refused of what makes hundreds, or is much like another row.
@@ -39,6 +39,10 @@ def explanations():
     yield Row('explain_all', TWO_RACES, (), '9 200', most=FEW)
     yield Row('explain_all', TWO_RACES, (), '9 200 ends', most=FEW)
     yield Row('explain_all', RACE, (), '0 100', spares=True)
+    # runs that the wide walk has alone, or that have other choices there
+    for script, lines, mode, leaf in ((BY_THE_FIRST, (), RENDEZVOUS, 1), (BY_THE_FIRST, ONE_CAME, RENDEZVOUS, 1), (EARLY_OR_LATE, (), 'slots:1', 0)):
+        yield Row('explain', script, lines, f'10 100 {leaf} ends', mode)
+        yield Row('explain_all', script, lines, '10 100 ends', mode)
 
 
 def reports():
@@ -49,6 +53,10 @@ def reports():
     for beside in ('explain', 'group', 'group explain', 'ends group explain'):
         yield Row('print_explained', TWO_RACES, (), f'9 200 {beside}')
         yield Row('check_listing', TWO_RACES, (), f'2 2 3 200 {beside}', most=FEW)
+    for beside in ('explain', 'ends explain', 'ends group witnesses explain'):
+        yield Row('print_explained', BY_THE_FIRST, (), f'10 100 {beside}')
+        yield Row('check_listing', BY_THE_FIRST, (), f'2 1 10 100 {beside}', most=FEW)
+    yield Row('check_listing', EARLY_OR_LATE, (), '2 1 10 100 ends explain', 'slots:1', most=FEW)
     yield Row('print_explained', ENDLESS, (), '10 9 group')
     for mode in (RENDEZVOUS, BUFFERED, 'slots:1'):
         yield Row('check_listing', BOTH_SEND, (), '2 0 10 100 explain', mode=mode)
@@ -66,6 +74,8 @@ def samples():
         yield Row('check_sample', TWO_RACES, (), limits, most=FEW)
     for mode in (BUFFERED, 'slots:1'):
         yield Row('check_sample', BOTH_SEND, (), '2 100 3 explain', mode=mode)
+    yield Row('check_sample', BY_THE_FIRST, (), '9 100 3 explain', most=FEW)
+    yield Row('check_sample', EARLY_OR_LATE, (), '9 100 3 explain', 'slots:1', most=FEW)
 
 
 def behind_pieces():
@@ -104,6 +114,15 @@ def words():
         for argument in asked:
             yield Row('steps_by_choices', script, (), argument)
             yield Row('write_words', script, (), argument)
+    # those of a leaf of the wide walk, also of one that is left out where steps sleep; those of its own along decisions; and none of either
+    for script, mode, asked in ((BY_THE_FIRST, RENDEZVOUS, ('0,0 100 ends', '1,0 100 ends', '1,1 100 ends', '0,0 100', '1,0 100', '0,1 100 ends', '1 100 ends',
+                                                            '1 9 ends')),
+                                (EARLY_OR_LATE, 'slots:1', ('0,0 100 ends', '1 100 ends', '- 100', '- 100 ends', '0 100', '2 100 ends'))):
+        for argument in asked:
+            yield Row('steps_by_choices', script, (), argument, mode)
+            yield Row('write_words', script, (), argument, mode)
+    yield Row('steps_by_choices', BY_THE_FIRST, ONE_CAME, '1,0 100 ends')
+    yield Row('steps_by_choices', EARLY_OR_LATE, SLOT_HELD, '1 100 ends', 'slots:1')
     yield Row('steps_by_choices', RACE, CHOICE, '1 100')
     yield Row('steps_by_choices', RACE, CHOICE, '1 0')
     yield Row('write_words', BOTH_SEND, (), '- 100', mode=BUFFERED)

@@ -12,9 +12,10 @@ from model.debugger import (RENDEZVOUS, CallId, Debugger, enabled_steps, find_ca
 from model.explorer import has_waitany
 from model.language import FAULT_NAMES, Branch, Fault, While, read_script
 from probe.call_consoles import CONSOLES
-from probe.call_given import Wanted, by_hand, line, no_state, numbered, steps_line, trail_text, unchanged, walked, world_of
+from probe.call_given import Wanted, by_hand, decided_text, line, no_state, numbered, steps_line, trail_text, unchanged, walked, world_of
 from probe.call_pictures import PICTURES
 from probe.call_reports import REPORTS
+from probe.call_wide import WIDES
 
 
 # ---- scripts
@@ -334,14 +335,6 @@ def replayed(row):
     return no_state(words + trail_text(found))
 
 
-def decided_text(decided):
-    if isinstance(decided, policy.Forced):
-        return line(f'forced {step_text(decided.step)}')
-    if isinstance(decided, policy.Choice):
-        return steps_line('choice', decided.steps)
-    return line(f'leaf {decided.outcome}')
-
-
 def decided(row):
     found = walked(row)
     return unchanged(trail_text(found), decided_text(policy.decision(found.world)))
@@ -484,7 +477,7 @@ def requests_served(row):
 MODELS = {
     'mpd_script::read': read, 'mpd_script::read of all beginnings': prefixes, 'mpd_script::print': printed, 'mpd_code::lower': lowered,
     'mpd_c::print_c': printed_in_c, 'write_c': written_in_c, 'mpd_trace::read_script': script_read,
-    'mpd_code looks': code_looks, 'eval': by_hand, 'Expr::unary, element, binary': by_hand, 'numbers and names': by_hand,
+    'mpd_code looks': code_looks, 'eval': by_hand, 'Expr::unary, element, binary': by_hand, 'numbers and names': by_hand, 'words and lines': by_hand,
     'read_up_to': text_read, 'mpd_trace::read_code': code_read, 'mpd_trace::excerpt': by_hand, 'mpd_trace::allowed': by_hand,
     'Tape::filled': by_hand, 'Tape::keep_room': by_hand, 'Tape::copy': by_hand, 'Tape changes': by_hand,
     'Lists::new': by_hand, 'Lists::keep_room': by_hand, 'Lists::copy': by_hand, 'Lists changes': by_hand,
@@ -513,7 +506,7 @@ MODELS = {
     'mpd_trail::follow': replayed, 'mpd_trail::replay': replayed, 'decide': decided, 'forced_step': forced,
     'mpd_policy::run': run_by(lambda found, row: policy.run(found, breaks_of(row), row.numbers()[0])),
     'run_back': run_by(lambda found, row: policy.run_back(found, breaks_of(row))), 'Breaks': by_hand,
-    **REPORTS, **CONSOLES, **PICTURES,
+    **REPORTS, **CONSOLES, **PICTURES, **WIDES,
     'Session::start': session_started, 'Session::answer': session_answered, 'mpd_wire::parse': request_parsed,
     'mpd_wire::print': reply_printed, 'Reply::copy': reply_copied, 'same_request, same_reply': compared, 'Book::take': taken,
     'Book::new, len, audit': book_looks, 'Shared::new': shared_opened, 'Shared::call': shared_called, 'Shared::settle, code, SeatDesk': by_hand,

@@ -4,12 +4,12 @@ A call that leads a debugger may be refused memory on its way. The program of ca
 those of the run, so that the state behind is the one before; where they aren't it stays, which shows.
 """
 
-from model import policy
+from model import policy, wide
 from model.debugger import BUFFERED, step_of
 from model.picture_model import svg_of, text_of
 from probe.call_given import Row, Wanted, by_hand, line, no_state, trail_text, unchanged, walked
-from probe.call_scripts import (BOTH_CAME, BOTH_SEND, CHOICE, ENDED, ENDLESS, HELD, ISSUED, MATCHED, MEETING, MESSAGE, RACE, SENT, STUCK, TO_ITSELF, TRAPS,
-                                TWO_RACES, WHICHEVER)
+from probe.call_scripts import (BOTH_CAME, BOTH_SEND, BY_THE_FIRST, CHOICE, EARLY_OR_LATE, ENDED, ENDLESS, HELD, ISSUED, MATCHED, MEETING, MESSAGE,
+                                ONE_CAME, RACE, SENT, SLOT_HELD, STUCK, TO_ITSELF, TRAPS, TWO_RACES, WHICHEVER)
 
 # So many of the requests are refused of what makes hundreds, or is much like another row.
 FEW = 40
@@ -49,6 +49,10 @@ def leadings():
                                 (MESSAGE, SENT, 3), (ENDLESS, (), 9), (TRAPS, ('local 1',), 100)):
         yield Row('lead_first', script, lines, str(fuel))
     yield Row('lead_first', TWO_RACES, (), '200', most=FEW)
+    # along the wide walk a candidate of a waitany is taken before a match of any source, and a local step that lacks a slot before what frees one
+    for script, lines, mode in ((BY_THE_FIRST, (), 'rendezvous'), (BY_THE_FIRST, ONE_CAME, 'rendezvous'), (EARLY_OR_LATE, (), 'slots:1'),
+                                (EARLY_OR_LATE, (*SLOT_HELD, 'match 0.0 1.0', 'back'), 'slots:1'), (TWO_RACES, (), 'rendezvous')):
+        yield Row('lead_first', script, lines, '200 ends', mode, most=FEW)
     yield Row('lead_first', MESSAGE, SENT, '0', spares=True)
     # all steps, those behind others, and the first that isn't enabled
     for lines, steps in (((), ENDED), (SENT, ENDED[4:]), ((), (*MATCHED, 'local 0', 'wake 0')), (SENT, ('match 0.0 1.0', 'wake 0', 'wake 0'))):
@@ -85,11 +89,12 @@ def pictured(row):
 
 
 def led(row):
-    """So many steps of the run that takes the first candidates."""
+    """So many steps of the run that takes the first candidates, of the wide walk where `ends` is there."""
     found = walked(row)
     before = trail_text(found)
-    for _ in range(int(row.argument)):
-        decided = policy.decision(found.world)
+    decision = wide.wide_decision if row.has('ends') else policy.decision
+    for _ in range(row.numbers()[0]):
+        decided = decision(found.world)
         if isinstance(decided, policy.Leaf):
             break
         found.take(decided.step if isinstance(decided, policy.Forced) else decided.steps[0])

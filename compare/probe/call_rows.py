@@ -9,9 +9,10 @@ from probe.call_given import Row, Wanted, no_state
 from probe.call_listings import listings
 from probe.call_models import core_room
 from probe.call_pictures import pictures
-from probe.call_scripts import (BOTH_CAME, BOTH_SEND, CHANGES, CHOICE, ENDED, ENDLESS, FOUR_SETS, HELD, ISSUED, MANY, MATCHED, MEETING, MESSAGE, PAIRS, RACE,
-                                SENT, STUCK, TRAPS, TWO_LINES, TWO_RACES, WHICHEVER, WHOLE)
+from probe.call_scripts import (BOTH_CAME, BOTH_SEND, BY_THE_FIRST, CHANGES, CHOICE, EARLY_OR_LATE, ENDED, ENDLESS, FOUR_SETS, HELD, ISSUED, MANY, MATCHED,
+                                MEETING, MESSAGE, ONE_CAME, PAIRS, RACE, SENT, SLOT_HELD, STUCK, TRAPS, TWO_LINES, TWO_RACES, WHICHEVER, WHOLE)
 from probe.call_sizes import sizes
+from probe.call_wide import wides
 
 # Nothing is known of a place whose line begins with `=`, since sections do.
 MISSING = 'mpd 1;\nranks 1;\nprint 1\nprint 2;\n'
@@ -57,6 +58,7 @@ def expressions():
         yield Row('Expr::unary, element, binary', head + 'print a[0];', argument=how, by_hand=no_state(f'{value}\n'))
     # memory 6, full 4, at-start 8, no-redo 7, not-before 10, not-stuck 9, too-many-pieces 15, bad-workers 11, read-failed 11, expected 8;
     # 23, 22, 24, 25, 26, 33, 31, 35, 45 and 4
+    yield Row('words and lines', by_hand=no_state('4 17 2 3 2 14 true\n'), spares=True)
     yield Row('numbers and names', by_hand=no_state('89 268 true true true true false 2\n'), spares=True)
 
 
@@ -245,12 +247,12 @@ def reports():
     # two races of two senders: 8 runs along the choices, of which 4 end in another way than those before
     for limits in ('20 200', '4 200', '3 200', '20 12', '2 200 until', '0 200'):
         yield Row('explore', TWO_RACES, (), f'{limits} ends', most=40)
-        yield Row('explore_asleep', TWO_RACES, (), f'{limits} ends asleep match 2.0 0.0', most=40)
     # ten draws of the 8 runs, and a hundred, which have all; a seed of 64 bits; where each draw has other choices than those before
     for limits in ('10 200 1', '100 200 2', '5 12 18446744073709551615', '20 200 4 until witnesses', '0 200 0'):
         yield Row('sample', TWO_RACES, (), limits, most=40)
     yield Row('sample', RACE, (*CHOICE, 'match 1.0 0.0'), '10 100 5 witnesses')
     yield Row('sample', MANY, (), '30 1000 6', most=60)
+    yield from reports_of_ends()
     yield Row('witness_of', RACE, (), '10 100 1')
     yield Row('witness_of', RACE, CHOICE, '10 100 1')
     yield Row('witness_of', RACE, (), '10 100 0', spares=True)
@@ -263,6 +265,24 @@ def reports():
     for text in (TWO_LINES, 'leaf 0 [] done\n', TWO_LINES + 'x'):
         yield Row('read_witness', argument=text)
     yield from checks()
+
+
+# What ends otherwise along the wide walk than along decisions.
+WIDER = ((BY_THE_FIRST, RENDEZVOUS), (EARLY_OR_LATE, 'slots:1'))
+
+
+def reports_of_ends():
+    for script, mode in WIDER:
+        yield Row('explore', script, (), '10 100 ends witnesses', mode)
+        yield Row('sample', script, (), '10 100 3 witnesses', mode)
+        yield Row('print_report', script, (), '10 100 ends witnesses', mode)
+        yield Row('Report looks', script, (), '10 100 ends', mode, spares=True)
+    # of the runs of the wide walk that hang, the first: the second leaf, and the first
+    yield Row('witness_of', BY_THE_FIRST, (), '10 100 1 ends')
+    yield Row('witness_of', BY_THE_FIRST, ONE_CAME, '10 100 1 ends')
+    yield Row('witness_of', EARLY_OR_LATE, (), '10 100 0 ends', 'slots:1')
+    yield Row('witness_of', EARLY_OR_LATE, SLOT_HELD, '10 100 0 ends', 'slots:1')
+    yield Row('witness_of', BY_THE_FIRST, (), '10 100 0 ends', spares=True)
 
 
 def checks():
@@ -286,6 +306,7 @@ def checks():
     for piece in (0, 1, 2):
         yield Row('check_piece', RACE, (), f'{piece} 1 10 100 witnesses')
     yield Row('count_pieces', RACE, (), '0 1 10 100')
+    yield from checks_of_ends()
     for mode in (RENDEZVOUS, BUFFERED, 'slots:1'):
         yield Row('check_mode', BOTH_SEND, (), '2 1 10 100', mode=mode)
     yield Row('check_mode', RACE, (), '2 1 1 100 until')
@@ -293,6 +314,30 @@ def checks():
     # deadlocks that rendezvous, slots:1 and slots:2 list
     for deadlocks, status, least in (('1 0 2', 1, 'slots:1'), ('0', 0, 'rendezvous'), ('1 1', 1, 'none'), ('0 3', 1, 'rendezvous')):
         yield Row('put_least', argument=deadlocks, by_hand=no_state(f'status {status}\n', f'least {least}\n'))
+
+
+def checks_of_ends():
+    for script, mode in WIDER:
+        for choices in (0, 1, 2):
+            yield Row('split', script, (), f'{choices} 100 ends', mode)
+            yield Row('explore_by_pieces', script, (), f'{choices} 10 100 ends witnesses', mode)
+        for choices in ('-', '0', '1'):
+            yield Row('explore_at', script, (), f'{choices} 10 100 ends witnesses', mode)
+        for workers in (1, 2):
+            yield Row('mpd_pool::check', script, (), f'{workers} 1 10 100 ends witnesses', mode)
+            yield Row('mpd_check::check', script, (), f'{workers} 1 10 100 ends witnesses', mode)
+        for piece in (0, 1, 2):
+            yield Row('check_piece', script, (), f'{piece} 1 10 100 ends witnesses', mode)
+        yield Row('count_pieces', script, (), '0 1 10 100 ends', mode)
+        yield Row('check_mode', script, (), '2 1 10 100 ends', mode)
+        # a report of the runs along decisions, in which there is one piece, doesn't tell all
+        yield Row('mpd_check::check', script, (), '1 1 10 100', mode)
+    # a piece that begins where something is asleep: its last choice is taken after another that shares no call with it was tried
+    yield Row('split', TWO_RACES, (), '2 200 ends', most=40)
+    for choices in ('0,0', '1,0', '1,1', '2,0', '2,1'):
+        yield Row('explore_at', TWO_RACES, (), f'{choices} 10 200 ends', most=40)
+    yield Row('explore_by_pieces', TWO_RACES, (), '2 10 200 ends', most=40)
+    yield Row('mpd_pool::check', TWO_RACES, (), '2 2 10 200 ends', most=40)
 
 
 # Requests that lead to places of a session: at the choice of a race, with breakpoints, and with steps undone.
@@ -363,9 +408,10 @@ def programs():
     for words, told in (('check a --runs 7 --workers 3', 'check a rendezvous 7 100000 1 3 false'), ('trace a --mode b', 'trace a b'),
                         ('debug a', 'debug a rendezvous'), ('debug a --mode b --witness c', 'debug a b c'),
                         ('serve a --port 80 --clients 2', 'serve a rendezvous 80 2'), ('verify a b', 'verify a b rendezvous'),
-                        ('verify a b --leaf 7', 'verify a b rendezvous 7'), ('words a --choices 3 --fuel 9', 'words a 3 rendezvous 9'),
-                        ('c a', 'c a'), ('picture a', 'picture a rendezvous - - - 100000'),
-                        ('picture a --choices 1 --witness 2 --words 3 --fuel 4 --mode 5', 'picture a 5 1 2 3 4'),
+                        ('verify a b --leaf 7', 'verify a b rendezvous 7'), ('words a --choices 3 --fuel 9', 'words a 3 rendezvous 9 false'),
+                        ('words a --choices 3 --ends', 'words a 3 rendezvous 100000 true'), ('c a', 'c a'),
+                        ('picture a', 'picture a rendezvous - - - 100000 false'), ('picture a --ends', 'picture a rendezvous - - - 100000 true'),
+                        ('picture a --choices 1 --witness 2 --words 3 --fuel 4 --mode 5', 'picture a 5 1 2 3 4 false'),
                         ('run a', 'run a rendezvous'), ('check a --witness', 'check a rendezvous 1000 100000 1 4 true'),
                         ('check a --runs 0', 'usage false 2'), ('fly', 'usage false 2'), ('--help', 'usage true 0')):
         yield Row('read_options', argument=words, by_hand=no_state(told + '\n'))
@@ -378,5 +424,5 @@ def programs():
 
 def rows():
     """All of them."""
-    for part in (scripts, expressions, lists, boards, cores, trails, reports, listings, pictures, sessions, programs, consoles, sizes):
+    for part in (scripts, expressions, lists, boards, cores, trails, wides, reports, listings, pictures, sessions, programs, consoles, sizes):
         yield from part()

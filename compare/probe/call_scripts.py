@@ -1,4 +1,12 @@
-"""Scripts of the rows of compare/runs/refused_calls.py, and steps that lead to places of theirs."""
+"""Scripts of the rows of compare/runs/refused_calls.py, and steps that lead to places of theirs.
+
+Two of them, which end otherwise along the wide walk than along decisions, are worked out in rows/worked_wide.py: in BY_THE_FIRST rank 0 waits for any
+of a message of any source and one of rank 1, and hangs where it goes on by the first; EARLY_OR_LATE ends otherwise, in the mode slots:1,
+where the first message is received before the second is sent.
+"""
+
+from rows.worked_slots import EARLY_OR_LATE
+from rows.worked_wide import HANGS as BY_THE_FIRST
 
 # A message; two sends for one receive of any source, after which another wants that of rank 2; a status in its value's cell; requests.
 MESSAGE = 'mpd 1;\nranks 2;\nvar x;\nif rank == 0 { send 7 to 1 tag 0; } else { recv x from 0 tag 0; print x; }'
@@ -41,6 +49,9 @@ ENDED = (*MATCHED, 'wake 0', 'wake 1', 'local 1')
 CHOICE = ('local 0', 'local 0', 'local 1', 'local 1', 'local 2', 'local 2')
 STUCK = (*CHOICE, 'match 2.0 0.0', 'wake 0', 'local 0', 'wake 2')
 ISSUED = ('local 0', 'local 0', 'local 0', 'local 1', 'local 1')
+# choices of the wide walk in these two: of a request of a waitany and a match, and of a local step that lacks a slot and the match that frees one
+ONE_CAME = (*('local 0',) * 4, *('local 1',) * 3, 'match 1.0 0.1')
+SLOT_HELD = SENT
 # behind these there are four match sets, as many as the first room for them takes
 FOUR_SETS = (*(f'local {rank}' for rank in range(4) for _ in range(2)), 'match 0.0 1.0', 'match 2.0 3.0', 'wake 0', 'wake 1')
 

@@ -16,21 +16,21 @@ from places import TOP
 sys.path.append(f'{TOP}/.ci')
 sys.dont_write_bytecode = True
 
-from edit_files import BadEdit, Edit
-from planted import plant
+from edit_files import BadEdit
+import planted
 
 CRATE = 'mpd_calls'
 SOURCES = f'{TOP}/compare/probe/memory'
 # Rows of calls that were worked out by hand, which the program has too.
 DIRECT = f'{TOP}/compare/probe/direct'
 # What the calls are of, and what these stand on.
-USED = ('atomic_blocks', 'crossbeam_deque', 'mpd_device', 'mpd_model', 'mpd_queue', 'mpd_match', 'mpd_script', 'mpd_c', 'mpd_code', 'mpd_rank', 'mpd_core',
-        'mpd_trail', 'mpd_policy', 'mpd_explore', 'mpd_pieces', 'mpd_pool', 'mpd_lines', 'mpd_wire', 'mpd_session', 'mpd_shared', 'mpd_witness', 'mpd_check',
-        'mpd_trace', 'mpd_options', 'mpd_laws', 'mpd_meaning', 'mpd_complete', 'mpd_sample', 'mpd_explain', 'mpd_words', 'mpd_search', 'mpd_view', 'mpd_names',
-        'mpd_vocabulary', 'mpd_picture', 'mpd_route', 'mpd_moves', 'mpd_console', 'itoa', 'thiserror', 'rand', 'rand_core', 'rand_pcg')
+USED = ('atomic_blocks', 'crossbeam_deque', 'mpd_counter', 'mpd_device', 'mpd_model', 'mpd_queue', 'mpd_match', 'mpd_script', 'mpd_c', 'mpd_code', 'mpd_rank', 'mpd_core',
+        'mpd_trail', 'mpd_policy', 'mpd_walk', 'mpd_explore', 'mpd_pieces', 'mpd_pool', 'mpd_lines', 'mpd_wire', 'mpd_session', 'mpd_shared', 'mpd_server',
+        'mpd_witness', 'mpd_check', 'mpd_trace', 'mpd_options', 'mpd_laws', 'mpd_meaning', 'mpd_complete', 'mpd_sample', 'mpd_explain', 'mpd_runs', 'mpd_view', 'mpd_names',
+        'mpd_vocabulary', 'mpd_picture', 'mpd_moves', 'mpd_console', 'itoa', 'thiserror', 'rand', 'rand_core', 'rand_pcg')
 
 
-class Body(Edit):
+class Body(planted.Body):
     """A wrong body: an edit with its crate, the call that must show it, and what must be said of that call."""
 
     def __init__(self, path):
@@ -42,14 +42,12 @@ class Body(Edit):
             raise BadEdit('it names no row, or not what must be said of it')
 
     def reads(self, key, value):
-        if key == 'crate':
-            self.folder = f'crates/{value.strip()}'
-        elif key == 'row':
+        if key == 'row':
             self.row = value.strip()
         elif key == 'said':
             self.said = value.strip()
         else:
-            return False
+            return super().reads(key, value)
         return True
 
 
@@ -69,7 +67,7 @@ def build(out, bodies=()):
         here = os.getcwd()
         os.chdir(TOP)
         try:
-            left = plant(list(bodies), room)
+            left = planted.plant(list(bodies), room)
         finally:
             os.chdir(here)
         if left:

@@ -21,8 +21,8 @@ from places import TOP
 sys.path.append(f'{TOP}/.ci')
 sys.dont_write_bytecode = True
 
-from edit_files import BadEdit, Edit
-from planted import plant
+from edit_files import BadEdit
+from planted import InCrate, plant
 
 PROBES = 'compare/probe'
 # A batch is what the copy answers in one run, which may write 1 MiB under `rt try`.
@@ -78,18 +78,13 @@ def batches(walks):
     return found
 
 
-class Change(Edit):
+class Change(InCrate):
     """A change of a copy: the edit of a probe, or a wrong body."""
 
     def __init__(self, path):
         super().__init__('', path)
         self.name = os.path.basename(path).removesuffix('.edit')
         self.read()
-
-    def reads(self, key, value):
-        if key == 'crate':
-            self.folder = f'crates/{value.strip()}'
-        return key == 'crate'
 
 
 def make_copy(room, probe, changes):

@@ -1,5 +1,22 @@
 """Pictures that were worked out by hand from docs/PICTURES.md: for pictures.py."""
 
+from typing import NamedTuple, Optional
+
+from model.debugger import RENDEZVOUS
+from rows.examples import open_example
+
+
+class PictureRow(NamedTuple):
+    """A script, the choices of its run, or None for the first candidates, lines that its drawing has, each once or more, its text, where that
+    was worked out, the mode, and whether the run is one along the wide walk."""
+    script: bytes
+    choices: Optional[str]
+    lines: tuple
+    text: Optional[str] = None
+    mode: str = RENDEZVOUS
+    ends: bool = False
+
+
 RACE = b'''mpd 1;
 ranks 3;
 var x;
@@ -62,5 +79,53 @@ MEET_LINES = (
     '<line class="bar" x1="82" y1="200" x2="200" y2="200"/>',
     '<text class="name" x="186" y="298">zero-divisor</text>')
 
-# A script, the choices of its run, lines that its drawing has, each once or more, and its text, where that was worked out.
-ROWS = ((RACE, '', RACE_LINES, RACE_TEXT), (MEET, '', MEET_LINES, None))
+# Rank 0 sends with a slot, and rank 1 receives; then the second send comes before the match, or behind it (worked_ends.py).
+FREED_SLOT = open_example('freed_slot.mpd')
+LETTERS = '''S send, R receive, W wait, A wait for any, B barrier, o-> match, == release
+at the end: E ended, ! blocked, X trapped, V can go on
+'''
+SEND_FIRST = f'''0 1  line: call
+S |  7: 0.0 isend to 1 tag 0
+| R  11: 1.0 recv from 0 tag 0
+S |  8: 0.1 isend to 1 tag 1 free
+W |  9: 0.2 wait 1
+o->  0.0 to 1.0: 1
+! E  at the end
+{LETTERS}'''
+MATCH_FIRST = f'''0 1  line: call
+S |  7: 0.0 isend to 1 tag 0
+| R  11: 1.0 recv from 0 tag 0
+o->  0.0 to 1.0: 1
+S |  8: 0.1 isend to 1 tag 1 free
+W |  9: 0.2 wait 1
+E E  at the end
+{LETTERS}'''
+# Along decisions all calls of rank 0 come first.
+ALL_FIRST = f'''0 1  line: call
+S |  7: 0.0 isend to 1 tag 0
+S |  8: 0.1 isend to 1 tag 1 free
+W |  9: 0.2 wait 1
+| R  11: 1.0 recv from 0 tag 0
+o->  0.0 to 1.0: 1
+! E  at the end
+{LETTERS}'''
+# The second message is taken by the receive of any source before rank 0 goes on, by that request.
+ORDER_DECIDES = open_example('order_decides.mpd')
+OTHER_FIRST = f'''0 1 2  line: call
+R | |  8: 0.0 irecv from 1 tag 0
+R | |  9: 0.1 irecv from any tag 0
+A | |  10: 0.2 waitany 0 2
+| S |  13: 1.0 send to 0 tag 0
+| | S  13: 2.0 send to 0 tag 0
+<-o |  1.0 to 0.0: 1
+<---o  2.0 to 0.1: 2
+X E E  at the end
+{LETTERS}'''
+
+ROWS = (
+    PictureRow(RACE, None, RACE_LINES, RACE_TEXT), PictureRow(RACE, '0', RACE_LINES, RACE_TEXT), PictureRow(RACE, '0', RACE_LINES, RACE_TEXT, ends=True),
+    PictureRow(MEET, None, MEET_LINES), PictureRow(MEET, None, MEET_LINES, ends=True),
+    *(PictureRow(FREED_SLOT, choices, ('<title>2 ranks, slots:1, 8 steps: deadlock 0.2</title>',), ALL_FIRST, 'slots:1') for choices in (None, '')),
+    *(PictureRow(FREED_SLOT, choices, ('<title>2 ranks, slots:1, 8 steps: deadlock 0.2</title>',), SEND_FIRST, 'slots:1', True) for choices in (None, '0 0')),
+    PictureRow(FREED_SLOT, '1', ('<title>2 ranks, slots:1, 9 steps: leftovers 0.1</title>',), MATCH_FIRST, 'slots:1', True),
+    PictureRow(ORDER_DECIDES, '1 1', ('<title>3 ranks, rendezvous, 14 steps: trap 0 assert</title>',), OTHER_FIRST, ends=True))

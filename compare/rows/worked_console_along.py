@@ -12,10 +12,9 @@ stopped at a choice; next N takes one:
   2 match 3.0 1.0: rank 3, line 5, to rank 1, line 3
 > check
 1 choices 1 1: done
-2 choices 2 1: done
-2 runs, and no more (2 done)
+1 run, and no more (1 done)
 > deadlock
-no deadlock from here: 2 runs, and no more (2 done)
+no deadlock from here: 1 run, and no more (1 done)
 > next 2
 9 match 3.0 1.0: rank 3, line 5, to rank 1, line 3
 next: wake 1: line 3
@@ -222,30 +221,38 @@ depth 8
     9    isend r[1] 6 to 0 tag 2;
     5    irecv h y from any tag 2;
 > run
-2 steps, depth 10
+depth 10
 ended: done
 > history 2
-9 wakeany 0 0: line 6, by line 4, 0.0 irecv from 1 tag 1
-10 match 1.1 0.1: rank 1, line 9, to rank 0, line 5
+9 match 1.1 0.1: rank 1, line 9, to rank 0, line 5
+10 wakeany 0 0: line 6, by line 4, 0.0 irecv from 1 tag 1
 > goto 8
 depth 8
-2 ahead: wakeany 0 0: line 6, by line 4, 0.0 irecv from 1 tag 1
-    6    waitany r to i;
+2 ahead: match 1.1 0.1: rank 1, line 9, to rank 0, line 5
+    9    isend r[1] 6 to 0 tag 2;
+    5    irecv h y from any tag 2;
 > next 3
-2 steps, depth 10
+depth 10
 ended: done
 > goto 0
 depth 0
 10 ahead: local 0: line 3
     3  if rank == 0 {
-> next 9
-9 steps, depth 9
+> run 2
+2 steps, depth 2
 stopped: as many steps as were asked for
-1 ahead: match 1.1 0.1: rank 1, line 9, to rank 0, line 5
-    9    isend r[1] 6 to 0 tag 2;
+8 ahead: local 0: line 5
     5    irecv h y from any tag 2;
+> goto 0
+depth 0
+10 ahead: local 0: line 3
+    3  if rank == 0 {
+> next 9
+depth 9
+1 ahead: wakeany 0 0: line 6, by line 4, 0.0 irecv from 1 tag 1
+    6    waitany r to i;
 >
-10 match 1.1 0.1: rank 1, line 9, to rank 0, line 5
+10 wakeany 0 0: line 6, by line 4, 0.0 irecv from 1 tag 1
 ended: done
 > undo-choice
 refused: no choice was made before

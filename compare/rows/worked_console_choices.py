@@ -24,6 +24,15 @@ HANG_END = '''ended: deadlock 0.1 1.0
   rank 0 waits for rank 2 (ended)
   rank 1 waits for rank 0'''
 
+# The trap of examples/order_decides.mpd, and the choice before it.
+ORDER_TRAPS = '''ended: trap 0 assert
+  rank 0, line 11: trap assert'''
+OTHER_REQUEST = 'wakeany 0 1: line 10, by line 9, 0.1 irecv from any tag 0'
+REQUESTS_CHOICE = f'''stopped at a choice of rank 0, line 10; next N takes one:
+   10    waitany r to i;
+  1 wakeany 0 0: line 10, by line 8, 0.0 irecv from 1 tag 0
+  2 {OTHER_REQUEST}'''
+
 CHOICES = (
     Dialogue('a first run that traps, and a second one that is a deadlock', TRAP_THEN_HANG, f'''
 > check
@@ -363,19 +372,20 @@ depth 8
     9    isend r[1] 6 to 0 tag 2;
     5    irecv h y from any tag 2;
 > next
-9 wakeany 0 0: line 6, by line 4, 0.0 irecv from 1 tag 1
-next: match 1.1 0.1: rank 1, line 9, to rank 0, line 5
-    9    isend r[1] 6 to 0 tag 2;
-    5    irecv h y from any tag 2;
+9 match 1.1 0.1: rank 1, line 9, to rank 0, line 5
+next: wakeany 0 0: line 6, by line 4, 0.0 irecv from 1 tag 1
+    6    waitany r to i;
 > history 1
-9 wakeany 0 0: line 6, by line 4, 0.0 irecv from 1 tag 1
+9 match 1.1 0.1: rank 1, line 9, to rank 0, line 5
 > back
 depth 8
-1 ahead: wakeany 0 0: line 6, by line 4, 0.0 irecv from 1 tag 1
-    6    waitany r to i;
+1 ahead: match 1.1 0.1: rank 1, line 9, to rank 0, line 5
+    9    isend r[1] 6 to 0 tag 2;
+    5    irecv h y from any tag 2;
 > next 2
-2 steps, depth 10
-ended: done
+depth 9
+next: wakeany 0 0: line 6, by line 4, 0.0 irecv from 1 tag 1
+    6    waitany r to i;
 '''),
     Dialogue('a match by hand where no choice was open', 'stolen_message.mpd', '''
 > run 6
@@ -544,39 +554,39 @@ depth 9
 {STOLEN_CHOICE}
 > quit
 '''),
-    Dialogue('the first runs of many, of which one is a deadlock', RARE, '''
+    Dialogue('a deadlock beside messages whose order changes nothing', RARE, '''
 > check 7
 1 choices 1 1 1 1 1: done
-2 choices 1 1 2 1 1: done
-3 choices 1 1 2 2 1: done
-4 choices 1 2 1 1 1: done
-5 choices 1 2 1 2 1: done
-6 choices 1 2 2 1 1: done
-7 choices 2 1 1 1 1: deadlock 0.1 1.0
-7 runs, and there are more (6 done, 1 deadlock)
-> follow 2
-run 2, done, is 68 steps ahead
+2 choices 2 1 1 1 1: deadlock 0.1 1.0
+2 runs, and no more (1 done, 1 deadlock)
+> check 1
+1 choices 1 1 1 1 1: done
+1 run, and there are more (1 done)
+> follow 1
+run 1, done, is 68 steps ahead
 68 ahead: local 0: line 2
     2  if rank < 3 {
-> follow 7
-run 7, deadlock 0.1 1.0, is 65 steps ahead
+> follow 2
+run 2, deadlock 0.1 1.0, is 65 steps ahead
 65 ahead: local 0: line 2
     2  if rank < 3 {
+> follow 3
+refused: there is no such run
 > deadlock
 deadlock 0.1 1.0 is 65 steps ahead
 65 ahead: local 0: line 2
     2  if rank < 3 {
 '''),
-    Dialogue('a deadlock that the second look alone meets', RARE, '''
+    Dialogue('no more runs than are looked at, and the way to where a deadlock is decided', RARE, '''
 > trap
 no trap from here: 2 runs, and no more (1 done, 1 deadlock)
-> follow 7
+> follow 3
 refused: there is no such run
-> check 7
+> check 3
 refused: 1 to 65536 runs can be asked for
-> follow 6
-run 6, done, is 68 steps ahead
-68 ahead: local 0: line 2
+> follow 2
+run 2, deadlock 0.1 1.0, is 65 steps ahead
+65 ahead: local 0: line 2
     2  if rank < 3 {
 > deadlock
 deadlock 0.1 1.0 is 65 steps ahead
@@ -592,49 +602,211 @@ stopped at a choice; next N takes one:
   2 match 2.0 0.0: rank 2, line 3, to rank 0, line 3
   3 match 5.0 3.0: rank 5, line 6, to rank 3, line 6
   4 match 6.0 4.0: rank 6, line 6, to rank 4, line 6
-''', runs=6),
-    Dialogue('a trap that the second look alone meets', RARE_TRAP, '''
+''', runs=2),
+    Dialogue('a trap beside messages whose order changes nothing', RARE_TRAP, '''
 > trap
 trap 0 zero-divisor is 65 steps ahead
 65 ahead: local 0: line 2
     2  if rank < 3 {
 > deadlock
 no deadlock from here: 2 runs, and no more (1 done, 1 trap)
-''', runs=6),
-    Dialogue('what neither look meets, and there are more', RARE, '''
+''', runs=2),
+    Dialogue('what no run is that is looked at, and there are more', RARE, '''
 > deadlock
 no deadlock found from here: 1 run, and there are more (1 done)
 > trap
 no trap found from here: 1 run, and there are more (1 done)
-''', runs=1))
+> follow 1
+run 1, done, is 68 steps ahead
+68 ahead: local 0: line 2
+    2  if rank < 3 {
+> follow 2
+refused: there is no such run
+''', runs=1),
+    # the runs are told in worked_ends.py
+    Dialogue('a trap that another order of a match and a wait for any comes to', 'order_decides.mpd', f'''
+> check
+1 choices 1 1: done
+2 choices 2 2: trap 0 assert
+2 runs, and no more (1 done, 1 trap)
+> deadlock
+no deadlock from here: 2 runs, and no more (1 done, 1 trap)
+> trap
+trap 0 assert is 14 steps ahead
+14 ahead: local 0: line 7
+    7  if rank == 0 {{
+> redo all
+depth 14
+{ORDER_TRAPS}
+> deadlock
+no deadlock from here: 1 run, and no more (1 trap)
+> undo-choice
+depth 12
+2 ahead: {OTHER_REQUEST}
+   10    waitany r to i;
+{REQUESTS_CHOICE}
+> back 2
+depth 10
+4 ahead: match 2.0 0.1: rank 2, line 13, to rank 0, line 9
+   13    send rank to 0 tag 0;
+    9    irecv r[1] x from any tag 0;
+> check
+1 choices 1 1: done
+2 choices 2 2: trap 0 assert
+2 runs, and no more (1 done, 1 trap)
+> redo
+11 match 2.0 0.1: rank 2, line 13, to rank 0, line 9
+3 ahead: wake 2: line 13
+   13    send rank to 0 tag 0;
+> check
+1 choices 1: done
+2 choices 2: trap 0 assert
+2 runs, and no more (1 done, 1 trap)
+> follow 1
+run 1, done, is 3 steps ahead
+3 ahead: wake 2: line 13
+   13    send rank to 0 tag 0;
+> follow 2
+run 2, trap 0 assert, is 3 steps ahead
+3 ahead: wake 2: line 13
+   13    send rank to 0 tag 0;
+> follow 3
+refused: there is no such run
+> run
+1 step, depth 12
+2 ahead: {OTHER_REQUEST}
+   10    waitany r to i;
+{REQUESTS_CHOICE}
+> run
+13 {OTHER_REQUEST}
+stopped: behind the choice
+1 ahead: local 0: line 11
+   11    assert i == 0;
+> run
+1 step, depth 14
+{ORDER_TRAPS}
+'''),
+    Dialogue('a run, and a step, along those ahead, where a single candidate comes next that is another step', 'order_decides.mpd', f'''
+> trap
+trap 0 assert is 14 steps ahead
+14 ahead: local 0: line 7
+    7  if rank == 0 {{
+> run
+depth 14
+{ORDER_TRAPS}
+> goto 10
+depth 10
+4 ahead: match 2.0 0.1: rank 2, line 13, to rank 0, line 9
+   13    send rank to 0 tag 0;
+    9    irecv r[1] x from any tag 0;
+> next
+11 match 2.0 0.1: rank 2, line 13, to rank 0, line 9
+3 ahead: wake 2: line 13
+   13    send rank to 0 tag 0;
+> back
+depth 10
+4 ahead: match 2.0 0.1: rank 2, line 13, to rank 0, line 9
+   13    send rank to 0 tag 0;
+    9    irecv r[1] x from any tag 0;
+> wakeany 0 0
+11 wakeany 0 0: line 10, by line 8, 0.0 irecv from 1 tag 0
+next: local 0: line 11
+   11    assert i == 0;
+> trap
+no trap from here: 1 run, and no more (1 done)
+'''),
+    Dialogue('a deadlock, and another end where a match gives a slot back', 'freed_slot.mpd', '''
+> check
+1 choices 1 1: deadlock 0.2
+2 choices 2: leftovers 0.1
+2 runs, and no more (1 leftovers, 1 deadlock)
+> trap
+no trap from here: 2 runs, and no more (1 leftovers, 1 deadlock)
+> check 1
+1 choices 1 1: deadlock 0.2
+1 run, and there are more (1 deadlock)
+> deadlock
+deadlock 0.2 is 8 steps ahead
+8 ahead: local 0: line 6
+    6  if rank == 0 {
+> redo all
+depth 8
+ended: deadlock 0.2
+  rank 0 waits at line 9, 0.2 wait 1: for this request
+    line 8, 0.1 isend to 1 tag 1 value 2: for a receive of rank 1 from rank 0
+        with tag 1
+  rank 0 waits for rank 1 (ended)
+> words
+local 0
+local 0
+local 1
+local 1
+local 0
+local 0
+match 0.0 1.0
+wake 1
+> undo-choice
+refused: no choice was made before
+> goto 4
+depth 4
+4 ahead: local 0: line 8
+    8    isend r[1] 2 to 1 tag 1;
+> check
+1 choices 1 1: deadlock 0.2
+2 choices 2: leftovers 0.1
+2 runs, and no more (1 leftovers, 1 deadlock)
+> follow 2
+run 2, leftovers 0.1, is 5 steps ahead
+5 ahead: match 0.0 1.0: rank 0, line 7, to rank 1, line 11
+    7    isend r[0] 1 to 1 tag 0;
+   11    recv x from 0 tag 0;
+> redo
+5 match 0.0 1.0: rank 0, line 7, to rank 1, line 11
+4 ahead: local 0: line 8
+    8    isend r[1] 2 to 1 tag 1;
+> deadlock
+no deadlock from here: 1 run, and no more (1 leftovers)
+> check
+1 no choice: leftovers 0.1
+1 run, and no more (1 leftovers)
+> redo all
+depth 9
+ended: leftovers 0.1
+''', 'slots:1'),
+    Dialogue('where no slot is, and where there is one for each send', 'freed_slot.mpd', '''
+> check
+1 no choice: deadlock 0.2
+1 run, and no more (1 deadlock)
+> trap
+no trap from here: 1 run, and no more (1 deadlock)
+''', 'slots:0'),
+    Dialogue('a choice of one, which is told with its number', 'freed_slot.mpd', '''
+> check
+1 choices 1: leftovers 0.1
+1 run, and no more (1 leftovers)
+> deadlock
+no deadlock from here: 1 run, and no more (1 leftovers)
+> trap
+no trap from here: 1 run, and no more (1 leftovers)
+''', 'slots:2'))
 # What takes the model some seconds.
 ALL_RUNS = (
-    Dialogue('all runs of a race beside others', RARE, '''
-> trap
-no trap from here: 60 runs, and no more (30 done, 30 deadlock)
-> follow 60
-run 60, deadlock 0.1 1.0, is 65 steps ahead
-65 ahead: local 0: line 2
-    2  if rank < 3 {
-> follow 61
-refused: there is no such run
-'''),)
-# What the model isn't asked: more than 65,536 runs.
-MANY_RUNS = (
-    Dialogue('a deadlock behind more than 65,536 runs', RARER, '''
+    Dialogue('a deadlock beside more messages whose order changes nothing', RARER, '''
 > deadlock
 deadlock 0.1 1.0 is 143 steps ahead
 143 ahead: local 0: line 2
     2  if rank < 3 {
 > trap
 no trap from here: 2 runs, and no more (1 done, 1 deadlock)
-> follow 65536
-run 65536, done, is 146 steps ahead
-146 ahead: local 0: line 2
+> follow 2
+run 2, deadlock 0.1 1.0, is 143 steps ahead
+143 ahead: local 0: line 2
     2  if rank < 3 {
-> follow 65537
+> follow 3
 refused: there is no such run
-'''),
+'''),)
+# What the model isn't asked: more than 65,536 runs.
+MANY_RUNS = (
     Dialogue('more than 65,536 ends', MANY_ENDS, '''
 > deadlock
 no deadlock found from here: 65536 runs, and there are more (65536 done)
@@ -644,4 +816,4 @@ no trap found from here: 65536 runs, and there are more (65536 done)
 run 65536, done, is 74 steps ahead
 74 ahead: local 0: line 2
     2  if rank == 0 {
-'''))
+'''),)

@@ -515,11 +515,11 @@ ENDLESS_CHOICE = '''stopped at a choice of rank 0, line 3; next N takes one:
   2 match 2.0 0.0: rank 2, line 6, to rank 0, line 3'''
 
 NONE_FOUND = (
-    Dialogue('a wait for any: other orders may end otherwise, behind it too', 'waitany.mpd', '''
+    Dialogue('a wait for any, of which all ways to end are looked at', 'waitany.mpd', '''
 > deadlock
-no deadlock found from here: 2 runs, and no more (2 done)
+no deadlock from here: 2 runs, and no more (2 done)
 > trap
-no trap found from here: 2 runs, and no more (2 done)
+no trap from here: 2 runs, and no more (2 done)
 > follow 2
 run 2, done, is 22 steps ahead
 22 ahead: local 0: line 8
@@ -529,13 +529,45 @@ depth 22
 rank 0 prints 20 10
 ended: done
 > deadlock
-no deadlock found from here: 1 run, and no more (1 done)
+no deadlock from here: 1 run, and no more (1 done)
 '''),
+    Dialogue('a wait for any, of which one run is looked at', 'waitany.mpd', '''
+> deadlock
+no deadlock found from here: 1 run, and there are more (1 done)
+> trap
+no trap found from here: 1 run, and there are more (1 done)
+''', runs=1),
+    Dialogue('a wait for any, by which runs are cut', 'order_decides.mpd', '''
+> deadlock
+no deadlock found from here: 2 runs, and no more (2 cut)
+> trap
+no trap found from here: 2 runs, and no more (2 cut)
+> next
+1 local 0: line 7
+next: local 0: line 8
+    8    irecv r[0] x from 1 tag 0;
+> deadlock
+no deadlock from here: 2 runs, and no more (1 done, 1 trap)
+> trap
+trap 0 assert is 13 steps ahead
+13 ahead: local 0: line 8
+    8    irecv r[0] x from 1 tag 0;
+''', fuel=13),
     Dialogue('a wait for any that no rank comes to', 'mpd 2; ranks 1; var i; req r[1];\nif 1 { } else { while 1 { waitany r to i; } }\n', '''
 > deadlock
-no deadlock found from here: 1 run, and no more (1 done)
+no deadlock from here: 1 run, and no more (1 done)
 > trap
-no trap found from here: 1 run, and no more (1 done)
+no trap from here: 1 run, and no more (1 done)
+'''),
+    Dialogue('a wait for any of nothing, in no block', 'mpd 2; ranks 1; var i; req r[1];\nwaitany r to i;\n', '''
+> deadlock
+no deadlock from here: 1 run, and no more (1 done)
+> next
+1 local 0: line 2
+next: wake 0: line 2
+    2  waitany r to i;
+> trap
+no trap from here: 1 run, and no more (1 done)
 '''),
     Dialogue('a script of version 2 without one, but for a comment', 'mpd 2; ranks 1; var i; # waitany r to i;\nif 1 { } else { i = 1; }\n', '''
 > deadlock
@@ -543,11 +575,14 @@ no deadlock from here: 1 run, and no more (1 done)
 > trap
 no trap from here: 1 run, and no more (1 done)
 '''),
-    Dialogue('sends with a slot', 'head_to_head.mpd', '''
+    Dialogue('sends with a slot, which two matches give back in either order, to one end', 'head_to_head.mpd', '''
 > deadlock
-no deadlock found from here: 1 run, and no more (1 done)
+no deadlock from here: 1 run, and no more (1 done)
 > trap
-no trap found from here: 1 run, and no more (1 done)
+no trap from here: 1 run, and no more (1 done)
+> check
+1 choices 1 1: done
+1 run, and no more (1 done)
 ''', 'slots:1'),
     Dialogue('sends without any slot', 'head_to_head.mpd', '''
 > deadlock
@@ -555,7 +590,7 @@ deadlock 0.0 1.0 is 2 steps ahead
 2 ahead: local 0: line 5
     5  send rank + 10 to 1 - rank tag 5;
 > trap
-no trap found from here: 1 run, and no more (1 deadlock)
+no trap from here: 1 run, and no more (1 deadlock)
 ''', 'slots:0'),
     Dialogue('sends with buffers', 'head_to_head.mpd', '''
 > deadlock

@@ -643,9 +643,9 @@ local 1: line 5
 1 ahead: local 1: line 8
     8    recv x from 0 tag 0;
 > next
-3 local 0: line 6
-next: local 1: line 8
-    8    recv x from 0 tag 0;
+3 local 1: line 8
+next: local 0: line 6
+    6    send 7 to 1 tag 0;
 > redo
 refused: no step is ahead
 '''),

@@ -194,8 +194,7 @@ THIRD_TRAPS = '''mpd 1; ranks 4; var x;
 if rank == 0 { recv x from any tag 0; assert x == 1; recv x from 2 tag 0; recv x from 3 tag 0; }
 else { send rank to 0 tag 0; }
 '''
-# A race that is a deadlock where rank 2 is the first, beside two pairs of ranks whose four messages come in any order, which changes nothing:
-# of 60 runs the first six differ in that order alone, and the seventh is a deadlock.
+# A race that is a deadlock where rank 2 is the first, beside two pairs of ranks whose four messages come in any order, which changes nothing.
 RARE = '''mpd 1; ranks 7; var x; var i;
 if rank < 3 {
   if rank == 0 { recv x from any tag 0; recv x from 2 tag 0; } else { send rank to 0 tag 0; }

@@ -137,7 +137,7 @@ rank 0 prints 0
 23 ahead: local 0: line 2
 {TURNS_OF_TWO}
 > next 23
-23 steps, depth 25
+depth 25
 rank 0 prints 1
 rank 1 prints 10 11 -1
 rank 2 prints 20 21

@@ -1,20 +1,26 @@
 """Worked rows of checks that list ends or group their leaves, of runs by their choices, and of witnesses in whole reports.
 
-Each was worked out by hand from the rules (docs/DEFINITIONS.md, "What a walk says of all runs"; docs/FORMATS.md). compare/runs/worked.py has the
-model answer them, compare/runs/ends.py a program those of CHECKS, and compare/runs/reread.py those of WORDS and LEAVES.
+Each was worked out by hand from the rules (docs/DEFINITIONS.md, "The wide walk"; docs/FORMATS.md). compare/runs/worked.py has the model answer
+them, compare/runs/ends.py a program those of CHECKS, compare/runs/sampled.py those of SAMPLES, and compare/runs/reread.py those of WORDS and LEAVES.
 """
 
 from itertools import product
 from typing import NamedTuple, Optional
 
 from cases.rare_cases import Races
-from model.debugger import BUFFERED, RENDEZVOUS, Result
-from model.explorer import Asked
+from model import sampler, samples
+from model.debugger import BUFFERED, RENDEZVOUS, Debugger, Result
+from model.explorer import USUAL, Asked
+from model.language import read_script
 from model.run_words import WRONG_WORDS, Words
+from model.samples import Sampling
 from model.witness import LONGEST, Verification
+from rows.examples import open_example
 from rows.worked_explorer import BOTH_ANY, LOW_WANTED, OF_THREE, SIX, STUCK, TO_ITSELF, WITNESSED, CheckRow, check_problem, counting, gathering
 from rows.worked_pieces import TOO_MANY
-from rows.worked_runs import EMPTY, HEAD_TO_HEAD, ON_AND_ON, THREE
+from rows.worked_runs import EMPTY, HEAD_TO_HEAD, ON_AND_ON, THREE, UNRECEIVED
+from rows.worked_slots import EARLY_OR_LATE, FIVE
+from rows.worked_waitany import BOTH_WAIT, IN_A_LOOP, NOTHING, ONE_NOT_FOUND, STUCK_NOT_LISTED, TWO_CAME
 
 # Four races of two senders, which share nothing: 2 * 2 * 2 * 2 ends, where the 8 matches have 40,320 orders. A match of a race stands in
 # front of those of the later races, so behind each other order what was tried before sleeps, and the last of that race never comes.
@@ -35,7 +41,7 @@ BY_SENDERS = ('leaf 0 [0 0 0] done; leaf 1 [0 1 0] done; leaf 2 [1 0 0] done; le
 # Rank 3 sends to rank 1 before it sends to rank 0, so its second message comes where that of rank 2 sleeps, and is taken beside it.
 LATE = ('mpd 1; ranks 4; var x;\nif rank == 0 { recv x from any tag any; recv x from any tag any; }\nif rank == 1 { recv x from any tag any; }\n'
         'if rank == 2 { send 2 to 0 tag 0; }\nif rank == 3 { send 3 to 1 tag 0; send 3 to 0 tag 0; }')
-# Both requests are complete, and are taken in either order; a wake doesn't sleep, since what it waits for may be waited for again.
+# Both requests are complete, and are taken in either order; the first one wakes when the second is taken, and is taken behind it.
 TWO_REQUESTS = ('mpd 2; ranks 1; var i; req r[2];\n'
                 'isend r[0] 1 to 0 tag 0; isend r[1] 2 to 0 tag 0; waitany r to i; waitany r to i;')
 BY_REQUESTS = 'leaf 0 [0 0] leftovers 0.0 0.1; leaf 1 [1 0] leftovers 0.0 0.1; leaves 2 more no'
@@ -61,7 +67,7 @@ ENDED = (
     # so many ends of each piece; a piece is cut by all candidates, and may have no end
     CheckRow(TWO_RACES, ENDS._replace(pieces=True), 'pieces 4', 0), CheckRow(TWO_RACES, ENDS._replace(split=2, pieces=True), 'pieces 8', 0),
     CheckRow(TWO_RACES, ENDS._replace(piece=1), 'leaf 0 [1 0] deadlock 1.0 5.0; leaf 1 [1 1] deadlock 1.0 4.0; leaves 2 more no', 1),
-    *(CheckRow(TWO_RACES, ENDS._replace(piece=piece, complete=complete), 'leaves 0 more no', 0) for piece in (2, 3) for complete in (False, True)),
+    *(CheckRow(TWO_RACES, ENDS._replace(piece=piece), 'leaves 0 more no', 0) for piece in (2, 3)),
     *(CheckRow(TWO_RACES, ENDS._replace(split=2, piece=piece, runs=1, until=True), 'leaves 0 more no', 0) for piece in (4, 5, 6, 7)),
     CheckRow(TWO_RACES, ENDS._replace(split=2, piece=3), 'leaf 0 [1 1] deadlock 1.0 4.0; leaves 1 more no', 1),
     CheckRow(TWO_RACES, ENDS._replace(piece=4), '', 2, 'mpdbg: no piece 4 of 4'),
@@ -82,13 +88,105 @@ ENDED = (
     CheckRow(TWO_RACES, ENDS._replace(fuel=18), BY_TWO, 1),
     # in each mode
     CheckRow(TWO_RACES, ENDS._replace(mode=BUFFERED, complete=True), BY_TWO.replace('deadlock', 'leftovers'), 0),
-    CheckRow(TWO_RACES, ENDS._replace(mode='slots:1', complete=True), BY_TWO.replace('deadlock', 'leftovers'), 4),
+    CheckRow(TWO_RACES, ENDS._replace(mode='slots:1', complete=True), BY_TWO.replace('deadlock', 'leftovers'), 0),
     CheckRow(TWO_RACES, ENDS._replace(modes=0), 'rendezvous leaves 4 deadlocks 4 traps 0 cut 0 more no; '
              'buffered leaves 4 deadlocks 0 traps 0 cut 0 more no; least buffered', 1),
     # a choice among requests
     CheckRow(TWO_REQUESTS, ENDS._replace(mode=BUFFERED), BY_REQUESTS, 0),
-    CheckRow(TWO_REQUESTS, ENDS._replace(mode=BUFFERED, complete=True), BY_REQUESTS, 4),
+    CheckRow(TWO_REQUESTS, ENDS._replace(mode=BUFFERED, complete=True), BY_REQUESTS, 0),
+    CheckRow(TWO_REQUESTS, Asked(BUFFERED, complete=True), BY_REQUESTS, 4),
     CheckRow(TWO_REQUESTS, ENDS, 'leaf 0 [] deadlock 0.2; leaves 1 more no', 1))
+
+# Scripts of examples/ of which a report along decisions lacks an end, and one that lacks none.
+ORDER_DECIDES, FREED_SLOT, WAITANY = (open_example(f'{name}.mpd').decode() for name in ('order_decides', 'freed_slot', 'waitany'))
+# Forced: local 0 four times, local 1 and local 2 twice, match 1.0 0.0, which names its source, and wake 1: ten steps. Candidates:
+# 0 wakeany 0 0, 1 match 2.0 0.1.
+#   0: i is 0. A choice of one: 0 match 2.0 0.1. Wake 2. All done, behind 14 steps.
+#   1: wakeany 0 0 is asleep, and a match doesn't wake it. Wake 2. Candidates: 0 wakeany 0 0, which is asleep, 1 wakeany 0 1.
+#      1: i is 1, and the assertion traps, behind 14 steps.   Without sleep sets 0: i is 0, all done.
+# With buffers ranks 1 and 2 are woken before, and all else is the same.
+BY_ORDER = 'leaf 0 [0 0] done; leaf 1 [1 1] trap 0 assert; leaves 2 more no'
+# In slots:1 the sends of ranks 1 and 2 hold their slots, and both are woken: ten steps. Candidates: 0 match 1.0 0.0, 1 match 2.0 0.1.
+#   0: as above.   1: match 1.0 0.0 is asleep, and nothing wakes it. Candidates: 0 wakeany 0 1, 1 match 1.0 0.0.
+#      0: the assertion traps, and match 1.0 0.0 is all that is left: a dead way.   1: asleep; its waitany has two candidates.
+BY_ORDER_IN_SLOTS = 'leaf 0 [0 0 0] done; leaf 1 [0 1 1] trap 0 assert; leaves 2 more no'
+# Forced: local 0 twice, since the next one, a standard send, lacks a slot, and local 1 twice. Candidates: 0 local 0, 1 match 0.0 1.0.
+#   0: 0.1 isn't buffered. Local 0, the wait. A choice of one: 0 match 0.0 1.0. Wake 1. Deadlock, behind 8 steps.
+#   1: local 0 was asleep and wakes, since the match gives a slot back. Local 0 twice, wake 0, wake 1: 0.1 is left, behind 9 steps.
+FREED = 'leaf 0 [0 0] deadlock 0.2; leaf 1 [1] leftovers 0.1; leaves 2 more no'
+FREED_STUCK = 'local 0, local 0, local 1, local 1, local 0, local 0, match 0.0 1.0, wake 1'
+FREED_LEFT = 'local 0, local 0, local 1, local 1, match 0.0 1.0, local 0, local 0, wake 0, wake 1'
+# Matches that name their source are forced. Candidates: 0 wakeany 0 0, 1 wakeany 0 1, 2 wakeany 1 0, 3 wakeany 1 1.
+#   0, 1: rank 0 goes on, by 1 into a trap. Candidates: 0 wakeany 1 0, a trap, 1 wakeany 1 1.
+#   2, 3: both requests of rank 0 are asleep, and a step of rank 1 wakes neither: dead ways.
+BY_EACH = 'leaf 0 [0 0] trap 1 assert; leaf 1 [0 1] done; leaf 2 [1 0] trap 0 assert 1 assert; leaf 3 [1 1] trap 0 assert; leaves 4 more no'
+# The same forced steps as of ORDER_DECIDES, and the same candidates; by the second request rank 0 comes to a barrier, alone.
+BY_BARRIER = ('leaf 0 [0 0] done; leaf 1 [1 1] deadlock 0.3; witness 1: local 0, local 0, local 0, local 0, local 1, local 1, local 2, local 2, '
+              'match 1.0 0.0, wake 1, match 2.0 0.1, wake 2, wakeany 0 1, local 0, local 0; leaves 2 more no')
+IN_SLOTS = ENDS._replace(mode='slots:1')
+OF_EVERY_SCRIPT = (
+    # a waitany: what a report along decisions lacks, whatever is asked for beside it
+    *(CheckRow(ORDER_DECIDES, ENDS._replace(mode=mode, complete=complete), BY_ORDER, 1) for mode in (None, BUFFERED, 'slots:0') for complete in (False, True)),
+    *(CheckRow(ORDER_DECIDES, ENDS._replace(split=split), BY_ORDER, 1) for split in (0, 1, 2, 3, 8)),
+    CheckRow(ORDER_DECIDES, Asked(complete=True), 'leaf 0 [0 0] done; leaves 1 more no', 4),
+    CheckRow(ORDER_DECIDES, Asked(pieces=True), 'pieces 1', 0), CheckRow(ORDER_DECIDES, ENDS._replace(pieces=True), 'pieces 2', 0),
+    *(CheckRow(ORDER_DECIDES, ENDS._replace(pieces=True, split=split), 'pieces 3', 0) for split in (2, 3)),
+    CheckRow(ORDER_DECIDES, ENDS._replace(piece=1), 'leaf 0 [1 1] trap 0 assert; leaves 1 more no', 1),
+    *(CheckRow(ORDER_DECIDES, ENDS._replace(piece=1, split=split), 'leaves 0 more no', 0) for split in (2, 3)),
+    *(CheckRow(ORDER_DECIDES, ENDS._replace(runs=1, split=0, complete=complete), 'leaf 0 [0 0] done; leaves 1 more yes', status)
+      for complete, status in ((False, 0), (True, 4))),
+    CheckRow(ORDER_DECIDES, ENDS._replace(runs=1), BY_ORDER, 1), CheckRow(ORDER_DECIDES, ENDS._replace(until=True), BY_ORDER, 1),
+    CheckRow(ORDER_DECIDES, ENDS._replace(group=True), 'end 0 leaves 1 first 0 done; end 1 leaves 1 first 1 trap 0 assert; leaves 2 more no', 1),
+    *(CheckRow(ORDER_DECIDES, ENDS._replace(fuel=fuel), cut(*choices), 0) for fuel, choices in (
+        (9, ['']), (10, ['']), (11, ['0', '1']), (12, ['0', '1']), (13, ['0 0', '1 1']))),
+    CheckRow(ORDER_DECIDES, ENDS._replace(fuel=12, complete=True), cut('0', '1'), 4), CheckRow(ORDER_DECIDES, ENDS._replace(fuel=14), BY_ORDER, 1),
+    CheckRow(ORDER_DECIDES, ENDS._replace(modes=0, complete=True), 'rendezvous leaves 2 deadlocks 0 traps 1 cut 0 more no; '
+             'buffered leaves 2 deadlocks 0 traps 1 cut 0 more no; least none', 1),
+    CheckRow(ORDER_DECIDES, Asked(modes=0, complete=True), 'rendezvous leaves 1 deadlocks 0 traps 0 cut 0 more no; '
+             'buffered leaves 1 deadlocks 0 traps 0 cut 0 more no; least rendezvous', 0),
+    CheckRow(ORDER_DECIDES, IN_SLOTS, BY_ORDER_IN_SLOTS, 1), CheckRow(ORDER_DECIDES, IN_SLOTS._replace(piece=1), 'leaves 0 more no', 0),
+    *(CheckRow(ORDER_DECIDES, IN_SLOTS._replace(split=split, pieces=True), f'pieces {count}', 0) for split, count in ((1, 2), (2, 4), (3, 6), (4, 6))),
+    *(CheckRow(ORDER_DECIDES, IN_SLOTS._replace(split=split), BY_ORDER_IN_SLOTS, 1) for split in (0, 2, 3, 4)),
+    *(CheckRow(ONE_NOT_FOUND, ENDS._replace(mode=mode), BY_ORDER, 1) for mode in (RENDEZVOUS, BUFFERED)),
+    CheckRow(STUCK_NOT_LISTED, ENDS._replace(witnesses=True, complete=True), BY_BARRIER, 1),
+    # a waitany where none is lacking: all ways to end are listed
+    *(CheckRow(WAITANY, ENDS._replace(complete=complete), 'leaf 0 [0 0] done; leaf 1 [1 0] done; leaves 2 more no', 0) for complete in (False, True)),
+    CheckRow(WAITANY, Asked(complete=True), 'leaf 0 [0 0] done; leaf 1 [1 0] done; leaves 2 more no', 4),
+    CheckRow(NOTHING, ENDS._replace(complete=True), 'leaf 0 [] done; leaves 1 more no', 0),
+    CheckRow(IN_A_LOOP, ENDS._replace(complete=True), 'leaf 0 [0 0] done; leaf 1 [1 0] done; leaves 2 more no', 0),
+    CheckRow(TWO_CAME, ENDS._replace(complete=True), 'leaf 0 [0] done; leaf 1 [1] trap 0 assert; leaves 2 more no', 1),
+    CheckRow(NOTHING, ENDS._replace(modes=0, complete=True), 'rendezvous leaves 1 deadlocks 0 traps 0 cut 0 more no; '
+             'buffered leaves 1 deadlocks 0 traps 0 cut 0 more no; least rendezvous', 0),
+    # of two ranks that wait so, all requests are candidates, and those of the first sleep behind those of the second
+    *(CheckRow(BOTH_WAIT, ENDS._replace(split=split), BY_EACH, 1) for split in (0, 1, 2)), CheckRow(BOTH_WAIT, Asked(split=1, pieces=True), 'pieces 2', 0),
+    CheckRow(BOTH_WAIT, ENDS._replace(pieces=True), 'pieces 4', 0), CheckRow(BOTH_WAIT, ENDS._replace(split=2, pieces=True), 'pieces 8', 0),
+    *(CheckRow(BOTH_WAIT, ENDS._replace(piece=piece), 'leaves 0 more no', 0) for piece in (2, 3)),
+    # a slot that a match gives back
+    *(CheckRow(FREED_SLOT, IN_SLOTS._replace(split=split, complete=complete), FREED, 1) for split in (0, 1, 2) for complete in (False, True)),
+    CheckRow(FREED_SLOT, IN_SLOTS._replace(witnesses=True), FREED.replace('; leaf 1', f'; witness 0: {FREED_STUCK}; leaf 1'), 1),
+    *(CheckRow(FREED_SLOT, IN_SLOTS._replace(split=split, pieces=True), 'pieces 2', 0) for split in (1, 2)),
+    *(CheckRow(FREED_SLOT, IN_SLOTS._replace(piece=1, complete=complete), *said) for complete, said in (
+        (False, ('leaf 0 [1] leftovers 0.1; leaves 1 more no', 0)), (True, ('', 2, "mpdbg: --complete and --piece can't stand together")))),
+    CheckRow(FREED_SLOT, IN_SLOTS._replace(until=True), 'leaf 0 [0 0] deadlock 0.2; leaves 1 more yes', 1),
+    *(CheckRow(FREED_SLOT, IN_SLOTS._replace(fuel=fuel, complete=True), cut(*choices), 4) for fuel, choices in (
+        (3, ['']), (4, ['']), (5, ['0', '1']), (6, ['0', '1']), (7, ['0 0', '1']))),
+    CheckRow(FREED_SLOT, IN_SLOTS._replace(fuel=8), 'leaf 0 [0 0] deadlock 0.2; leaf 1 [1] cut; leaves 2 more no', 1),
+    CheckRow(FREED_SLOT, IN_SLOTS._replace(fuel=9), FREED, 1),
+    *(CheckRow(FREED_SLOT, ENDS._replace(mode=mode, complete=True), 'leaf 0 [] deadlock 0.2; leaves 1 more no', 1) for mode in (None, 'slots:0')),
+    *(CheckRow(FREED_SLOT, ENDS._replace(mode=mode, complete=True), 'leaf 0 [0] leftovers 0.1; leaves 1 more no', 0) for mode in ('slots:2', 'slots:65536')),
+    CheckRow(FREED_SLOT, Asked('slots:2', complete=True), 'leaf 0 [] leftovers 0.1; leaves 1 more no', 4),
+    CheckRow(FREED_SLOT, ENDS._replace(mode=BUFFERED, complete=True), 'leaf 0 [] leftovers 0.1; leaves 1 more no', 0),
+    CheckRow(FREED_SLOT, ENDS._replace(modes=2, complete=True), 'rendezvous leaves 1 deadlocks 1 traps 0 cut 0 more no; '
+             'slots:1 leaves 2 deadlocks 1 traps 0 cut 0 more no; slots:2 leaves 1 deadlocks 0 traps 0 cut 0 more no; '
+             'buffered leaves 1 deadlocks 0 traps 0 cut 0 more no; least slots:2', 1),
+    CheckRow(EARLY_OR_LATE, IN_SLOTS._replace(complete=True), 'leaf 0 [0 0] deadlock 0.1; leaf 1 [1] leftovers 0.1; leaves 2 more no', 1),
+    # a send that lacks a slot is a choice of one where nothing else is enabled
+    CheckRow(FIVE, ENDS._replace(mode='slots:3'), 'leaf 0 [0] deadlock 0.3; leaves 1 more no', 1),
+    CheckRow(FIVE, ENDS._replace(mode='slots:5', complete=True), 'leaf 0 [] leftovers 0.0 0.1 0.2 0.3 0.4; leaves 1 more no', 0),
+    # in each mode of slots all ways to end are listed
+    *(CheckRow(EMPTY, ENDS._replace(mode=mode, complete=True), 'leaf 0 [] done; leaves 1 more no', 0) for mode in ('slots:0', 'slots:1', 'slots:65536')),
+    CheckRow(UNRECEIVED, IN_SLOTS._replace(complete=True), 'leaf 0 [] leftovers 0.0; leaves 1 more no', 0),
+    CheckRow(UNRECEIVED, IN_SLOTS._replace(fuel=1, complete=True), 'leaf 0 [] cut; leaves 1 more no', 4))
 
 GROUPED = (
     CheckRow(THREE, Asked(group=True), 'end 0 leaves 1 first 0 done; end 1 leaves 1 first 1 deadlock 0.1 1.0; leaves 2 more no', 1),
@@ -114,7 +212,37 @@ GROUPED = (
     CheckRow(TWO_RACES, Asked(group=True, modes=0), 'rendezvous leaves 8 deadlocks 8 traps 0 cut 0 more no; '
              'buffered leaves 8 deadlocks 0 traps 0 cut 0 more no; least buffered', 1))
 
-CHECKS = ENDED + GROUPED
+CHECKS = ENDED + OF_EVERY_SCRIPT + GROUPED
+
+
+class SampleRow(NamedTuple):
+    """A script, a mode, and the lines of a report of so many runs that are drawn that each run of the wide walk is among them, with its status."""
+    script: str
+    mode: Optional[str]
+    lines: str
+    status: int
+    complete: bool = False
+    group: bool = False
+    witnesses: bool = False
+
+    def case(self):
+        """A check of so many runs that by nearly all seeds each is drawn: one in four or more comes to the rarest."""
+        return Sampling('row', self.script.encode(), 60, 7, self.mode, witnesses=self.witnesses, complete=self.complete, group=self.group)
+
+    def wanted(self):
+        return Result(''.join(f'{line}\n' for line in self.lines.split('; ')).encode(), b'', self.status)
+
+
+# The runs of the wide walk without sleep sets, which are told above.
+ALL_BY_ORDER = 'leaf 0 [0 0] done; leaf 1 [1 0] done; leaf 2 [1 1] trap 0 assert; leaves 3 more no'
+SAMPLES = (
+    *(SampleRow(ORDER_DECIDES, mode, ALL_BY_ORDER, 1, complete) for mode in (None, BUFFERED) for complete in (False, True)),
+    SampleRow(ORDER_DECIDES, None, 'end 0 leaves 2 first 0 done; end 1 leaves 1 first 2 trap 0 assert; leaves 3 more no', 1, group=True),
+    *(SampleRow(FREED_SLOT, 'slots:1', FREED, 1, complete) for complete in (False, True)),
+    SampleRow(FREED_SLOT, 'slots:1', FREED.replace('; leaf 1', f'; witness 0: {FREED_STUCK}; leaf 1'), 1, witnesses=True),
+    SampleRow(FREED_SLOT, 'slots:2', 'leaf 0 [0] leftovers 0.1; leaves 1 more no', 0, complete=True),
+    *(SampleRow(WAITANY, None, 'leaf 0 [0 0] done; leaf 1 [1 0] done; leaves 2 more no', 0, complete) for complete in (False, True)),
+    SampleRow(EMPTY, 'slots:1', 'leaf 0 [] done; leaves 1 more no', 0, complete=True))
 # What takes the model long, and is asked of programs alone: all orders of the matches of four races, one more race, and all four in pieces
 # of which most have no end.
 LONG_CHECKS = (
@@ -126,7 +254,8 @@ LONG_CHECKS = (
 
 
 class WordsRow(NamedTuple):
-    """A script (None: no file), choices, the steps of their run, or what is said on standard error, and its status; a mode, and fuel."""
+    """A script (None: no file), choices, the steps of their run, or what is said on standard error, and its status; a mode, fuel, and whether
+    the choices are along the wide walk."""
     script: Optional[str]
     choices: str
     steps: str
@@ -134,9 +263,10 @@ class WordsRow(NamedTuple):
     mode: Optional[str] = None
     fuel: Optional[int] = None
     status: int = 2
+    ends: bool = False
 
     def case(self):
-        return Words(None if self.script is None else self.script.encode(), self.choices, self.mode, self.fuel)
+        return Words(None if self.script is None else self.script.encode(), self.choices, self.mode, self.fuel, ends=self.ends)
 
     def wanted(self):
         if self.errors:
@@ -149,6 +279,19 @@ def bad(script, choices, place, **more):
     return WordsRow(script, choices, '', f'bad choices at {place}', **more)
 
 
+def along(script, choices, steps, **more):
+    """A row of a run along the wide walk."""
+    return WordsRow(script, choices, steps, ends=True, **more)
+
+
+def bad_along(script, choices, place, **more):
+    """A row of choices that no run along the wide walk has."""
+    return bad(script, choices, place, ends=True, **more)
+
+
+# The ten steps of ORDER_DECIDES that are forced.
+UP_TO_ORDER = 'local 0, local 0, local 0, local 0, local 1, local 1, local 2, local 2, match 1.0 0.0, wake 1'
+FIRST_ORDER = f'{UP_TO_ORDER}, wakeany 0 0, local 0, match 2.0 0.1, wake 2'
 FIRST_OF_THREE = f'{SIX}, match 1.0 0.0, wake 0, local 0, wake 1, match 2.0 0.1, wake 0, wake 2'
 ROUND = 'local 0, local 0, local 0, match 0.{} 0.{}, wake 0'
 WORDS = (
@@ -172,6 +315,27 @@ WORDS = (
     # runs that sleep are runs, too
     WordsRow(TWO_RACES, '2 0',
              ', '.join([*(f'local {rank}, local {rank}' for rank in range(6)), 'match 4.0 3.0, wake 3, wake 4, match 1.0 0.0, wake 0, wake 1'])),
+    # along the wide walk, and the same choices along decisions; where neither a waitany nor a slot is, both are the same
+    along(ORDER_DECIDES, '0 0', FIRST_ORDER), WordsRow(ORDER_DECIDES, '0 0', FIRST_ORDER),
+    along(ORDER_DECIDES, '1 1', f'{UP_TO_ORDER}, match 2.0 0.1, wake 2, wakeany 0 1, local 0'), bad(ORDER_DECIDES, '1 1', 0),
+    along(ORDER_DECIDES, ' 1  01', f'{UP_TO_ORDER}, match 2.0 0.1, wake 2, wakeany 0 1, local 0'),
+    along(ORDER_DECIDES, '1 0', f'{UP_TO_ORDER}, match 2.0 0.1, wake 2, wakeany 0 0, local 0'), bad(ORDER_DECIDES, '1 0', 0),
+    *(bad_along(ORDER_DECIDES, choices, place) for choices, place in (
+        ('', 0), ('0', 1), ('1', 1), ('2', 0), ('0 1', 1), ('1 2', 1), ('0 0 0', 2), ('1 1 0', 2))),
+    along(ORDER_DECIDES, '1', f'{UP_TO_ORDER}, match 2.0 0.1', fuel=11), along(ORDER_DECIDES, '1', f'{UP_TO_ORDER}, match 2.0 0.1, wake 2', fuel=12),
+    along(ORDER_DECIDES, '', UP_TO_ORDER, fuel=10), bad_along(ORDER_DECIDES, '1', 0, fuel=10), bad_along(ORDER_DECIDES, '1 1', 1, fuel=12),
+    along(FREED_SLOT, '0 0', FREED_STUCK, mode='slots:1'), along(FREED_SLOT, '1', FREED_LEFT, mode='slots:1'),
+    WordsRow(FREED_SLOT, '', 'local 0, local 0, local 0, local 0, local 1, local 1, match 0.0 1.0, wake 1', mode='slots:1'),
+    *(bad(FREED_SLOT, choices, 0, mode='slots:1') for choices in ('1', '0', '0 0')),
+    *(bad_along(FREED_SLOT, choices, place, mode='slots:1') for choices, place in (('', 0), ('0', 1), ('0 1', 1), ('1 0', 1), ('2', 0))),
+    along(FREED_SLOT, '1', 'local 0, local 0, local 1, local 1, match 0.0 1.0', mode='slots:1', fuel=5),
+    along(FREED_SLOT, '0', 'local 0, local 0, local 1, local 1, local 0, local 0', mode='slots:1', fuel=6),
+    along(FREED_SLOT, '', 'local 0, local 0, local 0, local 0, local 1, local 1, match 0.0 1.0, wake 1'), bad_along(FREED_SLOT, '1', 0),
+    along(FREED_SLOT, '0', 'local 0, local 0, local 0, local 0, local 1, local 1, wake 0, match 0.0 1.0, wake 1', mode='slots:2'),
+    along(THREE, '1', STUCK), along(THREE, '0', FIRST_OF_THREE), bad_along(THREE, '2', 0), along(EMPTY, '', ''),
+    along(TWO_REQUESTS, '1 0', 'local 0, local 0, local 0, wakeany 0 1, local 0, wakeany 0 0', mode=BUFFERED),
+    along(BOTH_WAIT, '2 0', 'local 0, local 0, local 0, local 1, local 1, local 1, match 0.0 0.1, match 1.0 1.1, wakeany 1 0, local 1, wakeany 0 0, local 0'),
+    bad(BOTH_WAIT, '2 0', 0), WordsRow(None, '0', '', 'bad mode', mode='fast', ends=True), WordsRow(None, '9', '', 'device', status=3, ends=True),
     # the mode comes before the file, that before the script, and that before the choices
     WordsRow(THREE, '2', '', 'bad mode', mode='fast'), WordsRow(None, '0', '', 'bad mode', mode='fast'), WordsRow(None, '9', '', 'device', status=3),
     WordsRow('mpd 1;ranks 1;print', '9', '', 'script refused 4 expected at 19 line 1'))
@@ -190,7 +354,9 @@ MISTAKES = (('--choices', '0,1'), ('--choices', 'x'), ('--choices', '-1'), ('--c
             ('--choices', '0 0000000000'), ('--choices', '[0]'), ('--choices', '0.0'), ('--choices', '0\t0'), ('--choices', '0\n'), (),
             ('--choices',), ('--choices', '0', '--choices', '0'), ('--choices', '0', '--fuel', '0'), ('--choices', '0', '--fuel', '1000001'),
             ('--choices', '0', '--fuel', 'x'),
-            ('--choices', '0', '--runs', '5'), ('--choices', '0', '--witness'), ('--choices', '0', 'more'), ('--choices', '0', '1'))
+            ('--choices', '0', '--runs', '5'), ('--choices', '0', '--witness'), ('--choices', '0', 'more'), ('--choices', '0', '1'), ('--ends',),
+            ('--choices', '0', '--ends', '--ends'), ('--choices', '0', '--ends=1'), ('--choices', '0', '--ends='), ('--choices', '0', '--end'),
+            ('--choices', '--ends'))
 
 
 class LeafRow(NamedTuple):
@@ -268,9 +434,17 @@ def said_problem(row):
     return None if said == wanted else f'{said}'
 
 
+def sample_problem(row):
+    """What is listed of runs that are drawn otherwise than a row wants, by either generator; None where nothing is."""
+    asked, script = row.case(), read_script(row.script.encode())
+    said, drawn = samples.answer(asked), sampler.sampled(Debugger(script, row.mode or RENDEZVOUS), asked.count, USUAL.fuel, asked.seed)
+    return None if (said, drawn) == (row.wanted(), samples.sampled(asked)) else f'{said}, or {drawn}'
+
+
 def problems():
     """The name of each row, with what is wrong in it, or None."""
     return ([(f'check {row.script} {row.asked}', check_problem(row)) for row in CHECKS]
+            + [(f'sample of {row.script} {row.mode}', sample_problem(row)) for row in SAMPLES]
             + [(f'words {row.script} {row.choices!r} {row.mode} {row.fuel}', said_problem(row)) for row in WORDS]
             + [(f'verify {row.script} --leaf {row.leaf}: {row.text[:300]!r}', said_problem(row)) for row in LEAVES]
             + [(f'choices {words}', None if Words(b'', words[1]).wanted() == WRONG_WORDS else 'they are choices') for words in MISTAKES[:11]

@@ -34,6 +34,8 @@ EIGHT = ('mpd 1; ranks 3; var x; var i;\n'
 JUST, ONE_MORE = FOURS.replace('RANKS', '5'), FOURS.replace('RANKS', '6')
 
 BAD_WORKERS, TOO_MANY = 'mpdbg: refused 35 bad-workers', 'mpdbg: refused 31 too-many-pieces'
+# What a piece, and how many there are, can't stand beside.
+NOT_A_PIECE, NOT_PIECES = (f"mpdbg: --complete and {option} can't stand together" for option in ('--piece', '--pieces'))
 
 
 def refused(script, asked, line):
@@ -74,8 +76,8 @@ NUMBERS = (
     CheckRow(ON_AND_ON, Asked(fuel=5, split=8, pieces=True), 'pieces 1', 0), CheckRow(TO_ITSELF, Asked(fuel=14, split=2, pieces=True), 'pieces 1', 0),
     # without another number of choices, one; limits of runs, witnesses and what is found have no part in it
     CheckRow(BY_FIRST, Asked(pieces=True), 'pieces 3', 0),
-    CheckRow(BY_FIRST, Asked(BUFFERED, 1, 100, True, True, 2, 16, True, pieces=True), 'pieces 4', 0),
-    CheckRow(THREE, Asked(BUFFERED, complete=True, runs=1, split=0, pieces=True), 'pieces 1', 0),
+    CheckRow(BY_FIRST, Asked(BUFFERED, 1, 100, True, False, 2, 16, True, pieces=True), 'pieces 4', 0),
+    CheckRow(THREE, Asked(BUFFERED, runs=1, split=0, pieces=True), 'pieces 1', 0),
     CheckRow(THREE, Asked(pieces=True, piece=1), 'pieces 2', 0), CheckRow(THREE, Asked(pieces=True, piece=9), 'pieces 2', 0),
     # fifteen senders, two choices and three; 4 * 4 * 4 * 4 * 4 pieces, and one more
     CheckRow(SIXTEEN, Asked(pieces=True), 'pieces 15', 0), CheckRow(SIXTEEN, Asked(split=2, pieces=True), 'pieces 225', 0),
@@ -121,8 +123,7 @@ PARTS = (
     CheckRow(THREE, Asked(piece=0, split=0, witnesses=True), WITNESSED, 1),
     CheckRow(BY_FIRST, Asked(piece=0), 'leaf 0 [0 0 0] done; leaf 1 [0 1 0] done; leaves 2 more no', 0),
     CheckRow(BY_FIRST, Asked(piece=0, runs=1), 'leaf 0 [0 0 0] done; leaves 1 more yes', 0),
-    CheckRow(BY_FIRST, Asked(piece=0, runs=1, complete=True), 'leaf 0 [0 0 0] done; leaves 1 more yes', 4),
-    CheckRow(BY_FIRST, Asked(piece=2, runs=1, complete=True), 'leaf 0 [2] leftovers 1.0 2.0; leaves 1 more no', 0),
+    CheckRow(BY_FIRST, Asked(piece=2, runs=1), 'leaf 0 [2] leftovers 1.0 2.0; leaves 1 more no', 0),
     CheckRow(BY_FIRST, Asked(piece=1, split=2, workers=16), 'leaf 0 [0 1 0] done; leaves 1 more no', 0),
     CheckRow(SIXTEEN, Asked(piece=224, split=2), LAST_OF_SIXTEEN, 1),
     CheckRow(JUST, Asked(piece=1023, split=5), f'leaf 0 [3 3 3 3 3] leftovers {of_five(1, 2, 3)}; leaves 1 more no', 0),
@@ -164,6 +165,10 @@ UNTIL = (
     CheckRow(EMPTY, Asked(until=True), 'leaf 0 [] done; leaves 1 more no', 0))
 
 ORDER = (
+    # what can't stand together comes before all else, of modes that are tried in turn too, and a piece before how many there are
+    refused(THREE, Asked(complete=True, piece=0), NOT_A_PIECE), refused(THREE, Asked(complete=True, pieces=True), NOT_PIECES),
+    refused(THREE, Asked(complete=True, piece=9, pieces=True), NOT_A_PIECE), refused(None, Asked('fast', workers=0, complete=True, pieces=True), NOT_PIECES),
+    refused(SIXTEEN, Asked(complete=True, split=3, piece=300, modes=2), NOT_A_PIECE), refused(EMPTY, Asked(complete=True, pieces=True, modes=0), NOT_PIECES),
     # 1 to 16 workers
     *(refused(THREE, Asked(workers=workers), BAD_WORKERS) for workers in (0, 17, 18, 100, 1000)),
     CheckRow(THREE, Asked(workers=16), OF_THREE, 1), CheckRow(THREE, Asked(workers=1), OF_THREE, 1),

@@ -9,7 +9,7 @@ from model.debugger import BUFFERED, RENDEZVOUS
 from model.explorer import Asked
 from model.modes import is_mode, slots_of
 from rows.worked_explorer import CheckRow, ToldRow, WitnessRow
-from rows.worked_runs import EMPTY, HEAD_TO_HEAD, RunRow, UNRECEIVED
+from rows.worked_runs import EMPTY, HEAD_TO_HEAD, ON_AND_ON, RunRow, UNRECEIVED
 from rows.worked_sessions import ENABLED, RUN, STATE, Dialogue, deep, no, ran, step
 from rows.worked_traces import Row, Trace
 
@@ -33,6 +33,9 @@ WAITED_FOR = 'mpd 2; ranks 1; var i; req r[2];\nisend r[0] 1 to 0 tag 0;\nisend 
 SYNCHRONOUS_FIRST = 'mpd 1; ranks 1; req r;\nissend r 1 to 0 tag 0;\nsend 2 to 0 tag 0;'
 # A rank that sends to itself and never receives.
 FIVE = 'mpd 1; ranks 1; var i;\nwhile i < 5 { send i to 0 tag 0; i = i + 1; }'
+# Without buffers rank 1 comes to its second send behind the first receive of rank 0, which so has one candidate; with them there are two.
+CHOICE_IF_BUFFERED = ('mpd 1; ranks 3; var x;\nif rank == 0 { recv x from any tag any; recv x from any tag any; }\n'
+                      'if rank == 1 { send 1 to 2 tag 0; send 1 to 0 tag 0; }\nif rank == 2 { send 2 to 0 tag 0; recv x from 1 tag 0; }')
 # What ends otherwise where the first message is received before the second is sent.
 EARLY_OR_LATE = 'mpd 1; ranks 2; var x; req r;\nif rank == 0 { isend r 1 to 1 tag 0; send 2 to 1 tag 1; } else { recv x from 0 tag 0; }'
 # The same, where a report lists no run that traps.
@@ -193,11 +196,22 @@ CHECKS = (
     CheckRow(EMPTY, Asked(modes=0), told_of((RENDEZVOUS, 0), (BUFFERED, 0), least=RENDEZVOUS), 0),
     CheckRow(HEAD_TO_HEAD, Asked(modes=0), told_of((RENDEZVOUS, 1), (BUFFERED, 0), least=BUFFERED), 1),
     CheckRow(HEAD_TO_HEAD, Asked(modes=2), told_of((RENDEZVOUS, 1), ('slots:1', 0), ('slots:2', 0), (BUFFERED, 0), least='slots:1'), 1),
-    CheckRow(THREE_SENDS, Asked(BUFFERED, modes=3, pieces=True, piece=9, witnesses=True, complete=True),
+    CheckRow(THREE_SENDS, Asked(BUFFERED, modes=3, pieces=True, piece=9, witnesses=True),
              told_of((RENDEZVOUS, 1), ('slots:1', 1), ('slots:2', 0), ('slots:3', 0), (BUFFERED, 0), least='slots:2'), 1),
     CheckRow(FIVE, Asked(modes=1), told_of((RENDEZVOUS, 1), ('slots:1', 1), (BUFFERED, 0), least=BUFFERED), 1),
     CheckRow(UNRECEIVED.replace('send', 'ssend'), Asked(modes=1), told_of((RENDEZVOUS, 1), ('slots:1', 1), (BUFFERED, 1), least='none'), 1),
     CheckRow(HEAD_TO_HEAD, Asked('fast', modes=2), '', 2, 'mpdbg: bad mode'),
+    # where all must be told the report of each mode must be whole, and no more; something bad in one of them comes first
+    CheckRow(EMPTY, Asked(modes=2, complete=True), told_of((RENDEZVOUS, 0), ('slots:1', 0), ('slots:2', 0), (BUFFERED, 0), least=RENDEZVOUS), 0),
+    CheckRow(HEAD_TO_HEAD, Asked(modes=0, complete=True), told_of((RENDEZVOUS, 1), (BUFFERED, 0), least=BUFFERED), 1),
+    *(CheckRow(ON_AND_ON, Asked(modes=0, fuel=5, complete=complete), 'rendezvous leaves 1 deadlocks 0 traps 0 cut 1 more no; '
+               'buffered leaves 1 deadlocks 0 traps 0 cut 1 more no; least rendezvous', status) for complete, status in ((False, 0), (True, 4))),
+    *(CheckRow(CHOICE_IF_BUFFERED, Asked(modes=0, runs=1, split=0, complete=complete), 'rendezvous leaves 1 deadlocks 0 traps 0 cut 0 more no; '
+               'buffered leaves 1 deadlocks 0 traps 0 cut 0 more yes; least rendezvous', status) for complete, status in ((False, 0), (True, 4))),
+    CheckRow(CHOICE_IF_BUFFERED, Asked(modes=0, runs=2, split=0, complete=True), 'rendezvous leaves 1 deadlocks 0 traps 0 cut 0 more no; '
+             'buffered leaves 2 deadlocks 0 traps 0 cut 0 more no; least rendezvous', 0),
+    CheckRow(UNRECEIVED, Asked(modes=0, fuel=1, complete=True), 'rendezvous leaves 1 deadlocks 1 traps 0 cut 0 more no; '
+             'buffered leaves 1 deadlocks 0 traps 0 cut 1 more no; least buffered', 1),
     # a synchronous send in front takes no slot
     CheckRow(SYNCHRONOUS_FIRST, Asked('slots:1'), 'leaf 0 [] leftovers 0.0 0.1; leaves 1 more no', 0),
     CheckRow(SYNCHRONOUS_FIRST, Asked('slots:0'), 'leaf 0 [] deadlock 0.1; leaves 1 more no', 1),
@@ -207,7 +221,7 @@ CHECKS = (
     CheckRow(FIVE, Asked('slots:4'), 'leaf 0 [] deadlock 0.4; leaves 1 more no', 1),
     *(CheckRow(FIVE, Asked(word), FIVE_LEFT, 0) for word in (
         'slots:5', 'slots:10', 'slots:00010', 'slots:30000', 'slots:65535', 'slots:65536', BUFFERED)),
-    # no report tells every way to end, whatever the number of slots, and whatever is listed but what is bad
+    # no report along decisions tells every way to end, whatever the number of slots, and whatever is listed but what is bad
     *(CheckRow(EMPTY, Asked(word, complete=True), ENDED, 4) for word in ('slots:0', 'slots:1', 'slots:65536')),
     *(CheckRow(EMPTY, Asked(word, complete=True), ENDED, 0) for word in (RENDEZVOUS, BUFFERED)), CheckRow(EMPTY, Asked('slots:1'), ENDED, 0),
     CheckRow(FIVE, Asked('slots:5', complete=True), FIVE_LEFT, 4),
@@ -215,8 +229,8 @@ CHECKS = (
     CheckRow(UNRECEIVED, Asked('slots:0', complete=True), 'leaf 0 [] deadlock 0.0; leaves 1 more no', 1),
     CheckRow(UNRECEIVED, Asked('slots:1', fuel=1, complete=True), 'leaf 0 [] cut; leaves 1 more no', 4),
     CheckRow(UNRECEIVED, Asked('slots:1', fuel=1), 'leaf 0 [] cut; leaves 1 more no', 0),
-    CheckRow(UNRECEIVED, Asked('slots:1', complete=True, pieces=True), 'pieces 1', 0),
-    CheckRow(UNRECEIVED, Asked('slots:1', complete=True, piece=0), 'leaf 0 [] leftovers 0.0; leaves 1 more no', 4),
+    CheckRow(UNRECEIVED, Asked('slots:1', pieces=True), 'pieces 1', 0),
+    CheckRow(UNRECEIVED, Asked('slots:1', piece=0), 'leaf 0 [] leftovers 0.0; leaves 1 more no', 0),
     # an end that is not listed, where something bad is, and where nothing is
     CheckRow(EARLY_OR_LATE, Asked('slots:1', complete=True), 'leaf 0 [] deadlock 0.1; leaves 1 more no', 1),
     CheckRow(NOT_LISTED, Asked('slots:1', complete=True), 'leaf 0 [0] done; leaves 1 more no', 4),

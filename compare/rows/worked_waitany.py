@@ -249,14 +249,16 @@ CHECKS = (
     CheckRow(STUCK_BEHIND, Asked(witnesses=True), f'leaf 0 [0] done; leaf 1 [1] deadlock 0.3; witness 1: {STUCK}; leaves 2 more no', 1),
     CheckRow(ONLY_SENDS, Asked(), 'leaf 0 [] deadlock 0.2; leaves 1 more no', 1),
     CheckRow(ONLY_SENDS, Asked(BUFFERED), 'leaf 0 [0] leftovers 0.0 0.1; leaves 1 more no', 0),
-    # a wait for any goes on before a message of any source is taken: that the other one comes first is not found
+    # a wait for any goes on before a message of any source is taken: that the other one comes first is not found (but with --ends: worked_ends.py)
     *(CheckRow(ONE_NOT_FOUND, Asked(mode), 'leaf 0 [0 0] done; leaves 1 more no', 0) for mode in (RENDEZVOUS, BUFFERED)),
-    # with such a wait in the script, in a block too, no report tells every way to end; a text of version 2 may be without
+    # with such a wait in the script, in a block too, no report along decisions tells every way to end; a text of version 2 may be without
     *(CheckRow(script, Asked(complete=True), 'leaf 0 [0 0] done; leaves 1 more no', 4) for script in (NOT_LISTED, STUCK_NOT_LISTED)),
     CheckRow(NOTHING, Asked(complete=True), 'leaf 0 [] done; leaves 1 more no', 4),
     CheckRow(IN_A_LOOP, Asked(complete=True), 'leaf 0 [0 0] done; leaf 1 [1 0] done; leaves 2 more no', 4),
     CheckRow(TWO_CAME, Asked(complete=True), 'leaf 0 [0] done; leaf 1 [1] trap 0 assert; leaves 2 more no', 1),
-    CheckRow(TWO_CAME, Asked(piece=0, complete=True), 'leaf 0 [0] done; leaves 1 more no', 4),
+    # of modes that are tried in turn it is asked whether each report is whole, and not this
+    CheckRow(NOTHING, Asked(modes=0, complete=True), 'rendezvous leaves 1 deadlocks 0 traps 0 cut 0 more no; '
+             'buffered leaves 1 deadlocks 0 traps 0 cut 0 more no; least rendezvous', 0),
     CheckRow('mpd 2; ranks 1; req r; if rank { wait r; }', Asked(complete=True), 'leaf 0 [] done; leaves 1 more no', 0),
     CheckRow('mpd 1; ranks 1; req r[1]; var i; waitany r to i;', Asked(), '', 2, 'mpdbg: script refused 10 not-in-version at 33 line 1'))
 

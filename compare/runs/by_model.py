@@ -4,10 +4,10 @@
     python3 compare/runs/by_model.py trace FILE --mode M < WORDS             trace words, as `trace` does
     python3 compare/runs/by_model.py check FILE [--runs N] ..                a report, with all options of `check` but `--sample` (sampled.py)
     python3 compare/runs/by_model.py verify FILE REPORT [--leaf N]           whether a witness is accepted
-    python3 compare/runs/by_model.py words FILE --choices "0 1 0"            the run with some choices
+    python3 compare/runs/by_model.py words FILE --choices "0 1 0" [--ends]   the run with some choices
     python3 compare/runs/by_model.py run FILE --mode M < REQUESTS            a session
     python3 compare/runs/by_model.py debug FILE [--witness WITNESS]          the console, at a terminal and without one
-    python3 compare/runs/by_model.py picture FILE [--choices C] [--text]     the picture of a run as SVG, or as text
+    python3 compare/runs/by_model.py picture FILE [--choices C] [--text]     the picture of a run as SVG, or as text; with `--ends` too
 
 `--mode M` may stand behind each of these words, and `--fuel N` behind `check`, `words` and `picture`.
 """
@@ -59,9 +59,10 @@ def words_of(words):
     """What `words` gives."""
     parser = parser_of(None)
     parser.add_argument('--choices', required=True)
+    parser.add_argument('--ends', action='store_true')
     parser.add_argument('--fuel', type=number_between(1, MOST_FUEL), metavar='N')
     chosen = parser.parse_args(words)
-    result = Words(file_content(chosen.file), chosen.choices, chosen.mode, chosen.fuel).wanted()
+    result = Words(file_content(chosen.file), chosen.choices, chosen.mode, chosen.fuel, ends=chosen.ends).wanted()
     if result == WRONG_WORDS:
         parser.error(f'{chosen.choices!r} are no choices')
     return result
@@ -91,12 +92,13 @@ def picture(words):
     """What `picture` draws of a run, or its text."""
     parser = parser_of()
     parser.add_argument('--choices')
+    parser.add_argument('--ends', action='store_true')
     parser.add_argument('--fuel', type=int, default=USUAL.fuel)
     parser.add_argument('--text', action='store_true')
     chosen = parser.parse_args(words)
     choices = None if chosen.choices is None else tuple(map(int, chosen.choices.split()))
     script = read_script(file_content(chosen.file))
-    walked = picture_model.walk(script, chosen.mode, picture_model.steps_of(script, chosen.mode, choices, chosen.fuel))
+    walked = picture_model.walk(script, chosen.mode, picture_model.steps_of(script, chosen.mode, choices, chosen.fuel, chosen.ends))
     drawn = picture_model.text_of(walked) if chosen.text else picture_model.svg_of(walked)
     return Result(drawn.encode(), b'', 0)
 

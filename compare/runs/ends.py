@@ -6,11 +6,11 @@
     python3 compare/runs/ends.py --broken                faults of the model (ends_faults.py), each of which must be noticed; with PROGRAM, beside it
 
 A report by the options of ends_cases.py must be the model's, byte for byte. Of a script whose worlds are few enough that all can be tried,
-whatever steps are taken in whatever order, the report must have each end once: no two of its leaves end in worlds that differ in the order
-of their match sets alone, and these are all the worlds that any interleaving ends in (every_end.py knows nothing of what sleeps in a
-walk). Each leaf must be the run of its choices. With `--explain` a report must be the same, with lines behind each deadlock and trap
-(explained_lines.py); what these say is compared by explained.py. The status is 0 where scripts were compared, none differed, and all was
-met that must be.
+whatever steps are taken in whatever order, the report must have each end, with waits for any and in modes of slots too: its leaves end in all
+the worlds that any interleaving ends in, and in no others. Without both no two of them end in worlds that differ in the order of their match
+sets alone (every_end.py knows nothing of what sleeps in a walk). Each leaf must be the run of its choices along the wide walk. With
+`--explain` a report must be the same, with lines behind each deadlock and trap (explained_lines.py); what these say is compared by
+explained.py. The status is 0 where scripts were compared, none differed, and all was met that must be.
 """
 
 import os
@@ -24,9 +24,11 @@ from cases import ends_cases, every_end
 from cases.explore_cases import Case
 from faults import ends_faults
 from model import explained_lines, explorer
-from model.explorer import CUT
+from model.complete import end_of, key
 from model.files import held
+from model.modes import slots_of
 from model.remembered import steps_remembered
+from model.walks import CUT, Run
 from rows import worked_ends
 from rows.worked_explorer import wanted_result
 from runs import driving
@@ -34,14 +36,17 @@ from runs.driving import first_different
 
 # So many scripts meet all that must be met.
 MANY = 300
+# So many runs along decisions are looked at, of a script that may have other ends than these.
+FEW_RUNS = 100
 MUST_MEET = (
     'done', 'leftovers', 'deadlock', 'trap', 'cut', 'witness', 'more yes', 'more no', 'status 0', 'status 1', 'status 4', 'status 2',
     'fewer ends than runs', 'as many ends as runs', 'a piece without a leaf', 'a report without a leaf', 'more by runs, not by ends', 'groups',
     'groups of several leaves',
     'several groups', 'groups with a witness', 'groups of ends', 'a grouped piece', 'until', 'several modes', 'slots', 'version 2',
-    'a whole report of ends')
-MUST_MEET_OF_EVERY_END = ('small scripts', 'rendezvous', 'buffered', 'one end', 'several ends', 'fewer ends than runs', 'several pieces',
-                          'a piece without a leaf', 'done', 'leftovers', 'deadlock', 'trap')
+    'a whole report of ends', 'a whole report of ends, waitany', 'a whole report of ends, slots', 'more ends than runs', 'more pieces by the wide walk')
+MUST_MEET_OF_EVERY_END = ('small scripts', 'rendezvous', 'buffered', 'slots:1', 'slots:2', 'waitany', 'one end', 'several ends', 'fewer ends than runs',
+                          'several pieces', 'a piece without a leaf', 'done', 'leftovers', 'deadlock', 'trap', 'ends that runs along decisions lack',
+                          'bad ends alone that these lack', 'an end twice')
 
 
 def run(chosen, words_in):
@@ -59,13 +64,16 @@ def said(chosen, case):
 def met_by_walks(case, script, wanted):
     """What is met of which runs are listed, where all of them are few."""
     usual = ends_cases.filled(case.asked)
-    found = ends_cases.cut(script, usual)
-    parts = [(explorer.ends_part(piece, usual.runs), explorer.part(piece, usual.runs)) for piece in found]
-    plain, ends = (sum(len(part[which].leaves) for part in parts) for which in (1, 0))
-    yield 'fewer ends than runs' if ends < plain else 'as many ends as runs'
-    yield from ['a piece without a leaf'] * any(not part.leaves for part, _ in parts)
-    yield from ['more by runs, not by ends'] * (any(part.more for _, part in parts) and not any(part.more for part, _ in parts))
-    yield from ['a whole report of ends'] * (usual.complete and wanted.status == 0)
+    found, along = ends_cases.cut(script, usual), ends_cases.cut(script, usual._replace(ends=False))
+    parts, plain_parts = [explorer.ends_part(piece, usual.runs) for piece in found], [explorer.part(piece, usual.runs) for piece in along]
+    plain, ends = (sum(len(part.leaves) for part in some) for some in (plain_parts, parts))
+    yield 'fewer ends than runs' if ends < plain else 'as many ends as runs' if ends == plain else 'more ends than runs'
+    yield from ['a piece without a leaf'] * any(not part.leaves for part in parts) + ['more pieces by the wide walk'] * (len(found) > len(along))
+    yield from ['more by runs, not by ends'] * (any(part.more for part in plain_parts) and not any(part.more for part in parts))
+    if usual.complete and wanted.status == 0:
+        yield 'a whole report of ends'
+        yield from ['a whole report of ends, waitany'] * explorer.has_waitany(script.body)
+        yield from ['a whole report of ends, slots'] * (slots_of(usual.mode) is not None)
 
 
 def met_in(case, wanted):
@@ -124,12 +132,24 @@ def case_of(small):
 def met_of(small):
     """What is met of a small script."""
     yield from ['small scripts', small.mode, 'several ends' if len(small.ends) > 1 else 'one end']
-    yield from [end.split()[0] for end in small.ends.values()]
+    yield from [end.split()[0] for end in small.ends.values()] + ['waitany'] * (b'waitany' in small.text)
     asked = small.asked()
     pieces = ends_cases.cut(explorer.read_script(small.text), asked)
     yield from ['several pieces'] * (len(pieces) > 1) + ['a piece without a leaf'] * any(piece.asleep is None for piece in pieces)
-    plain = explorer.part(explorer.Run(small.start, asked.fuel or explorer.USUAL.fuel), len(small.ends))
+    plain = explorer.part(Run(small.start, explorer.USUAL.fuel), len(small.ends))
     yield from ['fewer ends than runs'] * plain.more
+    if not small.is_once:
+        yield from met_by_order(small)
+
+
+def met_by_order(small):
+    """The same of a script with a wait for any, or in a mode of slots: what hangs on the order of steps."""
+    plain = explorer.part(Run(small.start, explorer.USUAL.fuel), FEW_RUNS)
+    lacking = small.ends.keys() - {key(end_of(small.start, leaf.steps)) for leaf in plain.leaves}
+    yield from ['ends that runs along decisions lack'] * (bool(lacking) and not plain.more)
+    is_bad_there = any(small.ends[place].split()[0] in ('deadlock', 'trap') for place in lacking)
+    yield from ['bad ends alone that these lack'] * (is_bad_there and not plain.more and not any(map(explorer.is_bad, plain.leaves)))
+    yield from ['an end twice'] * explorer.ends_part(Run(small.start, explorer.USUAL.fuel), len(small.ends)).more
 
 
 def compare_every_end(chosen, number):

@@ -31,13 +31,14 @@ from cases.kinds import BESIDE
 from faults import waitany_faults
 from faults.explore_faults import breakages
 from faults.piece_faults import report_breakages
-from model import explorer, policy
+from model import explorer, policy, walks
 from model.debugger import CallId, Debugger, Step, first_world, free_calls, next_world, rank_state, step_of, step_text
-from model.explorer import CUT, MOST_SPLIT, NO_SUCH_STEP, NOT_STUCK, WRONG_BLOCKED, Asked, Refusal, Report, Run, Witness
+from model.explorer import MOST_SPLIT, NO_SUCH_STEP, NOT_STUCK, WRONG_BLOCKED, Asked, Refusal, Report, Witness
 from model.language import Fault, read_script
 from model.modes import MODES, by_turns
 from model.policy import Choice
 from model.remembered import steps_remembered
+from model.walks import CUT, Leaf, Run
 from runs import driving
 from runs.follow import due
 
@@ -213,7 +214,7 @@ def is_lazy(random, seen):
         steps.append(step)
         return next_world(world, step)
 
-    with mock.patch.object(explorer, 'next_world', taken):
+    with mock.patch.object(walks, 'next_world', taken):
         seen.report(runs)
     return len(steps) <= most
 
@@ -222,7 +223,7 @@ def shortened(leaf, path, fuel):
     """What a leaf is where there is so much fuel."""
     if len(path.steps) <= fuel:
         return leaf
-    return explorer.Leaf(leaf.choices[:sum(place < fuel for place in path.places)], path.steps[:fuel], CUT)
+    return Leaf(leaf.choices[:sum(place < fuel for place in path.places)], path.steps[:fuel], CUT)
 
 
 def less_fuel_wrong(random, seen, met):

@@ -1,4 +1,4 @@
-"""Runs the built program on more than random inputs have: candidates, calls, steps, blocked calls, bytes of a path, a witness and a reply.
+"""Runs the built program on more than random inputs have: candidates, pieces, calls, steps, blocked calls, bytes of a path, a witness, trace words and a reply.
 
     python3 compare/runs/large.py PROGRAM
 
@@ -100,6 +100,11 @@ def piece_rows(folder):
     rest = ''.join(sent(rank, 0, 205) for rank in range(2, 6))
     wanted = said(f'leaf 0 [{" ".join(["0"] * 205)}] leftovers{rest}', 'leaves 1 more yes')
     yield '1,025 candidates, not cut', folder.run('check', more, '--split', '0', '--runs', '1'), wanted
+    # by three choices each of the 990 runs is a piece
+    wanted, path = said(*gathered(12, 3, 990, 'no').split('; ')), folder.file('gather3', gathering(12, 3))
+    yield '990 pieces', folder.run('check', path, '--split', '3', '--pieces'), said('pieces 990')
+    for workers in (4, 16):
+        yield f'990 pieces, {workers} workers', folder.run('check', path, '--split', '3', '--runs', '1', '--workers', str(workers)), wanted
     wanted, path = said(*gathered_in_pieces(14, 4, 1, 1000, 'yes').split('; ')), folder.file('gather4', gathering(14, 4))
     for workers in (1, 4, 16):
         yield f'1,000 of the 1,320 runs of each of 13 pieces, {workers} workers', folder.run('check', path, '--workers', str(workers)), wanted
@@ -184,6 +189,34 @@ def long_witness_rows(folder):
         at = text.rindex('local 0')
         wrong = folder.file('wrong', f'{text[:at]}wake 0\n')
         yield f'a wrong step {steps - 1}', folder.run('verify', script, wrong), said(f'refused 32 no-such-step at {steps - 1}', status=1)
+
+
+# ---- trace words that are to be drawn
+
+ROUND = 'mpd 1; ranks 1; while 1 { }'
+# So many bytes and so many steps a text of words has at most.
+WORDS_BYTES, WORDS_STEPS = 33_554_432, 1_000_000
+
+
+def words_rows(folder):
+    """Words of as many bytes as there may be, and of one more; a source of them that never ends; and as many steps as there may be, and one more."""
+    script = folder.file('round', ROUND)
+
+    def drawn(words):
+        return folder.run('picture', script, '--words', words)
+
+    def refused(line):
+        return Result(b'', f'mpdbg: words {line}\n'.encode(), 2)
+
+    # the first line is read and is no step, where it isn't the bytes that are too many
+    lines = 'none\n' + '\n' * (WORDS_BYTES - 5)
+    yield f'words of {WORDS_BYTES} bytes', drawn(folder.file('most', lines)), refused('refused at line 1')
+    for name, path in (('one byte more', folder.file('more', f'{lines}\n')), ('words without an end', '/dev/zero')):
+        yield name, drawn(path), refused(f'of more than {WORDS_BYTES} bytes')
+    steps = folder.file('steps', 'local 0\n' * WORDS_STEPS)
+    found = drawn(steps)
+    yield f'{WORDS_STEPS} words', found._replace(output=found.output[:5]), Result(b'<svg ', b'', 0)
+    yield 'one word more', drawn(folder.file('step', 'local 0\n' * (WORDS_STEPS + 1))), refused(f'of more than {WORDS_STEPS} steps')
 
 
 # ---- steps that are shown
@@ -329,7 +362,7 @@ def dialogue(folder, name, script, turns):
     return folder.run('run', folder.file(name, script), data=data), said(*(reply for _, reply in turns))
 
 
-ROWS = (candidate_rows, piece_rows, call_rows, path_rows, long_witness_rows, step_rows, enabled_rows, blocked_rows, session_rows)
+ROWS = (candidate_rows, piece_rows, call_rows, path_rows, long_witness_rows, words_rows, step_rows, enabled_rows, blocked_rows, session_rows)
 
 
 def first_difference(result, wanted):

@@ -6,7 +6,8 @@
     python3 compare/runs/pictures.py --broken                faults of the model (picture_faults.py), each of which must be noticed
 
 Of each script the run of the first candidates is drawn, one by its choices, by its trace words, and by a witness where it is a deadlock;
-and choices and words that are wrong are refused. Without a PROGRAM the model is asked. The examples of docs/COURSE.md are drawn too, and
+the first candidates and the choices are those along the wide walk, too, with `--ends`, which the words and the witness may have beside them; and
+choices and words that are wrong are refused. Without a PROGRAM the model is asked. The examples of docs/COURSE.md are drawn too, and
 are the files that stand in examples/; `--write` writes these by the model. The status is 0 where nothing differs, all drawings are well
 formed, and all was met that must be.
 """
@@ -27,11 +28,12 @@ from cases.reread_cases import report_asked
 from faults import picture_faults
 from model import picture_model
 from model.debugger import RENDEZVOUS, Result, enabled_steps, first_world, next_world, outcome, step_text
-from model.explorer import Run, ending, followed, listed, taken
 from model.files import held
 from model.language import read_script
 from model.picture_model import svg_of, text_of, walk
 from model.remembered import steps_remembered
+from model.run_words import BadChoices, follower
+from model.walks import Run, ending, listed, taken
 from places import EXAMPLES
 from rows.picture_rows import ROWS
 from runs import driving
@@ -47,11 +49,14 @@ DRAWN = (('race', RENDEZVOUS, None), ('first_message', RENDEZVOUS, None), ('head
          ('one_in_seven', RENDEZVOUS, None), ('two_receives', RENDEZVOUS, None), ('waited_twice', RENDEZVOUS, None), ('wrong_handle', RENDEZVOUS, None))
 CHUNK, MOST_FUEL, MANY = 10, 400, 200
 MUST_MEET = ('first candidates', 'choices', 'words', 'witness', 'done', 'deadlock', 'trap', 'leftovers', 'cut', 'buffered', 'slots', 'a release',
-             'to oneself', 'to the left', 'a free send', 'a free receive', 'a waitany', 'no such choices', 'no such words', 'no step', 'bad words')
+             'to oneself', 'to the left', 'a free send', 'a free receive', 'a waitany', 'no such choices', 'no such words', 'no step', 'bad words',
+             'first candidates along the wide walk', 'choices along the wide walk', 'words beside --ends', 'a witness beside --ends',
+             'other first candidates than along decisions', 'choices of the wide walk alone')
 
 
 class Asked(NamedTuple):
-    """A picture that is asked for: a script, a mode, how the run is told (its kind and text), fuel, and the steps of that run, or what is said."""
+    """A picture that is asked for: a script, a mode, how the run is told (its kind and text), fuel, and the steps of that run, or what is said;
+    and whether `--ends` stands there, so that choices and first candidates are those along the wide walk."""
     script: bytes
     mode: str
     kind: str
@@ -59,10 +64,11 @@ class Asked(NamedTuple):
     fuel: int
     steps: Optional[tuple]
     refusal: bytes = b''
+    ends: bool = False
 
     def words(self, folder):
         """The words that ask a program, with files in a folder."""
-        yield from ('picture', held(folder, 'script.mpd', self.script), '--mode', self.mode, '--fuel', str(self.fuel))
+        yield from ('picture', held(folder, 'script.mpd', self.script), '--mode', self.mode, '--fuel', str(self.fuel), *['--ends'] * self.ends)
         if self.kind == 'choices':
             yield from ('--choices', self.told.decode())
         elif self.kind in ('words', 'witness'):
@@ -80,9 +86,9 @@ class Asked(NamedTuple):
 
 # ---- what is asked
 
-def a_run(random, script, mode, fuel):
+def a_run(random, script, mode, fuel, ends):
     """A random run: its choices, its steps, and how it ends."""
-    run = Run(first_world(script, mode), fuel)
+    run, followed = Run(first_world(script, mode), fuel), follower(ends)
     while True:
         run, decided = followed(run)
         ended = ending(decided, run.fuel)
@@ -118,13 +124,14 @@ def questions(seed, number):
         return
     random, mode = Random(f'{seed} {number} picture'), case.asked.mode or RENDEZVOUS
     fuel = random.choice([MOST_FUEL, MOST_FUEL, random.randrange(1, 40)])
-    yield Asked(case.script, mode, 'first candidates', None, fuel, tuple(picture_model.first_run(script, mode, fuel)))
-    choices, steps, ended = a_run(random, script, mode, fuel)
-    told = ' '.join(map(str, choices)).encode()
-    yield Asked(case.script, mode, 'choices', told, fuel, tuple(steps))
-    yield Asked(case.script, mode, 'choices', (told + b' 7').strip(), fuel, None, b'bad choices at %d' % len(choices))
+    for ends in (False, True):
+        yield Asked(case.script, mode, 'first candidates', None, fuel, tuple(picture_model.first_run(script, mode, fuel, ends)), ends=ends)
+        choices, steps, _ = a_run(random, script, mode, fuel, ends)
+        told = ' '.join(map(str, choices)).encode()
+        yield Asked(case.script, mode, 'choices', told, fuel, tuple(steps), ends=ends)
+        yield Asked(case.script, mode, 'choices', (told + b' 7').strip(), fuel, None, b'bad choices at %d' % len(choices), ends)
     walked = a_walk(random, script, mode, random.randrange(60))
-    yield Asked(case.script, mode, 'words', lines(walked), fuel, walked)
+    yield Asked(case.script, mode, 'words', lines(walked), fuel, walked, ends=random.random() < 0.3)
     yield Asked(case.script, mode, 'words', lines(walked) + random.choice([b'next\n', b'\n', b'local\n', b'back\n']), fuel, None,
                 b'words refused at line %d' % (len(walked) + 1))
     wrong = lines(walked) + b'match 15.9 15.9\n'
@@ -175,6 +182,7 @@ def wide(text):
 def met(asked, world, glyphs):
     """What a program may draw wrongly."""
     yield asked.kind
+    yield from met_along(asked) if asked.ends else ()
     how = 'cut' if enabled_steps(world) else outcome(world).split()[0]
     yield how
     yield from ['buffered'] * (asked.mode == 'buffered') + ['slots'] * asked.mode.startswith('slots')
@@ -186,6 +194,22 @@ def met(asked, world, glyphs):
         yield from ['a free send'] * any(rank.calls[number].kind == 'send' for number in rank.free)
         yield from ['a free receive'] * any(rank.calls[number].kind == 'recv' for number in rank.free)
         yield from ['a waitany'] * any(call.kind == 'waitany' for call in rank.calls)
+
+
+def met_along(asked):
+    """The same of the wide walk."""
+    if asked.kind in ('words', 'witness'):
+        yield f'{"a " * (asked.kind == "witness")}{asked.kind} beside --ends'
+        return
+    yield f'{asked.kind} along the wide walk'
+    script = read_script(asked.script)
+    if asked.kind == 'first candidates':
+        yield from ['other first candidates than along decisions'] * (picture_model.first_run(script, asked.mode, asked.fuel) != asked.steps)
+        return
+    try:
+        picture_model.steps_of(script, asked.mode, tuple(map(int, asked.told.split())), asked.fuel)
+    except BadChoices:
+        yield 'choices of the wide walk alone'
 
 
 def refusal_met(asked):
@@ -249,20 +273,22 @@ def compare(chosen, pool):
 
 # ---- rows and examples
 
-def row_of(script, choices):
+def row_of(row):
     """A worked row as a picture that is asked for."""
-    steps = picture_model.first_run(read_script(script), RENDEZVOUS, MOST_FUEL)
-    return Asked(script, RENDEZVOUS, 'choices' if choices else 'first candidates', choices.encode(), MOST_FUEL, tuple(steps))
+    choices = None if row.choices is None else tuple(map(int, row.choices.split()))
+    steps = picture_model.steps_of(read_script(row.script), row.mode, choices, MOST_FUEL, row.ends)
+    told = None if choices is None else row.choices.encode()
+    return Asked(row.script, row.mode, 'first candidates' if choices is None else 'choices', told, MOST_FUEL, tuple(steps), ends=row.ends)
 
 
 def compare_rows(chosen):
     """How many worked rows are drawn otherwise."""
     wrong = 0
-    for script, choices, wanted, text in ROWS:
-        asked = row_of(script, choices)
+    for row in ROWS:
+        asked = row_of(row)
         drawn = said(chosen, asked).output.decode().split('\n')
-        missing = [line for line in wanted if line not in drawn]
-        if text is not None and text_of(asked.walked()) != text:
+        missing = [line for line in row.lines if line not in drawn]
+        if row.text is not None and text_of(asked.walked()) != row.text:
             missing.append('the text')
         wrong += bool(missing)
         for line in missing:
@@ -295,12 +321,13 @@ def compare_examples(chosen):
 
 # ---- faults
 
-def shows(fault, asked, drawn, text):
-    """Whether the model with a fault draws otherwise."""
+def shows(fault, asked_again, drawn, text):
+    """Whether the model with a fault draws otherwise, or takes another run."""
     with driving.broken(fault):
         try:
+            asked = asked_again()
             return asked.wanted().output != drawn or text_of(asked.walked()).encode() != text
-        except (KeyError, StopIteration, AttributeError, IndexError):
+        except (KeyError, StopIteration, AttributeError, IndexError, BadChoices):
             return True
 
 
@@ -308,10 +335,10 @@ def compare_broken(chosen):
     """How many faults of the model are not noticed."""
     left = picture_faults.breakages()
     count = len(left)
-    rows = [row_of(script, choices) for script, choices, _, _ in ROWS] + [example(*drawn) for drawn in DRAWN]
-    for asked in rows:
+    for asked_again in [lambda row=row: row_of(row) for row in ROWS] + [lambda drawn=drawn: example(*drawn) for drawn in DRAWN]:
+        asked = asked_again()
         drawn, text = said(chosen, asked).output, text_of(asked.walked()).encode()
-        left = [fault for fault in left if not shows(fault, asked, drawn, text)]
+        left = [fault for fault in left if not shows(fault, asked_again, drawn, text)]
     return driving.count_left([fault.name for fault in left], count)
 
 

@@ -6,10 +6,10 @@
     python3 compare/runs/reread.py --broken                faults of the model (reread_faults.py), each of which must be noticed; with PROGRAM,
                                                            beside it
 
-Of a report's leaves `words` must write the steps, or say where no run has such choices. What it writes of a leaf must be the steps of
-its witness, where that is a deadlock, and `trace` must take all of them and come to the outcome of the leaf. `verify` must accept each
-witness of the whole report by the number of its leaf, and say what is wrong with changed ones. Where a text has no such witness, only how
-the line on standard error begins is compared. The status is 0 where reports were read, none differed, and all was met that must be.
+Of a report's leaves `words` must write the steps, or say where no run has such choices; the choices of a report with `--ends` are given with
+that, and without it, too. What it writes of a leaf must be the steps of its witness, where that is a deadlock, and `trace` must take all of
+them and come to the outcome of the leaf. `verify` must accept each witness of the whole report by the number of its leaf, and say what is
+wrong with changed ones. Where a text has no such witness, only how the line on standard error begins is compared. The status is 0 where reports were read, none differed, and all was met that must be.
 """
 
 import os
@@ -42,7 +42,7 @@ MUST_MEET = (
     'words of a wake by a handle', 'bad choices at 0', 'bad choices behind some', 'bad choices, all taken', 'bad choices, more wanted',
     'no choices', 'bad mode of words', 'words of a bad script', 'words of no script', 'accepted by a leaf', 'accepted, one alone',
     'accepted, explained', 'accepted, CR LF', 'refused 32', 'refused 33', 'refused 34',
-    'bad witness, a leaf', 'bad witness, no leaf', 'traces')
+    'bad witness, a leaf', 'bad witness, no leaf', 'traces', 'words along the wide walk', 'words of a leaf that no choices along decisions tell')
 
 
 def run(chosen, words_in, data=b''):
@@ -113,6 +113,13 @@ def met_by_words(asked, wanted, leaf):
         yield f'words of a {"run that is cut" if word == CUT else word}'
         yield from ['words, buffered'] * (asked.mode == BUFFERED) + ['words, slots'] * (asked.mode or '').startswith('slots')
         yield from ['words of a wake by a handle'] * (b'wakeany' in wanted.output)
+        yield from met_along(asked, wanted) if asked.ends else ()
+
+
+def met_along(asked, wanted):
+    """The same of choices along the wide walk."""
+    yield 'words along the wide walk'
+    yield from ['words of a leaf that no choices along decisions tell'] * (asked._replace(ends=False).wanted() != wanted)
 
 
 def met_by_verify(asked, wanted):

@@ -1,11 +1,12 @@
 """Checks what `check --sample` of a program answers, by what must hold of runs that are drawn at random.
 
-    python3 compare/runs/sampled.py PROGRAM              500 random scripts, hangs, how often runs are drawn, and words that are wrong
+    python3 compare/runs/sampled.py PROGRAM              worked rows (worked_ends.py), 500 random scripts, hangs, how often runs are drawn, and
+                                                         words that are wrong
     python3 compare/runs/sampled.py PROGRAM --count 2000 more of the scripts
     python3 compare/runs/sampled.py --broken             the model in the place of a program, and its faults (samples_faults.py), each of which must
                                                          be noticed
 
-A report must list runs of the walk, in order, each once, with the right ends and witnesses (samples.py). The same seed must give the same
+A report must list runs of the wide walk, in order, each once, with the right ends and witnesses (samples.py). The same seed must give the same
 report, by any number of workers; other options must not change which runs are drawn, and fewer runs must be the first of more. One hang
 in seven to eleven runs must be found by a hundred. Over many seeds each run must come as often as where each candidate is as likely as the others.
 The status is 0 where scripts were checked, nothing was wrong, and all was met that must be.
@@ -29,7 +30,10 @@ from model.explorer import is_bad
 from model.files import held
 from model.remembered import steps_remembered
 from model.report_lines import NoReport, read_report
+from model.run_words import BadChoices, run_by
 from model.samples import MOST_SEED, Sampling, leaves_of, told_in, wrong_of
+from model.walks import CUT
+from rows.worked_ends import SAMPLES
 from runs import driving
 from started.programs import run_at_once
 
@@ -38,7 +42,8 @@ MANY, HANGS = 300, 9
 # Behind so many scripts it is looked at how runs are drawn that haven't shown a fault.
 FEW = 20
 MUST_MEET = ('done', 'leftovers', 'deadlock', 'trap', 'cut', 'witness', 'one leaf', 'several leaves', 'fewer leaves than runs', 'more yes', 'more no',
-             'another report of another seed', 'until', 'status 4', 'slots', 'version 2')
+             'another report of another seed', 'until', 'status 4', 'slots', 'version 2', 'choices of the wide walk alone', 'a whole report, waitany',
+             'a whole report, slots')
 # Words that are wrong: they are tested before the mode, which is wrong too.
 MISTAKES = ('--sample 0', '--sample 65537', '--sample', '--sample -1', '--sample x', '--sample 1.5', '--sample 1 --sample 1', '--seed 1',
             '--seed 0 --runs 5', '--sample 5 --ends', '--sample 5 --runs 5', '--sample 5 --split 1', '--sample 5 --split 0', '--sample 5 --piece 0',
@@ -65,7 +70,18 @@ def met_in(asked, told, other):
     yield 'one leaf' if len(words) == 1 else 'several leaves'
     yield from ['fewer leaves than runs'] * (1 < len(words) < asked.count) + ['more yes' if told.more else 'more no']
     yield from ['another report of another seed'] * (leaves_of(told) != leaves_of(other)) + ['until'] * (asked.until and is_bad(told.leaves[-1]))
-    yield from ['slots'] * bool(asked.mode and asked.mode.startswith('slots:')) + ['version 2'] * asked.script.startswith(b'mpd 2')
+    is_in_slots, has_any, is_whole = bool(asked.mode and asked.mode.startswith('slots:')), b'waitany' in asked.script, not told.more and CUT not in words
+    yield from ['slots'] * is_in_slots + ['version 2'] * asked.script.startswith(b'mpd 2')
+    yield from ['a whole report, waitany'] * (is_whole and has_any) + ['a whole report, slots'] * (is_whole and is_in_slots)
+    yield from ['choices of the wide walk alone'] * any(is_other_along_decisions(asked, leaf) for leaf in told.leaves)
+
+
+def is_other_along_decisions(asked, leaf):
+    """Whether the choices of a leaf tell no run along decisions, or one that ends otherwise."""
+    try:
+        return run_by(asked.begun(), leaf.choices).outcome != leaf.outcome
+    except BadChoices:
+        return True
 
 
 def check_one(said, asked, met):
@@ -119,7 +135,8 @@ def seeds(count):
 
 def leaves_said(said, spread, count, seed):
     """The choices of the leaves that are listed of a script whose runs are counted."""
-    return [leaf.choices for leaf in read_report(said(Sampling(spread.name, spread.script.encode(), count, seed, fuel=spread.fuel)).output).leaves]
+    asked = Sampling(spread.name, spread.script.encode(), count, seed, spread.mode, spread.fuel)
+    return [leaf.choices for leaf in read_report(said(asked).output).leaves]
 
 
 def spread_wrong(said, spread):
@@ -151,7 +168,7 @@ def bits_wrong(said):
 def all_listed_wrong(said):
     """What is wrong where so many runs are drawn that all of them come; None where nothing is."""
     for spread in SPREADS:
-        asked = Sampling(spread.name, spread.script.encode(), 1000, 5, fuel=spread.fuel)
+        asked = Sampling(spread.name, spread.script.encode(), 1000, 5, spread.mode, spread.fuel)
         told = told_in(asked, said(asked))
         if told.more or {leaf.choices for leaf in told.leaves} != set(spread.shares):
             return f'{spread.name}: not all runs are listed of 1000 that are drawn'
@@ -167,6 +184,15 @@ def drawing_wrong(said):
     except NoReport as why:
         found = [('a report', str(why))]
     return [f'{name}: {what}' for name, what in found if what is not None]
+
+
+# ---- rows
+
+def rows_wrong(said):
+    """What is listed otherwise than worked rows want, of scripts of which all runs are drawn."""
+    with steps_remembered():
+        answers = [(row, said(row.case())) for row in SAMPLES]
+    return [f'{row.script} {row.mode}: {result}' for row, result in answers if result != row.wanted()]
 
 
 # ---- words
@@ -197,11 +223,11 @@ def compare(chosen, pool):
     found += [(asked, wrong) for asked, wrong in pool.map(check_hang, [chosen] * HANGS, range(HANGS)) if wrong is not None]
     for asked, wrong in found:
         print(f'{shlex.join(asked.words(files.folder(asked.name)))}: {wrong}', flush=True)
-    others = drawing_wrong(asker(chosen)) + (words_wrong(chosen) if chosen.program else [])
+    others = rows_wrong(asker(chosen)) + drawing_wrong(asker(chosen)) + (words_wrong(chosen) if chosen.program else [])
     others += driving.not_met(MUST_MEET, met, chosen.count >= MANY)
     driving.tell(others)
     print(driving.met_line(MUST_MEET, met))
-    print(f'{met["checks"]} checks by runs that are drawn, {HANGS} hangs, {len(found) + len(others)} wrong')
+    print(f'{met["checks"]} checks by runs that are drawn, {HANGS} hangs, {len(SAMPLES)} rows, {len(found) + len(others)} wrong')
     return len(found) + len(others) + (not met['checks'])
 
 
@@ -213,7 +239,7 @@ def shows(fault, wrong):
 
 def not_noticed(chosen):
     """The faults of what is drawn, and of what is said of it, that nothing shows."""
-    left = samples_faults.breakages()
+    left = [fault for fault in samples_faults.breakages() if not shows(fault, lambda: rows_wrong(samples.answer))]
     for number in range(chosen.count):
         asked = random_sampling(chosen.seed, number)
         if asked is not None:

@@ -20,15 +20,14 @@ from places import TOP
 
 sys.path.append(f'{TOP}/.ci')
 
-from edit_files import Edit  # noqa: E402
-from planted import plant  # noqa: E402
+import planted  # noqa: E402
 from runs.serving import BY_NAME, came_of  # noqa: E402
 from served.served_program import Tried  # noqa: E402
 
 FOLDER = 'compare/served/broken'
 
 
-class Body(Edit):
+class Body(planted.Body):
     """A wrong body, and the scenario that must find it."""
 
     def __init__(self, path):
@@ -37,18 +36,14 @@ class Body(Edit):
         self.read()
 
     def reads(self, key, value):
-        if key == 'crate':
-            self.folder = f'crates/{value.strip()}'
-        elif key == 'scenario':
+        if key == 'scenario':
             self.scenario = value.strip()
-        else:
-            return False
-        return True
+        return key == 'scenario' or super().reads(key, value)
 
 
 def built(bodies, room):
     """A program with these bodies."""
-    if left := plant(bodies, room):
+    if left := planted.plant(bodies, room):
         sys.exit(f'{left[0].name} touches another body')
     for name in ('bench', 'tools'):
         shutil.copytree(os.path.join(TOP, name), os.path.join(room, name))

@@ -36,15 +36,16 @@ from started.console_terminal import read as read_terminal, wrong_end
 SECONDS = 60
 
 # What begins a command that is not run here, since it is none of the program.
-NOT_RUN = ('.ci/', 'GATE_', 'rt ', 'python3 compare/', 'python3 bench/', 'git ', 'mpicc ', 'mpiexec ', './mpdbg --prove')
+NOT_RUN = ('.ci/', 'GATE_', 'rt ', 'python3 compare/', 'python3 bench/', 'git ', 'mpicc ', 'mpiexec ', 'tools/record/', './mpdbg --prove')
 # What begins a command that is run.
 RUN = ('./mpdbg', 'cat ', 'sed ', 'echo ', 'mkdir ', 'seq ', 'sbatch ', 'sh examples/', 'python3 examples/')
 # How a block begins that shows neither commands nor what one of the commands answers: a line of another command, or a form.
 EXCERPTS = {
     'README.md': ('checked as it runs',),
     'docs/FORMATS.md': ('enabled local 3', 'handles 1', 'leaf N ', 'rendezvous leaves 2', 'witness N: ', 'leaf 1 [1] deadlock', 'deadlock 0.1', 'mpdbg: script refused', 'mpdbg: device',
-                        'every way it can end', 'JSON requests', 'end 0 leaves 3', 'proving '),
+                        'every way it can end', 'words and picture take', 'JSON requests', 'end 0 leaves 3', 'proving '),
     'docs/CONSOLE.md': ('help lists ',),
+    'docs/FROM_A_RUN.md': ('mpdrec stands ', 'recv x from any tag 2 '),
     'docs/GATE.md': ('fn: ',),
     'docs/PICTURES.md': ('<line class', '0 1 2')}
 # Files that a page names by a word: a script, words for it, and a witness of it, which is made.

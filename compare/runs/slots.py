@@ -6,8 +6,10 @@
 
 Of each script a report is asked for and a walk is traced, with what is shown behind its steps; every fifth one is a session too. No script
 has so many sends that 65,536 slots are taken. So all that is answered must be the same but for the mark `buffered`, which `slots:65536`
-alone has, behind the value of each standard send; and but for the status of a report that tells every way to end, where `--complete` asks
-for that: in a mode of slots none does. The status is 0 where scripts were compared, none differed, and all was met that must be.
+alone has, behind the value of each standard send; and but for the status of a report without `--ends` that tells every way to end, where
+`--complete` asks for that: in a mode of slots none does. With `--ends` such a report does so in each mode, and in `slots:0` all is the same; in
+`slots:65536` a match that gives a slot back is a choice, so that choices, pieces and limits are others: there the ends must be the same, and
+the status, where both reports are whole. The status is 0 where scripts were compared, none differed, and all was met that must be.
 """
 
 import os
@@ -21,21 +23,23 @@ sys.path.insert(0, os.path.dirname(os.path.dirname(os.path.abspath(__file__))))
 
 from cases import session_cases, walks
 from cases.explore_cases import FUELS, KINDS, KINDS_OF_2, KINDS_OF_SLOTS, RUNS, kind_of, script_of
+from cases.piece_cases import has_few_leaves
 from faults import slots_faults
 from model import debugger, explorer, session
 from model.debugger import Result
-from model.explorer import Asked, NOT_WHOLE, option_words
+from model.explorer import Asked, NOT_WHOLE, Report, is_whole, option_words
 from model.files import held
-from model.language import Fault
+from model.language import Fault, read_script
 from model.modes import BUFFERED, RENDEZVOUS
+from model.report_lines import NoReport, read_report
 from runs import driving
 from runs.driving import first_different
 
 OF_MODEL, OF_PROGRAM = 500, 5000
 # So many scripts meet all that must be met.
 MANY = 300
-# One script of so many is a session too, and one of so many is of version 2.
-SESSION_EVERY, VERSION_2_EVERY = 5, 6
+# One script of so many is a session too, of one of so many ends are asked for, and one of so many is of version 2.
+SESSION_EVERY, ENDS_EVERY, VERSION_2_EVERY = 5, 2, 6
 # Of each piece so many runs are listed, where there may be several; a script of more ranks, whose steps take the model long, is one piece.
 FEW_RUNS, MANY_RANKS, MOST_FUEL = (1, 2, 3, 5), 8, 200
 # A number that a request of a session may not have: what ends soon in the mode that it was drawn in may not do so in another one.
@@ -43,6 +47,7 @@ LARGE = re.compile(rb'[0-9]{3}')
 # A standard send, as `show` and a session tell it, up to its value.
 STANDARD = re.compile(rb'^(call \d+\.\d+ i?send to \d+ tag \d+ value -?\d+)|("i?send to \d+ tag \d+ value -?\d+)', re.MULTILINE)
 MUST_MEET = ('check', 'trace', 'run', 'a deadlock', 'a trap', 'leftovers', 'all done', 'a run that is cut', 'a witness', 'a whole report', 'status 4',
+             'ends', 'whole reports of ends', 'whole reports of ends with other choices', 'a whole report of ends and a wait for any',
              'refused', 'a step back', 'a step forward', 'a buffered send that is free', 'a buffered send that is matched', 'a synchronous send',
              'a send that is not buffered', 'calls of a session', 'a wait for any')
 # What was met, by a text in an answer.
@@ -93,8 +98,32 @@ def said(chosen, question, mode):
 def wanted(question, pair, plain):
     """What must be answered in the mode of slots by what is answered in the other one."""
     output = STANDARD.sub(rb'\g<0> buffered', plain.output) if pair.buffers else plain.output
-    tells_all = question.command == 'check' and question.options.complete and not question.options.pieces and plain.status == 0
+    tells_all = question.command == 'check' and question.options.complete and not question.options.ends and plain.status == 0
     return Result(output, plain.errors, NOT_WHOLE if tells_all else plain.status)
+
+
+def has_other_choices(question, pair):
+    """Whether what is asked may be told by other choices in the mode of slots."""
+    return question.options.ends and pair.buffers
+
+
+def whole_ends(result):
+    """The ends of a whole report; None where it isn't whole, or is none."""
+    try:
+        told = read_report(result.output)
+    except NoReport:
+        return None
+    return {leaf.outcome for leaf in told.leaves} if is_whole(Report(told.leaves, told.more)) else None
+
+
+def different(question, pair, result, plain):
+    """How an answer in the mode of slots differs from what it must be by the one in the other mode; None where it doesn't."""
+    if not has_other_choices(question, pair):
+        due = wanted(question, pair, plain)
+        return None if result == due else first_different(result, due)
+    ends, due = whole_ends(result), whole_ends(plain)
+    is_other = None not in (ends, due) and (ends, result.status) != (due, plain.status)
+    return f'ends {ends}, wanted {due} (status {result.status}, wanted {plain.status})' if is_other else None
 
 
 # ---- scripts, and what is asked of them
@@ -107,6 +136,17 @@ def report_asked(random, kind, script):
     asked = Asked(None, runs, fuel, random.random() < 0.6, random.random() < 0.5, split, workers, random.random() < 0.1,
                   pieces=random.random() < 0.03)
     return Question('check', script, asked, b'')
+
+
+def ends_asked(question):
+    """The same report, of ends, where a script has few of them in either mode."""
+    asked = question.options._replace(ends=True)
+    try:
+        script = read_script(question.script)
+    except Fault:
+        return []
+    is_small = script.ranks <= MANY_RANKS and has_few_leaves(script, asked._replace(mode=PAIRS[1].slots))
+    return [question._replace(options=asked)] * is_small
 
 
 def walk_asked(random, script, mode):
@@ -135,15 +175,26 @@ def questions(seed, number):
     kind = kinds[kind_of(random, kinds)]
     script, mode = script_of(random, kind), random.choice([mode for pair in PAIRS for mode in (pair.slots, pair.plain)])
     asked = [report_asked(random, kind, script), walk_asked(random, script, mode)]
+    asked += ends_asked(asked[0]) if number % ENDS_EVERY == 0 else []
     return asked + [session_asked(random, script, mode)] * (number % SESSION_EVERY == 0)
 
 
 # ---- comparing
 
 
+def met_of_ends(result, plain):
+    """What is met of ends that are told by other choices."""
+    if whole_ends(result) is not None and whole_ends(plain) is not None:
+        yield 'whole reports of ends'
+        yield from ['whole reports of ends with other choices'] * (result.output != plain.output)
+
+
 def met_in(question, pair, result):
     """What a program may answer wrongly, by what is answered in the mode of slots."""
     yield question.command
+    yield from ['ends'] * question.options.ends
+    is_whole_of_any = question.options.ends and question.options.complete and result.status == 0 and b'waitany' in question.script
+    yield from ['a whole report of ends and a wait for any'] * is_whole_of_any
     if result.status == 2:
         yield 'refused'
         return
@@ -169,10 +220,11 @@ def compared(chosen, number):
     found, met = [], Counter()
     for question in questions(chosen.seed, number):
         for pair in PAIRS:
-            result, due = said(chosen, question, pair.slots), wanted(question, pair, said(chosen, question, pair.plain))
+            result, plain = said(chosen, question, pair.slots), said(chosen, question, pair.plain)
             met.update(met_in(question, pair, result))
-            if result != due:
-                found.append(Differing(question, pair, first_different(result, due)))
+            met.update(met_of_ends(result, plain) if has_other_choices(question, pair) else ())
+            if (how := different(question, pair, result, plain)) is not None:
+                found.append(Differing(question, pair, how))
     return found, met
 
 
@@ -208,7 +260,7 @@ def is_noticed(chosen, place):
     for number in range(chosen.count):
         asked = questions(chosen.seed, number)
         with driving.broken(fault):
-            if any(question.said_by_model(pair.slots) != wanted(question, pair, question.said_by_model(pair.plain))
+            if any(different(question, pair, question.said_by_model(pair.slots), question.said_by_model(pair.plain)) is not None
                    for question in asked for pair in PAIRS):
                 return True
     return False

@@ -227,6 +227,13 @@ def usage_rows(program):
         told = Result(b'', f"mpdbg: {first} and {second} can't stand together\n".encode(), 2)
         for words in ((first, '0', second, '1'), (f'{second}=1', f'{first}=', '--mode', 'no-mode')):
             yield f'a run told twice, {words}', no_input(program, 'picture', 'no-such-file', *words), told
+    for told, *options in (('--piece', '--piece', '0'), ('--pieces', '--pieces'), ('--piece', '--pieces', '--piece=9'), ('--piece', '--modes', '1', '--piece', '0')):
+        refusal = Result(b'', f"mpdbg: --complete and {told} can't stand together\n".encode(), 2)
+        yield f'all of {options}', no_input(program, 'check', 'no-such-file', '--complete', *options, '--mode', 'no-mode'), refusal
+    # what can't stand beside a sample, and a seed without one, are told first
+    for told, *options in (("--sample and --piece can't stand together", '--sample', '3'), ('--seed wants --sample', '--seed', '3')):
+        refusal = Result(b'', f'mpdbg: {told}\n'.encode(), 2)
+        yield f'all of a piece, and {options}', no_input(program, 'check', 'no-such-file', '--piece', '0', '--complete', *options), refusal
     full_c = Files(file_of(b''), full()).run(program, 'c', os.path.join(EXAMPLES, 'race.mpd'))
     yield 'a script in C, output full', full_c, device()
     full_help = Files(file_of(b''), full()).run(program, '--help')
@@ -475,61 +482,99 @@ def progress_rows(program):
         yield 'no terminal, a check', Files(None).run(program, 'check', race)._replace(output=b''), Result(b'', b'', 1)
 
 
+ALL_TOLD = 'every way it can end is listed: it always ends'
+NEVER = f'{ALL_TOLD}, and never in a deadlock or trap'
+UNTRIED = 'not everything was tried'
+# What hangs on the order of steps, which one report tries and another doesn't: what a waitany takes, and which sends are buffered.
+BY_REQUESTS = 'what a waitany takes may depend on the order of steps (--ends)'
+BY_ORDER = 'which sends are buffered may depend on the order of steps (--ends)'
+# The second line below a report whose choices are others than those of a report along decisions may be.
+ALONG = 'words and picture take the choices of these leaves with --ends'
 # A script of examples/, the options of its check, the status, and what a terminal is told below the report.
 SUMMED = (
-    ('first_message', '', 0, 'every way it can end is listed: it always ends, and never in a deadlock or trap'),
-    ('first_message', '--complete', 0, 'every way it can end is listed: it always ends, and never in a deadlock or trap'),
-    ('head_to_head', '', 1, 'every way it can end is listed: it always ends, in 1 way, 1 of them a deadlock'),
-    ('trap', '', 1, 'every way it can end is listed: it always ends, in 1 way, 1 of them a trap'),
-    ('one_in_seven', '--complete', 1, 'every way it can end is listed: it always ends, in 7 ways, 1 of them a deadlock'),
-    ('one_in_seven', '--runs 1 --complete', 1, 'every way it can end is listed: it always ends, in 7 ways, 1 of them a deadlock'),
-    ('one_in_seven', '--split 0 --runs 6', 0, 'not everything was tried: 6 runs were listed, and there are more (--runs)'),
-    ('one_in_seven', '--split 0 --runs 6 --complete', 4, 'not everything was tried: 6 runs were listed, and there are more (--runs)'),
-    ('one_in_seven', '--split 0 --runs 1 --complete', 4, 'not everything was tried: 1 run was listed, and there are more (--runs)'),
-    ('one_in_seven', '--fuel 63', 0, 'not everything was tried: 1 run was cut (--fuel)'),
-    ('one_in_seven', '--fuel 63 --complete', 4, 'not everything was tried: 1 run was cut (--fuel)'),
-    ('one_in_seven', '--fuel 40 --complete', 4, 'not everything was tried: 7 runs were cut (--fuel)'),
+    ('first_message', '', 0, NEVER),
+    ('first_message', '--complete', 0, NEVER),
+    ('head_to_head', '', 1, f'{ALL_TOLD}, in 1 way, 1 of them a deadlock'),
+    ('trap', '', 1, f'{ALL_TOLD}, in 1 way, 1 of them a trap'),
+    ('one_in_seven', '--complete', 1, f'{ALL_TOLD}, in 7 ways, 1 of them a deadlock'),
+    ('one_in_seven', '--runs 1 --complete', 1, f'{ALL_TOLD}, in 7 ways, 1 of them a deadlock'),
+    ('one_in_seven', '--split 0 --runs 6', 0, f'{UNTRIED}: 6 runs were listed, and there are more (--ends, --runs)'),
+    ('one_in_seven', '--split 0 --runs 6 --complete', 4, f'{UNTRIED}: 6 runs were listed, and there are more (--ends, --runs)'),
+    ('one_in_seven', '--split 0 --runs 1 --complete', 4, f'{UNTRIED}: 1 run was listed, and there are more (--ends, --runs)'),
+    ('one_in_seven', '--fuel 63', 0, f'{UNTRIED}: 1 run was cut (--fuel)'),
+    ('one_in_seven', '--fuel 63 --complete', 4, f'{UNTRIED}: 1 run was cut (--fuel)'),
+    ('one_in_seven', '--fuel 40 --complete', 4, f'{UNTRIED}: 7 runs were cut (--fuel)'),
     ('one_in_seven', '--split 0 --runs 6 --fuel 40 --complete', 4,
-     'not everything was tried: 6 runs were listed, and there are more (--runs), 6 runs were cut (--fuel)'),
+     f'{UNTRIED}: 6 runs were listed, and there are more (--ends, --runs), 6 runs were cut (--fuel)'),
     # up to the first deadlock, behind which there are others or none; where none is listed, it is the runs that leave something out
-    ('one_in_seven', '--until deadlock', 1, 'every way it can end is listed: it always ends, in 7 ways, 1 of them a deadlock'),
-    ('two_each', '--until deadlock', 1, 'not everything was tried: 1 run was listed, and there are more (--until)'),
-    ('one_in_seven', '--split 0 --runs 6 --until deadlock --complete', 4, 'not everything was tried: 6 runs were listed, and there are more (--runs)'),
-    # a waitany takes what is complete by then, so a report tells of its runs alone
-    ('waitany', '', 0, 'not everything was tried: what a waitany takes may depend on the order of steps'),
-    ('waitany', '--complete', 4, 'not everything was tried: what a waitany takes may depend on the order of steps'),
-    ('waitany', '--piece 1', 0, 'not everything was tried: what a waitany takes may depend on the order of steps'),
-    ('waitany', '--fuel 21 --complete', 4,
-     'not everything was tried: 2 runs were cut (--fuel), what a waitany takes may depend on the order of steps'),
-    ('waitany', '--split 0 --runs 1 --fuel 21', 0, 'not everything was tried: 1 run was listed, and there are more (--runs), 1 run was cut (--fuel), '
-     'what a waitany takes may depend on the order of steps'),
-    ('waited_twice', '--until deadlock --complete', 1, 'not everything was tried: what a waitany takes may depend on the order of steps'),
-    # a report that lists ends, each once, tells as much as one that lists all runs
-    ('four_races', '--ends', 0, 'every way it can end is listed: it always ends, and never in a deadlock or trap'),
-    ('four_races', '--ends --complete', 0, 'every way it can end is listed: it always ends, and never in a deadlock or trap'),
-    ('four_races', '--ends --split 0 --runs 3', 0, 'not everything was tried: 3 runs were listed, and there are more (--runs)'),
-    ('one_in_seven', '--ends', 1, 'every way it can end is listed: it always ends, in 7 ways, 1 of them a deadlock'),
-    ('waitany', '--ends --complete', 4, 'not everything was tried: what a waitany takes may depend on the order of steps'),
+    ('one_in_seven', '--until deadlock', 1, f'{ALL_TOLD}, in 7 ways, 1 of them a deadlock'),
+    ('two_each', '--until deadlock', 1, f'{UNTRIED}: 1 run was listed, and there are more (--until)'),
+    ('two_each', '--until deadlock --ends', 1, f'{UNTRIED}: 1 run was listed, and there are more (--until)'),
+    ('one_in_seven', '--split 0 --runs 6 --until deadlock --complete', 4, f'{UNTRIED}: 6 runs were listed, and there are more (--ends, --runs)'),
+    # a waitany takes what is complete by then, so a report along decisions tells of its runs alone
+    ('waitany', '', 0, f'{UNTRIED}: {BY_REQUESTS}'),
+    ('waitany', '--complete', 4, f'{UNTRIED}: {BY_REQUESTS}'),
+    ('waitany', '--piece 1', 0, f'{UNTRIED}: {BY_REQUESTS}'),
+    ('waitany', '--fuel 21 --complete', 4, f'{UNTRIED}: 2 runs were cut (--fuel), {BY_REQUESTS}'),
+    ('waitany', '--split 0 --runs 1 --fuel 21', 0, f'{UNTRIED}: 1 run was listed, and there are more (--ends, --runs), 1 run was cut (--fuel), {BY_REQUESTS}'),
+    ('waited_twice', '--until deadlock --complete', 1, f'{UNTRIED}: {BY_REQUESTS}'),
+    ('order_decides', '--complete', 4, f'{UNTRIED}: {BY_REQUESTS}'),
+    # a report that lists ends tells all of every script
+    ('four_races', '--ends', 0, NEVER),
+    ('four_races', '--ends --complete', 0, NEVER),
+    ('four_races', '--ends --split 0 --runs 3', 0, f'{UNTRIED}: 3 runs were listed, and there are more (--runs, --sample)'),
+    ('four_races', '--ends --split 0 --runs 3 --complete', 4, f'{UNTRIED}: 3 runs were listed, and there are more (--runs, --sample)'),
+    ('one_in_seven', '--ends', 1, f'{ALL_TOLD}, in 7 ways, 1 of them a deadlock'),
+    ('one_in_seven', '--ends --fuel 63 --complete', 4, f'{UNTRIED}: 1 run was cut (--fuel)'),
+    ('waitany', '--ends', 0, f'{NEVER}\n{ALONG}'),
+    ('waitany', '--ends --complete', 0, f'{NEVER}\n{ALONG}'),
+    ('waitany', '--ends --group --complete', 0, f'{NEVER}\n{ALONG}'),
+    ('waitany', '--ends --fuel 21 --complete', 4, f'{UNTRIED}: 2 runs were cut (--fuel)\n{ALONG}'),
+    ('waitany', '--ends --piece 1', 0, ALONG),
+    ('order_decides', '--ends', 1, f'{ALL_TOLD}, in 2 ways, 1 of them a trap\n{ALONG}'),
+    ('order_decides', '--ends --complete --until deadlock', 1, f'{ALL_TOLD}, in 2 ways, 1 of them a trap\n{ALONG}'),
+    ('order_decides', '--ends --split 0 --runs 1', 0, f'{UNTRIED}: 1 run was listed, and there are more (--runs, --sample)\n{ALONG}'),
+    ('order_decides', '--ends --split 0 --runs 1 --complete', 4, f'{UNTRIED}: 1 run was listed, and there are more (--runs, --sample)\n{ALONG}'),
+    ('order_decides', '--ends --split 0 --runs 1 --fuel 13', 0,
+     f'{UNTRIED}: 1 run was listed, and there are more (--runs, --sample), 1 run was cut (--fuel)\n{ALONG}'),
+    ('order_decides', '--ends --piece 0', 0, ALONG), ('order_decides', '--ends --piece 1', 1, ALONG),
+    ('order_decides', '--ends --pieces', 0, ''),
     # so does one of runs that are drawn, where all of them were
-    ('one_in_seven', '--sample 500 --complete', 1, 'every way it can end is listed: it always ends, in 7 ways, 1 of them a deadlock'),
-    ('first_message', '--sample 5 --complete', 0, 'every way it can end is listed: it always ends, and never in a deadlock or trap'),
+    ('one_in_seven', '--sample 500 --complete', 1, f'{ALL_TOLD}, in 7 ways, 1 of them a deadlock'),
+    ('first_message', '--sample 5 --complete', 0, NEVER),
+    ('four_races', '--sample 1', 0, f'{UNTRIED}: 1 run was listed, and there are more (--sample)'),
+    ('four_races', '--sample 1 --complete', 4, f'{UNTRIED}: 1 run was listed, and there are more (--sample)'),
+    ('waitany', '--sample 60 --complete', 0, f'{NEVER}\n{ALONG}'),
+    ('waitany', '--sample 1', 0, f'{UNTRIED}: 1 run was listed, and there are more (--sample)\n{ALONG}'),
+    ('order_decides', '--sample 60 --complete', 1, f'{ALL_TOLD}, in 3 ways, 1 of them a trap\n{ALONG}'),
     # a deadlock was found, so the status is not that of a report that isn't whole
-    ('race', '--split 0 --runs 1 --complete', 1, 'not everything was tried: 1 run was listed, and there are more (--runs)'),
+    ('race', '--split 0 --runs 1 --complete', 1, f'{UNTRIED}: 1 run was listed, and there are more (--ends, --runs)'),
 )
 
-# In a mode of slots a send is buffered or not by what was matched before it, so again a report tells of its runs alone.
-BY_ORDER = 'which sends are buffered may depend on the order of steps'
+# In a mode of slots a send is buffered or not by what was matched before it, so again a report along decisions tells of its runs alone.
 SUMMED_IN_SLOTS = (
-    ('first_message', '--mode slots:1', 0, f'not everything was tried: {BY_ORDER}'),
-    ('first_message', '--mode slots:0 --complete', 4, f'not everything was tried: {BY_ORDER}'),
-    ('first_message', '--mode slots:65536 --complete', 4, f'not everything was tried: {BY_ORDER}'),
-    ('first_message', '--mode slots:1 --fuel 1 --complete', 4, f'not everything was tried: 1 run was cut (--fuel), {BY_ORDER}'),
-    ('first_message', '--mode slots:1 --piece 0', 0, f'not everything was tried: {BY_ORDER}'),
-    ('head_to_head', '--mode slots:0', 1, f'not everything was tried: {BY_ORDER}'),
-    ('head_to_head', '--mode slots:0 --complete', 1, f'not everything was tried: {BY_ORDER}'),
-    ('trap', '--mode slots:2', 1, f'not everything was tried: {BY_ORDER}'),
-    ('waitany', '--mode slots:0', 0, f'not everything was tried: what a waitany takes may depend on the order of steps, {BY_ORDER}'),
-    ('waitany', '--mode slots:0 --complete', 4, f'not everything was tried: what a waitany takes may depend on the order of steps, {BY_ORDER}'),
+    ('first_message', '--mode slots:1', 0, f'{UNTRIED}: {BY_ORDER}'),
+    ('first_message', '--mode slots:0 --complete', 4, f'{UNTRIED}: {BY_ORDER}'),
+    ('first_message', '--mode slots:65536 --complete', 4, f'{UNTRIED}: {BY_ORDER}'),
+    ('first_message', '--mode slots:1 --fuel 1 --complete', 4, f'{UNTRIED}: 1 run was cut (--fuel), {BY_ORDER}'),
+    ('first_message', '--mode slots:1 --piece 0', 0, f'{UNTRIED}: {BY_ORDER}'),
+    ('head_to_head', '--mode slots:0', 1, f'{UNTRIED}: {BY_ORDER}'),
+    ('head_to_head', '--mode slots:0 --complete', 1, f'{UNTRIED}: {BY_ORDER}'),
+    ('trap', '--mode slots:2', 1, f'{UNTRIED}: {BY_ORDER}'),
+    ('freed_slot', '--mode slots:2 --complete', 4, f'{UNTRIED}: {BY_ORDER}'),
+    ('waitany', '--mode slots:0', 0, f'{UNTRIED}: {BY_REQUESTS}, {BY_ORDER}'),
+    ('waitany', '--mode slots:0 --complete', 4, f'{UNTRIED}: {BY_REQUESTS}, {BY_ORDER}'),
+    ('first_message', '--mode slots:1 --ends', 0, f'{NEVER}\n{ALONG}'),
+    *(('first_message', f'--mode {mode} --ends --complete', 0, f'{NEVER}\n{ALONG}') for mode in ('slots:0', 'slots:1', 'slots:65536')),
+    ('first_message', '--mode slots:1 --ends --fuel 1 --complete', 4, f'{UNTRIED}: 1 run was cut (--fuel)\n{ALONG}'),
+    ('first_message', '--mode slots:1 --ends --piece 0', 0, ALONG), ('first_message', '--mode slots:1 --sample 3 --complete', 0, f'{NEVER}\n{ALONG}'),
+    ('head_to_head', '--mode slots:0 --ends --complete', 1, f'{ALL_TOLD}, in 1 way, 1 of them a deadlock\n{ALONG}'),
+    ('freed_slot', '--mode slots:1 --ends', 1, f'{ALL_TOLD}, in 2 ways, 1 of them a deadlock\n{ALONG}'),
+    ('freed_slot', '--mode slots:1 --ends --until deadlock', 1, f'{UNTRIED}: 1 run was listed, and there are more (--until)\n{ALONG}'),
+    ('freed_slot', '--mode slots:1 --sample 60 --complete', 1, f'{ALL_TOLD}, in 2 ways, 1 of them a deadlock\n{ALONG}'),
+    ('freed_slot', '--mode slots:2 --ends --complete', 0, f'{NEVER}\n{ALONG}'),
+    ('freed_slot', '--ends', 1, f'{ALL_TOLD}, in 1 way, 1 of them a deadlock'),
+    ('waitany', '--mode slots:0 --ends --complete', 0, f'{NEVER}\n{ALONG}'),
 )
 
 # Of modes that are tried in turn it is said which ones have a deadlock or a trap, as far as the first that has none.
@@ -540,18 +585,44 @@ SUMMED_MODES = (
     ('freed_slot', '--modes 3', 1, 'hangs or traps with fewer than 2 slots'),
     ('freed_slot', '--modes 1', 1, 'hangs or traps with each number of slots that was tried (--modes)'),
     ('two_receives', '--modes 0', 1, 'hangs or traps in each of these modes'),
+    # the report of each of them must be whole, where that is asked for, and no more than that
+    ('first_message', '--modes 1 --complete', 0, 'no deadlock or trap is listed in any of these modes'),
+    ('four_races', '--modes 0 --split 0 --runs 3', 0, 'no deadlock or trap is listed in any of these modes'),
+    ('four_races', '--modes 0 --split 0 --runs 3 --complete', 4, 'no deadlock or trap is listed in any of these modes'),
+    ('head_to_head', '--modes 2 --complete', 1, 'hangs or traps without a slot'),
 )
 
 
 def summed_rows(program):
-    """At a terminal, and there alone, a line below a report says whether everything was tried, and how the script can end; with
-    `--complete` a report that isn't whole and has nothing bad has a status of its own."""
+    """At a terminal, and there alone, a line below a report says whether everything was tried, and how the script can end, and a second one that
+    its choices are those of the wide walk; with `--complete` a report that isn't whole and has nothing bad has a status of its own."""
     for name, options, status, line in SUMMED + (SUMMED_IN_SLOTS + SUMMED_MODES) * bool(KNOWN):
         words = ('check', os.path.join(EXAMPLES, f'{name}.mpd'), *options.split())
         result = at_terminal(program, *words)
-        yield f'a terminal, check {name} {options}', (result.errors, result.status), (line.encode() + b'\n', status)
+        yield f'a terminal, check {name} {options}', (result.errors, result.status), (line.encode() + b'\n' * bool(line), status)
         quiet = Files(None).run(program, *words)
         yield f'no terminal, check {name} {options}', quiet, Result(result.output, b'', status)
+
+
+# Nine messages to one rank, which come in 362,880 orders, each of which is an end of its own; the same of eight, with 40,320 orders.
+MANY_ENDS = b'mpd 1; ranks 10; var x;\nif rank == 0 {' + b' recv x from any tag 0;' * 9 + b' } else { send 1 to 0 tag 0; }\n'
+LESS_ENDS = b'mpd 1; ranks 9; var x;\nif rank == 0 {' + b' recv x from any tag 0;' * 8 + b' } else { send 1 to 0 tag 0; }\n'
+# Options whose numbers are at their most, and what is told then of runs that are left: how many are listed, and which options try more.
+AT_MOST = (
+    (MANY_ENDS, '--split 0 --runs 65536', rb'65536', '--ends'), (MANY_ENDS, '--split 0 --runs 65535', rb'65535', '--ends, --runs'),
+    (MANY_ENDS, '--split 0 --runs 65536 --ends', rb'65536', '--sample'), (MANY_ENDS, '--split 0 --runs 65535 --ends', rb'65535', '--runs, --sample'),
+    (LESS_ENDS, '--sample 65536', rb'[23][0-9]{4}', '--ends'), (LESS_ENDS, '--sample 65535', rb'[23][0-9]{4}', '--sample'))
+
+
+def most_rows(program):
+    """At a terminal an option that can't have a greater number isn't named as one that tries more."""
+    with tempfile.TemporaryDirectory() as folder:
+        for script, options, count, more in AT_MOST:
+            result = at_terminal(program, 'check', held(folder, 'many.mpd', script), *options.split(), '--complete')
+            told = b'not everything was tried: %b runs were listed, and there are more %b\n' % (count, re.escape(f'({more})').encode())
+            # (progress may be told before it)
+            line = result.errors.rpartition(b'\x1b[K')[2]
+            yield f'a terminal, {options} of so many ends', (bool(re.fullmatch(told, line)) or line, result.status), (True, 4)
 
 
 # Two ranks that send before they receive, a witness of that, and a mode; and what a terminal is told below the verdict.
@@ -613,8 +684,8 @@ def much_rows(program):
     yield f'much to show with {MUCH_MIB} MiB', result, wanted
 
 
-ROWS = (ended_rows, example_rows, refused_rows, device_rows, usage_rows, trace_rows, terminal_rows, found_rows, why_rows, progress_rows, summed_rows, hint_rows,
-        interrupted_rows, talk_rows, stack_rows, much_rows, full_rows, turns_rows, lesson_rows, *WORKED_ROWS, *PART_ROWS, *SESSION_ROWS,
+ROWS = (ended_rows, example_rows, refused_rows, device_rows, usage_rows, trace_rows, terminal_rows, found_rows, why_rows, progress_rows, summed_rows, most_rows,
+        hint_rows, interrupted_rows, talk_rows, stack_rows, much_rows, full_rows, turns_rows, lesson_rows, *WORKED_ROWS, *PART_ROWS, *SESSION_ROWS,
         *CONSOLE_ROWS, *DEVICE_ROWS, *CONNECTION_ROWS)
 
 

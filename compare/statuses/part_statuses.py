@@ -87,7 +87,9 @@ def told_rows(program):
         for words, output, told, status in (
                 (('--piece', '1'), b'leaf 0 [1] done\nleaves 1 more no\n', b'', 0), (('--pieces',), b'pieces 2\n', b'', 0),
                 (('--split', '0', '--piece', '0', '--runs', '1'), b'leaf 0 [0] deadlock 0.1 2.0\nleaves 1 more yes\n',
-                 b'not everything was tried: 1 run was listed, and there are more (--runs)\n', 1)):
+                 b'not everything was tried: 1 run was listed, and there are more (--ends, --runs)\n', 1),
+                (('--split', '0', '--piece', '0', '--runs', '1', '--ends'), b'leaf 0 [0] deadlock 0.1 2.0\nleaves 1 more yes\n',
+                 b'not everything was tried: 1 run was listed, and there are more (--runs, --sample)\n', 1)):
             yield f'a terminal, {words}', at_terminal(program, 'check', race, *words), Result(output, told, status)
 
 

@@ -142,14 +142,14 @@ Options:
       --fuel <N>     How many steps a run takes at most, 1 to 1000000 [default: 100000]
       --split <K>    By how many choices the runs are cut into pieces, 0 to 8 [default: 1]
       --workers <N>  How many workers make the report, 1 to 16 [default: 4]
-      --ends         List one of runs that differ only in the order of choices that share no call
+      --ends         List each end once: leave out runs that differ only in the order of steps that don't conflict
       --sample <N>   Draw the choices of N runs at random, 1 to 65536
       --seed <S>     What --sample begins to draw with, 0 to 18446744073709551615 [default: 0]
       --explain      Explain each deadlock and each trap: what waits, and for what
       --group        List each different end once, with how many runs come to it
       --until <END>  List the runs up to the first that ends in a deadlock or a trap [possible values: deadlock]
       --witness      Print the trace words of a run that comes to a deadlock
-      --complete     End with status 4 where nothing was found and not all was tried
+      --complete     End with status 4 where nothing was found and not all was tried, with --modes in each mode; not beside --piece or --pieces
       --piece <N>    Print the part of the report that piece N has, 0 to 1023
       --pieces       Print how many pieces there are, and nothing else
   -h, --help         Print help
@@ -190,9 +190,11 @@ Options:
       --mode <M>     How standard sends behave: rendezvous, buffered, or slots:K with K from 0 to 65536 [default: rendezvous]
       --choices <C>  The choices of the run, numbers from 0 with spaces between them
       --fuel <N>     How many steps a run takes at most, 1 to 1000000 [default: 100000]
+      --ends         The choices are those of a leaf of `check --ends` or `check --sample`
   -h, --help         Print help
 
 The choices are those of a leaf of `mpdbg check`: the run of `leaf 3 [0 1 0] ..` is that of --choices '0 1 0'.
+Those of a leaf of `mpdbg check --ends` or `mpdbg check --sample` want --ends beside them.
 
 Example:
   ./mpdbg words examples/race.mpd --choices '0' | ./mpdbg trace examples/race.mpd
@@ -229,10 +231,12 @@ Options:
       --witness <WITNESS>  Draw the run of a witness or a report
       --words <WORDS>      Draw the run of a file of trace words, one a line
       --fuel <N>           How many steps a run takes at most, 1 to 1000000 [default: 100000]
+      --ends               The choices are those of a leaf of `check --ends` or `check --sample`
   -h, --help               Print help
 
 One of --choices, --witness and --words says which run is drawn. Without them it is the run of the
-first candidates. --fuel is for a run of choices or of first candidates.
+first candidates. --fuel is for a run of choices or of first candidates. Choices of a leaf of
+`mpdbg check --ends` or `mpdbg check --sample` want --ends beside them.
 
 Example:
   ./mpdbg picture examples/race.mpd --choices '1' > race.svg
@@ -262,6 +266,7 @@ ANSWERS = (
     ('verify|--help', VERIFY), ('verify|-h', VERIFY), ('help|verify', VERIFY), ('verify|a|b|--help', VERIFY),
     ('verify|a|b|--leaf|67108863|-h', VERIFY),
     ('words|--help', WORDS), ('words|-h', WORDS), ('help|words', WORDS), ('words|no-such-file|--choices|x|--mode|no-mode|--help', WORDS),
+    ('words|no-such-file|--ends|--choices|x|-h', WORDS), ('picture|no-such-file|--ends|--help', PICTURE),
     ('c|--help', C), ('c|-h', C), ('help|c', C), ('c|no-such-file|--help', C),
     ('picture|--help', PICTURE), ('picture|-h', PICTURE), ('help|picture', PICTURE),
     ('picture|no-such-file|--choices|x|--words=w|--witness|w|--fuel|7|--mode|no-mode|--help', PICTURE))
@@ -273,8 +278,9 @@ OF_TRACE, OF_DEBUG, OF_RUN, OF_SERVE, OF_CHECK, OF_VERIFY, OF_WORDS, OF_C, OF_PI
                                  'verify [OPTIONS] <FILE> <WITNESS>', 'words [OPTIONS] --choices <C> <FILE>', 'c <FILE>', 'picture [OPTIONS] <FILE>'))
 # What `serve` wants, where something that was given is named.
 WANTED_OF_SERVE = 'mpdbg serve --port <P> --clients <N> <FILE>'
-# And what `words` wants.
+# And what `words` wants, with another flag and without.
 WANTED_OF_WORDS = 'mpdbg words --choices <C> <FILE>'
+ENDS_OF_WORDS, ENDS_OF_PICTURE = 'mpdbg words --choices <C> --ends <FILE>', 'mpdbg picture --ends <FILE>'
 
 
 class Mistake(NamedTuple):
@@ -345,6 +351,8 @@ MISTAKES = (
     unknown('--port|1|serve|a|--clients|1', '--port', NO_COMMAND, "'serve --port' exists"),
     unknown('--choices|0|words|a', '--choices', NO_COMMAND, "'words --choices' exists"),
     unknown('--words|w|picture|a', '--words', NO_COMMAND, "'picture --words' exists"),
+    unknown('--ends|words|a|--choices|0', '--ends', NO_COMMAND, "'words --ends' exists"),
+    unknown('--ends|picture|a', '--ends', NO_COMMAND, "'picture --ends' exists"),
     unknown('--|trace|a', 'trace', NO_COMMAND, "subcommand 'trace' exists; to use it, remove the '--' before it"),
     # files, and options that must be there
     missing('trace', ['<FILE>'], 'mpdbg trace <FILE>'),
@@ -374,10 +382,13 @@ MISTAKES = (
     missing('words|a', ['--choices <C>'], WANTED_OF_WORDS),
     missing('words|--choices|0', ['<FILE>'], WANTED_OF_WORDS),
     missing('words|a|--fuel|5', ['--choices <C>'], 'mpdbg words --choices <C> --fuel <N> <FILE>'),
+    missing('words|a|--ends', ['--choices <C>'], ENDS_OF_WORDS),
+    missing('words|--ends|--choices|0', ['<FILE>'], ENDS_OF_WORDS),
     missing('c', ['<FILE>'], OF_C),
     missing('picture', ['<FILE>'], 'mpdbg picture <FILE>'),
     missing('picture|--words|w', ['<FILE>'], 'mpdbg picture --words <WORDS> <FILE>'),
     missing('picture|--choices|0|--fuel|5', ['<FILE>'], 'mpdbg picture --choices <C> --fuel <N> <FILE>'),
+    missing('picture|--ends', ['<FILE>'], ENDS_OF_PICTURE),
     unknown('trace|a|b', 'b', OF_TRACE),
     unknown('debug|a|b', 'b', OF_DEBUG),
     unknown('debug|a|--witness|--|b', 'b', OF_DEBUG),
@@ -389,6 +400,8 @@ MISTAKES = (
     unknown('words|a|--choices|0|1', '1', OF_WORDS),
     unknown('c|a|b', 'b', OF_C),
     unknown('picture|a|b', 'b', OF_PICTURE),
+    unknown('words|a|--choices|0|--ends|b', 'b', OF_WORDS),
+    unknown('picture|a|--ends|b', 'b', OF_PICTURE),
     # options
     unknown('trace|a|--mod|buffered', '--mod', 'mpdbg trace --mode <M> <FILE>', "a similar argument exists: '--mode'"),
     unknown('debug|a|--witnes|w', '--witnes', 'mpdbg debug --witness <WITNESS> <FILE>', "a similar argument exists: '--witness'"),
@@ -407,6 +420,8 @@ MISTAKES = (
     unknown('check|a|--groups', '--groups', 'mpdbg check --group <FILE>', "a similar argument exists: '--group'"),
     unknown('verify|a|b|--leafs|1', '--leafs', 'mpdbg verify --leaf <N> <FILE> <WITNESS>', "a similar argument exists: '--leaf'"),
     unknown('words|a|--choice|0', '--choice', WANTED_OF_WORDS, "a similar argument exists: '--choices'"),
+    unknown('words|a|--choices|0|--end', '--end', ENDS_OF_WORDS, "a similar argument exists: '--ends'"),
+    unknown('picture|a|--end', '--end', ENDS_OF_PICTURE, "a similar argument exists: '--ends'"),
     unknown('run|a|--mod|buffered', '--mod', 'mpdbg run --mode <M> <FILE>', "a similar argument exists: '--mode'"),
     hyphened('debug|a|--runs|5', '--runs', 'mpdbg debug <FILE>'),
     hyphened('debug|a|--laid=w', '--laid', 'mpdbg debug <FILE>'),
@@ -485,6 +500,12 @@ MISTAKES = (
     Mistake('check|a|--group=a', "unexpected value 'a' for '--group' found; no more were expected", 'mpdbg check --group <FILE>'),
     Mistake('verify|a|b|--leaf|1|--leaf=1', "the argument '--leaf <N>' cannot be used multiple times", OF_VERIFY),
     Mistake('words|a|--choices|0|--choices=0', "the argument '--choices <C>' cannot be used multiple times", OF_WORDS),
+    Mistake('words|a|--choices|--ends', "a value is required for '--choices <C>' but none was supplied"),
+    Mistake('picture|a|--choices|--ends', "a value is required for '--choices <C>' but none was supplied"),
+    Mistake('words|a|--choices|0|--ends|--ends', "the argument '--ends' cannot be used multiple times", OF_WORDS),
+    Mistake('picture|a|--ends|--ends', "the argument '--ends' cannot be used multiple times", OF_PICTURE),
+    Mistake('words|a|--choices|0|--ends=true', "unexpected value 'true' for '--ends' found; no more were expected", ENDS_OF_WORDS),
+    Mistake('picture|a|--ends=true', "unexpected value 'true' for '--ends' found; no more were expected", ENDS_OF_PICTURE),
     Mistake('picture|a|--words', "a value is required for '--words <WORDS>' but none was supplied"),
     Mistake('picture|a|--witness|--words|w', "a value is required for '--witness <WITNESS>' but none was supplied"),
     Mistake('picture|a|--choices|0|--choices=1', "the argument '--choices <C>' cannot be used multiple times", OF_PICTURE),
