@@ -5,8 +5,10 @@
 
 It is no part of the gate. It has the scripts of bench/check.py that have a choice, and independent races: 2 to 5 receivers of any source, each
 with two senders of its own. For each script it tells how many leaves a report has, and a `+` where there are more; the best of N whole
-runs by the clock (5, where it isn't said), and the most memory that a run was seen to have, every millisecond. Where all candidates of a choice are asleep, the
-way there is in vain, and has no leaf: that is in the time of `--ends`. Both run in one piece (`--split 0`), by one worker. The status is 1 where a leaf with `--ends` isn't one of the leaves without it, as far as these are listed whole.
+runs by the clock (5, where it isn't said), and the most memory that a run was seen to have, every millisecond. Where all candidates of a
+choice are asleep, the way there is in vain, and has no leaf: that is in the time of `--ends`. Both run in one piece (`--split 0`), by one
+worker. The status is 1 where a leaf with `--ends` isn't one of the leaves without it, as far as these are listed whole: no script here has a
+waitany, and the mode no slots, so the choices of both are the same.
 """
 import argparse
 import os
