@@ -202,6 +202,7 @@ GROUPED = (
     CheckRow(TWO_RACES, Asked(group=True, pieces=True), 'pieces 4', 0),
     CheckRow(FOUR_RACES, ENDS._replace(group=True, complete=True), 'end 0 leaves 16 first 0 done; leaves 16 more no', 0),
     CheckRow(THREE, Asked(group=True, fuel=9), 'end 0 leaves 2 first 0 cut; leaves 2 more no', 0),
+    CheckRow(FREED_SLOT, IN_SLOTS._replace(group=True, fuel=8), 'end 0 leaves 1 first 0 deadlock 0.2; end 1 leaves 1 first 1 cut; leaves 2 more no', 1),
     CheckRow(THREE, Asked(group=True, fuel=9, complete=True), 'end 0 leaves 2 first 0 cut; leaves 2 more no', 4),
     CheckRow(gathering(12, 2), Asked(group=True, runs=2, split=0), 'end 0 leaves 1 first 0 leftovers 3.0 4.0 5.0 6.0 7.0 8.0 9.0 10.0 11.0; '
              'end 1 leaves 1 first 1 leftovers 2.0 4.0 5.0 6.0 7.0 8.0 9.0 10.0 11.0; leaves 2 more yes', 0),
