@@ -27,7 +27,7 @@ use Rattle.mpd_model.specs.steps.Next.{Ran, trapped, printed, assigned, assignme
 use Rattle.mpd_complete.specs.CompleteLaws.{HasNoWaitany}
 use Rattle.mpd_laws.proofs.ordered.Splits.{read_written, none_written, same_or_end}
 use Rattle.mpd_laws.proofs.ordered.CallsInOrder.{joined_from}
-use Rattle.mpd_complete.proofs.Moves.{issued_calls, joining, moved, calls_elsewhere}
+use Rattle.mpd_meaning.proofs.moving.Moves.{issued_calls, joining, moved, calls_elsewhere}
 use Rattle.mpd_complete.proofs.Steps.{IsWakeStep, local_step, wake_step, any_step, match_step, release_step}
 use Rattle.mpd_complete.proofs.Issues.{is_any, issues_none}
 use Rattle.mpd_complete.proofs.Invariants.{Sound, keeps, start_sound}

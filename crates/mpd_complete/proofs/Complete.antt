@@ -16,12 +16,12 @@ use Rattle.mpd_walk.specs.declared.ending.Ending.TheVariants.{Ended, Cut}
 use Rattle.mpd_walk.specs.Walk.{Run, here, stepped, chosen, runs_of, branches, followed, stopped, wide_walk}
 use Rattle.mpd_explore.specs.Sleeping.{awake_runs, put_to_sleep, awake_by, sleeping_wide_walk}
 use Rattle.mpd_laws.proofs.ordered.CallsInOrder.{joined_from}
-use Rattle.mpd_complete.specs.Same.{Same}
+use Rattle.mpd_meaning.specs.Same.{Same}
 use Rattle.mpd_policy.specs.Wide.{conflict, is_asleep, sleeps_on, wide_decision}
 use Rattle.mpd_complete.specs.CompleteLaws.{IsWhole, IsComplete}
 use Rattle.mpd_complete.specs.WideWalks.{wide_branches, followed_wide, awake_wide_walk}
 use Rattle.mpd_meaning.proofs.listed.Members.{In, in_left, in_right, in_map, filter_from}
-use Rattle.mpd_complete.proofs.Worlds.{same_refl, same_trans, follows_all}
+use Rattle.mpd_meaning.proofs.moving.Worlds.{same_refl, same_trans, follows_all}
 use Rattle.mpd_complete.proofs.Invariants.{Sound, keeps, fold_sound, start_sound}
 use Rattle.mpd_complete.proofs.Diamond.{diamond}
 use Rattle.mpd_complete.proofs.Views.{world_of, Stuck, ForcedView, ChoiceView, View, view}

@@ -17,8 +17,8 @@ use Rattle.mpd_model.specs.steps.Next.{stepped, waits, can_wake, woken, can_wake
 use Rattle.mpd_policy.specs.Wide.{lacks_slot, frees_slot, gives_slot, conflict, is_quiet}
 use Rattle.mpd_complete.specs.CompleteLaws.{Joins}
 use Rattle.mpd_laws.proofs.ordered.CallsInOrder.{chosen}
-use Rattle.mpd_complete.proofs.Worlds.{same_sym, taken}
-use Rattle.mpd_complete.proofs.Moves.{Known, joining, moved, paired, stepped_is, local_again, moved_swapped, moved_paired}
+use Rattle.mpd_meaning.proofs.moving.Worlds.{same_sym, taken}
+use Rattle.mpd_meaning.proofs.moving.Moves.{Known, joining, moved, paired, stepped_is, local_again, moved_swapped, moved_paired}
 use Rattle.mpd_laws.proofs.ordered.Eligible.{clash}
 use Rattle.mpd_laws.proofs.ordered.Orderly.{same_id}
 use Rattle.mpd_complete.proofs.Pairs.{turned, match_again, match_freed, freed_paired, match_paired, paired_swapped, same_recv, same_send, send_known, recv_known}

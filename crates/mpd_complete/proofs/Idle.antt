@@ -25,7 +25,7 @@ use Rattle.mpd_model.specs.steps.Next.{Ran, awaiting, handles_at, issued, ran_si
 use Rattle.mpd_meaning.specs.StepLaws.{HasCalls}
 use Rattle.mpd_laws.proofs.ordered.LocalActivity.{call_blocks, BlocksOn}
 use Rattle.mpd_laws.proofs.ordered.Splits.{others_kept, read_written, end_read}
-use Rattle.mpd_complete.proofs.Moves.{joining, moved, moved_beside, kind_beside}
+use Rattle.mpd_meaning.proofs.moving.Moves.{joining, moved, moved_beside, kind_beside}
 use Rattle.mpd_laws.proofs.ordered.Eligible.{clash}
 use Rattle.mpd_complete.proofs.Steps.{IsLocalStep}
 use Rattle.mpd_complete.proofs.Issues.{is_any, issues_none}

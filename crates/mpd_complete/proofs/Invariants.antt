@@ -15,9 +15,9 @@ use Rattle.mpd_model.specs.steps.Next.{released, going_on, next, fold}
 use Rattle.mpd_model.specs.steps.Why.{or_else}
 use Rattle.mpd_meaning.specs.StepLaws.{HasCalls}
 use Rattle.mpd_complete.specs.CompleteLaws.{KeepsBuffers}
-use Rattle.mpd_complete.proofs.Sets.{partner_more, else_none, partner_by}
+use Rattle.mpd_meaning.proofs.moving.Sets.{partner_more, else_none, partner_by}
 use Rattle.mpd_laws.proofs.ordered.CallsInOrder.{joined_from}
-use Rattle.mpd_complete.proofs.Moves.{Known, issued_calls, joining, moved, paired, kind_kept, partner_formed}
+use Rattle.mpd_meaning.proofs.moving.Moves.{Known, issued_calls, joining, moved, paired, kind_kept, partner_formed}
 use Rattle.mpd_complete.proofs.Pairs.{Later, moved_later, paired_later, send_known, recv_known}
 use Rattle.mpd_complete.proofs.Steps.{IsLocalStep, IsWakeStep, local_step, wake_step, any_step, match_step, release_step}
 use Rattle.mpd_complete.proofs.Idle.{Idle, idle_running, idle_local, idle_released, idle_start}

@@ -1,6 +1,3 @@
-mod Sets
-mod Worlds
-mod Moves
 mod Pairs
 mod Slots
 mod Steps

@@ -15,11 +15,11 @@ use Rattle.mpd_model.specs.steps.World.{World, Board, RankWorld, call_id, id_eq,
 use Rattle.mpd_model.specs.steps.Next.{waits, can_wake, writes_of, writes_by, own_writes, woken_rank, wake_writes, wake_clears, woken, any_handle, any_call, is_complete_some, can_wake_any, index_writes, any_writes, woken_any, released, next}
 use Rattle.mpd_model.specs.runs.Decisions.{takes_any}
 use Rattle.mpd_model.specs.steps.Why.{or_else}
-use Rattle.mpd_complete.specs.Same.{Same}
+use Rattle.mpd_meaning.specs.Same.{Same}
 use Rattle.mpd_laws.proofs.ordered.Eligible.{free_is_unpaired, known_within, message_known, fitting_send, fitting_recv, agrees, earlier_send_paired, earlier_recv_paired, one_send, eligible_from, clash}
-use Rattle.mpd_complete.proofs.Sets.{partner_more, else_none, partner_by, Disjoint, sets_swapped, barrier_disjoint}
-use Rattle.mpd_complete.proofs.Moves.{moved, paired, awake, awake_any, kind_kept, partner_formed, woken_is}
-use Rattle.mpd_complete.proofs.Worlds.{taken}
+use Rattle.mpd_meaning.proofs.moving.Sets.{partner_more, else_none, partner_by, Disjoint, sets_swapped, barrier_disjoint}
+use Rattle.mpd_meaning.proofs.moving.Moves.{moved, paired, awake, awake_any, kind_kept, partner_formed, woken_is}
+use Rattle.mpd_meaning.proofs.moving.Worlds.{taken}
 
 -- ---- a later board
 

@@ -12,8 +12,8 @@ use Rattle.mpd_model.specs.steps.Why.{or_else}
 use Rattle.mpd_laws.proofs.ordered.CallsInOrder.{joined_from}
 use Rattle.mpd_laws.proofs.ordered.Eligible.{clash}
 use Rattle.mpd_laws.proofs.ordered.Orderly.{same_id}
-use Rattle.mpd_complete.proofs.Sets.{partner_more, partner_by}
-use Rattle.mpd_complete.proofs.Moves.{joining, partner_formed}
+use Rattle.mpd_meaning.proofs.moving.Sets.{partner_more, partner_by}
+use Rattle.mpd_meaning.proofs.moving.Moves.{joining, partner_formed}
 use Rattle.mpd_complete.proofs.Pairs.{id_same, recv_free, send_is_no_recv, same_recv, match_again, match_freed, match_paired}
 use Rattle.mpd_complete.proofs.Steps.{IsWakeStep, local_step, wake_step, any_step, match_step, release_step}
 

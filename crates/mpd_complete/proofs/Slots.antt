@@ -12,7 +12,7 @@ use Rattle.mpd_model.specs.steps.Next.{Ran, local_at, buffers_one, has_buffer, b
 use Rattle.mpd_laws.proofs.buffered.Slots.{slots_with_match}
 use Rattle.mpd_policy.specs.Wide.{is_standard, issues_standard, is_full, lacks_slot, frees_slot, gives_slot}
 use Rattle.mpd_policy.proofs.QuietLemmas.{never_full}
-use Rattle.mpd_complete.proofs.Moves.{moved, paired, joining, joining_by, local_elsewhere, slots_elsewhere}
+use Rattle.mpd_meaning.proofs.moving.Moves.{moved, paired, joining, joining_by, local_elsewhere, slots_elsewhere}
 
 -- ---- tests
 

@@ -15,7 +15,7 @@ use Rattle.mpd_model.specs.steps.Next.{Ran, local, local_at, stepped, is_blocked
 use Rattle.mpd_laws.proofs.ordered.LocalActivity.{BlocksOn, local_blocks}
 use Rattle.mpd_laws.proofs.ordered.CallsInOrder.{chosen, joined_from}
 use Rattle.mpd_laws.proofs.ordered.Splits.{mapped_from}
-use Rattle.mpd_complete.proofs.Moves.{Known, joining, moved, paired, awake, awake_any, stepped_is, woken_is, wake_again, any_again}
+use Rattle.mpd_meaning.proofs.moving.Moves.{Known, joining, moved, paired, awake, awake_any, stepped_is, woken_is, wake_again, any_again}
 use Rattle.mpd_complete.proofs.Pairs.{wake_paired, any_paired}
 
 pub record IsLocalStep (w : World) (p : ℕ) (u : World) : Type 0 where

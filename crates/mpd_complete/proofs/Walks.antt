@@ -11,11 +11,11 @@ use Rattle.mpd_model.specs.steps.Next.{next, fold, enabled}
 use Rattle.mpd_model.specs.steps.Outcomes.{ending}
 use Rattle.mpd_walk.specs.declared.ending.Ending.TheVariants.{Ended}
 use Rattle.mpd_walk.specs.Walk.{Run, here}
-use Rattle.mpd_complete.specs.Same.{Same}
+use Rattle.mpd_meaning.specs.Same.{Same}
 use Rattle.mpd_policy.specs.Wide.{conflict, is_quiet}
 use Rattle.mpd_complete.specs.CompleteLaws.{Joins, was_cut, IsWhole, IsListed, GoesOnToAnEnd}
 use Rattle.mpd_laws.proofs.ordered.CallsInOrder.{joined_from}
-use Rattle.mpd_complete.proofs.Worlds.{same_refl, same_sym, same_trans, ending_same, follows, follows_all}
+use Rattle.mpd_meaning.proofs.moving.Worlds.{same_refl, same_sym, same_trans, ending_same, follows, follows_all}
 use Rattle.mpd_meaning.proofs.listed.Members.{In, contains_in}
 use Rattle.mpd_complete.proofs.Invariants.{Sound, keeps, fold_sound, start_sound}
 use Rattle.mpd_complete.proofs.Diamond.{diamond, apart, stays_quiet}

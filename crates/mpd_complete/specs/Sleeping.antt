@@ -11,7 +11,7 @@ use Rattle.mpd_model.specs.runs.Decisions.{decision}
 use Rattle.mpd_walk.specs.Asleep.{same_match, nothing_wakes}
 use Rattle.mpd_walk.specs.Walk.{Run, walk}
 use Rattle.mpd_explore.specs.Sleeping.{branches_by, followed_by, awake_by}
-use Rattle.mpd_complete.specs.Same.{Same}
+use Rattle.mpd_meaning.specs.Same.{Same}
 use Rattle.mpd_complete.specs.CompleteLaws.{HasNoWaitany, KeepsBuffers, IsWhole, IsComplete, IsRun}
 
 -- ---- the walk

@@ -1,4 +1,5 @@
 mod limited
 pub mod listed
+pub mod moving
 mod local
 mod viable

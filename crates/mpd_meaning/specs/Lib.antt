@@ -3,3 +3,4 @@ pub mod ReadingLaws
 pub mod TokenLaws
 pub mod FaultLaws
 pub mod PrefixLaws
+pub mod Same

@@ -13,10 +13,10 @@ use Rattle.mpd_model.specs.declared.call.MatchSet.{MatchSet}
 use Rattle.mpd_model.specs.declared.call.MatchSet.TheVariants.{Pair, Woke}
 use Rattle.mpd_model.specs.steps.World.{World, Board, RankWorld, call_id, listed_calls, calls_of, kind_of, kind_at, partner, is_buffered, is_done, slots_used, message_of, awaited_by, awaited, complete_by, has_own_step, complete, last_call}
 use Rattle.mpd_model.specs.steps.Next.{Ran, local, local_at, stepped, buffers_one, has_buffer, buffered_by, entered, with_issued, with_set, waits, can_wake, writes_of, writes_by, cleared_by, own_writes, put_at, woken_rank, wake_writes, wake_clears, woken_by, woken, request_handle, index_writes, held_in, any_handle, any_call, is_complete_some, can_wake_any, any_writes, woken_any, next}
-use Rattle.mpd_complete.specs.Same.{SameSets, Same}
-use Rattle.mpd_complete.proofs.Sets.{partner_more, else_none, sets_refl, sets_swapped, woke_disjoint}
+use Rattle.mpd_meaning.specs.Same.{SameSets, Same}
+use Rattle.mpd_meaning.proofs.moving.Sets.{partner_more, else_none, sets_refl, sets_swapped, woke_disjoint}
 use Rattle.mpd_laws.proofs.ordered.Splits.{others_kept, read_written, same_or_end}
-use Rattle.mpd_complete.proofs.Worlds.{taken, with_sets, used_by}
+use Rattle.mpd_meaning.proofs.moving.Worlds.{taken, with_sets, used_by}
 
 abbrev pub issued_calls : List (List Call) → ℕ → Option Call → List (List Call)
 issued_calls calls p None = calls

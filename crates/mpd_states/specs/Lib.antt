@@ -1,0 +1,4 @@
+pub mod Future
+pub mod Height
+pub mod StateLaws
+pub mod StateRows

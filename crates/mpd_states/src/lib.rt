@@ -1,0 +1,21 @@
+//! States with the same future (docs/DEFINITIONS.md, "States with the same future"): laws, which have no code.
+#![tactic(auto)]
+
+ghost use Rattle.mpd_states.specs.StateLaws as law;
+
+/// In two states that runs of a script reach, and that have the same future, the same steps are enabled, the same comes next, along the
+/// walk and along the wide walk, and they end alike where they end; each step leads to states with the same future.
+pub fn same_futures_go_on_alike()
+    ensures { law.SameFuturesGoOnAlike }
+{}
+
+/// They have the same wide walk for each fuel, in each mode, with waits for any too: the same choices, steps and ends, in the same order;
+/// and their longest runs are as long.
+pub fn same_futures_have_one_walk()
+    ensures { law.SameFuturesHaveOneWalk }
+{}
+
+/// Where the longest run of a wide walk has no more steps than there is fuel, the walk is the same with any fuel that is enough for it.
+pub fn enough_fuel_is_enough()
+    ensures { law.EnoughFuelIsEnough }
+{}
