@@ -41,7 +41,7 @@ kept_both t u f (x ∷ xs) = by_tests (t x) (u (f x)) refl (kept_both t u f xs)
 abbrev pub quiet_number : World → ℕ → Bool
 quiet_number w p = is_enabled w (Local p) && is_quiet w (Local p)
 
-abbrev quiet_locals : World → List Step
+abbrev pub quiet_locals : World → List Step
 quiet_locals w = map Local (filter (quiet_number w) (rank_numbers w.board))
 
 -- ---- two tests that tell the same of all matches
@@ -73,7 +73,7 @@ local_kind w =
     (no_match (is_quiet_local w) (λ s r. refl) w.board)
     ∙ append-nil (quiet_locals w)
 
-all_kinds : (w : World) → filter (is_quiet w) (enabled w) ≡ quiet_locals w ++ (releases w ++ (wakes w ++ filter (is_quiet w) (matches_on w.board)))
+pub all_kinds : (w : World) → filter (is_quiet w) (enabled w) ≡ quiet_locals w ++ (releases w ++ (wakes w ++ filter (is_quiet w) (matches_on w.board)))
 all_kinds w =
     of_parts (is_quiet w) w (quiet_locals w) (releases w) (wakes w) [] (filter (is_quiet w) (matches_on w.board))
     (kept_both (λ p. is_enabled w (Local p)) (is_quiet w) Local (rank_numbers w.board))
@@ -143,15 +143,14 @@ named_same w ample s r =
 named_quiet : (w : World) → is_limited w.board.mode ≡ false → first_enabled w (is_named_match w.board) ≡ first_in (filter (is_quiet w) (matches_on w.board))
 named_quiet w ample = ap first_in (named_steps w ∙ matches_same (is_named_match w.board) (is_quiet w) (named_same w ample) w.board)
 
-pub where_named : (w : World) (b : Board) (limited : Bool) (o : Option Step) → b ≡ w.board → limited ≡ is_limited b.mode → limited ≡ false → o ≡ first_enabled w (is_named_match w.board)
-    → o ≡ first_in (filter (is_quiet w) (matches_on w.board))
-where_named w b limited o board is none e = e ∙ named_quiet w (ap (λ (c : Board). is_limited c.mode) (sym board) ∙ sym is ∙ none)
-
 -- the first quiet step is the one that nobody has to choose
 pub quiet_first : (w : World) → is_limited w.board.mode ≡ false → first_enabled w (is_quiet w) ≡ forced_step w
 quiet_first w ample =
     quiet_is w
     ∙ (λ i. or_else (first_in (filter (λ a. local_same w ample a i) (enabled w))) (or_else (first_enabled w is_release) (or_else (first_enabled w is_wake) (sym (named_quiet w ample) i))))
+
+pub where_ample : (w : World) (b : Board) (limited : Bool) (o : Option Step) → b ≡ w.board → limited ≡ is_limited b.mode → limited ≡ false → o ≡ forced_step w → o ≡ first_enabled w (is_quiet w)
+where_ample w b limited o board is none e = e ∙ sym (quiet_first w (ap (λ (c : Board). is_limited c.mode) (sym board) ∙ sym is ∙ none))
 
 -- ---- the quiet matches of a receive
 

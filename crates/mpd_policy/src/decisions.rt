@@ -40,7 +40,7 @@ pub(crate) fn release(core: &Core<'_>) -> Option<Step>
 }
 
 /// The wake of the lowest rank that can be woken.
-
+#[inline(always)]
 pub(crate) fn first_wake(core: &Core<'_>) -> Option<Step>
     ensures { result ≡ first_enabled core.now.world is_wake }
 {
@@ -55,13 +55,14 @@ pub(crate) fn first_wake(core: &Core<'_>) -> Option<Step>
 
 /// The first match whose receive names its source.
 #[tactic(auto, using(crate::proofs::StepKinds::naming))]
-pub(crate) fn first_named_match(core: &Core<'_>) -> Option<Step>
+fn first_named_match(core: &Core<'_>) -> Option<Step>
     ensures { result ≡ first_enabled core.now.world (is_named_match core.now.world.board) }
 {
     core.board().first_named_match()
 }
 
 /// The step that nobody has to choose, where there is one (docs/DEFINITIONS.md, "Decisions"). It takes no memory.
+#[inline(always)]
 #[tactic(auto, using(crate::proofs::StepKinds::first_of_four))]
 pub fn forced_step(core: &Core<'_>) -> Option<Step>
     ensures { result ≡ decisions.forced_step core.now.world }

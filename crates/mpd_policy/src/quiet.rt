@@ -10,7 +10,7 @@ ghost use Rattle.mpd_model.specs.runs.Decisions.{first_enabled};
 ghost use Rattle.mpd_match.specs.Matches.{matches_from, matches_with, matches_at, matches_on};
 ghost use Rattle.mpd_policy.specs.Wide as wide;
 
-use crate::decisions::{first_named_match, first_wake, release};
+use crate::decisions::{first_wake, forced_step, release};
 use mpd_core::Core;
 use mpd_counter::Counter;
 use mpd_model::{CallId, CallKind, Mode, Step};
@@ -57,7 +57,7 @@ fn is_full(mode: Mode, held: usize) -> bool
 }
 
 /// Whether the local step of a rank issues a standard send; not where there is none.
-fn issues_standard(core: &Core<'_>, rank: usize) -> bool
+pub(crate) fn issues_standard(core: &Core<'_>, rank: usize) -> bool
     ensures { result ≡ wide.issues_standard (local_at core.now.world rank) }
 {
     core.all_ranks_are_there();
@@ -71,11 +71,18 @@ fn issues_standard(core: &Core<'_>, rank: usize) -> bool
     }
 }
 
+/// Whether there are slots, and a rank holds as many.
+pub(crate) fn holds_all(core: &Core<'_>, rank: usize) -> bool
+    ensures { result ≡ wide.is_full core.now.world.board.mode (worlds.slots_used core.now.world.board rank) }
+{
+    is_full(core.board().mode(), core.board().slots_used(rank))
+}
+
 /// Whether a rank holds all its slots, and its local step issues a standard send.
-pub(crate) fn lacks_slot(core: &Core<'_>, rank: usize) -> bool
+fn lacks_slot(core: &Core<'_>, rank: usize) -> bool
     ensures { result ≡ wide.lacks_slot core.now.world rank }
 {
-    is_full(core.board().mode(), core.board().slots_used(rank)) && issues_standard(core, rank)
+    holds_all(core, rank) && issues_standard(core, rank)
 }
 
 /// Whether a call is a send that holds a slot until it is matched.
@@ -194,20 +201,9 @@ fn quiet_match_among(core: &Core<'_>) -> Option<Step>
     None
 }
 
-/// The first quiet match. Where buffers never run out it is the first whose receive names its source.
-#[tactic(auto, using(crate::proofs::QuietLemmas::where_named))]
-fn first_quiet_match(core: &Core<'_>) -> Option<Step>
-    ensures { result ≡ first_in (filter (wide.is_quiet core.now.world) (matches_on core.now.world.board)) }
-{
-    if core.board().mode().is_limited() {
-        return quiet_match_among(core);
-    }
-    first_named_match(core)
-}
-
-/// The first quiet step that is enabled: a local step, else the release, else a wake, else a match. It takes no memory.
+/// The first quiet step that is enabled, looked for by kinds: a local step, else the release, else a wake, else a match.
 #[tactic(auto, using(crate::proofs::QuietLemmas::by_kinds))]
-pub fn first_quiet(core: &Core<'_>) -> Option<Step>
+fn first_quiet_by_kind(core: &Core<'_>) -> Option<Step>
     ensures { result ≡ first_enabled core.now.world (wide.is_quiet core.now.world) }
 {
     let local = first_quiet_local(core);
@@ -222,5 +218,17 @@ pub fn first_quiet(core: &Core<'_>) -> Option<Step>
     if wake.is_some() {
         return wake;
     }
-    first_quiet_match(core)
+    quiet_match_among(core)
+}
+
+/// The first quiet step that is enabled: a local step, else the release, else a wake, else a match. Where buffers never run out it is the
+/// step that nobody has to choose. It takes no memory.
+#[tactic(auto, using(crate::proofs::QuietLemmas::where_ample))]
+pub fn first_quiet(core: &Core<'_>) -> Option<Step>
+    ensures { result ≡ first_enabled core.now.world (wide.is_quiet core.now.world) }
+{
+    if core.board().mode().is_limited() {
+        return first_quiet_by_kind(core);
+    }
+    forced_step(core)
 }

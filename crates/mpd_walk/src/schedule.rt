@@ -103,7 +103,12 @@ impl Schedule for Wide {
     }
 
     fn is_same(&self, candidate: Step, asleep: Step) -> bool {
-        candidate == asleep
+        match (candidate, asleep) {
+            (Step::Match(send, receive), Step::Match(sent, taken)) => {
+                send == sent && receive == taken
+            }
+            _ => candidate == asleep,
+        }
     }
 
     fn keep_asleep(&self, debugger: &Debugger<'_>, step: Step, asleep: &mut StepList) {
