@@ -1,0 +1,135 @@
+use Rattle.std.proofs.Common.{◌≡◌, ◌<◌, ◌≤◌, ◌+◌, ◌-◌, suc, List, length, reverse, slice_get, refl, sym, ap, subst, ◌∙◌, arith, add-one}
+use Rattle.mpd_model.specs.steps.World.{World}
+use Rattle.mpd_trail.specs.Views.{standing_of}
+use Rattle.mpd_explore.proofs.SearchLemmas.{Went, Came, safe_same, safe_then}
+use Rattle.mpd_explore.specs.declared.report.Leaf.{Leaf}
+use Rattle.mpd_outcomes.specs.declared.table.Found.{Found}
+use Rattle.mpd_outcomes.specs.declared.search.Open.{Open}
+use Rattle.mpd_outcomes.specs.Front.{Search, search_of, After}
+use Rattle.mpd_outcomes.proofs.AnswerLemmas.{popped_after, pushed_before, can_take, came_back, went_on}
+use Rattle.mpd_outcomes.proofs.StackLemmas.{low_enough, back_at, choice_back, safe_came, safe_went, next_before, closed_after, closed_found, closed_above, closed_below, table_kept}
+use Rattle.mpd_outcomes.proofs.search.advance.Goals as goal
+
+pub go_back-requires : goal.go_back-requires
+go_back-requires c =
+    let r = c.requires.stands in
+    let s : Search = search_of c.args.bounds c.args.debugger.now.trail r.0 in
+    let d = standing_of c.loop-top.debugger in
+    let top : Open = c.in-Some.top in
+    let h = popped_after s c.pop.new.self.items c.loop-top.front.stack.items top c.loop-top.front.ways.items c.loop-top.front.sums c.loop-top.front.table d c.in-Some.ensures.items (c.loop-top.invariant.stands r.0 r.1) in
+    low_enough s top (reverse c.pop.new.self.items) d h.at
+
+pub forward-requires-clause-enabled : goal.forward-requires-clause-enabled
+forward-requires-clause-enabled c =
+    let r = c.requires.stands in
+    let s : Search = search_of c.args.bounds c.args.debugger.now.trail r.0 in
+    let d = standing_of c.loop-top.debugger in
+    let e = standing_of c.go_back.new.debugger in
+    let top : Open = c.in-Some.top in
+    let h = popped_after s c.pop.new.self.items c.loop-top.front.stack.items top c.loop-top.front.ways.items c.loop-top.front.sums c.loop-top.front.table d c.in-Some.ensures.items (c.loop-top.invariant.stands r.0 r.1) in
+    let came = came_back d e top.depth c.go_back.ensures.trail c.go_back.ensures.steps c.go_back.ensures.reached in
+    can_take e.world top.candidates (top.index + 1) c.in-Some-candidate_after.step (c.wide_decisions_can_be_followed.ensures e.world) (choice_back s top (reverse c.pop.new.self.items) d e h.at came) c.in-Some-candidate_after.ensures.some.1
+
+pub forward-requires-clause-few : goal.forward-requires-clause-few
+forward-requires-clause-few c =
+    let r = c.requires.stands in
+    let s : Search = search_of c.args.bounds c.args.debugger.now.trail r.0 in
+    let d = standing_of c.loop-top.debugger in
+    let top : Open = c.in-Some.top in
+    let h = popped_after s c.pop.new.self.items c.loop-top.front.stack.items top c.loop-top.front.ways.items c.loop-top.front.sums c.loop-top.front.table d c.in-Some.ensures.items (c.loop-top.invariant.stands r.0 r.1) in
+    let room = h.at.stands.2.fuel in
+    let few = c.requires.few in
+    let deep = ap (λ t. t.depth) c.go_back.ensures.trail in
+    omega (arith, room, few, deep)
+
+pub returns-in_err-forward-clause-safe : goal.returns-in_err-forward-clause-safe
+returns-in_err-forward-clause-safe c =
+    let r = c.requires.stands in
+    let s : Search = search_of c.args.bounds c.args.debugger.now.trail r.0 in
+    let begun = standing_of c.args.debugger.now in
+    let d = standing_of c.loop-top.debugger in
+    let e = standing_of c.go_back.new.debugger in
+    let top : Open = c.in-Some.top in
+    let fs : List Open = reverse c.pop.new.self.items in
+    let h = popped_after s c.pop.new.self.items c.loop-top.front.stack.items top c.loop-top.front.ways.items c.loop-top.front.sums c.loop-top.front.table d c.in-Some.ensures.items (c.loop-top.invariant.stands r.0 r.1) in
+    let came = came_back d e top.depth c.go_back.ensures.trail c.go_back.ensures.steps c.go_back.ensures.reached in
+    let n = standing_of c.forward.new.self in
+    safe_then s.base begun e n (safe_then s.base begun d e c.loop-top.invariant.safe (safe_came s top fs d e h.at came)) (safe_same s.base e n c.in_err-forward.ensures.err c.in_err-forward.ensures.reached)
+
+pub returns-in-Some-candidate_after-clause-turned : goal.returns-in-Some-candidate_after-clause-turned
+returns-in-Some-candidate_after-clause-turned c = λ root g.
+    let s : Search = search_of c.args.bounds c.args.debugger.now.trail root in
+    let d = standing_of c.loop-top.debugger in
+    let e = standing_of c.go_back.new.debugger in
+    let n = standing_of c.forward.new.self in
+    let top : Open = c.in-Some.top in
+    let fs : List Open = reverse c.pop.new.self.items in
+    let h = popped_after s c.pop.new.self.items c.loop-top.front.stack.items top c.loop-top.front.ways.items c.loop-top.front.sums c.loop-top.front.table d c.in-Some.ensures.items (c.loop-top.invariant.stands root g) in
+    let came = came_back d e top.depth c.go_back.ensures.trail c.go_back.ensures.steps c.go_back.ensures.reached in
+    let f = c.in_ok-forward.ensures in
+    let went = went_on e n c.in-Some-candidate_after.step f.ok f.steps f.world f.program f.mode f.reached in
+    let number : c.in-Some-candidate_after.next ≡ suc top.index = c.in-Some-candidate_after.ensures.some.0 ∙ add-one top.index in
+    let there = ap (slice_get top.candidates) (sym (add-one top.index)) ∙ c.in-Some-candidate_after.ensures.some.1 in
+    pushed_before s c.pop.new.self.items c.push.new.self.items (record { depth = top.depth; candidates = top.candidates; index = c.in-Some-candidate_after.next; key = top.key; outer = top.outer }) c.loop-top.front.ways.items c.loop-top.front.sums
+    c.loop-top.front.table n c.in_ok-push.ensures.items
+    (next_before s top (record { depth = top.depth; candidates = top.candidates; index = c.in-Some-candidate_after.next; key = top.key; outer = top.outer }) fs c.loop-top.front.ways.items c.loop-top.front.sums c.loop-top.front.table d e n
+    c.in-Some-candidate_after.step h came (λ j. record { depth = top.depth; candidates = top.candidates; index = number j; key = top.key; outer = top.outer }) there went)
+
+pub returns-in-Some-candidate_after-clause-safe : goal.returns-in-Some-candidate_after-clause-safe
+returns-in-Some-candidate_after-clause-safe c =
+    let r = c.requires.stands in
+    let s : Search = search_of c.args.bounds c.args.debugger.now.trail r.0 in
+    let begun = standing_of c.args.debugger.now in
+    let d = standing_of c.loop-top.debugger in
+    let e = standing_of c.go_back.new.debugger in
+    let top : Open = c.in-Some.top in
+    let fs : List Open = reverse c.pop.new.self.items in
+    let h = popped_after s c.pop.new.self.items c.loop-top.front.stack.items top c.loop-top.front.ways.items c.loop-top.front.sums c.loop-top.front.table d c.in-Some.ensures.items (c.loop-top.invariant.stands r.0 r.1) in
+    let came = came_back d e top.depth c.go_back.ensures.trail c.go_back.ensures.steps c.go_back.ensures.reached in
+    let n = standing_of c.forward.new.self in
+    let f = c.in_ok-forward.ensures in
+    let went = went_on e n c.in-Some-candidate_after.step f.ok f.steps f.world f.program f.mode f.reached in
+    safe_then s.base begun e n (safe_then s.base begun d e c.loop-top.invariant.safe (safe_came s top fs d e h.at came)) (safe_went s fs e n c.in-Some-candidate_after.step (back_at s top fs d e h.at came) went)
+
+pub loop-top-preserved : goal.loop-top-preserved
+loop-top-preserved c =
+    let r = c.requires.stands in
+    let s : Search = search_of c.args.bounds c.args.debugger.now.trail r.0 in
+    let begun = standing_of c.args.debugger.now in
+    let d = standing_of c.loop-top.debugger in
+    let e = standing_of c.go_back.new.debugger in
+    let top : Open = c.in-Some.top in
+    let fs : List Open = reverse c.pop.new.self.items in
+    let h = popped_after s c.pop.new.self.items c.loop-top.front.stack.items top c.loop-top.front.ways.items c.loop-top.front.sums c.loop-top.front.table d c.in-Some.ensures.items (c.loop-top.invariant.stands r.0 r.1) in
+    let came = came_back d e top.depth c.go_back.ensures.trail c.go_back.ensures.steps c.go_back.ensures.reached in
+    record {
+      stands = λ root g.
+          let z : Search = search_of c.args.bounds c.args.debugger.now.trail root in
+          let k = popped_after z c.pop.new.self.items c.loop-top.front.stack.items top c.loop-top.front.ways.items c.loop-top.front.sums c.loop-top.front.table d c.in-Some.ensures.items (c.loop-top.invariant.stands root g) in
+          let closed = c.in_ok-close.ensures in
+          let last : length top.candidates ≤ suc top.index = (let none = c.in_default-candidate_after.ensures.none in omega (arith, none)) in
+          let found : Found = record { fuel = c.args.bounds.limit - top.depth; height = c.loop-top.front.sums.deepest - top.depth; tally = c.loop-top.front.sums.tally } in
+          let table =
+          table_kept z c.loop-top.front.ways.items c.loop-top.front.table c.close.new.front.table top.key found k.table
+          (closed_found z top fs c.loop-top.front.ways.items c.loop-top.front.sums c.loop-top.front.table d k last found refl refl refl) closed.table
+          in
+          let after =
+          closed_after z top fs c.loop-top.front.ways.items c.loop-top.front.sums c.loop-top.front.table d k last c.close.new.front.sums c.close.new.front.table e came closed.counts closed.total closed.deepest table
+          in
+          subst (λ (os : List Open). After z os c.close.new.front.ways.items c.close.new.front.sums c.close.new.front.table e) (ap reverse (sym closed.stack))
+          (subst (λ (ws : List Leaf). After z fs ws c.close.new.front.sums c.close.new.front.table e) (sym closed.ways_are) after);
+      safe = safe_then s.base begun d e c.loop-top.invariant.safe (safe_came s top fs d e h.at came);
+    }
+
+pub returns-in_err-close-clause-safe : goal.returns-in_err-close-clause-safe
+returns-in_err-close-clause-safe c =
+    let r = c.requires.stands in
+    let s : Search = search_of c.args.bounds c.args.debugger.now.trail r.0 in
+    let begun = standing_of c.args.debugger.now in
+    let d = standing_of c.loop-top.debugger in
+    let e = standing_of c.go_back.new.debugger in
+    let top : Open = c.in-Some.top in
+    let fs : List Open = reverse c.pop.new.self.items in
+    let h = popped_after s c.pop.new.self.items c.loop-top.front.stack.items top c.loop-top.front.ways.items c.loop-top.front.sums c.loop-top.front.table d c.in-Some.ensures.items (c.loop-top.invariant.stands r.0 r.1) in
+    let came = came_back d e top.depth c.go_back.ensures.trail c.go_back.ensures.steps c.go_back.ensures.reached in
+    safe_then s.base begun d e c.loop-top.invariant.safe (safe_came s top fs d e h.at came)

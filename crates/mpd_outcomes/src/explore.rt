@@ -1,0 +1,287 @@
+//! The ways that the runs of a script end.
+
+ghost use Rattle.std.specs.Prelude.{◌≡◌, ◌+◌, ◌-◌, ◌≤◌, ◌++◌, IfOk, OnOk, IsSome, [], length, map, replicate, reverse, string_bytes};
+ghost use Rattle.std.specs.List.{AllByRecursion};
+ghost use Rattle.mpd_model.specs.runs.Trail.{done_steps, IsReached};
+ghost use Rattle.mpd_model.specs.steps.World.{World};
+ghost use Rattle.mpd_trail.specs.Views.{standing_of};
+ghost use Rattle.mpd_policy.specs.Wide.{wide_decision};
+ghost use Rattle.mpd_walk.specs.Walk.{run_by};
+ghost use Rattle.mpd_walk.specs.Walks.{Beyond};
+ghost use Rattle.mpd_explore.specs.Search.{Safe};
+ghost use Rattle.mpd_explore.specs.Witness.{HasWitness};
+ghost use Rattle.mpd_explore.specs.WitnessTexts.{witness_text, witness_texts};
+ghost use Rattle.mpd_outcomes.specs.declared.report.Count.TheVariants as count_is;
+ghost use Rattle.mpd_outcomes.specs.Outcomes.{plus, TellsRuns};
+ghost use Rattle.mpd_outcomes.specs.Sums.{added};
+ghost use Rattle.mpd_outcomes.specs.Gathered.{gathered, gathered_total};
+ghost use Rattle.mpd_outcomes.specs.Table.{NothingKept};
+ghost use Rattle.mpd_outcomes.specs.Front.{search_of, BeforeIn};
+
+use crate::report::{Outcomes, StateLimits};
+use crate::search::{Bounds, Front, Open, Reach, search};
+use crate::sums::{Sums, Tally, pad};
+use crate::table::Table;
+use mpd_explore::{Leaf, Report, witness_here};
+use mpd_model::STEPS_MAX;
+use mpd_policy::wide_decisions_can_be_followed;
+use mpd_trail::Debugger;
+use mpd_walk::{Wide, follow, put_back};
+use std::alloc::{AllocError, Global};
+use std::mem;
+
+/// What is told round an open choice.
+fn outer_of(choice: Open) -> Sums
+    ensures { result ≡ choice.outer }
+{
+    let Open {
+        depth: _,
+        candidates,
+        index: _,
+        key,
+        outer,
+    } = choice;
+    drop(candidates);
+    drop(key);
+    outer
+}
+
+/// Puts what is told of some runs before what is told of others.
+fn join(all: &mut Tally, level: Sums) -> Result<(), AllocError>
+    ensures counts { OnOk result (all.new.counts.items ≡ added level.tally.counts.items all.old.counts.items) }
+    ensures total { OnOk result (all.new.total ≡ plus level.tally.total all.old.total) }
+{
+    let Sums {
+        mut tally,
+        deepest: _,
+    } = level;
+    if let Err(fault) = tally.add(all) {
+        drop(tally);
+        return Err(fault);
+    }
+    drop(mem::replace(all, tally));
+    Ok(())
+}
+
+/// What is told of all runs that were come to: those by the candidates that were tried at each open choice.
+fn gather(alloc: Global, front: &mut Front) -> Result<Tally, AllocError>
+    ensures counts { IfOk result (λ t. t.counts.items ≡ gathered (reverse front.old.stack.items) front.old.sums.tally.counts.items []) }
+    ensures total { IfOk result (λ t. t.total ≡ gathered_total (reverse front.old.stack.items) front.old.sums.tally.total (count_is.Exactly 0)) }
+    ensures ways { front.new.ways ≡ front.old.ways }
+{
+    let mut all = Tally::none(alloc);
+    while let Some(open) = front.stack.pop() {
+        let outer = outer_of(open);
+        let level = mem::replace(&mut front.sums, outer);
+        join(&mut all, level)?;
+    }
+    front.sums.tally.add(&all)?;
+    drop(all);
+    Ok(mem::replace(&mut front.sums.tally, Tally::none(alloc)))
+}
+
+/// What is told where a search has stopped.
+fn told_at(alloc: Global, front: &mut Front, reach: Reach) -> Result<Outcomes, AllocError>
+    ensures leaves { IfOk result (λ o. o.firsts.leaves.items ≡ front.old.ways.items) }
+    ensures more { IfOk result (λ o. o.firsts.more ≡ reach.more) }
+    ensures counts { IfOk result (λ o. o.counts.items ≡ gathered (reverse front.old.stack.items) front.old.sums.tally.counts.items [] ++ replicate (length front.old.ways.items - length (gathered (reverse front.old.stack.items) front.old.sums.tally.counts.items [])) (count_is.Exactly 0)) }
+    ensures total { IfOk result (λ o. o.total ≡ gathered_total (reverse front.old.stack.items) front.old.sums.tally.total (count_is.Exactly 0)) }
+    ensures texts { IfOk result (λ o. o.firsts.witnesses.items ≡ []) }
+{
+    let Tally { mut counts, total } = gather(alloc, front)?;
+    pad(&mut counts, front.ways.len())?;
+    let leaves = mem::replace(&mut front.ways, Vec::new(alloc));
+    Ok(Outcomes {
+        firsts: Report {
+            leaves,
+            more: reach.more,
+            witnesses: Vec::new(alloc),
+        },
+        counts,
+        total,
+        visited: reach.visited,
+    })
+}
+
+/// Where a search begins at a depth, with nothing told and nothing kept.
+fn beginning(alloc: Global, depth: usize, kept: usize) -> Front
+    ensures stack { result.stack.items ≡ [] }
+    ensures ways { result.ways.items ≡ [] }
+    ensures counts { result.sums.tally.counts.items ≡ [] }
+    ensures total { result.sums.tally.total ≡ count_is.Exactly 0 }
+    ensures table { NothingKept result.table }
+{
+    Front {
+        stack: Vec::new(alloc),
+        sums: Sums {
+            tally: Tally::none(alloc),
+            deepest: depth,
+        },
+        ways: Vec::new(alloc),
+        table: Table::new(alloc, kept),
+    }
+}
+
+/// What is told of the runs that a search comes to, to where it stops. The debugger is left anywhere above the base.
+fn find_in(
+    alloc: Global,
+    debugger: &mut Debugger<'_>,
+    bounds: Bounds,
+    most: usize,
+    front: &mut Front,
+) -> Result<Outcomes, AllocError>
+    requires stands { (root : World) × BeforeIn (search_of bounds debugger.old.trail root) front.old (standing_of debugger.old) }
+    requires few { bounds.limit ≤ STEPS_MAX }
+    ensures told { (root : World) → BeforeIn (search_of bounds debugger.old.trail root) front.old (standing_of debugger.old) → IfOk result (λ o. TellsRuns (bounds.limit - bounds.base) root o) }
+    ensures texts { IfOk result (λ o. o.firsts.witnesses.items ≡ []) }
+    ensures safe { Safe bounds.base (standing_of debugger.old) (standing_of debugger.new) }
+{
+    wide_decisions_can_be_followed();
+    let reach = search(alloc, debugger, bounds, most, front)?;
+    let outcomes = told_at(alloc, front, reach)?;
+    Ok(outcomes)
+}
+
+/// The ways that the runs from here end. The debugger is left anywhere above the base.
+fn find(
+    alloc: Global,
+    debugger: &mut Debugger<'_>,
+    bounds: Bounds,
+    limits: StateLimits,
+) -> Result<Outcomes, AllocError>
+    requires base { bounds.base ≡ debugger.old.trail.depth }
+    requires within { bounds.base ≤ bounds.limit }
+    requires few { bounds.limit ≤ STEPS_MAX }
+    ensures told { IfOk result (λ o. TellsRuns (bounds.limit - bounds.base) debugger.old.world o) }
+    ensures texts { IfOk result (λ o. o.firsts.witnesses.items ≡ []) }
+    ensures safe { Safe bounds.base (standing_of debugger.old) (standing_of debugger.new) }
+{
+    debugger.state_is_reached();
+    let mut front = beginning(alloc, bounds.base, limits.kept);
+    let told = find_in(alloc, debugger, bounds, limits.visited, &mut front);
+    drop(front);
+    told
+}
+
+/// The text of the witness of a run that its choices tell, where that is a deadlock. The debugger is left anywhere beyond where it stood.
+fn text_there(
+    alloc: Global,
+    debugger: &mut Debugger<'_>,
+    fuel: usize,
+    leaf: &Leaf,
+) -> Result<String, AllocError>
+    requires fits { debugger.old.trail.depth + fuel ≤ STEPS_MAX }
+    requires some { IsSome (run_by wide_decision fuel leaf.now.choices debugger.old.world) }
+    ensures text { IfOk result (λ t. string_bytes t ≡ witness_text wide_decision (done_steps debugger.old.trail) fuel debugger.old.world leaf.now) }
+    ensures beyond { Beyond (standing_of debugger.old) (standing_of debugger.new) }
+{
+    follow(alloc, &Wide, debugger, fuel, &leaf.choices.items)?;
+    witness_here(alloc, debugger, &leaf.ending)
+}
+
+/// The same, and the debugger is left as found.
+fn text_of(
+    alloc: Global,
+    debugger: &mut Debugger<'_>,
+    fuel: usize,
+    leaf: &Leaf,
+) -> Result<String, AllocError>
+    requires clean { length debugger.old.trail.steps ≡ debugger.old.trail.depth }
+    requires fits { debugger.old.trail.depth + fuel ≤ STEPS_MAX }
+    requires some { IsSome (run_by wide_decision fuel leaf.now.choices debugger.old.world) }
+    ensures text { IfOk result (λ t. string_bytes t ≡ witness_text wide_decision (done_steps debugger.old.trail) fuel debugger.old.world leaf.now) }
+    ensures trail { debugger.new.trail ≡ debugger.old.trail }
+    ensures world { debugger.new.world ≡ debugger.old.world }
+    ensures reached { IsReached (standing_of debugger.new) }
+{
+    debugger.state_is_reached();
+    let base = debugger.depth();
+    let told = text_there(alloc, debugger, fuel, leaf);
+    put_back(debugger, base);
+    told
+}
+
+/// The texts of the witnesses of runs, where they are asked for. The debugger is left as found.
+fn texts_of(
+    alloc: Global,
+    debugger: &mut Debugger<'_>,
+    limits: StateLimits,
+    leaves: &[Leaf],
+) -> Result<Vec<String>, AllocError>
+    requires clean { length debugger.old.trail.steps ≡ debugger.old.trail.depth }
+    requires fits { debugger.old.trail.depth + limits.fuel ≤ STEPS_MAX }
+    requires listed { AllByRecursion (HasWitness wide_decision debugger.old.trail.program debugger.old.trail.mode (done_steps debugger.old.trail) limits.fuel debugger.old.world) leaves.now }
+    ensures texts { IfOk result (λ texts. map string_bytes texts.items ≡ witness_texts wide_decision limits.witnesses (done_steps debugger.old.trail) limits.fuel debugger.old.world leaves.now) }
+    ensures trail { debugger.new.trail ≡ debugger.old.trail }
+    ensures world { debugger.new.world ≡ debugger.old.world }
+    ensures reached { IsReached (standing_of debugger.new) }
+{
+    debugger.state_is_reached();
+    let mut texts = Vec::new(alloc);
+    if !limits.witnesses {
+        return Ok(texts);
+    }
+    for leaf in leaves {
+        let text = text_of(alloc, debugger, limits.fuel, leaf)?;
+        texts.push(text)?;
+    }
+    Ok(texts)
+}
+
+/// The ways that the runs from here end, without the texts of witnesses. The debugger is left as found.
+fn found_from(
+    alloc: Global,
+    debugger: &mut Debugger<'_>,
+    limits: StateLimits,
+) -> Result<Outcomes, AllocError>
+    requires clean { length debugger.old.trail.steps ≡ debugger.old.trail.depth }
+    requires fits { debugger.old.trail.depth + limits.fuel ≤ STEPS_MAX }
+    ensures told { IfOk result (λ o. TellsRuns limits.fuel debugger.old.world o) }
+    ensures texts { IfOk result (λ o. o.firsts.witnesses.items ≡ []) }
+    ensures trail { debugger.new.trail ≡ debugger.old.trail }
+    ensures world { debugger.new.world ≡ debugger.old.world }
+    ensures reached { IsReached (standing_of debugger.new) }
+{
+    debugger.state_is_reached();
+    let base = debugger.depth();
+    let bounds = Bounds {
+        base,
+        limit: base + limits.fuel,
+    };
+    let found = find(alloc, debugger, bounds, limits);
+    put_back(debugger, base);
+    found
+}
+
+/// The ways that the runs from here end, along the wide walk (docs/DEFINITIONS.md, "Outcomes of a script"): for each how many runs end so,
+/// and the first of them. Where a limit stops the search, this is told of the first runs of the walk, and there are more. Fuel counts from
+/// here. The debugger is left as found, also where memory is refused, which is what an `Err` says. No undone step is kept, and the depth
+/// and the fuel are at most 1,000,000 steps together.
+pub fn explore_outcomes(
+    alloc: Global,
+    debugger: &mut Debugger<'_>,
+    limits: StateLimits,
+) -> Result<Outcomes, AllocError>
+    requires clean { length debugger.old.trail.steps ≡ debugger.old.trail.depth }
+    requires fits { debugger.old.trail.depth + limits.fuel ≤ STEPS_MAX }
+    ensures told { IfOk result (λ o. TellsRuns limits.fuel debugger.old.world o) }
+    ensures witnesses { IfOk result (λ o. AllByRecursion (HasWitness wide_decision debugger.old.trail.program debugger.old.trail.mode (done_steps debugger.old.trail) limits.fuel debugger.old.world) o.firsts.leaves.items) }
+    ensures texts { IfOk result (λ o. map string_bytes o.firsts.witnesses.items ≡ witness_texts wide_decision limits.witnesses (done_steps debugger.old.trail) limits.fuel debugger.old.world o.firsts.leaves.items) }
+    ensures trail { debugger.new.trail ≡ debugger.old.trail }
+    ensures world { debugger.new.world ≡ debugger.old.world }
+    ensures reached { IsReached (standing_of debugger.new) }
+{
+    debugger.state_is_reached();
+    wide_decisions_can_be_followed();
+    let mut outcomes = found_from(alloc, debugger, limits)?;
+    match texts_of(alloc, debugger, limits, &outcomes.firsts.leaves) {
+        Ok(texts) => {
+            outcomes.firsts.witnesses = texts;
+            Ok(outcomes)
+        }
+        Err(fault) => {
+            drop(outcomes);
+            Err(fault)
+        }
+    }
+}

@@ -1,0 +1,273 @@
+//! The key of a state: states of a script that have the same words have the same future (docs/DEFINITIONS.md, "States with the same
+//! future").
+
+ghost use Rattle.std.specs.Prelude.{◌≡◌, ◌<◌, ◌++◌, IfOk, OnOk, length, pos, slice_set};
+ghost use Rattle.std.specs.List.{flat_map};
+ghost use Rattle.mpd_model.specs.steps.World.{call_numbers};
+ghost use Rattle.mpd_model.specs.steps.Outcomes.{first_number};
+ghost use Rattle.mpd_model.specs.steps.Next.{is_blocked};
+ghost use Rattle.mpd_code.specs.Left.{left_at};
+ghost use Rattle.mpd_rank.specs.Views.{rank_of};
+ghost use Rattle.mpd_states.specs.Future.{overwritten, blanked, live_vars, open_kind as kind_open};
+ghost use Rattle.mpd_outcomes.specs.Words.{sized};
+ghost use Rattle.mpd_outcomes.specs.Keys as spec;
+
+use crate::words::{
+    activity_word, flag_word, number_or_zero, number_word, push_kind, push_seen, push_sized,
+    push_word,
+};
+use mpd_code::Code;
+use mpd_core::Core;
+use mpd_match::Board;
+use mpd_model::{Activity, CallId, CallKind};
+use mpd_rank::RankState;
+use std::alloc::{AllocError, Global};
+
+/// Adds where a rank goes on, and what it is doing.
+fn push_place(words: &mut Vec<i64>, state: &RankState, code: &Code) -> Result<(), AllocError>
+    ensures words { OnOk result (words.new.items ≡ words.old.items ++ spec.place_words (first_number (left_at code.now.program state.now.node)) state.now.activity) }
+    ensures placed { left_at code.now.program state.now.node ≡ spec.left_from code.now.program (first_number (left_at code.now.program state.now.node)) }
+{
+    let statement = state.next_statement(code);
+    words.extend_from_slice(&[
+        flag_word(statement.is_some()),
+        number_or_zero(statement),
+        activity_word(state.activity()),
+    ])
+}
+
+/// Forgets what a cell holds, where there is such a cell.
+fn blank(vars: &mut [i64], cell: usize)
+    ensures { vars.new ≡ slice_set vars.old cell (pos 0) }
+{
+    if cell < vars.len() {
+        vars[cell] = 0;
+    }
+}
+
+/// Forgets what the cells hold that a call overwrites as its rank goes on.
+fn blank_overwritten(vars: &mut [i64], last: Option<CallKind>)
+    ensures { vars.new ≡ blanked (overwritten last) vars.old }
+{
+    if let Some(CallKind::Recv(recv)) = last {
+        blank(vars, recv.cell);
+        if let Some(status) = recv.status {
+            blank(vars, status.source);
+            blank(vars, status.tag);
+        }
+    }
+}
+
+/// The variables of a rank.
+fn variables(alloc: Global, state: &RankState) -> Result<Vec<i64>, AllocError>
+    ensures { IfOk result (λ vars. vars.items ≡ state.now.vars) }
+{
+    let mut vars = Vec::new(alloc);
+    vars.extend_from_slice(state.variables())?;
+    Ok(vars)
+}
+
+/// The variables of a rank that may still be read: none where it has no statement left or is trapped. Where it is blocked, those that
+/// its last call overwrites aren't told.
+fn live_variables(
+    alloc: Global,
+    state: &RankState,
+    code: &Code,
+    last: Option<CallKind>,
+) -> Result<Vec<i64>, AllocError>
+    ensures { IfOk result (λ vars. vars.items ≡ live_vars (overwritten last) state.now.activity (left_at code.now.program state.now.node) state.now.vars) }
+{
+    if state.next_statement(code).is_none() {
+        return Ok(Vec::new(alloc));
+    }
+    match state.activity() {
+        Activity::Running => variables(alloc, state),
+        Activity::Blocked => {
+            let mut vars = variables(alloc, state)?;
+            blank_overwritten(&mut vars, last);
+            Ok(vars)
+        }
+        Activity::Trapped(_) => Ok(Vec::new(alloc)),
+    }
+}
+
+/// Adds a handle: the call that it holds, and what may still be learnt of that.
+fn push_held(
+    words: &mut Vec<i64>,
+    board: &Board,
+    rank: usize,
+    handle: Option<usize>,
+) -> Result<(), AllocError>
+    ensures { OnOk result (words.new.items ≡ words.old.items ++ spec.held_words board.now.board rank handle) }
+{
+    match handle {
+        None => push_word(words, 0),
+        Some(index) => {
+            words.extend_from_slice(&[1, number_word(index)])?;
+            push_seen(words, board, CallId { rank, index })
+        }
+    }
+}
+
+/// Adds all handles of a rank.
+fn push_all_held(
+    words: &mut Vec<i64>,
+    board: &Board,
+    rank: usize,
+    handles: &[Option<usize>],
+) -> Result<(), AllocError>
+    ensures { OnOk result (words.new.items ≡ words.old.items ++ flat_map (spec.held_words board.now.board rank) handles.now) }
+{
+    for handle in handles {
+        push_held(words, board, rank, *handle)?;
+    }
+    Ok(())
+}
+
+/// Adds how many handles a rank has, and these.
+fn push_handles(
+    words: &mut Vec<i64>,
+    board: &Board,
+    rank: usize,
+    handles: &[Option<usize>],
+) -> Result<(), AllocError>
+    ensures { OnOk result (words.new.items ≡ words.old.items ++ spec.handle_words board.now.board rank handles.now) }
+{
+    words.push(number_word(handles.len()))?;
+    push_all_held(words, board, rank, handles)
+}
+
+/// What a call asks for while it is free.
+fn open_kind(board: &Board, call: CallId) -> Option<CallKind>
+    ensures { result ≡ kind_open board.now.board call }
+{
+    if board.is_free(call) {
+        board.kind(call)
+    } else {
+        None
+    }
+}
+
+/// Adds a call, where it is free: its number, and what it asks for.
+fn push_free(words: &mut Vec<i64>, board: &Board, call: CallId) -> Result<(), AllocError>
+    ensures { OnOk result (words.new.items ≡ words.old.items ++ spec.free_words board.now.board call.rank call.index) }
+{
+    match open_kind(board, call) {
+        None => Ok(()),
+        Some(kind) => {
+            words.extend_from_slice(&[1, number_word(call.index)])?;
+            push_kind(words, kind)
+        }
+    }
+}
+
+/// Adds the free calls of a rank.
+fn push_all_free(words: &mut Vec<i64>, board: &Board, rank: usize) -> Result<(), AllocError>
+    ensures { OnOk result (words.new.items ≡ words.old.items ++ flat_map (spec.free_words board.now.board rank) (call_numbers board.now.board rank)) }
+{
+    let count = board.call_count(rank);
+    for index in 0..count {
+        push_free(words, board, CallId { rank, index })?;
+    }
+    Ok(())
+}
+
+/// Adds how many calls a rank has issued, and the free ones. A 0 ends them.
+fn push_calls(words: &mut Vec<i64>, board: &Board, rank: usize) -> Result<(), AllocError>
+    ensures { OnOk result (words.new.items ≡ words.old.items ++ spec.call_words board.now.board rank) }
+{
+    words.push(number_word(board.call_count(rank)))?;
+    push_all_free(words, board, rank)?;
+    push_word(words, 0)
+}
+
+/// Adds the call that a rank waits for, if any.
+fn push_target(
+    words: &mut Vec<i64>,
+    board: &Board,
+    target: Option<CallId>,
+) -> Result<(), AllocError>
+    ensures { OnOk result (words.new.items ≡ words.old.items ++ spec.target_words board.now.board target) }
+{
+    match target {
+        None => push_word(words, 0),
+        Some(call) => {
+            words.push(1)?;
+            push_seen(words, board, call)
+        }
+    }
+}
+
+/// Adds what a rank is blocked on, where it is blocked.
+fn push_blocked(words: &mut Vec<i64>, board: &Board, state: &RankState) -> Result<(), AllocError>
+    ensures { OnOk result (words.new.items ≡ words.old.items ++ spec.blocked_words board.now.board state.now.rank (is_blocked state.now.activity)) }
+{
+    match state.activity() {
+        Activity::Running | Activity::Trapped(_) => Ok(()),
+        Activity::Blocked => {
+            let last = board.last_call(state.number());
+            push_seen(words, board, last)?;
+            push_target(words, board, board.awaited(last))
+        }
+    }
+}
+
+/// The part of a rank.
+fn rank_part(
+    alloc: Global,
+    board: &Board,
+    state: &RankState,
+    code: &Code,
+) -> Result<Vec<i64>, AllocError>
+    ensures words { IfOk result (λ part. part.items ≡ spec.rank_words board.now.board state.now.rank (rank_of code.now.program state.now)) }
+    ensures placed { IfOk result (λ _. left_at code.now.program state.now.node ≡ spec.left_from code.now.program (first_number (left_at code.now.program state.now.node))) }
+{
+    let rank = state.number();
+    let last = board.kind(board.last_call(rank));
+    let mut part = Vec::new(alloc);
+    push_place(&mut part, state, code)?;
+    push_sized(&mut part, &live_variables(alloc, state, code, last)?)?;
+    push_handles(&mut part, board, rank, state.handles())?;
+    push_calls(&mut part, board, rank)?;
+    push_blocked(&mut part, board, state)?;
+    Ok(part)
+}
+
+/// Adds the part of a rank, behind its length.
+fn push_rank(
+    alloc: Global,
+    key: &mut Vec<i64>,
+    core: &Core<'_>,
+    rank: usize,
+) -> Result<(), AllocError>
+    requires { rank < length core.now.world.ranks }
+    ensures words { OnOk result (key.new.items ≡ key.old.items ++ sized (spec.part_at core.now.world rank)) }
+    ensures placed { OnOk result (spec.IsPlaced core.now.program core.now.world rank) }
+{
+    let part = rank_part(alloc, core.board(), core.rank(rank), core.code())?;
+    push_sized(key, &part)
+}
+
+/// The key of a state. An `Err` is want of memory.
+pub(crate) fn key_of(alloc: Global, core: &Core<'_>) -> Result<Vec<i64>, AllocError>
+    ensures { IfOk result (λ k. spec.IsKey core.now.program core.now.world k.items) }
+{
+    core.all_ranks_are_there();
+    let mut key = Vec::new(alloc);
+    let count = core.rank_count();
+    for rank in 0..count {
+        push_rank(alloc, &mut key, core, rank)?;
+    }
+    Ok(key)
+}
+
+/// The law that the key tells all that the future depends on: two states of a script in one mode that have the same key have the same
+/// future. It does nothing.
+pub(crate) fn one_key_tells_one_future()
+    ensures { spec.OneKeyOneFuture }
+{}
+
+/// The law that the key tells nothing else: states with the same future have the same key. It does nothing.
+pub(crate) fn one_future_has_one_key()
+    ensures { spec.OneFutureOneKey }
+{}

@@ -1,0 +1,56 @@
+//! What is found of the ways that runs end.
+
+ghost use Rattle.std.specs.Prelude.{◌≡◌};
+ghost use Rattle.mpd_outcomes.specs.Outcomes.{plus};
+
+use mpd_explore::Report;
+
+/// How many runs there are.
+#[derive(Clone, Copy, PartialEq, Eq)]
+pub enum Count {
+    /// So many.
+    Exactly(u64),
+    /// More than 18,446,744,073,709,551,615.
+    More,
+}
+
+impl Count {
+    /// How many there are of both.
+    pub fn plus(self, other: Count) -> Count
+        ensures { result ≡ plus self other }
+    {
+        match (self, other) {
+            (Count::Exactly(one), Count::Exactly(more)) => match one.checked_add(more) {
+                Some(sum) => Count::Exactly(sum),
+                None => Count::More,
+            },
+            _ => Count::More,
+        }
+    }
+}
+
+/// How far a search goes that comes to each state once.
+#[derive(Clone, Copy)]
+pub struct StateLimits {
+    /// How many steps a run has at most.
+    pub fuel: usize,
+    /// How many states are kept at most.
+    pub kept: usize,
+    /// How many states are come to at most, kept or not.
+    pub visited: usize,
+    /// Whether the witnesses of deadlocks are wanted.
+    pub witnesses: bool,
+}
+
+/// The ways that runs end, in the order of the first run of each.
+#[derive(Drop)]
+pub struct Outcomes {
+    /// The first run of each way, and whether there are runs that were not come to.
+    pub firsts: Report,
+    /// How many runs end so, for each of the first runs, in order.
+    pub counts: Vec<Count>,
+    /// How many runs there are in all.
+    pub total: Count,
+    /// How many states were come to: choices and ends. It says nothing of the runs.
+    pub visited: usize,
+}

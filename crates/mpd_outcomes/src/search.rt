@@ -1,0 +1,435 @@
+//! The search: open choices on a stack, the debugger going forward and back, and a table of the states whose runs are told.
+
+ghost use Rattle.std.specs.Prelude.{◌≡◌, ◌+◌, ◌≤◌, ◌<◌, ℕ, IfOk, OnOk, IfSome, IfNone, Some, length, reverse, take, slice_get};
+ghost use Rattle.mpd_model.specs.runs.Trail.{done_steps, gone_back, IsReached};
+ghost use Rattle.mpd_model.specs.steps.World.{World};
+ghost use Rattle.mpd_model.specs.declared.decision.Decision.TheVariants as decision_is;
+ghost use Rattle.mpd_trail.specs.Views.{standing_of};
+ghost use Rattle.mpd_outcomes.specs.declared.search.Arrived.TheVariants as arrived_is;
+ghost use Rattle.mpd_policy.specs.Wide.{wide_decision};
+ghost use Rattle.mpd_walk.specs.Walks.{Beyond};
+ghost use Rattle.mpd_explore.specs.Search.{Safe};
+ghost use Rattle.mpd_outcomes.specs.Front.{search_of, picked, open_in, ways_with, beyond_end, IsArrived, Down, Noted, Opened, Closed, Recalled, BeforeIn, AfterIn, Met, Turned, Stopped};
+ghost use Rattle.mpd_outcomes.specs.Sums.{IsWay};
+
+use crate::key::key_of;
+use crate::sums::{Sums, Tally};
+use crate::table::{Found, Table};
+use crate::ways::way_of;
+use mpd_explore::{ChoiceList, Ending, Leaf};
+use mpd_model::{Decision, STEPS_MAX, Step, StepList};
+use mpd_policy::{wide_decide, wide_decisions_can_be_followed};
+use mpd_trail::Debugger;
+use std::alloc::{AllocError, Global};
+use std::mem;
+
+/// The depth where a search begins, and the one where its fuel ends.
+#[derive(Clone, Copy)]
+pub(crate) struct Bounds {
+    pub(crate) base: usize,
+    pub(crate) limit: usize,
+}
+
+/// A choice that is open: the depth where it is, its candidates, the one that is taken, the key of its state, and what is told of the runs
+/// round it: those by the candidates that were tried at the choice above.
+#[derive(Drop)]
+pub(crate) struct Open {
+    pub(crate) depth: usize,
+    pub(crate) candidates: StepList,
+    pub(crate) index: usize,
+    pub(crate) key: Vec<i64>,
+    pub(crate) outer: Sums,
+}
+
+/// Where a search stands: the open choices, the innermost last; what is told of the runs by the candidates that were tried at the innermost
+/// one, or of all runs where no choice is open; the first run of each way that runs end so far; and the table.
+#[derive(Drop)]
+pub(crate) struct Front {
+    pub(crate) stack: Vec<Open>,
+    pub(crate) sums: Sums,
+    pub(crate) ways: Vec<Leaf>,
+    pub(crate) table: Table,
+}
+
+/// What a way down comes to.
+#[derive(Drop)]
+pub(crate) enum Arrived {
+    /// A choice among these.
+    Choice(StepList),
+    /// The end of a run.
+    End(Ending),
+}
+
+/// What stands at the limit: the end of a run, which is cut where a step is left.
+fn at_limit(alloc: Global, debugger: &Debugger<'_>) -> Result<Arrived, AllocError>
+    ensures { (limit : ℕ) → limit ≡ debugger.now.trail.depth → IfOk result (λ a. IsArrived limit (standing_of debugger.now) a) }
+{
+    match wide_decide(alloc, debugger.core())? {
+        Decision::Leaf(outcome) => Ok(Arrived::End(Ending::Ended(outcome))),
+        Decision::Forced(_) => Ok(Arrived::End(Ending::Cut)),
+        Decision::Choice(_) => Ok(Arrived::End(Ending::Cut)),
+    }
+}
+
+/// Goes on by the steps that nobody has to choose.
+fn go_down(
+    alloc: Global,
+    debugger: &mut Debugger<'_>,
+    limit: usize,
+) -> Result<Arrived, AllocError>
+    requires within { debugger.old.trail.depth ≤ limit }
+    requires few { limit ≤ STEPS_MAX }
+    ensures down { IfOk result (λ a. Down limit (standing_of debugger.old) a (standing_of debugger.new)) }
+    ensures beyond { Beyond (standing_of debugger.old) (standing_of debugger.new) }
+{
+    debugger.state_is_reached();
+    wide_decisions_can_be_followed();
+    let begun = debugger.depth();
+    for depth in begun..limit {
+        match wide_decide(alloc, debugger.core())? {
+            Decision::Leaf(outcome) => return Ok(Arrived::End(Ending::Ended(outcome))),
+            Decision::Choice(candidates) => return Ok(Arrived::Choice(candidates)),
+            Decision::Forced(step) => debugger.forward(step)?,
+        }
+    }
+    at_limit(alloc, debugger)
+}
+
+/// The candidates that are taken at the open choices.
+fn choices_here(alloc: Global, stack: &[Open]) -> Result<ChoiceList, AllocError>
+    ensures { IfOk result (λ c. c ≡ picked (reverse stack.now)) }
+{
+    let mut items = Vec::with_capacity(alloc, stack.len())?;
+    for open in stack {
+        items.push(open.index)?;
+    }
+    Ok(ChoiceList { items })
+}
+
+/// The number of the way that a run ends which ends so here: a new one where it is the first.
+fn number_here(alloc: Global, ending: Ending, front: &mut Front) -> Result<usize, AllocError>
+    ensures way { IfOk result (λ number. IsWay front.new.ways.items ending number) }
+    ensures ways { OnOk result (front.new.ways.items ≡ ways_with front.old.ways.items (picked (open_in front.old)) ending) }
+    ensures stack { front.new.stack ≡ front.old.stack }
+    ensures sums { front.new.sums ≡ front.old.sums }
+    ensures table { front.new.table ≡ front.old.table }
+{
+    if let Some(number) = way_of(&front.ways, &ending) {
+        drop(ending);
+        return Ok(number);
+    }
+    let choices = match choices_here(alloc, &front.stack) {
+        Ok(choices) => choices,
+        Err(fault) => {
+            drop(ending);
+            return Err(fault);
+        }
+    };
+    let number = front.ways.len();
+    front.ways.push(Leaf { choices, ending })?;
+    Ok(number)
+}
+
+/// How deep a run comes that ends so at a depth.
+fn depth_of(ending: &Ending, depth: usize) -> usize
+    requires { depth ≤ STEPS_MAX }
+    ensures { result ≡ depth + beyond_end ending.now }
+{
+    match ending {
+        Ending::Ended(_) => depth,
+        Ending::Cut => depth + 1,
+    }
+}
+
+/// Notes a run that ends so at a depth.
+fn note_end(
+    alloc: Global,
+    depth: usize,
+    ending: Ending,
+    front: &mut Front,
+) -> Result<(), AllocError>
+    requires { depth ≤ STEPS_MAX }
+    ensures { OnOk result (Noted ending depth front.old front.new) }
+{
+    let deep = depth_of(&ending, depth);
+    let number = number_here(alloc, ending, front)?;
+    front.sums.add_run(alloc, number, deep)
+}
+
+/// Opens a choice at a depth, at its first candidate.
+fn push_choice(
+    alloc: Global,
+    depth: usize,
+    candidates: StepList,
+    key: Vec<i64>,
+    front: &mut Front,
+) -> Result<(), AllocError>
+    requires { depth ≤ STEPS_MAX }
+    ensures { OnOk result (Opened depth candidates key front.old front.new) }
+{
+    let none = Sums {
+        tally: Tally::none(alloc),
+        deepest: depth + 1,
+    };
+    let outer = mem::replace(&mut front.sums, none);
+    front.stack.push(Open {
+        depth,
+        candidates,
+        index: 0,
+        key,
+        outer,
+    })?;
+    Ok(())
+}
+
+/// Tells the runs of a state from the table, where what was found of it holds with what is left of the fuel; false where there is nothing.
+fn recall(
+    key: &Vec<i64>,
+    limit: usize,
+    depth: usize,
+    front: &mut Front,
+) -> Result<bool, AllocError>
+    requires within { depth ≤ limit }
+    requires few { limit ≤ STEPS_MAX }
+    ensures { IfOk result (λ b. Recalled key.now limit depth b front.old front.new) }
+{
+    let Some(found) = front.table.recall(key, limit - depth) else {
+        return Ok(false);
+    };
+    let deep = depth + found.height;
+    front.sums.add(&found.tally, deep)?;
+    Ok(true)
+}
+
+/// A candidate of a choice, where it has one of that number.
+fn candidate(candidates: &StepList, number: usize) -> Option<Step>
+    ensures { result ≡ slice_get candidates.now number }
+{
+    if number < candidates.items.len() {
+        Some(candidates.items[number])
+    } else {
+        None
+    }
+}
+
+/// The candidate after that of a number, and its number, where there is one.
+fn candidate_after(candidates: &StepList, number: usize) -> Option<(usize, Step)>
+    ensures some { IfSome result (λ it. (it.0 ≡ number + 1) × (slice_get candidates.now (number + 1) ≡ Some it.1)) }
+    ensures none { IfNone result (length candidates.now ≤ number + 1) }
+{
+    if number >= candidates.items.len() {
+        return None;
+    }
+    let next = number + 1;
+    let step = candidate(candidates, next)?;
+    Some((next, step))
+}
+
+/// Takes steps back to a depth.
+fn go_back(debugger: &mut Debugger<'_>, depth: usize)
+    requires { depth ≤ debugger.old.trail.depth }
+    ensures trail { debugger.new.trail ≡ gone_back debugger.old.trail depth }
+    ensures steps { done_steps debugger.new.trail ≡ take depth (done_steps debugger.old.trail) }
+    ensures reached { IsReached (standing_of debugger.new) }
+{
+    let _ = debugger.undo_to(depth);
+}
+
+/// A choice is come to: its runs are told from the table, or it is opened, which is what is answered.
+fn meet(
+    alloc: Global,
+    debugger: &mut Debugger<'_>,
+    bounds: Bounds,
+    candidates: StepList,
+    front: &mut Front,
+) -> Result<bool, AllocError>
+    requires stands { (root : World) × BeforeIn (search_of bounds debugger.old.trail root) front.old (standing_of debugger.old) }
+    requires choice { wide_decision debugger.old.world ≡ decision_is.Choice candidates }
+    requires fuel { debugger.old.trail.depth < bounds.limit }
+    requires few { bounds.limit ≤ STEPS_MAX }
+    ensures met { (root : World) → BeforeIn (search_of bounds debugger.old.trail root) front.old (standing_of debugger.old) → IfOk result (λ b. Met (search_of bounds debugger.old.trail root) b front.new (standing_of debugger.new)) }
+    ensures safe { Safe bounds.base (standing_of debugger.old) (standing_of debugger.new) }
+{
+    debugger.state_is_reached();
+    wide_decisions_can_be_followed();
+    let key = match key_of(alloc, debugger.core()) {
+        Ok(key) => key,
+        Err(fault) => {
+            drop(candidates);
+            return Err(fault);
+        }
+    };
+    let depth = debugger.depth();
+    if recall(&key, bounds.limit, depth, front)? {
+        return Ok(false);
+    }
+    let first = candidate(&candidates, 0);
+    push_choice(alloc, depth, candidates, key, front)?;
+    let Some(step) = first else {
+        unreachable!();
+    };
+    debugger.forward(step)?;
+    Ok(true)
+}
+
+/// Closes a choice whose candidates are all tried: what is told of their runs joins what is told round it, and is kept.
+fn close(
+    limit: usize,
+    depth: usize,
+    key: Vec<i64>,
+    outer: Sums,
+    front: &mut Front,
+) -> Result<(), AllocError>
+    requires above { depth ≤ limit }
+    requires deep { depth ≤ front.old.sums.deepest }
+    ensures { OnOk result (Closed limit depth key outer front.old front.new) }
+{
+    let Sums { tally, deepest } = mem::replace(&mut front.sums, outer);
+    if let Err(fault) = front.sums.add(&tally, deepest) {
+        drop(tally);
+        drop(key);
+        return Err(fault);
+    }
+    let found = Found {
+        fuel: limit - depth,
+        height: deepest - depth,
+        tally,
+    };
+    front.table.keep(key, found);
+    Ok(())
+}
+
+/// Goes back to the innermost open choice with a candidate left, closing those that have none, and takes that candidate; false where no
+/// choice is open any more.
+fn advance(
+    debugger: &mut Debugger<'_>,
+    bounds: Bounds,
+    front: &mut Front,
+) -> Result<bool, AllocError>
+    requires stands { (root : World) × AfterIn (search_of bounds debugger.old.trail root) front.old (standing_of debugger.old) }
+    requires few { bounds.limit ≤ STEPS_MAX }
+    ensures turned { (root : World) → AfterIn (search_of bounds debugger.old.trail root) front.old (standing_of debugger.old) → IfOk result (λ b. Turned (search_of bounds debugger.old.trail root) b front.new (standing_of debugger.new)) }
+    ensures safe { Safe bounds.base (standing_of debugger.old) (standing_of debugger.new) }
+{
+    debugger.state_is_reached();
+    wide_decisions_can_be_followed();
+    while let Some(top) = front.stack.pop() {
+        let Open {
+            depth,
+            candidates,
+            index,
+            key,
+            outer,
+        } = top;
+        go_back(debugger, depth);
+        if let Some((next, step)) = candidate_after(&candidates, index) {
+            front.stack.push(Open {
+                depth,
+                candidates,
+                index: next,
+                key,
+                outer,
+            })?;
+            debugger.forward(step)?;
+            return Ok(true);
+        }
+        drop(candidates);
+        close(bounds.limit, depth, key, outer, front)?;
+    }
+    Ok(false)
+}
+
+/// Goes on from a choice that is come to; false where all runs are come to.
+fn go_on_at_choice(
+    alloc: Global,
+    debugger: &mut Debugger<'_>,
+    bounds: Bounds,
+    candidates: StepList,
+    front: &mut Front,
+) -> Result<bool, AllocError>
+    requires stands { (root : World) × BeforeIn (search_of bounds debugger.old.trail root) front.old (standing_of debugger.old) }
+    requires choice { wide_decision debugger.old.world ≡ decision_is.Choice candidates }
+    requires fuel { debugger.old.trail.depth < bounds.limit }
+    requires few { bounds.limit ≤ STEPS_MAX }
+    ensures turned { (root : World) → BeforeIn (search_of bounds debugger.old.trail root) front.old (standing_of debugger.old) → IfOk result (λ b. Turned (search_of bounds debugger.old.trail root) b front.new (standing_of debugger.new)) }
+    ensures safe { Safe bounds.base (standing_of debugger.old) (standing_of debugger.new) }
+{
+    let is_open = meet(alloc, debugger, bounds, candidates, front)?;
+    if is_open {
+        return Ok(true);
+    }
+    advance(debugger, bounds, front)
+}
+
+/// Goes on from the end of a run; false where all runs are come to.
+fn go_on_at_end(
+    alloc: Global,
+    debugger: &mut Debugger<'_>,
+    bounds: Bounds,
+    ending: Ending,
+    front: &mut Front,
+) -> Result<bool, AllocError>
+    requires stands { (root : World) × BeforeIn (search_of bounds debugger.old.trail root) front.old (standing_of debugger.old) }
+    requires end { IsArrived bounds.limit (standing_of debugger.old) (arrived_is.End ending) }
+    requires few { bounds.limit ≤ STEPS_MAX }
+    ensures turned { (root : World) → BeforeIn (search_of bounds debugger.old.trail root) front.old (standing_of debugger.old) → IfOk result (λ b. Turned (search_of bounds debugger.old.trail root) b front.new (standing_of debugger.new)) }
+    ensures safe { Safe bounds.base (standing_of debugger.old) (standing_of debugger.new) }
+{
+    debugger.state_is_reached();
+    let depth = debugger.depth();
+    note_end(alloc, depth, ending, front)?;
+    advance(debugger, bounds, front)
+}
+
+/// Comes to the next state, a choice or an end, and goes on from there; false where all runs are come to.
+fn turn(
+    alloc: Global,
+    debugger: &mut Debugger<'_>,
+    bounds: Bounds,
+    front: &mut Front,
+) -> Result<bool, AllocError>
+    requires stands { (root : World) × BeforeIn (search_of bounds debugger.old.trail root) front.old (standing_of debugger.old) }
+    requires few { bounds.limit ≤ STEPS_MAX }
+    ensures turned { (root : World) → BeforeIn (search_of bounds debugger.old.trail root) front.old (standing_of debugger.old) → IfOk result (λ b. Turned (search_of bounds debugger.old.trail root) b front.new (standing_of debugger.new)) }
+    ensures safe { Safe bounds.base (standing_of debugger.old) (standing_of debugger.new) }
+{
+    match go_down(alloc, debugger, bounds.limit)? {
+        Arrived::Choice(candidates) => go_on_at_choice(alloc, debugger, bounds, candidates, front),
+        Arrived::End(ending) => go_on_at_end(alloc, debugger, bounds, ending, front),
+    }
+}
+
+/// How a search ends: how many states it came to, and whether there are runs that it did not come to.
+#[derive(Clone, Copy)]
+pub(crate) struct Reach {
+    pub(crate) visited: usize,
+    pub(crate) more: bool,
+}
+
+/// Comes to so many states at most.
+pub(crate) fn search(
+    alloc: Global,
+    debugger: &mut Debugger<'_>,
+    bounds: Bounds,
+    most: usize,
+    front: &mut Front,
+) -> Result<Reach, AllocError>
+    requires stands { (root : World) × BeforeIn (search_of bounds debugger.old.trail root) front.old (standing_of debugger.old) }
+    requires few { bounds.limit ≤ STEPS_MAX }
+    ensures stopped { (root : World) → BeforeIn (search_of bounds debugger.old.trail root) front.old (standing_of debugger.old) → IfOk result (λ r. Stopped (search_of bounds debugger.old.trail root) r.more front.new (standing_of debugger.new)) }
+    ensures safe { Safe bounds.base (standing_of debugger.old) (standing_of debugger.new) }
+{
+    for visited in 0..most {
+        let is_left = turn(alloc, debugger, bounds, front)?;
+        if !is_left {
+            return Ok(Reach {
+                visited: visited + 1,
+                more: false,
+            });
+        }
+    }
+    Ok(Reach {
+        visited: most,
+        more: true,
+    })
+}

@@ -1,0 +1,84 @@
+//! Ways that runs end, each once.
+
+ghost use Rattle.std.specs.Prelude.{◌≡◌, false, IfSome, IfNone};
+ghost use Rattle.mpd_model.specs.steps.World.{id_eq};
+ghost use Rattle.std.specs.Cmp.Lexicographic.{pointwise};
+ghost use Rattle.mpd_outcomes.specs.Outcomes.{ending_eq, outcome_eq, trap_eq, trapped_eq};
+ghost use Rattle.mpd_outcomes.specs.Sums.{has_end, IsWay};
+
+use mpd_explore::{Ending, Leaf};
+use mpd_model::{CallId, Outcome, Trap, TrappedRank};
+
+/// Whether two lists of calls are the same.
+fn same_calls(one: &[CallId], other: &[CallId]) -> bool
+    ensures { result ≡ pointwise id_eq one.now other.now }
+{
+    one == other
+}
+
+/// Whether two traps are the same.
+fn same_trap(one: Trap, other: Trap) -> bool
+    ensures { result ≡ trap_eq one other }
+{
+    one == other
+}
+
+/// Whether two trapped ranks are the same.
+fn same_trapped(one: TrappedRank, other: TrappedRank) -> bool
+    ensures { result ≡ trapped_eq one other }
+{
+    one.rank == other.rank && same_trap(one.trap, other.trap)
+}
+
+/// Whether two lists of trapped ranks are the same.
+fn same_traps(one: &[TrappedRank], other: &[TrappedRank]) -> bool
+    ensures { result ≡ pointwise trapped_eq one.now other.now }
+{
+    if one.len() != other.len() {
+        return false;
+    }
+    let many = one.len();
+    for number in 0..many {
+        if !same_trapped(one[number], other[number]) {
+            return false;
+        }
+    }
+    true
+}
+
+/// Whether two outcomes are the same.
+fn same_outcome(one: &Outcome, other: &Outcome) -> bool
+    ensures { result ≡ outcome_eq one.now other.now }
+{
+    match (one, other) {
+        (Outcome::Done, Outcome::Done) => true,
+        (Outcome::Leftovers(one), Outcome::Leftovers(other)) => same_calls(&one.items, &other.items),
+        (Outcome::Deadlock(one), Outcome::Deadlock(other)) => same_calls(&one.items, &other.items),
+        (Outcome::Trap(one), Outcome::Trap(other)) => same_traps(&one.items, &other.items),
+        _ => false,
+    }
+}
+
+/// Whether two runs end in the same way.
+fn same_ending(one: &Ending, other: &Ending) -> bool
+    ensures { result ≡ ending_eq one.now other.now }
+{
+    match (one, other) {
+        (Ending::Cut, Ending::Cut) => true,
+        (Ending::Ended(one), Ending::Ended(other)) => same_outcome(one, other),
+        _ => false,
+    }
+}
+
+/// The number of the first leaf that ends so, where one does.
+pub(crate) fn way_of(leaves: &[Leaf], ending: &Ending) -> Option<usize>
+    ensures found { IfSome result (λ number. IsWay leaves.now ending.now number) }
+    ensures none { IfNone result (has_end leaves.now ending.now ≡ false) }
+{
+    for (number, leaf) in leaves.iter().enumerate() {
+        if same_ending(&leaf.ending, ending) {
+            return Some(number);
+        }
+    }
+    None
+}
