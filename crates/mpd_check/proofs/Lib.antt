@@ -1,4 +1,5 @@
 mod VerdictLemmas
 mod CheckLemmas
 pub mod ListingLemmas
+mod OutcomesLemmas
 pub mod WholeLemmas

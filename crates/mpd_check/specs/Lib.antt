@@ -1,5 +1,7 @@
 pub mod Tally
 pub mod Refused
 pub mod ModeText
+pub mod OutcomesText
+pub mod OutcomesRows
 pub mod Checked
 pub mod Listing

@@ -5,6 +5,7 @@ pub mod counts;
 pub mod fault;
 pub mod listing;
 pub mod modes;
+pub mod outcomes;
 pub mod part;
 
 ghost use Rattle.std.specs.Prelude.{◌≡◌, ◌↔◌, ◌≤◌, ◌<◌, ◌⊎◌, true, IfOk, OnOk, IsErrOf, length, string_bytes};
@@ -24,6 +25,7 @@ use mpd_model::STEPS_MAX;
 use mpd_pieces::PIECES_MAX;
 use mpd_pool::{CheckPlan, Crew, Gate, PoolFault, WORKERS_MAX, print_report};
 use mpd_trail::Debugger;
+pub use outcomes::{OutcomesFound, OutcomesPlan, check_outcomes};
 pub use part::{check_piece, count_pieces};
 use std::alloc::Global;
 use std::marker::Sync;

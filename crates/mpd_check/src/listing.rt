@@ -58,7 +58,7 @@ pub struct SamplePlan {
 }
 
 /// The explanations of the leaves of a report, where they are asked for. The debugger is left as found.
-fn explanations_of<S: Schedule>(
+pub(crate) fn explanations_of<S: Schedule>(
     alloc: Global,
     schedule: &S,
     debugger: &mut Debugger<'_>,

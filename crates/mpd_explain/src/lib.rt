@@ -12,6 +12,6 @@ mod waits;
 
 pub use explanation::{explain, explain_all};
 pub use laws::calls_name_their_statements;
-pub use print::print_explained;
+pub use print::{print_explained, push_behind};
 pub use request_calls::requests;
 pub use sentences::{push_all_absent, push_helps, push_told, push_wish};

@@ -44,8 +44,9 @@ fn text_at(texts: &[String], number: usize) -> &str
     texts[number].as_str()
 }
 
-/// Adds what stands behind the line of the leaf of this number.
-fn push_behind(
+/// Adds what stands behind the line of the leaf of this number: the line of its witness, and its explanation, where there are texts of
+/// them. An `Err` is want of memory.
+pub fn push_behind(
     out: &mut String,
     number: usize,
     witnesses: &[String],

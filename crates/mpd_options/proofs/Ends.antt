@@ -14,7 +14,7 @@ use Rattle.clap.specs.declared.builder.value_parser.Reading.{Reading}
 use Rattle.clap.specs.declared.error.kind.ErrorKind.TheVariants as kind
 use Rattle.clap.specs.declared.parser.matches.ValueSource.TheVariants.{DefaultValue}
 use Rattle.clap.proofs.OnLiterals.{clap_on_literals}
-use Rattle.mpd_options.specs.Asked.{Asked, Item, Said, Tool, checker, debug, debugger, default_of, fits, found, found_check, found_in, found_of_file, found_options, found_picture, found_serve, found_verify, found_words, most_clients, most_fuel, most_leaf, most_modes, most_piece, most_port, most_runs, most_sample, most_seed, most_split, most_workers, name_of, number_if_given, or_default, painter, said_of, text_in, text_of, the_choices, the_clients, the_complete, the_ends, the_explain, the_file, the_fuel, the_group, the_laid_witness, the_leaf, the_mode, the_modes, the_piece, the_pieces, the_port, the_runs, the_sample, the_seed, the_split, the_until, the_witness, the_witness_file, the_words, the_workers, run, runner, server, teller, trace, tracer, translate, translator, until_bad_in, verifier}
+use Rattle.mpd_options.specs.Asked.{Asked, Item, Said, Tool, checker, debug, debugger, default_of, fits, found, found_check, found_in, found_of_file, found_options, found_picture, found_serve, found_verify, found_words, most_clients, most_fuel, most_leaf, most_modes, most_piece, most_port, most_runs, most_sample, most_seed, most_split, most_states, most_workers, name_of, number_if_given, or_default, painter, said_of, text_in, text_of, the_choices, the_clients, the_complete, the_ends, the_explain, the_file, the_fuel, the_group, the_laid_witness, the_leaf, the_mode, the_modes, the_outcomes, the_piece, the_pieces, the_port, the_runs, the_sample, the_seed, the_split, the_states, the_until, the_witness, the_witness_file, the_words, the_workers, run, runner, server, teller, trace, tracer, translate, translator, until_bad_in, verifier}
 use Rattle.mpd_options.specs.Numbers.{flag_in, number_in}
 use Rattle.mpd_options.specs.declared.options.CheckOptions.{CheckOptions}
 use Rattle.mpd_options.specs.Program.{Lies}
@@ -129,6 +129,8 @@ checker_row lie the_fuel = refl
 checker_row lie the_split = refl
 checker_row lie the_workers = refl
 checker_row lie the_ends = refl
+checker_row lie the_outcomes = refl
+checker_row lie the_states = refl
 checker_row lie the_sample = refl
 checker_row lie the_seed = refl
 checker_row lie the_explain = refl
@@ -255,6 +257,8 @@ text_ended lie the_fuel said h = one_ended lie checker the_fuel said (checker_ro
 text_ended lie the_split said h = one_ended lie checker the_split said (checker_row lie the_split) h
 text_ended lie the_workers said h = one_ended lie checker the_workers said (checker_row lie the_workers) h
 text_ended lie the_ends said h = one_ended lie checker the_ends said (checker_row lie the_ends) h
+text_ended lie the_outcomes said h = one_ended lie checker the_outcomes said (checker_row lie the_outcomes) h
+text_ended lie the_states said h = one_ended lie checker the_states said (checker_row lie the_states) h
 text_ended lie the_sample said h = one_ended lie checker the_sample said (checker_row lie the_sample) h
 text_ended lie the_seed said h = one_ended lie checker the_seed said (checker_row lie the_seed) h
 text_ended lie the_explain said h = one_ended lie checker the_explain said (checker_row lie the_explain) h
@@ -317,6 +321,8 @@ item_named name =
     else (if bytes_eq name (codes "split") then Some the_split
     else (if bytes_eq name (codes "workers") then Some the_workers
     else (if bytes_eq name (codes "ends") then Some the_ends
+    else (if bytes_eq name (codes "outcomes") then Some the_outcomes
+    else (if bytes_eq name (codes "states") then Some the_states
     else (if bytes_eq name (codes "sample") then Some the_sample
     else (if bytes_eq name (codes "seed") then Some the_seed
     else (if bytes_eq name (codes "explain") then Some the_explain
@@ -328,7 +334,7 @@ item_named name =
     else (if bytes_eq name (codes "pieces") then Some the_pieces
     else (if bytes_eq name (codes "leaf") then Some the_leaf
     else (if bytes_eq name (codes "choices") then Some the_choices
-    else (if bytes_eq name (codes "laid_witness") then Some the_laid_witness else (if bytes_eq name (codes "words") then Some the_words else None)))))))))))))))))))))))
+    else (if bytes_eq name (codes "laid_witness") then Some the_laid_witness else (if bytes_eq name (codes "words") then Some the_words else None)))))))))))))))))))))))))
 
 named_is : (i : Item) → item_named (name_of i) ≡ Some i
 named_is the_file = refl
@@ -342,6 +348,8 @@ named_is the_fuel = refl
 named_is the_split = refl
 named_is the_workers = refl
 named_is the_ends = refl
+named_is the_outcomes = refl
+named_is the_states = refl
 named_is the_sample = refl
 named_is the_seed = refl
 named_is the_explain = refl
@@ -406,13 +414,15 @@ given_until None h = refl
 given_until (Some v) h = ap (λ b. is_some (if b then Some true else None)) (h v refl)
 
 options_there : (said : Said) → Valid said → is_some (found_options (text_of said)) ≡ true
-options_there said h = all_there _ _ _ _ _ _ _ _ _ _ _ _ _ _ _ (record {
+options_there said h = all_there _ _ _ _ _ _ _ _ _ _ _ _ _ _ _ _ _ (record {
   modes = given_number 0 most_modes (said_of the_modes said) (λ v e. said_fits the_modes v said h e);
   runs = given_number 1 most_runs (said_of the_runs said) (λ v e. said_fits the_runs v said h e);
   fuel = read_said (number_in 1 most_fuel) (codes "100000") (said_of the_fuel said) refl (λ v e. said_fits the_fuel v said h e);
   split = given_number 0 most_split (said_of the_split said) (λ v e. said_fits the_split v said h e);
   workers = read_said (number_in 0 most_workers) (codes "4") (said_of the_workers said) refl (λ v e. said_fits the_workers v said h e);
   ends = read_said flag_in (codes "false") (said_of the_ends said) refl (λ v e. said_fits the_ends v said h e);
+  outcomes = read_said flag_in (codes "false") (said_of the_outcomes said) refl (λ v e. said_fits the_outcomes v said h e);
+  states = given_number 1 most_states (said_of the_states said) (λ v e. said_fits the_states v said h e);
   sample = given_number 1 most_sample (said_of the_sample said) (λ v e. said_fits the_sample v said h e);
   seed = given_number 0 most_seed (said_of the_seed said) (λ v e. said_fits the_seed v said h e);
   explain = read_said flag_in (codes "false") (said_of the_explain said) refl (λ v e. said_fits the_explain v said h e);
@@ -579,7 +589,7 @@ takes_defaults lie tracer = (refl, (refl, (refl, tt)))
 takes_defaults lie debugger = (refl, (refl, (refl, (refl, tt))))
 takes_defaults lie runner = (refl, (refl, (refl, tt)))
 takes_defaults lie server = (refl, (refl, (refl, (refl, (refl, tt)))))
-takes_defaults lie checker = (refl, (refl, (refl, (refl, (refl, (refl, (refl, (refl, (refl, (refl, (refl, (refl, (refl, (refl, (refl, (refl, (refl, (refl, tt))))))))))))))))))
+takes_defaults lie checker = (refl, (refl, (refl, (refl, (refl, (refl, (refl, (refl, (refl, (refl, (refl, (refl, (refl, (refl, (refl, (refl, (refl, (refl, (refl, (refl, tt))))))))))))))))))))
 takes_defaults lie verifier = (refl, (refl, (refl, (refl, (refl, tt)))))
 takes_defaults lie teller = (refl, (refl, (refl, (refl, (refl, (refl, tt))))))
 takes_defaults lie translator = (refl, (refl, tt))

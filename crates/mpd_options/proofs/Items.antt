@@ -16,7 +16,7 @@ use Rattle.clap.specs.declared.error.kind.ErrorKind.TheVariants as kind
 use Rattle.clap.specs.declared.parser.matches.ValueSource.{ValueSource}
 use Rattle.clap.specs.declared.parser.matches.ValueSource.TheVariants.{CommandLine}
 use Rattle.clap.proofs.OnLiterals.{clap_on_literals}
-use Rattle.mpd_options.specs.Asked.{Item, Said, Tool, checker, debugger, fits, most_clients, most_fuel, most_leaf, most_modes, most_piece, most_port, most_runs, most_sample, most_seed, most_split, most_workers, name_of, painter, said_named, said_of, spelling_of, the_choices, the_clients, the_complete, the_ends, the_explain, the_file, the_fuel, the_group, the_laid_witness, the_leaf, the_mode, the_modes, the_piece, the_pieces, the_port, the_runs, the_sample, the_seed, the_split, the_until, the_witness, the_witness_file, the_words, the_workers, runner, server, teller, tracer, translator, verifier}
+use Rattle.mpd_options.specs.Asked.{Item, Said, Tool, checker, debugger, fits, most_clients, most_fuel, most_leaf, most_modes, most_piece, most_port, most_runs, most_sample, most_seed, most_split, most_states, most_workers, name_of, painter, said_named, said_of, spelling_of, the_choices, the_clients, the_complete, the_ends, the_explain, the_file, the_fuel, the_group, the_laid_witness, the_leaf, the_mode, the_modes, the_outcomes, the_piece, the_pieces, the_port, the_runs, the_sample, the_seed, the_split, the_states, the_until, the_witness, the_witness_file, the_words, the_workers, runner, server, teller, tracer, translator, verifier}
 use Rattle.mpd_options.specs.Program.{Lies, mpdbg_app, only_deadlock}
 use Rattle.mpd_options.proofs.NumberReads.{accepts_number}
 
@@ -95,6 +95,7 @@ asks checker the_runs = true
 asks checker the_fuel = true
 asks checker the_split = true
 asks checker the_workers = true
+asks checker the_states = true
 asks checker the_sample = true
 asks checker the_seed = true
 asks checker the_until = true
@@ -139,6 +140,7 @@ keeps t the_runs = asks t the_runs
 keeps t the_fuel = asks t the_fuel
 keeps t the_split = asks t the_split
 keeps t the_workers = asks t the_workers
+keeps t the_states = asks t the_states
 keeps t the_sample = asks t the_sample
 keeps t the_seed = asks t the_seed
 keeps t the_until = asks t the_until
@@ -159,7 +161,7 @@ EachAsks P tracer = P tracer the_mode
 EachAsks P debugger = P debugger the_mode × P debugger the_laid_witness
 EachAsks P runner = P runner the_mode
 EachAsks P server = P server the_mode × P server the_port × P server the_clients
-EachAsks P checker = P checker the_mode × P checker the_modes × P checker the_runs × P checker the_fuel × P checker the_split × P checker the_workers × P checker the_sample × P checker the_seed × P checker the_until × P checker the_piece
+EachAsks P checker = P checker the_mode × P checker the_modes × P checker the_runs × P checker the_fuel × P checker the_split × P checker the_workers × P checker the_states × P checker the_sample × P checker the_seed × P checker the_until × P checker the_piece
 EachAsks P verifier = P verifier the_mode × P verifier the_leaf
 EachAsks P teller = P teller the_mode × P teller the_choices × P teller the_fuel
 EachAsks P translator = Unit {0}
@@ -181,10 +183,11 @@ each_asks P a d r s c v w q checker the_runs e = c.2
 each_asks P a d r s c v w q checker the_fuel e = c.3
 each_asks P a d r s c v w q checker the_split e = c.4
 each_asks P a d r s c v w q checker the_workers e = c.5
-each_asks P a d r s c v w q checker the_sample e = c.6
-each_asks P a d r s c v w q checker the_seed e = c.7
-each_asks P a d r s c v w q checker the_until e = c.8
-each_asks P a d r s c v w q checker the_piece e = c.9
+each_asks P a d r s c v w q checker the_states e = c.6
+each_asks P a d r s c v w q checker the_sample e = c.7
+each_asks P a d r s c v w q checker the_seed e = c.8
+each_asks P a d r s c v w q checker the_until e = c.9
+each_asks P a d r s c v w q checker the_piece e = c.10
 each_asks P a d r s c v w q checker _ e = cc
 each_asks P a d r s c v w q verifier the_mode e = v.0
 each_asks P a d r s c v w q verifier the_leaf e = v.1
@@ -228,10 +231,11 @@ each_keeps P f a d r s c v w q checker the_runs e = c.2
 each_keeps P f a d r s c v w q checker the_fuel e = c.3
 each_keeps P f a d r s c v w q checker the_split e = c.4
 each_keeps P f a d r s c v w q checker the_workers e = c.5
-each_keeps P f a d r s c v w q checker the_sample e = c.6
-each_keeps P f a d r s c v w q checker the_seed e = c.7
-each_keeps P f a d r s c v w q checker the_until e = c.8
-each_keeps P f a d r s c v w q checker the_piece e = c.9
+each_keeps P f a d r s c v w q checker the_states e = c.6
+each_keeps P f a d r s c v w q checker the_sample e = c.7
+each_keeps P f a d r s c v w q checker the_seed e = c.8
+each_keeps P f a d r s c v w q checker the_until e = c.9
+each_keeps P f a d r s c v w q checker the_piece e = c.10
 each_keeps P f a d r s c v w q checker _ e = cc
 each_keeps P f a d r s c v w q verifier the_file e = f.5
 each_keeps P f a d r s c v w q verifier the_witness_file e = f.6
@@ -254,19 +258,20 @@ each_keeps P f a d r s c v w q painter the_fuel e = q.4
 each_keeps P f a d r s c v w q painter _ e = cc
 
 pub asks_keeps : (t : Tool) (i : Item) → asks t i ≡ true → keeps t i ≡ true
-asks_keeps = each_asks (λ t i. keeps t i ≡ true) refl (refl, refl) refl (refl, refl, refl) (refl, refl, refl, refl, refl, refl, refl, refl, refl, refl) (refl, refl) (refl, refl, refl) (refl, refl, refl, refl, refl)
+asks_keeps = each_asks (λ t i. keeps t i ≡ true) refl (refl, refl) refl (refl, refl, refl) (refl, refl, refl, refl, refl, refl, refl, refl, refl, refl, refl) (refl, refl) (refl, refl, refl) (refl, refl, refl, refl, refl)
 
 pub by_id : (lie : Lies) (t : Tool) (i : Item) → keeps t i ≡ true → arg_by_id (rules lie t) (name_of i) ≡ Some (arg lie t i)
 unfolding clap_on_literals
-by_id lie = each_keeps (λ t i. arg_by_id (rules lie t) (name_of i) ≡ Some (arg lie t i)) (refl, refl, refl, refl, refl, refl, refl, refl, refl, refl) refl (refl, refl) refl (refl, refl, refl) (refl, refl, refl, refl, refl, refl, refl, refl, refl, refl) (refl, refl) (refl, refl, refl) (refl, refl, refl, refl, refl)
+by_id lie = each_keeps (λ t i. arg_by_id (rules lie t) (name_of i) ≡ Some (arg lie t i)) (refl, refl, refl, refl, refl, refl, refl, refl, refl, refl) refl (refl, refl) refl (refl, refl, refl) (refl, refl, refl, refl, refl, refl, refl, refl, refl, refl, refl) (refl, refl) (refl, refl, refl) (refl, refl, refl, refl, refl)
 
 pub by_long : (lie : Lies) (t : Tool) (i : Item) → asks t i ≡ true → arg_by_long (rules lie t) (spelling_of i) ≡ Some (arg lie t i)
 unfolding clap_on_literals
-by_long lie = each_asks (λ t i. arg_by_long (rules lie t) (spelling_of i) ≡ Some (arg lie t i)) refl (refl, refl) refl (refl, refl, refl) (refl, refl, refl, refl, refl, refl, refl, refl, refl, refl) (refl, refl) (refl, refl, refl) (refl, refl, refl, refl, refl)
+by_long lie = each_asks (λ t i. arg_by_long (rules lie t) (spelling_of i) ≡ Some (arg lie t i)) refl (refl, refl) refl (refl, refl, refl) (refl, refl, refl, refl, refl, refl, refl, refl, refl, refl, refl) (refl, refl) (refl, refl, refl) (refl, refl, refl, refl, refl)
 
 -- the flags, which have no value
 abbrev pub flags : Tool → Item → Bool
 flags checker the_ends = true
+flags checker the_outcomes = true
 flags checker the_explain = true
 flags checker the_group = true
 flags checker the_witness = true
@@ -276,13 +281,14 @@ flags teller the_ends = true
 flags painter the_ends = true
 flags _ _ = false
 
-pub each_flag : (P : Tool → Item → Type 0) → P checker the_ends × P checker the_explain × P checker the_group × P checker the_witness × P checker the_complete × P checker the_pieces → P teller the_ends → P painter the_ends → (t : Tool) (i : Item) → flags t i ≡ true → P t i
+pub each_flag : (P : Tool → Item → Type 0) → P checker the_ends × P checker the_outcomes × P checker the_explain × P checker the_group × P checker the_witness × P checker the_complete × P checker the_pieces → P teller the_ends → P painter the_ends → (t : Tool) (i : Item) → flags t i ≡ true → P t i
 each_flag P c w q checker the_ends e = c.0
-each_flag P c w q checker the_explain e = c.1
-each_flag P c w q checker the_group e = c.2
-each_flag P c w q checker the_witness e = c.3
-each_flag P c w q checker the_complete e = c.4
-each_flag P c w q checker the_pieces e = c.5
+each_flag P c w q checker the_outcomes e = c.1
+each_flag P c w q checker the_explain e = c.2
+each_flag P c w q checker the_group e = c.3
+each_flag P c w q checker the_witness e = c.4
+each_flag P c w q checker the_complete e = c.5
+each_flag P c w q checker the_pieces e = c.6
 each_flag P c w q checker _ e = cc
 each_flag P c w q teller the_ends e = w
 each_flag P c w q teller _ e = cc
@@ -297,7 +303,7 @@ each_flag P c w q translator i e = cc
 
 pub flag_by_long : (lie : Lies) (t : Tool) (i : Item) → flags t i ≡ true → arg_by_long (rules lie t) (spelling_of i) ≡ Some (arg lie t i)
 unfolding clap_on_literals
-flag_by_long lie = each_flag (λ t i. arg_by_long (rules lie t) (spelling_of i) ≡ Some (arg lie t i)) (refl, refl, refl, refl, refl, refl) refl refl
+flag_by_long lie = each_flag (λ t i. arg_by_long (rules lie t) (spelling_of i) ≡ Some (arg lie t i)) (refl, refl, refl, refl, refl, refl, refl) refl refl
 
 -- ---- a use of an item
 
@@ -312,6 +318,7 @@ accepted the_runs text = is_unsigned_in 1 most_runs text
 accepted the_fuel text = is_unsigned_in 1 most_fuel text
 accepted the_split text = is_unsigned_in 0 most_split text
 accepted the_workers text = is_unsigned_in 0 most_workers text
+accepted the_states text = is_unsigned_in 1 most_states text
 accepted the_sample text = is_unsigned_in 1 most_sample text
 accepted the_seed text = is_unsigned_in 0 most_seed text
 accepted the_until text = bytes_eq (codes "deadlock") text || false
@@ -341,6 +348,7 @@ accepted_fits t i v k =
       accepts_number 1 most_fuel v (omega arith),
       accepts_number 0 most_split v (omega arith),
       accepts_number 0 most_workers v (omega arith),
+      accepts_number 1 most_states v (omega arith),
       accepts_number 1 most_sample v (omega arith),
       accepts_number 0 most_seed v (omega arith),
       or_nothing (bytes_eq (codes "deadlock") v) ∙ same_either_way (codes "deadlock") v,
@@ -363,11 +371,11 @@ again_fault again = if again && not false then kind.ArgumentConflict ∷ [] else
 use_is : (lie : Lies) (v : Text) (rows : List Row) (t : Tool) (i : Item) → keeps t i ≡ true
     → use_fault false (arg lie t i) (v ∷ []) rows ≡ or_else (again_fault (has_row (name_of i) rows)) (value_fault (refused_as i) (accepted i v))
 unfolding clap_on_literals
-use_is lie v rows = each_keeps (λ t i. use_fault false (arg lie t i) (v ∷ []) rows ≡ or_else (again_fault (has_row (name_of i) rows)) (value_fault (refused_as i) (accepted i v))) (refl, refl, refl, refl, refl, refl, refl, refl, refl, refl) refl (refl, refl) refl (refl, refl, refl) (refl, refl, refl, refl, refl, refl, refl, refl, refl, refl) (refl, refl) (refl, refl, refl) (refl, refl, refl, refl, refl)
+use_is lie v rows = each_keeps (λ t i. use_fault false (arg lie t i) (v ∷ []) rows ≡ or_else (again_fault (has_row (name_of i) rows)) (value_fault (refused_as i) (accepted i v))) (refl, refl, refl, refl, refl, refl, refl, refl, refl, refl) refl (refl, refl) refl (refl, refl, refl) (refl, refl, refl, refl, refl, refl, refl, refl, refl, refl, refl) (refl, refl) (refl, refl, refl) (refl, refl, refl, refl, refl)
 
 flag_use_is : (lie : Lies) (rows : List Row) (t : Tool) (i : Item) → flags t i ≡ true → use_fault false (arg lie t i) [] rows ≡ or_else (again_fault (has_row (name_of i) rows)) []
 unfolding clap_on_literals
-flag_use_is lie rows = each_flag (λ t i. use_fault false (arg lie t i) [] rows ≡ or_else (again_fault (has_row (name_of i) rows)) []) (refl, refl, refl, refl, refl, refl) refl refl
+flag_use_is lie rows = each_flag (λ t i. use_fault false (arg lie t i) [] rows ≡ or_else (again_fault (has_row (name_of i) rows)) []) (refl, refl, refl, refl, refl, refl, refl) refl refl
 
 abbrev fault_by : ErrorKind → Bool → Bool → Kinds
 fault_by k again taken = or_else (again_fault again) (value_fault k taken)
@@ -416,7 +424,7 @@ some_fault (k ∷ ks) e = λ z. cc
 -- an option that waits for its value still
 pub no_value : (lie : Lies) (rows : List Row) (t : Tool) (i : Item) → asks t i ≡ true → use_fault false (arg lie t i) [] rows ≢ []
 unfolding clap_on_literals
-no_value lie rows = each_asks (λ t i. use_fault false (arg lie t i) [] rows ≢ []) (some_fault _ refl) (some_fault _ refl, some_fault _ refl) (some_fault _ refl) (some_fault _ refl, some_fault _ refl, some_fault _ refl) (some_fault _ refl, some_fault _ refl, some_fault _ refl, some_fault _ refl, some_fault _ refl, some_fault _ refl, some_fault _ refl, some_fault _ refl, some_fault _ refl, some_fault _ refl) (some_fault _ refl, some_fault _ refl) (some_fault _ refl, some_fault _ refl, some_fault _ refl) (some_fault _ refl, some_fault _ refl, some_fault _ refl, some_fault _ refl, some_fault _ refl)
+no_value lie rows = each_asks (λ t i. use_fault false (arg lie t i) [] rows ≢ []) (some_fault _ refl) (some_fault _ refl, some_fault _ refl) (some_fault _ refl) (some_fault _ refl, some_fault _ refl, some_fault _ refl) (some_fault _ refl, some_fault _ refl, some_fault _ refl, some_fault _ refl, some_fault _ refl, some_fault _ refl, some_fault _ refl, some_fault _ refl, some_fault _ refl, some_fault _ refl, some_fault _ refl) (some_fault _ refl, some_fault _ refl) (some_fault _ refl, some_fault _ refl, some_fault _ refl) (some_fault _ refl, some_fault _ refl, some_fault _ refl, some_fault _ refl, some_fault _ refl)
 
 -- ---- rows
 
@@ -447,7 +455,7 @@ values_at_end id how source values (r ∷ rs) h =
 
 used_is : (lie : Lies) (v : Text) (rows : List Row) (t : Tool) (i : Item) → keeps t i ≡ true → used (arg lie t i) (v ∷ []) rows ≡ with_values (name_of i) AsWritten CommandLine (v ∷ []) (without (name_of i) rows)
 unfolding clap_on_literals
-used_is lie v rows = each_keeps (λ t i. used (arg lie t i) (v ∷ []) rows ≡ with_values (name_of i) AsWritten CommandLine (v ∷ []) (without (name_of i) rows)) (refl, refl, refl, refl, refl, refl, refl, refl, refl, refl) refl (refl, refl) refl (refl, refl, refl) (refl, refl, refl, refl, refl, refl, refl, refl, refl, refl) (refl, refl) (refl, refl, refl) (refl, refl, refl, refl, refl)
+used_is lie v rows = each_keeps (λ t i. used (arg lie t i) (v ∷ []) rows ≡ with_values (name_of i) AsWritten CommandLine (v ∷ []) (without (name_of i) rows)) (refl, refl, refl, refl, refl, refl, refl, refl, refl, refl) refl (refl, refl) refl (refl, refl, refl) (refl, refl, refl, refl, refl, refl, refl, refl, refl, refl, refl) (refl, refl) (refl, refl, refl) (refl, refl, refl, refl, refl)
 
 at_end_of : (i : Item) (v : Text) (rows : List Row) → has_row (name_of i) rows ≡ false → with_values (name_of i) AsWritten CommandLine (v ∷ []) (without (name_of i) rows) ≡ rows ++ row_for i v CommandLine ∷ []
 at_end_of i v rows h = ap (λ rs. with_values (name_of i) AsWritten CommandLine (v ∷ []) rs) (without_none (name_of i) rows h) ∙ values_at_end (name_of i) AsWritten CommandLine (v ∷ []) rows h
@@ -457,7 +465,7 @@ used_once lie t i v rows k h = used_is lie v rows t i k ∙ at_end_of i v rows h
 
 flag_used_is : (lie : Lies) (rows : List Row) (t : Tool) (i : Item) → flags t i ≡ true → used (arg lie t i) [] rows ≡ with_values (name_of i) AsWritten CommandLine (codes "true" ∷ []) (without (name_of i) rows)
 unfolding clap_on_literals
-flag_used_is lie rows = each_flag (λ t i. used (arg lie t i) [] rows ≡ with_values (name_of i) AsWritten CommandLine (codes "true" ∷ []) (without (name_of i) rows)) (refl, refl, refl, refl, refl, refl) refl refl
+flag_used_is lie rows = each_flag (λ t i. used (arg lie t i) [] rows ≡ with_values (name_of i) AsWritten CommandLine (codes "true" ∷ []) (without (name_of i) rows)) (refl, refl, refl, refl, refl, refl, refl) refl refl
 
 pub flag_used_once : (lie : Lies) (t : Tool) (i : Item) (rows : List Row) → flags t i ≡ true → has_row (name_of i) rows ≡ false → used (arg lie t i) [] rows ≡ rows ++ row_for i (codes "true") CommandLine ∷ []
 flag_used_once lie t i rows flag h = flag_used_is lie rows t i flag ∙ at_end_of i (codes "true") rows h

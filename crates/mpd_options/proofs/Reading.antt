@@ -15,7 +15,7 @@ use Rattle.clap.specs.declared.parser.matches.ArgMatches.TheViews.{out-ArgMatche
 use Rattle.clap.specs.declared.parser.matches.Found.{Found}
 use Rattle.clap.proofs.OnLiterals.{clap_on_literals}
 use Rattle.clap.proofs.WalkLemmas.{first_value-rows, one_text-rows}
-use Rattle.mpd_options.specs.Asked.{Asked, IsFound, IsInRange, AreInRange, Item, Tool, asked, check, checker, debug, debugger, found, found_by, found_check, found_in, found_of_command, found_of_file, found_options, found_picture, found_serve, found_verify, found_words, given_word, meant, most_clients, most_fuel, most_leaf, most_modes, most_piece, most_port, most_runs, most_sample, most_seed, most_split, most_workers, number_if_given, paint, painter, text_in, the_choices, the_clients, the_ends, the_file, the_fuel, the_laid_witness, the_leaf, the_mode, the_modes, the_piece, the_port, the_runs, the_sample, the_seed, the_split, the_witness_file, the_words, the_workers, tell, teller, tool_named, run, runner, serve, server, trace, tracer, translate, translator, until_bad_in, verifier, verify}
+use Rattle.mpd_options.specs.Asked.{Asked, IsFound, IsInRange, AreInRange, Item, Tool, asked, check, checker, debug, debugger, found, found_by, found_check, found_in, found_of_command, found_of_file, found_options, found_picture, found_serve, found_verify, found_words, given_word, meant, most_clients, most_fuel, most_leaf, most_modes, most_piece, most_port, most_runs, most_sample, most_seed, most_split, most_states, most_workers, number_if_given, paint, painter, text_in, the_choices, the_clients, the_ends, the_file, the_fuel, the_laid_witness, the_leaf, the_mode, the_modes, the_piece, the_port, the_runs, the_sample, the_seed, the_split, the_states, the_witness_file, the_words, the_workers, tell, teller, tool_named, run, runner, serve, server, trace, tracer, translate, translator, until_bad_in, verifier, verify}
 use Rattle.mpd_options.specs.Numbers.{flag_in, most_usize, number_in}
 use Rattle.mpd_options.specs.declared.options.CheckOptions.{CheckOptions}
 use Rattle.mpd_options.specs.declared.options.Options.{Options}
@@ -401,18 +401,20 @@ check_found f file mode options a b c = sym (all_three a b c)
 
 abbrev ItemsIn : Found → Type 0
 ItemsIn f =
-    HasItems (given_at 0 most_modes (codes "modes") f) (given_at 1 most_runs (codes "runs") f) (number_at 1 most_fuel (codes "fuel") f) (given_at 0 most_split (codes "split") f) (number_at 0 most_workers (codes "workers") f) (flag_at (codes "ends") f) (given_at 1 most_sample (codes "sample") f) (given_at 0 most_seed (codes "seed") f) (flag_at (codes "explain") f) (flag_at (codes "group") f) (until_bad_in (first_of (codes "until") (rows_of f))) (flag_at (codes "witness") f) (flag_at (codes "complete") f) (given_at 0 most_piece (codes "piece") f) (flag_at (codes "pieces") f)
+    HasItems (given_at 0 most_modes (codes "modes") f) (given_at 1 most_runs (codes "runs") f) (number_at 1 most_fuel (codes "fuel") f) (given_at 0 most_split (codes "split") f) (number_at 0 most_workers (codes "workers") f) (flag_at (codes "ends") f) (flag_at (codes "outcomes") f) (given_at 1 most_states (codes "states") f) (given_at 1 most_sample (codes "sample") f) (given_at 0 most_seed (codes "seed") f) (flag_at (codes "explain") f) (flag_at (codes "group") f) (until_bad_in (first_of (codes "until") (rows_of f))) (flag_at (codes "witness") f) (flag_at (codes "complete") f) (given_at 0 most_piece (codes "piece") f) (flag_at (codes "pieces") f)
 
 pub has_items : (f : Found) → is_some (found_options (text_in (rows_of f))) ≡ true → ItemsIn f
-has_items f e = some_items _ _ _ _ _ _ _ _ _ _ _ _ _ _ _ e
+has_items f e = some_items _ _ _ _ _ _ _ _ _ _ _ _ _ _ _ _ _ e
 
-pub items_found : (f : Found) (modes runs : Option ℕ) (fuel : ℕ) (split : Option ℕ) (workers : ℕ) (ends : Bool) (sample seed : Option ℕ) (explain group until witness complete : Bool) (piece : Option ℕ) (pieces : Bool)
+pub items_found : (f : Found) (modes runs : Option ℕ) (fuel : ℕ) (split : Option ℕ) (workers : ℕ) (ends outcomes : Bool) (states sample seed : Option ℕ) (explain group until witness complete : Bool) (piece : Option ℕ) (pieces : Bool)
     → given_at 0 most_modes (codes "modes") f ≡ Some modes
     → given_at 1 most_runs (codes "runs") f ≡ Some runs
     → number_at 1 most_fuel (codes "fuel") f ≡ Some fuel
     → given_at 0 most_split (codes "split") f ≡ Some split
     → number_at 0 most_workers (codes "workers") f ≡ Some workers
     → flag_at (codes "ends") f ≡ Some ends
+    → flag_at (codes "outcomes") f ≡ Some outcomes
+    → given_at 1 most_states (codes "states") f ≡ Some states
     → given_at 1 most_sample (codes "sample") f ≡ Some sample
     → given_at 0 most_seed (codes "seed") f ≡ Some seed
     → flag_at (codes "explain") f ≡ Some explain
@@ -422,8 +424,8 @@ pub items_found : (f : Found) (modes runs : Option ℕ) (fuel : ℕ) (split : Op
     → flag_at (codes "complete") f ≡ Some complete
     → given_at 0 most_piece (codes "piece") f ≡ Some piece
     → flag_at (codes "pieces") f ≡ Some pieces
-    → Some (options_with modes runs fuel split workers ends sample seed explain group until witness complete piece pieces) ≡ found_options (text_in (rows_of f))
-items_found f modes runs fuel split workers ends sample seed explain group until witness complete piece pieces a b c d e g h i j k l m n o p = sym (items_say modes runs fuel split workers ends sample seed explain group until witness complete piece pieces a b c d e g h i j k l m n o p)
+    → Some (options_with modes runs fuel split workers ends outcomes states sample seed explain group until witness complete piece pieces) ≡ found_options (text_in (rows_of f))
+items_found f modes runs fuel split workers ends outcomes states sample seed explain group until witness complete piece pieces a b c d e g h i j k l m n o p q r = sym (items_say modes runs fuel split workers ends outcomes states sample seed explain group until witness complete piece pieces a b c d e g h i j k l m n o p q r)
 
 -- a word that was found is the one that there is
 until_taken : (t : Text) → is_some (until_bad_in (Some t)) ≡ true → until_bad_in (Some t) ≡ Some true
@@ -483,8 +485,8 @@ serve_range (Some f) (Some m) (Some p) (Some c) a b = (a.0, a.1, b.0, b.1)
 
 options_range : (text : Item → Option Text) → OptionsRange (found_options text)
 options_range text =
-    items_range _ _ _ _ _ _ _ _ _ _ _ _ _ _ _ (given_within 0 most_modes (text the_modes)) (given_within 1 most_runs (text the_runs)) (read_within 1 most_fuel (text the_fuel)) (given_within 0 most_split (text the_split))
-    (read_within 0 most_workers (text the_workers)) (given_within 1 most_sample (text the_sample)) (given_within 0 most_seed (text the_seed)) (given_within 0 most_piece (text the_piece))
+    items_range _ _ _ _ _ _ _ _ _ _ _ _ _ _ _ _ _ (given_within 0 most_modes (text the_modes)) (given_within 1 most_runs (text the_runs)) (read_within 1 most_fuel (text the_fuel)) (given_within 0 most_split (text the_split))
+    (read_within 0 most_workers (text the_workers)) (given_within 1 most_states (text the_states)) (given_within 1 most_sample (text the_sample)) (given_within 0 most_seed (text the_seed)) (given_within 0 most_piece (text the_piece))
 
 check_range : (f m : Option Text) (o : Option CheckOptions) → OptionsRange o → RangeOf (found_check f m o)
 check_range None m o h = tt

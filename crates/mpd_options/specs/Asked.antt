@@ -64,6 +64,9 @@ most_split = 8
 abbrev pub most_workers : ℕ
 most_workers = 1000
 
+abbrev pub most_states : ℕ
+most_states = 16000000
+
 abbrev pub most_sample : ℕ
 most_sample = 65536
 
@@ -88,7 +91,7 @@ usual_split = 1
 abbrev pub AreInRange : CheckOptions → Type 0
 AreInRange o =
     (1 ≤ o.runs) × (o.runs ≤ most_runs) × (1 ≤ o.fuel) × (o.fuel ≤ most_fuel) × (o.split ≤ most_split) × (o.workers ≤ most_workers) × IfSome o.piece (λ n. n ≤ most_piece) × IfSome o.modes (λ n. n ≤ most_modes)
-    × IfSome o.sample (λ n. (1 ≤ n) × (n ≤ most_sample)) × IfSome o.seed (λ n. n ≤ most_seed)
+    × IfSome o.states (λ n. (1 ≤ n) × (n ≤ most_states)) × IfSome o.sample (λ n. (1 ≤ n) × (n ≤ most_sample)) × IfSome o.seed (λ n. n ≤ most_seed)
 
 -- each number lies in its range
 abbrev pub IsInRange : Options → Type 0
@@ -140,6 +143,8 @@ pub data Item : Type 0 where
   the_split : Item
   the_workers : Item
   the_ends : Item
+  the_outcomes : Item
+  the_states : Item
   the_sample : Item
   the_seed : Item
   the_explain : Item
@@ -166,6 +171,8 @@ name_of the_fuel = codes "fuel"
 name_of the_split = codes "split"
 name_of the_workers = codes "workers"
 name_of the_ends = codes "ends"
+name_of the_outcomes = codes "outcomes"
+name_of the_states = codes "states"
 name_of the_sample = codes "sample"
 name_of the_seed = codes "seed"
 name_of the_explain = codes "explain"
@@ -191,7 +198,7 @@ options_of debugger = the_mode ∷ the_laid_witness ∷ []
 options_of runner = the_mode ∷ []
 options_of server = the_mode ∷ the_port ∷ the_clients ∷ []
 options_of checker =
-    the_mode ∷ the_modes ∷ the_runs ∷ the_fuel ∷ the_split ∷ the_workers ∷ the_ends ∷ the_sample ∷ the_seed ∷ the_explain ∷ the_group ∷ the_until ∷ the_witness ∷ the_complete ∷ the_piece ∷ the_pieces ∷ []
+    the_mode ∷ the_modes ∷ the_runs ∷ the_fuel ∷ the_split ∷ the_workers ∷ the_ends ∷ the_outcomes ∷ the_states ∷ the_sample ∷ the_seed ∷ the_explain ∷ the_group ∷ the_until ∷ the_witness ∷ the_complete ∷ the_piece ∷ the_pieces ∷ []
 options_of verifier = the_mode ∷ the_leaf ∷ []
 options_of teller = the_mode ∷ the_choices ∷ the_fuel ∷ the_ends ∷ []
 options_of translator = []
@@ -215,6 +222,7 @@ option_among items name = find (λ item. bytes_eq (spelling_of item) name) items
 -- a flag has no value in words
 abbrev pub is_flag : Item → Bool
 is_flag the_ends = true
+is_flag the_outcomes = true
 is_flag the_explain = true
 is_flag the_group = true
 is_flag the_witness = true
@@ -235,6 +243,8 @@ fits the_fuel text = is_some (number_in 1 most_fuel text)
 fits the_split text = is_some (number_in 0 most_split text)
 fits the_workers text = is_some (number_in 0 most_workers text)
 fits the_ends text = is_some (flag_in text)
+fits the_outcomes text = is_some (flag_in text)
+fits the_states text = is_some (number_in 1 most_states text)
 fits the_sample text = is_some (number_in 1 most_sample text)
 fits the_seed text = is_some (number_in 0 most_seed text)
 fits the_explain text = is_some (flag_in text)
@@ -262,6 +272,8 @@ default_of the_fuel = Some (codes "100000")
 default_of the_split = None
 default_of the_workers = Some (codes "4")
 default_of the_ends = Some (codes "false")
+default_of the_outcomes = Some (codes "false")
+default_of the_states = None
 default_of the_sample = None
 default_of the_seed = None
 default_of the_explain = Some (codes "false")
@@ -390,8 +402,8 @@ until_bad_in None = Some false
 until_bad_in (Some text) = if bytes_eq text (codes "deadlock") then Some true else None
 
 -- how deadlocks are looked for, by what each item says
-abbrev pub options_of_items : Option (Option ℕ) → Option (Option ℕ) → Option ℕ → Option (Option ℕ) → Option ℕ → Option Bool → Option (Option ℕ) → Option (Option ℕ) → Option Bool → Option Bool → Option Bool → Option Bool → Option Bool → Option (Option ℕ) → Option Bool → Option CheckOptions
-options_of_items (Some modes) (Some runs) (Some fuel) (Some split) (Some workers) (Some ends) (Some sample) (Some seed) (Some explain) (Some group) (Some until) (Some witness) (Some complete) (Some piece) (Some pieces) =
+abbrev pub options_of_items : Option (Option ℕ) → Option (Option ℕ) → Option ℕ → Option (Option ℕ) → Option ℕ → Option Bool → Option Bool → Option (Option ℕ) → Option (Option ℕ) → Option (Option ℕ) → Option Bool → Option Bool → Option Bool → Option Bool → Option Bool → Option (Option ℕ) → Option Bool → Option CheckOptions
+options_of_items (Some modes) (Some runs) (Some fuel) (Some split) (Some workers) (Some ends) (Some outcomes) (Some states) (Some sample) (Some seed) (Some explain) (Some group) (Some until) (Some witness) (Some complete) (Some piece) (Some pieces) =
     Some (record {
       modes = modes;
       runs = unwrap_or runs usual_runs;
@@ -401,6 +413,8 @@ options_of_items (Some modes) (Some runs) (Some fuel) (Some split) (Some workers
       split_given = is_some split;
       workers = workers;
       ends = ends;
+      outcomes = outcomes;
+      states = states;
       sample = sample;
       seed = seed;
       explain = explain;
@@ -411,12 +425,12 @@ options_of_items (Some modes) (Some runs) (Some fuel) (Some split) (Some workers
       piece = piece;
       count_pieces = pieces;
     })
-options_of_items _ _ _ _ _ _ _ _ _ _ _ _ _ _ _ = None
+options_of_items _ _ _ _ _ _ _ _ _ _ _ _ _ _ _ _ _ = None
 
 abbrev pub found_options : (Item → Option (List ℕ)) → Option CheckOptions
 found_options text =
     options_of_items (number_if_given 0 most_modes (text the_modes)) (number_if_given 1 most_runs (text the_runs)) (option_and_then (number_in 1 most_fuel) (text the_fuel))
-    (number_if_given 0 most_split (text the_split)) (option_and_then (number_in 0 most_workers) (text the_workers)) (option_and_then flag_in (text the_ends)) (number_if_given 1 most_sample (text the_sample))
+    (number_if_given 0 most_split (text the_split)) (option_and_then (number_in 0 most_workers) (text the_workers)) (option_and_then flag_in (text the_ends)) (option_and_then flag_in (text the_outcomes)) (number_if_given 1 most_states (text the_states)) (number_if_given 1 most_sample (text the_sample))
     (number_if_given 0 most_seed (text the_seed)) (option_and_then flag_in (text the_explain)) (option_and_then flag_in (text the_group)) (until_bad_in (text the_until))
     (option_and_then flag_in (text the_witness)) (option_and_then flag_in (text the_complete)) (number_if_given 0 most_piece (text the_piece)) (option_and_then flag_in (text the_pieces))
 
@@ -488,6 +502,8 @@ text_in rows the_fuel = one_of (name_of the_fuel) rows
 text_in rows the_split = one_of (name_of the_split) rows
 text_in rows the_workers = one_of (name_of the_workers) rows
 text_in rows the_ends = one_of (name_of the_ends) rows
+text_in rows the_outcomes = one_of (name_of the_outcomes) rows
+text_in rows the_states = one_of (name_of the_states) rows
 text_in rows the_sample = one_of (name_of the_sample) rows
 text_in rows the_seed = one_of (name_of the_seed) rows
 text_in rows the_explain = one_of (name_of the_explain) rows

@@ -1,6 +1,7 @@
 pub mod Asked
 pub mod AskedRows
 pub mod CheckRows
+pub mod ClashRows
 pub mod Clashes
 pub mod FaultRows
 pub mod Help

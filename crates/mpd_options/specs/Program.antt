@@ -7,7 +7,7 @@ use Rattle.clap.specs.declared.builder.value_parser.ValueParser.{ValueParser}
 use Rattle.clap.specs.declared.builder.value_parser.ValueParser.TheVariants.{Names, Unsigned}
 use Rattle.mpd_options.specs.declared.command.Topic.{Topic}
 use Rattle.mpd_options.specs.declared.command.Topic.TheVariants as topic
-use Rattle.mpd_options.specs.Asked.{most_clients, most_fuel, most_leaf, most_modes, most_piece, most_port, most_runs, most_sample, most_seed, most_split, most_workers}
+use Rattle.mpd_options.specs.Asked.{most_clients, most_fuel, most_leaf, most_modes, most_piece, most_port, most_runs, most_sample, most_seed, most_split, most_states, most_workers}
 
 -- the word of a file, which must be there
 abbrev pub file_rule : List ℕ → Rule
@@ -53,6 +53,12 @@ workers_rule = number_rule (codes "workers") 0 most_workers (codes "4")
 
 abbrev pub ends_rule : Rule
 ends_rule = flag_rule (codes "ends")
+
+abbrev pub outcomes_rule : Rule
+outcomes_rule = flag_rule (codes "outcomes")
+
+abbrev pub states_rule : Rule
+states_rule = valued_rule (codes "states") (Unsigned 1 most_states)
 
 abbrev pub sample_rule : Rule
 sample_rule = valued_rule (codes "sample") (Unsigned 1 most_sample)
@@ -140,7 +146,7 @@ abbrev pub work_app : App
 work_app = with_rule (with_rule numbers_app split_rule) workers_rule
 
 abbrev pub chosen_app : App
-chosen_app = with_rule (with_rule (with_rule work_app ends_rule) sample_rule) seed_rule
+chosen_app = with_rule (with_rule (with_rule (with_rule (with_rule work_app ends_rule) outcomes_rule) states_rule) sample_rule) seed_rule
 
 abbrev pub told_app : App
 told_app = with_rule (with_rule chosen_app explain_rule) group_rule

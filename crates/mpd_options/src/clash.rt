@@ -1,6 +1,6 @@
 //! Options of `check` that can't stand together (docs/FORMATS.md, "The command line").
 ghost use Rattle.std.specs.Prelude.{◌≡◌};
-ghost use Rattle.mpd_options.specs.Clashes.{beside_complete, beside_sample, clash_of, first_given, option_word};
+ghost use Rattle.mpd_options.specs.Clashes.{beside_complete, beside_outcomes, beside_sample, clash_of, first_given, option_word};
 
 use crate::options::CheckOptions;
 
@@ -11,8 +11,12 @@ pub enum CheckOption {
     Complete,
     /// `--ends`.
     Ends,
+    /// `--group`.
+    Group,
     /// `--modes`.
     Modes,
+    /// `--outcomes`.
+    Outcomes,
     /// `--piece`.
     Piece,
     /// `--pieces`.
@@ -21,8 +25,12 @@ pub enum CheckOption {
     Runs,
     /// `--sample`.
     Sample,
+    /// `--seed`.
+    Seed,
     /// `--split`.
     Split,
+    /// `--until`.
+    Until,
 }
 
 impl CheckOption {
@@ -33,12 +41,16 @@ impl CheckOption {
         match self {
             CheckOption::Complete => "--complete",
             CheckOption::Ends => "--ends",
+            CheckOption::Group => "--group",
             CheckOption::Modes => "--modes",
+            CheckOption::Outcomes => "--outcomes",
             CheckOption::Piece => "--piece",
             CheckOption::Pieces => "--pieces",
             CheckOption::Runs => "--runs",
             CheckOption::Sample => "--sample",
+            CheckOption::Seed => "--seed",
             CheckOption::Split => "--split",
+            CheckOption::Until => "--until",
         }
     }
 }
@@ -50,9 +62,48 @@ pub enum Clash {
     Both(CheckOption, CheckOption),
     /// `--seed` wants `--sample`, which isn't there.
     SeedAlone,
+    /// `--states` wants `--outcomes`, which isn't there.
+    StatesAlone,
 }
 
 impl CheckOptions {
+    /// The first option that was given and can't stand beside `--outcomes`.
+    fn beside_outcomes(self) -> Option<CheckOption>
+        ensures { result ≡ first_given (beside_outcomes self) }
+    {
+        if self.ends {
+            return Some(CheckOption::Ends);
+        }
+        if self.runs_given {
+            return Some(CheckOption::Runs);
+        }
+        if self.split_given {
+            return Some(CheckOption::Split);
+        }
+        if self.piece.is_some() {
+            return Some(CheckOption::Piece);
+        }
+        if self.count_pieces {
+            return Some(CheckOption::Pieces);
+        }
+        if self.sample.is_some() {
+            return Some(CheckOption::Sample);
+        }
+        if self.seed.is_some() {
+            return Some(CheckOption::Seed);
+        }
+        if self.group {
+            return Some(CheckOption::Group);
+        }
+        if self.modes.is_some() {
+            return Some(CheckOption::Modes);
+        }
+        if self.until_bad {
+            return Some(CheckOption::Until);
+        }
+        None
+    }
+
     /// The first option that was given and can't stand beside `--sample`.
     fn beside_sample(self) -> Option<CheckOption>
         ensures { result ≡ first_given (beside_sample self) }
@@ -92,11 +143,20 @@ impl CheckOptions {
         None
     }
 
-    /// Why these options can't stand together; `None` where they can. What can't stand beside `--sample` is told first, then that
-    /// `--seed` is alone, then what can't stand beside `--complete`.
+    /// Why these options can't stand together; `None` where they can. What can't stand beside `--outcomes` is told first, then that
+    /// `--states` is alone, then what can't stand beside `--sample`, then that `--seed` is alone, then what can't stand beside `--complete`.
     pub fn clash(self) -> Option<Clash>
         ensures { result ≡ clash_of self }
     {
+        if self.outcomes {
+            return match self.beside_outcomes() {
+                Some(other) => Some(Clash::Both(CheckOption::Outcomes, other)),
+                None => None,
+            };
+        }
+        if self.states.is_some() {
+            return Some(Clash::StatesAlone);
+        }
         if self.sample.is_some() {
             return match self.beside_sample() {
                 Some(other) => Some(Clash::Both(CheckOption::Sample, other)),

@@ -6,12 +6,12 @@ ghost use Rattle.clap.specs.Words.{App, Rule, app_of, rule_of, with_rule, with_s
 ghost use Rattle.clap.specs.declared.builder.command.Command.TheViews.{out-Command as fields_of};
 ghost use Rattle.mpd_options.specs.Help.{example_of};
 ghost use Rattle.mpd_options.specs.declared.command.Topic.TheVariants.{Check, Debug, Picture, Program, Run, Serve, Trace, Translate, Verify, Words};
-ghost use Rattle.mpd_options.specs.Program.{check_app, choices_rule, clients_rule, command_app, complete_rule, debug_app, ends_rule, explain_rule, file_app, file_rule, flag_rule, fuel_rule, group_rule, laid_witness_rule, leaf_rule, mode_rule, modes_rule, mpdbg_app, named_app, number_rule, picture_app, piece_rule, pieces_rule, port_rule, required_number_rule, run_app, runs_rule, sample_rule, script_app, seed_rule, serve_app, split_rule, told_app, trace_app, translate_app, until_rule, valued_rule, verify_app, witness_rule, word_rule, words_app, work_app, workers_rule};
+ghost use Rattle.mpd_options.specs.Program.{check_app, choices_rule, chosen_app, clients_rule, command_app, complete_rule, debug_app, ends_rule, explain_rule, file_app, file_rule, flag_rule, fuel_rule, group_rule, laid_witness_rule, leaf_rule, mode_rule, modes_rule, mpdbg_app, named_app, number_rule, outcomes_rule, picture_app, piece_rule, pieces_rule, port_rule, required_number_rule, run_app, runs_rule, sample_rule, script_app, seed_rule, serve_app, split_rule, states_rule, told_app, trace_app, translate_app, until_rule, valued_rule, verify_app, witness_rule, word_rule, words_app, work_app, workers_rule};
 
 use crate::names::{
     CHECK, CHOICES, CLIENTS, COMPLETE, DEBUG, ENDS, EXPLAIN, FILE, FUEL, GROUP, LAID_WITNESS, LEAF,
-    MODE, MODES, PICTURE, PIECE, PIECES, PORT, RUN, RUNS, SAMPLE, SEED, SERVE, SPLIT, TRACE,
-    TRANSLATE, UNTIL, VERIFY, WITNESS, WITNESS_FILE, WORDS, WORDS_FILE, WORKERS,
+    MODE, MODES, OUTCOMES, PICTURE, PIECE, PIECES, PORT, RUN, RUNS, SAMPLE, SEED, SERVE, SPLIT,
+    STATES, TRACE, TRANSLATE, UNTIL, VERIFY, WITNESS, WITNESS_FILE, WORDS, WORDS_FILE, WORKERS,
 };
 use clap::builder::ValueParser;
 use clap::{Arg, ArgAction, Command};
@@ -30,6 +30,8 @@ const MOST_FUEL: u64 = 1_000_000;
 const MOST_SPLIT: u64 = 8;
 
 const MOST_WORKERS: u64 = 1_000;
+
+const MOST_STATES: u64 = 16_000_000;
 
 const MOST_SAMPLE: u64 = 65_536;
 
@@ -328,6 +330,25 @@ fn workers_option<'a>(alloc: Global) -> Arg<'a>
     number_option(alloc, WORKERS, 0, MOST_WORKERS, "4", help)
 }
 
+/// `--outcomes`.
+fn outcomes_flag<'a>(alloc: Global) -> Arg<'a>
+    ensures rule { rule_of result ≡ outcomes_rule }
+    ensures own { result.global ≡ false }
+{
+    let help = "Count the runs that come to each different end, without trying them one by one";
+    flag(alloc, OUTCOMES, help)
+}
+
+/// `--states N`.
+fn states_option<'a>(alloc: Global) -> Arg<'a>
+    ensures rule { rule_of result ≡ states_rule }
+    ensures own { result.global ≡ false }
+{
+    let numbers = ValueParser::unsigned(1, MOST_STATES);
+    let help = "How many states --outcomes keeps at most, 1 to 16000000 [default: 1000000]";
+    valued_option(alloc, STATES, "N", numbers, help)
+}
+
 /// `--sample N`.
 fn sample_option<'a>(alloc: Global) -> Arg<'a>
     ensures rule { rule_of result ≡ sample_rule }
@@ -589,15 +610,24 @@ fn work_command<'a>(alloc: Global) -> Made<'a>
     with_arg(command, workers_option(alloc))
 }
 
-/// The same, with the options of which runs are listed, and how: `--ends --sample N --seed S --explain --group`.
+/// The same, with the options of which runs are tried: `--ends --outcomes --states N --sample N --seed S`.
+fn chosen_command<'a>(alloc: Global) -> Made<'a>
+    ensures app { IfOk result (λ c. app_of c ≡ chosen_app) }
+    ensures own { IfOk result (λ c. (fields_of c).has_globals ≡ false) }
+{
+    let command = with_arg(work_command(alloc), ends_flag(alloc));
+    let command = with_arg(command, outcomes_flag(alloc));
+    let command = with_arg(command, states_option(alloc));
+    let command = with_arg(command, sample_option(alloc));
+    with_arg(command, seed_option(alloc))
+}
+
+/// The same, with the options of how they are told: `--explain --group`.
 fn told_command<'a>(alloc: Global) -> Made<'a>
     ensures app { IfOk result (λ c. app_of c ≡ told_app) }
     ensures own { IfOk result (λ c. (fields_of c).has_globals ≡ false) }
 {
-    let command = with_arg(work_command(alloc), ends_flag(alloc));
-    let command = with_arg(command, sample_option(alloc));
-    let command = with_arg(command, seed_option(alloc));
-    let command = with_arg(command, explain_flag(alloc));
+    let command = with_arg(chosen_command(alloc), explain_flag(alloc));
     with_arg(command, group_flag(alloc))
 }
 

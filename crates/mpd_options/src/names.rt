@@ -30,6 +30,12 @@ pub(crate) const WORKERS: &str = "workers";
 /// The flag that asks for each end once, and that says of choices whose they are, without its hyphens.
 pub(crate) const ENDS: &str = "ends";
 
+/// The flag that asks for the ways that runs end, without its hyphens.
+pub(crate) const OUTCOMES: &str = "outcomes";
+
+/// The option of how many states are kept, without its hyphens.
+pub(crate) const STATES: &str = "states";
+
 /// The option of how many runs are drawn at random, without its hyphens.
 pub(crate) const SAMPLE: &str = "sample";
 

@@ -8,8 +8,8 @@ ghost use Rattle.mpd_options.specs.Refused.{IsRefused, is_answer, usage_of, usag
 use crate::command::{USUAL_RUNS, USUAL_SPLIT, only_deadlock, program};
 use crate::names::{
     CHECK, CHOICES, CLIENTS, COMPLETE, DEBUG, ENDS, EXPLAIN, FILE, FUEL, GROUP, LAID_WITNESS, LEAF,
-    MODE, MODES, PICTURE, PIECE, PIECES, PORT, RUN, RUNS, SAMPLE, SEED, SERVE, SPLIT, TRACE,
-    TRANSLATE, UNTIL, VERIFY, WITNESS, WITNESS_FILE, WORDS, WORDS_FILE, WORKERS,
+    MODE, MODES, OUTCOMES, PICTURE, PIECE, PIECES, PORT, RUN, RUNS, SAMPLE, SEED, SERVE, SPLIT,
+    STATES, TRACE, TRANSLATE, UNTIL, VERIFY, WITNESS, WITNESS_FILE, WORDS, WORDS_FILE, WORKERS,
 };
 use clap::ArgMatches;
 use clap::error::ErrorKind;
@@ -41,6 +41,10 @@ pub struct CheckOptions {
     pub workers: usize,
     /// Whether each end is listed once: of runs that differ only in the order of steps that don't conflict, one.
     pub ends: bool,
+    /// Whether each different end is listed once with how many runs come to it, which aren't tried one by one.
+    pub outcomes: bool,
+    /// How many states are kept at most, where that is said: 1 to 16,000,000.
+    pub states: Option<usize>,
     /// How many runs are drawn at random, in place of all being tried.
     pub sample: Option<usize>,
     /// What the draw begins with.
@@ -351,6 +355,8 @@ fn check_options_in<'a>(check: &ArgMatches<'a>) -> CheckOptions
     let split = given_of(check, SPLIT);
     let workers = number_of(check, WORKERS);
     let ends = flag_of(check, ENDS);
+    let outcomes = flag_of(check, OUTCOMES);
+    let states = given_of(check, STATES);
     let sample = given_of(check, SAMPLE);
     let seed = seed_of(check);
     let explain = flag_of(check, EXPLAIN);
@@ -369,6 +375,8 @@ fn check_options_in<'a>(check: &ArgMatches<'a>) -> CheckOptions
         split_given: split.is_some(),
         workers,
         ends,
+        outcomes,
+        states,
         sample,
         seed,
         explain,

@@ -10,7 +10,7 @@ use Rattle.mpd_witness.specs.declared.report_lines.LineKind.TheVariants.{OfLeaf,
 use Rattle.mpd_witness.specs.declared.report_text.ReportFault.{ReportFault}
 use Rattle.mpd_witness.specs.declared.report_text.ReportFault.TheVariants.{BadLine, NoWitness, SeveralWitnesses, NoSuchLeaf, NoDeadlock, Engine}
 use Rattle.mpd_witness.specs.WitnessText.{parts_at, cut_at, line_of, blocked_of, steps_of, witness_of}
-use Rattle.mpd_witness.specs.ReadBack.{second_number, number_behind, numbered, before_cut, is_indented, is_passed, kind_of, may_follow, leaf_number, wrong_line, is_witness, is_leaf, witness_from, unless_other, sole_from, sole_leaf, leaf_from, unwitnessed, witnessed, named_from, named_leaf, leaf_wanted, with_both, witness_at, witness_of_leaf, unless_wrong, is_filled, are_two, are_alone, as_two, witness_of_report, ReadsReport}
+use Rattle.mpd_witness.specs.ReadBack.{second_number, number_behind, numbered, numbered_either, before_cut, is_indented, is_passed, kind_of, may_follow, leaf_number, wrong_line, is_witness, is_leaf, witness_from, unless_other, sole_from, sole_leaf, leaf_from, unwitnessed, witnessed, named_from, named_leaf, leaf_wanted, with_both, witness_at, witness_of_leaf, unless_wrong, is_filled, are_two, are_alone, as_two, witness_of_report, ReadsReport}
 
 -- ---- a number behind a word
 
@@ -53,13 +53,13 @@ two_bytes l behind more b c e h = sym (ap is_indented (e ∙ ap (λ z. b ∷ z) 
 
 pub ruleset indenting = (too_short, one_byte, two_bytes)
 
-pub is_of_witness : (l : List ℕ) (n : ℕ) → is_passed l ≡ false → numbered (codes "leaf") l ≡ None → numbered (codes "witness") (before_cut (cut_at 58 l)) ≡ Some n → OfWitness n ≡ kind_of l
+pub is_of_witness : (l : List ℕ) (n : ℕ) → is_passed l ≡ false → numbered_either (codes "leaf") (codes "outcome") l ≡ None → numbered (codes "witness") (before_cut (cut_at 58 l)) ≡ Some n → OfWitness n ≡ kind_of l
 is_of_witness l n p f w = sym (rw (p, f, w) refl)
 
-pub is_of_leaf : (l : List ℕ) (n : ℕ) → is_passed l ≡ false → numbered (codes "leaf") l ≡ Some n → OfLeaf n ≡ kind_of l
+pub is_of_leaf : (l : List ℕ) (n : ℕ) → is_passed l ≡ false → numbered_either (codes "leaf") (codes "outcome") l ≡ Some n → OfLeaf n ≡ kind_of l
 is_of_leaf l n p f = sym (rw (p, f) refl)
 
-pub is_wrong : (l : List ℕ) → is_passed l ≡ false → numbered (codes "leaf") l ≡ None → numbered (codes "witness") (before_cut (cut_at 58 l)) ≡ None → Wrong ≡ kind_of l
+pub is_wrong : (l : List ℕ) → is_passed l ≡ false → numbered_either (codes "leaf") (codes "outcome") l ≡ None → numbered (codes "witness") (before_cut (cut_at 58 l)) ≡ None → Wrong ≡ kind_of l
 is_wrong l p f w = sym (rw (p, f, w) refl)
 
 pub ruleset knowing = (is_of_witness, is_of_leaf, is_wrong)

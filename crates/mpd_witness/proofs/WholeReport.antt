@@ -34,11 +34,11 @@ use Rattle.mpd_witness.proofs.RoundTrip.{IsNoLine, feed_apart, return_apart, wid
 
 -- ---- what a line is
 
-is_leaf_by : (n : ℕ) (l : List ℕ) → is_none l ≡ false → is_indented l ≡ false → numbered (codes "leaves") l ≡ None → numbered (codes "leaf") l ≡ Some n → kind_of l ≡ OfLeaf n
-is_leaf_by n l a b c d = rw (a, b, c, d) refl
+is_leaf_by : (n : ℕ) (l : List ℕ) → is_none l ≡ false → is_indented l ≡ false → numbered (codes "leaves") l ≡ None → numbered (codes "outcomes") l ≡ None → numbered (codes "leaf") l ≡ Some n → kind_of l ≡ OfLeaf n
+is_leaf_by n l a b c d e = rw (a, b, c, d, e) refl
 
-is_witness_by : (n : ℕ) (l : List ℕ) → is_none l ≡ false → is_indented l ≡ false → numbered (codes "leaves") l ≡ None → numbered (codes "leaf") l ≡ None → numbered (codes "witness") (before_cut (cut_at 58 l)) ≡ Some n → kind_of l ≡ OfWitness n
-is_witness_by n l a b c d e = rw (a, b, c, d, e) refl
+is_witness_by : (n : ℕ) (l : List ℕ) → is_none l ≡ false → is_indented l ≡ false → numbered (codes "leaves") l ≡ None → numbered (codes "outcomes") l ≡ None → numbered (codes "leaf") l ≡ None → numbered (codes "outcome") l ≡ None → numbered (codes "witness") (before_cut (cut_at 58 l)) ≡ Some n → kind_of l ≡ OfWitness n
+is_witness_by n l a b c d e f g = rw (a, b, c, d, e, f, g) refl
 
 is_total_by : (n : ℕ) (l : List ℕ) → is_none l ≡ false → is_indented l ≡ false → numbered (codes "leaves") l ≡ Some n → kind_of l ≡ Passed
 is_total_by n l a b c = rw (a, b, c) refl
@@ -55,7 +55,7 @@ leaf_pieces n z h =
 
 leaf_is : (n : ℕ) (z : List ℕ) → n < 1000000000 → kind_of (leaf_words n z) ≡ OfLeaf n
 leaf_is n z h =
-    is_leaf_by n (leaf_words n z) refl refl (ap (number_behind (codes "leaves")) (leaf_pieces n z h)) (ap (number_behind (codes "leaf")) (leaf_pieces n z h) ∙ number_read n h)
+    is_leaf_by n (leaf_words n z) refl refl (ap (number_behind (codes "leaves")) (leaf_pieces n z h)) (ap (number_behind (codes "outcomes")) (leaf_pieces n z h)) (ap (number_behind (codes "leaf")) (leaf_pieces n z h) ∙ number_read n h)
 
 -- the line of a witness
 abbrev witness_words : ℕ → List ℕ → List ℕ
@@ -70,7 +70,7 @@ label_number n h =
 
 witness_is : (n : ℕ) (z : List ℕ) → n < 1000000000 → kind_of (witness_words n z) ≡ OfWitness n
 witness_is n z h =
-    is_witness_by n (witness_words n z) refl refl (ap (number_behind (codes "leaves")) (witness_pieces n z)) (ap (number_behind (codes "leaf")) (witness_pieces n z))
+    is_witness_by n (witness_words n z) refl refl (ap (number_behind (codes "leaves")) (witness_pieces n z)) (ap (number_behind (codes "outcomes")) (witness_pieces n z)) (ap (number_behind (codes "leaf")) (witness_pieces n z)) (ap (number_behind (codes "outcome")) (witness_pieces n z))
     (ap (λ q. numbered (codes "witness") (before_cut q)) (cut_next 58 (codes "witness " ++ decimal n) z (clear_join 58 (codes "witness ") (decimal n) refl (decimal_clear 58 n refl (wide n h)))) ∙ label_number n h)
 
 -- the last line

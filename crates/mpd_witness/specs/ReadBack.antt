@@ -26,6 +26,14 @@ number_behind word (z ∷ zs) = if bytes_eq z word then second_number zs else No
 abbrev pub numbered : List ℕ → List ℕ → Option ℕ
 numbered word l = number_behind word (parts_at 32 l)
 
+-- the number behind one word, or else behind another
+abbrev pub number_or : Option ℕ → Option ℕ → Option ℕ
+number_or None other = other
+number_or (Some n) other = Some n
+
+abbrev pub numbered_either : List ℕ → List ℕ → List ℕ → Option ℕ
+numbered_either word other l = number_or (numbered word l) (numbered other l)
+
 -- what stands before the first colon, where there is one
 abbrev pub before_cut : Option (List ℕ × List ℕ) → List ℕ
 before_cut None = []
@@ -37,9 +45,9 @@ is_indented [] = false
 is_indented (b ∷ []) = false
 is_indented (b ∷ c ∷ l) = b == 32 && c == 32
 
--- empty, an explanation, or the line that says how many leaves there are
+-- empty, an explanation, or the line that says how many leaves, or ways to end, there are
 abbrev pub is_passed : List ℕ → Bool
-is_passed l = is_none l || (is_indented l || is_some (numbered (codes "leaves") l))
+is_passed l = is_none l || (is_indented l || is_some (numbered_either (codes "leaves") (codes "outcomes") l))
 
 abbrev pub as_witness : Option ℕ → LineKind
 as_witness None = Wrong
@@ -49,9 +57,10 @@ abbrev pub as_leaf : Option ℕ → List ℕ → LineKind
 as_leaf None l = as_witness (numbered (codes "witness") (before_cut (cut_at 58 l)))
 as_leaf (Some n) l = OfLeaf n
 
--- `leaf 3 [0 1] deadlock 0.1`, `witness 3: local 0`, what is passed over, or nothing that a report has
+-- `leaf 3 [0 1] deadlock 0.1` or `outcome 3 runs 5 first [0 1] deadlock 0.1`, `witness 3: local 0`, what is passed over, or nothing that a
+-- report has
 abbrev pub kind_of : List ℕ → LineKind
-kind_of l = if is_passed l then Passed else as_leaf (numbered (codes "leaf") l) l
+kind_of l = if is_passed l then Passed else as_leaf (numbered_either (codes "leaf") (codes "outcome") l) l
 
 -- ---- the first line that is wrong
 

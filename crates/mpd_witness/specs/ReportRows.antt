@@ -21,14 +21,14 @@ wrong n = Err (BadLine n)
 
 -- ---- what a line is
 
-pub row_passed : map kind_of ([] ∷ codes "  rank 0, line 9, waits in 0.1 recv from 1 tag 2: for a send of rank 1 with tag 2" ∷ codes "  " ∷ codes "leaves 3 more no" ∷ codes "leaves 65536" ∷ []) ≡ Passed ∷ Passed ∷ Passed ∷ Passed ∷ Passed ∷ []
+pub row_passed : map kind_of ([] ∷ codes "  rank 0, line 9, waits in 0.1 recv from 1 tag 2: for a send of rank 1 with tag 2" ∷ codes "  " ∷ codes "leaves 3 more no" ∷ codes "leaves 65536" ∷ codes "outcomes 2 runs 4 more no" ∷ codes "outcomes 0" ∷ []) ≡ Passed ∷ Passed ∷ Passed ∷ Passed ∷ Passed ∷ Passed ∷ Passed ∷ []
 row_passed = refl
 
-pub row_named : map kind_of (codes "leaf 0 [] done" ∷ codes "leaf 12 [0 2] deadlock 0.1" ∷ codes "witness 12: local 0, local 1" ∷ codes "witness 0:" ∷ codes "leaf 7" ∷ []) ≡ OfLeaf 0 ∷ OfLeaf 12 ∷ OfWitness 12 ∷ OfWitness 0 ∷ OfLeaf 7 ∷ []
+pub row_named : map kind_of (codes "leaf 0 [] done" ∷ codes "leaf 12 [0 2] deadlock 0.1" ∷ codes "witness 12: local 0, local 1" ∷ codes "witness 0:" ∷ codes "leaf 7" ∷ codes "outcome 5 runs at least 18446744073709551615 first [0 2] deadlock 0.1" ∷ codes "outcome 8" ∷ []) ≡ OfLeaf 0 ∷ OfLeaf 12 ∷ OfWitness 12 ∷ OfWitness 0 ∷ OfLeaf 7 ∷ OfLeaf 5 ∷ OfLeaf 8 ∷ []
 row_named = refl
 
-pub row_wrong : map kind_of (codes " " ∷ codes " leaf 0 [] done" ∷ codes "leaf" ∷ codes "leaf  0 [] done" ∷ codes "leaf x [] done" ∷ codes "leaf 0123456789 [] done" ∷ codes "witness 3" ∷ codes "witness: local 0" ∷ codes "deadlock 0.1" ∷ codes "local 0" ∷ codes "leaves" ∷ [])
-    ≡ Wrong ∷ Wrong ∷ Wrong ∷ Wrong ∷ Wrong ∷ Wrong ∷ Wrong ∷ Wrong ∷ Wrong ∷ Wrong ∷ Wrong ∷ []
+pub row_wrong : map kind_of (codes " " ∷ codes " leaf 0 [] done" ∷ codes "leaf" ∷ codes "leaf  0 [] done" ∷ codes "leaf x [] done" ∷ codes "leaf 0123456789 [] done" ∷ codes "witness 3" ∷ codes "witness: local 0" ∷ codes "deadlock 0.1" ∷ codes "local 0" ∷ codes "leaves" ∷ codes "outcome" ∷ codes "outcome x runs 1 first [] done" ∷ codes "outcomes" ∷ codes "outcomes more no" ∷ codes "end 0 leaves 1 first 0 done" ∷ [])
+    ≡ Wrong ∷ Wrong ∷ Wrong ∷ Wrong ∷ Wrong ∷ Wrong ∷ Wrong ∷ Wrong ∷ Wrong ∷ Wrong ∷ Wrong ∷ Wrong ∷ Wrong ∷ Wrong ∷ Wrong ∷ Wrong ∷ []
 row_wrong = refl
 
 -- ---- two lines alone, as ever
@@ -60,6 +60,14 @@ first_of_two = read (Local 1 ∷ []) (call_id 1 0 ∷ [])
 
 abbrev second_of_two : Result Witness ReportFault
 second_of_two = read (Local 0 ∷ []) (call_id 0 1 ∷ [])
+
+-- the ways to end in the place of leaves
+abbrev ways : List ℕ
+ways = codes "outcome 0 runs 3 first [0] done\noutcome 1 runs 1 first [1] deadlock 0.1 1.0\nwitness 1: local 0, wake 1\n  rank 0, line 2: waits\noutcomes 2 runs 4 more no\n"
+
+pub row_ways : map (λ leaf. witness_of_report leaf ways) (None ∷ Some 1 ∷ Some 0 ∷ Some 2 ∷ [])
+    ≡ read (Local 0 ∷ Wake 1 ∷ []) (call_id 0 1 ∷ call_id 1 0 ∷ []) ∷ read (Local 0 ∷ Wake 1 ∷ []) (call_id 0 1 ∷ call_id 1 0 ∷ []) ∷ refused NoDeadlock ∷ refused NoSuchLeaf ∷ []
+row_ways = refl
 
 pub row_one : map (λ leaf. witness_of_report leaf one) (None ∷ Some 1 ∷ Some 0 ∷ Some 2 ∷ Some 3 ∷ [])
     ≡ read (Local 0 ∷ Wake 1 ∷ []) (call_id 0 1 ∷ call_id 1 0 ∷ []) ∷ read (Local 0 ∷ Wake 1 ∷ []) (call_id 0 1 ∷ call_id 1 0 ∷ []) ∷ refused NoDeadlock ∷ refused NoDeadlock ∷ refused NoSuchLeaf ∷ []

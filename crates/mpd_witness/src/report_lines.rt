@@ -2,7 +2,7 @@
 
 ghost use Rattle.std.specs.Prelude.{◌≡◌, ◌≤◌, ◌<◌, ◌+◌, ◌^◌, ◌∷◌, Some, None, is_some, codes, if◌then◌else◌, length, filter, MatchOption};
 ghost use Rattle.mpd_witness.specs.WitnessText.{parts_at, cut_at, line_of};
-ghost use Rattle.mpd_witness.specs.ReadBack.{number_behind, numbered, before_cut, is_indented, is_passed, kind_of, may_follow, leaf_number, wrong_line, is_witness, is_leaf, leaf_from, is_filled, are_two, FindsWitness};
+ghost use Rattle.mpd_witness.specs.ReadBack.{number_behind, numbered, numbered_either, before_cut, is_indented, is_passed, kind_of, may_follow, leaf_number, wrong_line, is_witness, is_leaf, leaf_from, is_filled, are_two, FindsWitness};
 
 use crate::pieces::{Pieces, cut};
 use mpd_model::{number_of, without_return};
@@ -10,9 +10,9 @@ use mpd_model::{number_of, without_return};
 /// What a line of a report is.
 #[derive(Clone, Copy)]
 pub(crate) enum LineKind {
-    /// It is empty, or of an explanation, or says how many leaves there are.
+    /// It is empty, or of an explanation, or says how many leaves, or ways to end, there are.
     Passed,
-    /// It is the line of the leaf of this number.
+    /// It is the line of the leaf of this number, or of the way to end.
     OfLeaf(usize),
     /// It is the line of a witness of this number.
     OfWitness(usize),
@@ -36,6 +36,16 @@ fn numbered(line: &[u8], word: &[u8]) -> Option<usize>
         return None;
     };
     number_of(second)
+}
+
+/// The number that stands behind one word, or else behind another, where the line begins so.
+fn numbered_either(line: &[u8], word: &[u8], other: &[u8]) -> Option<usize>
+    ensures { result ≡ numbered_either word.now other.now line.now }
+{
+    match numbered(line, word) {
+        Some(number) => Some(number),
+        None => numbered(line, other),
+    }
 }
 
 /// What stands before the first colon, where there is one.
@@ -70,7 +80,7 @@ fn is_indented(line: &[u8]) -> bool
 fn is_passed(line: &[u8]) -> bool
     ensures { result ≡ is_passed line.now }
 {
-    line.is_empty() || is_indented(line) || numbered(line, b"leaves").is_some()
+    line.is_empty() || is_indented(line) || numbered_either(line, b"leaves", b"outcomes").is_some()
 }
 
 /// What a line is.
@@ -81,7 +91,7 @@ fn kind_of(line: &[u8]) -> LineKind
     if is_passed(line) {
         return LineKind::Passed;
     }
-    if let Some(number) = numbered(line, b"leaf") {
+    if let Some(number) = numbered_either(line, b"leaf", b"outcome") {
         return LineKind::OfLeaf(number);
     }
     match numbered(before_colon(line), b"witness") {

@@ -3,11 +3,11 @@
 ghost use Rattle.std.specs.Prelude.{◌≡◌, ◌≤◌};
 
 use crate::progress::{OfPiece, Progress};
-use crate::summary::{Limit, Made, say_least, say_part, say_tally};
+use crate::summary::{Limit, Made, say_least, say_part, say_states, say_tally};
 use crate::tell::Fault;
 use mpd_check::{
-    CheckFault, SamplePlan, Tally, Telling, Tried, Wanted, check, check_listing, check_mode,
-    check_piece, check_sample, count_pieces, is_crew, put_least,
+    CheckFault, OutcomesPlan, SamplePlan, Tally, Telling, Tried, Wanted, check, check_listing,
+    check_mode, check_outcomes, check_piece, check_sample, count_pieces, is_crew, put_least,
 };
 use mpd_code::{Code, Subject};
 use mpd_device::Sink;
@@ -15,10 +15,20 @@ use mpd_explore::Limits;
 use mpd_lines::Verdict;
 use mpd_model::{Mode, RUNS_MAX, STEPS_MAX};
 use mpd_options::{CheckOptions, Clash};
+use mpd_outcomes::StateLimits;
 use mpd_pool::{CheckPlan, Crew};
 use std::marker::Sync;
 use std::rt::Clock;
 use std::thread::Threads;
+
+/// How many states are kept at most where that isn't said.
+const USUAL_STATES: usize = 1_000_000;
+
+/// How many states can be asked to be kept.
+const STATES_MAX: usize = 16_000_000;
+
+/// How many states are come to at most, kept or not.
+const VISITED_MAX: usize = 20_000_000;
 
 /// What is looked at.
 #[derive(Clone, Copy)]
@@ -33,11 +43,16 @@ enum Part {
     Count,
     /// So many runs that are drawn.
     Sample(usize),
+    /// The ways to end, by states.
+    Outcomes,
 }
 
 /// What is looked at, by the words: several modes are asked for before how many pieces there are, and that before one of them. What is
-/// drawn stands beside none of these.
+/// drawn stands beside none of these, and nor do the ways to end.
 fn part_of(options: CheckOptions) -> Part {
+    if options.outcomes {
+        return Part::Outcomes;
+    }
     if let Some(runs) = options.sample {
         return Part::Sample(runs);
     }
@@ -81,9 +96,38 @@ fn sample_plan_of(options: CheckOptions, runs: usize) -> SamplePlan
     }
 }
 
-/// Whether a report's runs are those of the wide walk: each end once, or drawn.
+/// How many states are kept at most.
+fn states_of(options: CheckOptions) -> usize {
+    options.states.unwrap_or(USUAL_STATES)
+}
+
+/// How the ways to end are looked for.
+fn outcomes_plan_of(options: CheckOptions) -> OutcomesPlan
+    ensures { result.limits.fuel ≡ options.fuel }
+{
+    OutcomesPlan {
+        limits: StateLimits {
+            fuel: options.fuel,
+            kept: states_of(options),
+            visited: VISITED_MAX,
+            witnesses: options.witness,
+        },
+        explain: options.explain,
+    }
+}
+
+/// Whether a report's runs are those of the wide walk: each end once, drawn, or counted.
 fn is_wide(options: CheckOptions) -> bool {
-    options.ends || options.sample.is_some()
+    options.ends || options.sample.is_some() || options.outcomes
+}
+
+/// How the ways to end are looked for, as far as what is said of them depends on that.
+fn made_by_states(options: CheckOptions) -> Made {
+    Made {
+        limit: Limit::States,
+        is_most: states_of(options) == STATES_MAX,
+        is_wide: is_wide(options),
+    }
 }
 
 /// How a report is made.
@@ -107,6 +151,7 @@ pub(crate) fn fit_together<'a>(options: CheckOptions) -> Result<(), Fault<'a>> {
         None => Ok(()),
         Some(Clash::Both(one, other)) => Err(Fault::Clash(one.word(), other.word())),
         Some(Clash::SeedAlone) => Err(Fault::SeedAlone),
+        Some(Clash::StatesAlone) => Err(Fault::StatesAlone),
     }
 }
 
@@ -191,6 +236,27 @@ fn check_drawn<R: Clock + Eprint + AllocGlobal, W: Sink>(
         let _unwritten = say_tally(rt, subject, tally, made_by(options));
     }
     Ok(tally)
+}
+
+/// Looks for the ways to end, and tells at a terminal what came of it and how many states were come to.
+fn check_ways<R: Eprint + AllocGlobal, W: Sink>(
+    rt: &R,
+    subject: Subject<'_>,
+    options: CheckOptions,
+    sink: &mut W,
+    is_terminal: bool,
+) -> Result<Tally, CheckFault>
+    requires { options.fuel ≤ STEPS_MAX }
+{
+    let found = match check_outcomes(rt.alloc(), subject, outcomes_plan_of(options), sink) {
+        Ok(found) => found,
+        Err(fault) => return Err(CheckFault::Engine(fault)),
+    };
+    if is_terminal {
+        let _unwritten = say_tally(rt, subject, found.tally, made_by_states(options));
+        let _unwritten = say_states(rt, found.states);
+    }
+    Ok(found.tally)
 }
 
 /// Explores all pieces, and tells at a terminal how far that is and what came of it.
@@ -317,6 +383,7 @@ fn verdict_of<R: Clock + Eprint + Threads + Sync + AllocGlobal, W: Sink>(
             return Ok(tried.verdict(options.complete));
         }
         Part::Sample(runs) => check_drawn(rt, subject, options, runs, sink, is_terminal)?,
+        Part::Outcomes => check_ways(rt, subject, options, sink, is_terminal)?,
         Part::Whole => check_all(rt, subject, options, sink, is_terminal)?,
         Part::Piece(number) => check_one(rt, subject, options, number, sink, is_terminal)?,
         Part::Count => {

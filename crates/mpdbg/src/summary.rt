@@ -16,6 +16,8 @@ pub(crate) enum Limit {
     Sample,
     /// The same, and that the drawing ends with the first deadlock or trap.
     UntilBadSample,
+    /// How many states are kept.
+    States,
 }
 
 /// How a report was made, as far as what is said of it depends on that.
@@ -23,7 +25,7 @@ pub(crate) enum Limit {
 pub(crate) struct Made {
     /// What leaves runs out.
     pub(crate) limit: Limit,
-    /// Whether as many runs were asked for as can be.
+    /// Whether as many runs, or states, were asked for as can be.
     pub(crate) is_most: bool,
     /// Whether its runs are those of the wide walk.
     pub(crate) is_wide: bool,
@@ -40,6 +42,8 @@ impl Made {
             (Limit::Runs | Limit::UntilBad, true, false) => "--ends",
             (Limit::Runs | Limit::UntilBad, false, true) => "--runs, --sample",
             (Limit::Runs | Limit::UntilBad, true, true) => "--sample",
+            (Limit::States, false, _) => "--states",
+            (Limit::States, true, _) => "--sample",
         }
     }
 }
@@ -69,21 +73,27 @@ fn say_whole<R: Eprint>(rt: &R, tally: Tally) -> io::Result<()> {
     eprintln!(rt; "")
 }
 
-/// Says that there are more runs than are listed, and how these are listed too.
+/// Says that there are more runs than are listed, or counted, and how these are too.
 fn say_more<R: Eprint>(rt: &R, tally: Tally, made: Made) -> io::Result<()> {
+    let options = made.options(tally.is_bad());
+    if let Limit::States = made.limit {
+        return eprint!(rt; "there are runs that aren't counted ({options})");
+    }
     let runs = tally.runs;
     let are = if runs == 1 { "run was" } else { "runs were" };
-    let options = made.options(tally.is_bad());
     eprint!(rt; "{runs} {are} listed, and there are more ({options})")
 }
 
-/// Says how many runs were cut.
-fn say_cut<R: Eprint>(rt: &R, tally: Tally) -> io::Result<()> {
+/// Says how many runs were cut, or of counted runs that some were.
+fn say_cut<R: Eprint>(rt: &R, tally: Tally, made: Made) -> io::Result<()> {
     if tally.cut == 0 {
         return Ok(());
     }
     if tally.more {
         eprint!(rt; ", ")?;
+    }
+    if let Limit::States = made.limit {
+        return eprint!(rt; "some runs were cut (--fuel)");
     }
     let cut = tally.cut;
     let are = if cut == 1 { "run was" } else { "runs were" };
@@ -124,7 +134,7 @@ fn say_untried<R: Eprint>(
     if tally.more {
         say_more(rt, tally, made)?;
     }
-    say_cut(rt, tally)?;
+    say_cut(rt, tally, made)?;
     if !made.is_wide {
         let has_waitany = !subject.code.has_no_waitany();
         say_order(rt, has_waitany, subject.mode.is_limited(), tally)?;
@@ -168,6 +178,16 @@ pub(crate) fn say_tally<R: Eprint>(
         say_untried(rt, subject, tally, made)?;
     }
     say_choices(rt, subject, made)
+}
+
+/// Says how many states were come to.
+pub(crate) fn say_states<R: Eprint>(rt: &R, states: usize) -> io::Result<()> {
+    let are = if states == 1 {
+        "state was"
+    } else {
+        "states were"
+    };
+    eprintln!(rt; "{states} {are} come to")
 }
 
 /// Says of the modes that were tried which ones list a deadlock or a trap, as far as the first that lists none.

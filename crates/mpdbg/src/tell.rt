@@ -42,6 +42,8 @@ pub(crate) enum Fault<'a> {
     Clash(&'static str, &'static str),
     /// `--seed` without `--sample`.
     SeedAlone,
+    /// `--states` without `--outcomes`.
+    StatesAlone,
     /// The word of `--choices`, which isn't numbers.
     NotChoices(&'a str),
     /// No run has these choices: the one at this place, from 0, is none, or so many were given, and the run wants more.
@@ -317,6 +319,10 @@ pub(crate) fn tell<R: Print + Eprint + AllocGlobal>(
         }
         Fault::SeedAlone => {
             let _unwritten = eprintln!(rt; "mpdbg: --seed wants --sample");
+            WRONG
+        }
+        Fault::StatesAlone => {
+            let _unwritten = eprintln!(rt; "mpdbg: --states wants --outcomes");
             WRONG
         }
         Fault::NotChoices(word) => tell_choices(rt, word, notes.is_terminal),

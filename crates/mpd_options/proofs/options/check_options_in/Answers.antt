@@ -1,6 +1,6 @@
 use Rattle.std.proofs.Common.{arith, codes}
 use Rattle.clap.specs.Words.{found_of, one_of, rows_of}
-use Rattle.mpd_options.specs.Asked.{most_fuel, most_modes, most_piece, most_runs, most_sample, most_split, most_workers}
+use Rattle.mpd_options.specs.Asked.{most_fuel, most_modes, most_piece, most_runs, most_sample, most_split, most_states, most_workers}
 use Rattle.mpd_options.proofs.Reading.{given_is, given_there, has_items, items_found, number_is, number_there}
 use Rattle.mpd_options.proofs.options.check_options_in.Goals as goal
 
@@ -21,6 +21,12 @@ number_of-workers-requires c = let f = found_of c.args.check.now in number_there
 
 pub flag_of-ends-requires : goal.flag_of-ends-requires
 flag_of-ends-requires c = (has_items (found_of c.args.check.now) c.requires).ends
+
+pub flag_of-outcomes-requires : goal.flag_of-outcomes-requires
+flag_of-outcomes-requires c = (has_items (found_of c.args.check.now) c.requires).outcomes
+
+pub given_of-states-requires : goal.given_of-states-requires
+given_of-states-requires c = let f = found_of c.args.check.now in given_there 1 most_states (one_of (codes "states") (rows_of f)) (omega arith) (has_items f c.requires).states
 
 pub given_of-sample-requires : goal.given_of-sample-requires
 given_of-sample-requires c = let f = found_of c.args.check.now in given_there 1 most_sample (one_of (codes "sample") (rows_of f)) (omega arith) (has_items f c.requires).sample
@@ -53,13 +59,15 @@ pub returns : goal.returns
 returns c =
     let f = found_of c.args.check.now in
     let has = has_items f c.requires in
-    let found = items_found f c.given_of-modes.result c.given_of-runs.result c.number_of-fuel.result c.given_of-split.result c.number_of-workers.result c.flag_of-ends.result c.given_of-sample.result c.seed_of-seed.result c.flag_of-explain.result c.flag_of-group.result c.until_bad_of-ends_at_first.result c.flag_of-wants_witness.result c.flag_of-is_complete.result c.given_of-piece.result c.flag_of-counts_pieces.result
+    let found = items_found f c.given_of-modes.result c.given_of-runs.result c.number_of-fuel.result c.given_of-split.result c.number_of-workers.result c.flag_of-ends.result c.flag_of-outcomes.result c.given_of-states.result c.given_of-sample.result c.seed_of-seed.result c.flag_of-explain.result c.flag_of-group.result c.until_bad_of-ends_at_first.result c.flag_of-wants_witness.result c.flag_of-is_complete.result c.given_of-piece.result c.flag_of-counts_pieces.result
     (given_is 0 most_modes (one_of (codes "modes") (rows_of f)) c.given_of-modes.result c.given_of-modes.ensures has.modes)
     (given_is 1 most_runs (one_of (codes "runs") (rows_of f)) c.given_of-runs.result c.given_of-runs.ensures has.runs)
     (number_is 1 most_fuel (one_of (codes "fuel") (rows_of f)) c.number_of-fuel.result c.number_of-fuel.ensures has.fuel)
     (given_is 0 most_split (one_of (codes "split") (rows_of f)) c.given_of-split.result c.given_of-split.ensures has.split)
     (number_is 0 most_workers (one_of (codes "workers") (rows_of f)) c.number_of-workers.result c.number_of-workers.ensures has.workers)
     c.flag_of-ends.ensures
+    c.flag_of-outcomes.ensures
+    (given_is 1 most_states (one_of (codes "states") (rows_of f)) c.given_of-states.result c.given_of-states.ensures has.states)
     (given_is 1 most_sample (one_of (codes "sample") (rows_of f)) c.given_of-sample.result c.given_of-sample.ensures has.sample)
     c.seed_of-seed.ensures
     c.flag_of-explain.ensures
