@@ -20,3 +20,4 @@ mod Once
 mod Reports
 mod Fuel
 mod ToldLemmas
+mod OutcomesLemmas

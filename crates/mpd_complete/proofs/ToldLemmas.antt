@@ -40,7 +40,7 @@ end_is : (e : Ending) → (e ≡ ending.Cut → ⊥) → was_cut e ≡ false
 end_is ending.Cut h = absurd (h refl)
 end_is (ending.Ended o) h = refl
 
-all_end : (leaves : List Leaf) → AllByRecursion IsEnd leaves → NoneIsCut leaves
+pub all_end : (leaves : List Leaf) → AllByRecursion IsEnd leaves → NoneIsCut leaves
 all_end [] h = refl
 all_end (l ∷ leaves) h = ap (λ (b : Bool). b || list_any (λ (x : Leaf). was_cut x.ending) leaves) (end_is l.ending h.0) ∙ all_end leaves h.1
 

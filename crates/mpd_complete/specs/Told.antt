@@ -8,6 +8,8 @@ use Rattle.mpd_model.specs.declared.limits.TheConstants.{RUNS_MAX}
 use Rattle.mpd_explore.specs.declared.report.Limits.{Limits}
 use Rattle.mpd_pool.specs.declared.pool.CheckPlan.{CheckPlan}
 use Rattle.mpd_runs.specs.Runs.{fuel_at, first_runs, are_more, sees_all}
+use Rattle.mpd_outcomes.specs.declared.report.Outcomes.{Outcomes}
+use Rattle.mpd_outcomes.specs.Outcomes.{TellsRuns}
 use Rattle.mpd_check.specs.Tally.{tally_of, TellsAll}
 use Rattle.mpd_check.specs.Checked.{leaves_of, more_of}
 use Rattle.mpd_check.specs.Listing.{sample_leaves, sample_more}
@@ -25,6 +27,12 @@ abbrev pub SamplesTellAllEnds : Type 0
 SamplesTellAllEnds =
     (s : Program) (mode : Mode) (seed : ℕ) (l : Limits) → TellsAll true s mode (tally_of (sample_leaves s mode seed l) (sample_more s mode seed l))
     → HaveAllOutcomes (sample_leaves s mode seed l) (start s mode) × BoundsAllRuns l.fuel (start s mode)
+
+-- So it is of the first runs that are told with the outcomes of a script, though other runs are not told.
+abbrev pub OutcomesTellAllEnds : Type 0
+OutcomesTellAllEnds =
+    (s : Program) (mode : Mode) (fuel : ℕ) (o : Outcomes) → TellsRuns fuel (start s mode) o → TellsAll true s mode (tally_of o.firsts.leaves.items o.firsts.more)
+    → HaveAllOutcomes o.firsts.leaves.items (start s mode) × BoundsAllRuns fuel (start s mode)
 
 -- And of the runs that the console looks at from where it stands, where it says that there is no deadlock or trap from there.
 abbrev pub ConsolesSeeAllEnds : Type 0

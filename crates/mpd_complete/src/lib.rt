@@ -142,6 +142,11 @@ pub fn samples_tell_all_ends()
     ensures { told.SamplesTellAllEnds }
 {}
 
+/// The same of the outcomes of a script: their first runs are leaves of all ends.
+pub fn outcomes_tell_all_ends()
+    ensures { told.OutcomesTellAllEnds }
+{}
+
 /// Where the console says that there is no deadlock or no trap from where it stands, the runs that it looked at have the end of each run
 /// from there.
 pub fn consoles_see_all_ends()
