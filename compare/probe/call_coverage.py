@@ -7,7 +7,7 @@ import re
 from probe.calls_program import SOURCES, TOP
 
 # Crates without code of their own, and programs and tests.
-NO_CALLS = ('mpd_laws', 'mpd_meaning', 'mpd_complete', 'mpd_rows', 'mpdbg')
+NO_CALLS = ('mpd_laws', 'mpd_meaning', 'mpd_complete', 'mpd_rows', 'mpd_states', 'mpdbg')
 BY_WORDS = 'called by the words of the console'
 LEFT_OUT = {
     'mpd_lines': {'run_behind': 'called by trace, plain and serve', 'push_all': 'of room that is kept, called by them'},

@@ -8,6 +8,7 @@ from probe.call_consoles import consoles
 from probe.call_given import Row, Wanted, no_state
 from probe.call_listings import listings
 from probe.call_models import core_room
+from probe.call_outcomes import asks
 from probe.call_pictures import pictures
 from probe.call_scripts import (BOTH_CAME, BOTH_SEND, BY_THE_FIRST, CHANGES, CHOICE, EARLY_OR_LATE, ENDED, ENDLESS, FOUR_SETS, HELD, ISSUED, MANY, MATCHED,
                                 MEETING, MESSAGE, ONE_CAME, PAIRS, RACE, SENT, SLOT_HELD, STUCK, TRAPS, TWO_LINES, TWO_RACES, WHICHEVER, WHOLE)
@@ -424,5 +425,5 @@ def programs():
 
 def rows():
     """All of them."""
-    for part in (scripts, expressions, lists, boards, cores, trails, wides, reports, listings, pictures, sessions, programs, consoles, sizes):
+    for part in (scripts, expressions, lists, boards, cores, trails, wides, reports, listings, asks, pictures, sessions, programs, consoles, sizes):
         yield from part()

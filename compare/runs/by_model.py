@@ -18,7 +18,7 @@ import sys
 
 sys.path.insert(0, os.path.dirname(os.path.dirname(os.path.abspath(__file__))))
 
-from model import console, explorer, picture_model, session, witness
+from model import console, explorer, outcomes, picture_model, session, witness
 from model.debugger import BAD_FILE, BAD_MODE, RENDEZVOUS, Result, answer, answer_file, file_content
 from model.explorer import MOST_FUEL, USUAL, number_between
 from model.language import read_script
@@ -45,6 +45,9 @@ def trace(words):
 
 def check(words):
     """What `check` gives."""
+    if '--outcomes' in words:
+        file, asked = outcomes.asked_by(words)
+        return asked._replace(script=file_content(file)).wanted()
     file, asked = explorer.asked_by(words)
     return explorer.answer(file_content(file), asked)
 

@@ -43,7 +43,7 @@ RUN = ('./mpdbg', 'cat ', 'sed ', 'echo ', 'mkdir ', 'seq ', 'sbatch ', 'sh exam
 EXCERPTS = {
     'README.md': ('checked as it runs',),
     'docs/FORMATS.md': ('enabled local 3', 'handles 1', 'leaf N ', 'rendezvous leaves 2', 'witness N: ', 'leaf 1 [1] deadlock', 'deadlock 0.1', 'mpdbg: script refused', 'mpdbg: device',
-                        'every way it can end', 'words and picture take', 'JSON requests', 'end 0 leaves 3', 'proving '),
+                        'every way it can end', 'not everything was tried', 'outcome 0 runs 3', 'words and picture take', 'JSON requests', 'end 0 leaves 3', 'proving '),
     'docs/CONSOLE.md': ('help lists ',),
     'docs/FROM_A_RUN.md': ('mpdrec stands ', 'recv x from any tag 2 '),
     'docs/GATE.md': ('fn: ',),
@@ -320,7 +320,7 @@ def answer_of_example(command):
 def problem_of(shown, result):
     """What is wrong with what a command gave; None where nothing is."""
     said = result.output.decode()
-    is_bad = re.search(r'^leaf .*\] (?:deadlock|trap) |^end .* first \d+ (?:deadlock|trap) |^\S+ leaves \d+ (?:deadlocks [1-9]|deadlocks 0 traps [1-9])', said, re.M)
+    is_bad = re.search(r'^(?:leaf|outcome) .*\] (?:deadlock|trap) |^end .* first \d+ (?:deadlock|trap) |^\S+ leaves \d+ (?:deadlocks [1-9]|deadlocks 0 traps [1-9])', said, re.M)
     status = 1 if is_bad and '|' not in shown.command else 0
     if not shown.command or result.errors or result.status != status:
         return f'status {result.status}, {result.errors.decode()!r}'

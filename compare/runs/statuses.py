@@ -234,6 +234,13 @@ def usage_rows(program):
     for told, *options in (("--sample and --piece can't stand together", '--sample', '3'), ('--seed wants --sample', '--seed', '3')):
         refusal = Result(b'', f'mpdbg: {told}\n'.encode(), 2)
         yield f'all of a piece, and {options}', no_input(program, 'check', 'no-such-file', '--piece', '0', '--complete', *options), refusal
+    # what can't stand beside outcomes before these, and states without them behind that
+    beside = (('--ends',), ('--runs', '5'), ('--split', '1'), ('--piece', '0'), ('--pieces',), ('--sample', '3'), ('--seed', '3'), ('--group',), ('--modes', '1'),
+              ('--until', 'deadlock'))
+    clashes = [(f"--outcomes and {options[0]} can't stand together", '--outcomes', *options, '--states', '5', '--complete') for options in beside]
+    for told, *options in (*clashes, ('--states wants --outcomes', '--states', '5', '--sample', '3', '--ends')):
+        refusal = Result(b'', f'mpdbg: {told}\n'.encode(), 2)
+        yield f'all of {options}', no_input(program, 'check', 'no-such-file', *options, '--mode', 'no-mode'), refusal
     full_c = Files(file_of(b''), full()).run(program, 'c', os.path.join(EXAMPLES, 'race.mpd'))
     yield 'a script in C, output full', full_c, device()
     full_help = Files(file_of(b''), full()).run(program, '--help')

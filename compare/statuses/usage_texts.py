@@ -143,6 +143,8 @@ Options:
       --split <K>    By how many choices the runs are cut into pieces, 0 to 8 [default: 1]
       --workers <N>  How many workers make the report, 1 to 16 [default: 4]
       --ends         List each end once: leave out runs that differ only in the order of steps that don't conflict
+      --outcomes     Count the runs that come to each different end, without trying them one by one
+      --states <N>   How many states --outcomes keeps at most, 1 to 16000000 [default: 1000000]
       --sample <N>   Draw the choices of N runs at random, 1 to 65536
       --seed <S>     What --sample begins to draw with, 0 to 18446744073709551615 [default: 0]
       --explain      Explain each deadlock and each trap: what waits, and for what
@@ -262,7 +264,7 @@ ANSWERS = (
     ('serve|--help', SERVE), ('serve|-h', SERVE), ('help|serve', SERVE), ('serve|no-such-file|--port|1|--mode|no-mode|--help', SERVE),
     ('check|--help', CHECK), ('check|-h', CHECK), ('help|check', CHECK), ('check|a|--runs|5|-h', CHECK),
     ('check|a|--until|deadlock|--split=8|--workers|0|--piece|1023|--pieces|--help', CHECK), ('check|a|--modes|1000|-h', CHECK),
-    ('check|a|--ends|--sample|65536|--seed=18446744073709551615|--explain|--group|-h', CHECK),
+    ('check|a|--outcomes|--states|16000000|--help', CHECK), ('check|a|--ends|--sample|65536|--seed=18446744073709551615|--explain|--group|-h', CHECK),
     ('verify|--help', VERIFY), ('verify|-h', VERIFY), ('help|verify', VERIFY), ('verify|a|b|--help', VERIFY),
     ('verify|a|b|--leaf|67108863|-h', VERIFY),
     ('words|--help', WORDS), ('words|-h', WORDS), ('help|words', WORDS), ('words|no-such-file|--choices|x|--mode|no-mode|--help', WORDS),
@@ -373,6 +375,7 @@ MISTAKES = (
     missing('check|--modes|4', ['<FILE>'], 'mpdbg check --modes <N> <FILE>'),
     missing('check|--until|deadlock', ['<FILE>'], 'mpdbg check --until <END> <FILE>'),
     missing('check|--ends', ['<FILE>'], 'mpdbg check --ends <FILE>'),
+    missing('check|--outcomes|--states|5', ['<FILE>'], 'mpdbg check --outcomes --states <N> <FILE>'),
     missing('check|--sample|5|--seed|6', ['<FILE>'], 'mpdbg check --sample <N> --seed <S> <FILE>'),
     missing('check|--explain|--group', ['<FILE>'], 'mpdbg check --explain --group <FILE>'),
     missing('verify', ['<FILE>', '<WITNESS>'], 'mpdbg verify <FILE> <WITNESS>'),
@@ -414,6 +417,8 @@ MISTAKES = (
     unknown('check|a|--mods|4', '--mods', 'mpdbg check --modes <N> <FILE>', "a similar argument exists: '--modes'"),
     unknown('check|a|--untill|deadlock', '--untill', 'mpdbg check --until <END> <FILE>', "a similar argument exists: '--until'"),
     unknown('check|a|--end', '--end', 'mpdbg check --ends <FILE>', "a similar argument exists: '--ends'"),
+    unknown('check|a|--outcome', '--outcome', 'mpdbg check --outcomes <FILE>', "a similar argument exists: '--outcomes'"),
+    unknown('check|a|--state|5', '--state', 'mpdbg check --states <N> <FILE>', "a similar argument exists: '--states'"),
     unknown('check|a|--samples|5', '--samples', 'mpdbg check --sample <N> <FILE>', "a similar argument exists: '--sample'"),
     unknown('check|a|--sed|5', '--sed', 'mpdbg check --seed <S> <FILE>', "a similar argument exists: '--seed'"),
     unknown('check|a|--explian', '--explian', 'mpdbg check --explain <FILE>', "a similar argument exists: '--explain'"),
@@ -449,6 +454,7 @@ MISTAKES = (
     hyphened('check|a|--split|-1', '-1', OF_CHECK),
     hyphened('check|a|--modes|-1', '-1', OF_CHECK),
     hyphened('check|a|--sample|-1', '-1', OF_CHECK),
+    hyphened('check|a|--states|-1', '-1', OF_CHECK),
     hyphened('check|a|--seed|-1', '-1', OF_CHECK),
     hyphened('verify|a|b|--leaf|-1', '-1', OF_VERIFY),
     hyphened('words|a|--choices|-1', '-1', OF_WORDS),
@@ -482,6 +488,7 @@ MISTAKES = (
     Mistake('check|a|--modes', "a value is required for '--modes <N>' but none was supplied"),
     Mistake('check|a|--piece|--pieces', "a value is required for '--piece <N>' but none was supplied"),
     Mistake('check|a|--sample', "a value is required for '--sample <N>' but none was supplied"),
+    Mistake('check|a|--states|--outcomes', "a value is required for '--states <N>' but none was supplied"),
     Mistake('check|a|--seed|--sample|5', "a value is required for '--seed <S>' but none was supplied"),
     Mistake('verify|a|b|--leaf', "a value is required for '--leaf <N>' but none was supplied"),
     Mistake('words|a|--choices', "a value is required for '--choices <C>' but none was supplied"),
@@ -495,6 +502,9 @@ MISTAKES = (
     Mistake('check|a|--ends|--ends', "the argument '--ends' cannot be used multiple times", OF_CHECK),
     Mistake('check|a|--explain|--explain', "the argument '--explain' cannot be used multiple times", OF_CHECK),
     Mistake('check|a|--group|--group', "the argument '--group' cannot be used multiple times", OF_CHECK),
+    Mistake('check|a|--outcomes|--outcomes', "the argument '--outcomes' cannot be used multiple times", OF_CHECK),
+    Mistake('check|a|--states=5|--states=5', "the argument '--states <N>' cannot be used multiple times", OF_CHECK),
+    Mistake('check|a|--outcomes=true', "unexpected value 'true' for '--outcomes' found; no more were expected", 'mpdbg check --outcomes <FILE>'),
     Mistake('check|a|--ends=true', "unexpected value 'true' for '--ends' found; no more were expected", 'mpdbg check --ends <FILE>'),
     Mistake('check|a|--explain=1', "unexpected value '1' for '--explain' found; no more were expected", 'mpdbg check --explain <FILE>'),
     Mistake('check|a|--group=a', "unexpected value 'a' for '--group' found; no more were expected", 'mpdbg check --group <FILE>'),
@@ -542,6 +552,9 @@ MISTAKES = (
     bad_number('check|a|--modes|x', 'x', 'modes', NO_DIGIT),
     bad_number('check|a|--piece|1024', '1024', 'piece', '1024 is not in 0..=1023'),
     bad_number('check|a|--piece=99999999999999999999', '99999999999999999999', 'piece', TOO_LARGE),
+    bad_number('check|a|--states|0', '0', 'states', '0 is not in 1..=16000000'),
+    bad_number('check|a|--states=16000001', '16000001', 'states', '16000001 is not in 1..=16000000'),
+    bad_number('check|a|--states|many', 'many', 'states', NO_DIGIT),
     bad_number('check|a|--sample|0', '0', 'sample', '0 is not in 1..=65536'),
     bad_number('check|a|--sample=65537', '65537', 'sample', '65537 is not in 1..=65536'),
     bad_number('check|a|--sample|ten', 'ten', 'sample', NO_DIGIT),

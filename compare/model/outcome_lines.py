@@ -1,0 +1,28 @@
+"""What a check with `--outcomes` says, read from its lines: each outcome with how many runs end so and the first of them, and whether there
+are more."""
+
+import re
+
+from model.outcomes import MOST_COUNTED, Found, Way, count_text, total
+from model.report_lines import choices_of, must_be
+
+OUTCOME = re.compile(rb'outcome ([0-9]+) runs ((?:at least )?)([0-9]+) first \[((?:[0-9]+(?: [0-9]+)*)?)\] ([^\n]+)\n')
+LAST = re.compile(rb'outcomes ([0-9]+) runs ((?:at least )?[0-9]+) more (yes|no)\n')
+
+
+def read_outcomes(text):
+    """What is told; raises why it is none. What is counted `at least` is read as one run more than are counted."""
+    *lines, last = text.splitlines(keepends=True) or [b'']
+    ways = {}
+    for line in lines:
+        told = OUTCOME.fullmatch(line)
+        must_be(told is not None, f'a line that is none of an outcome: {line[:80]!r}')
+        must_be(int(told[1]) == len(ways), f'outcome {len(ways)} has another number: {line[:80]!r}')
+        must_be(told[5].decode() not in ways, f'an outcome twice: {line[:80]!r}')
+        must_be(int(told[3]) >= 1 and (not told[2] or int(told[3]) == MOST_COUNTED), f'so many runs: {line[:80]!r}')
+        ways[told[5].decode()] = Way(int(told[3]) + bool(told[2]), choices_of(told[4]))
+    ended = LAST.fullmatch(last)
+    must_be(ended is not None, f'the last line is {last!r}')
+    found = Found(ways, ended[3] == b'yes')
+    must_be((int(ended[1]), ended[2].decode()) == (len(ways), count_text(total(found))), f'the last line counts otherwise: {last!r}')
+    return found

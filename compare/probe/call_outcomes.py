@@ -1,0 +1,218 @@
+"""Rows of compare/runs/refused_calls.py that ask in what ways runs end; and what must be told of each, by the model (model/outcomes.py).
+
+A table that is refused memory leaves a state out, and those behind it are come to again: the answer is the same, of more states. So how many these
+are is told where the table keeps nothing, or where nothing is refused; and a search is stopped before its end only where its table keeps nothing.
+"""
+
+from typing import NamedTuple
+
+from model import outcomes, wide
+from model.debugger import RENDEZVOUS
+from model.explorer import Report, leaf_lines
+from model.policy import Forced
+from model.run_words import run_by
+from model.walks import Run, ending, next_world
+from probe.call_explained import explanation
+from probe.call_given import Row, by_hand, line, no_state, trail_text, unchanged, walked
+from probe.call_reports import behind_steps, listed, tally_text
+from probe.call_scripts import (BOTH_SEND, BY_THE_FIRST, CHOICE, EARLY_OR_LATE, ENDLESS, MESSAGE, ONE_CAME, RACE, SLOT_HELD, TRAPS, TWO_RACES, WHICHEVER)
+
+# Hundreds of requests, of which so many are refused; and all of them.
+FEW, EACH = 40, Row('').most
+# More states than any script here has.
+ALL = 9999
+# 64 times it is forgotten who came first: 2 to the 64 runs, which are one more than are counted.
+MANY_RACES = ('mpd 1; ranks 3; var x; var i;\n'
+              'while i < 64 { if rank == 0 { recv x from any tag any; recv x from any tag any; } else { send 0 to 0 tag 0; } barrier; i = i + 1; }')
+# A race that hangs where rank 2 comes first, behind one of which it is forgotten who did.
+THEN_A_RACE = ('mpd 1; ranks 3; var x;\nif rank == 0 { recv x from any tag 1; recv x from any tag 1; x = 0; recv x from any tag 0; recv x from 2 tag 0; } '
+               'else { send rank to 0 tag 1; send rank to 0 tag 0; }')
+# Scripts with few states, and where they stand; the mode is the last.
+PLACES = ((MESSAGE, (), RENDEZVOUS), (RACE, (), RENDEZVOUS), (RACE, CHOICE, RENDEZVOUS), (WHICHEVER, (), RENDEZVOUS), (BY_THE_FIRST, (), RENDEZVOUS),
+          (BY_THE_FIRST, ONE_CAME, RENDEZVOUS), (EARLY_OR_LATE, (), 'slots:1'), (EARLY_OR_LATE, SLOT_HELD, 'slots:1'), (TRAPS, (), RENDEZVOUS),
+          (BOTH_SEND, (), 'slots:1'))
+
+
+def asks():
+    yield from searches()
+    yield from checks()
+    yield from behind_leaves()
+    yield from sums()
+
+
+def searches():
+    for script, lines, mode in PLACES:
+        for limits in (f'100 {ALL} {ALL}', f'100 0 {ALL} states witnesses'):
+            yield Row('explore_outcomes', script, lines, limits, mode)
+    # no state may be come to, the first choice, an end behind it, and both ends
+    for states in (0, 1, 2, 3):
+        yield Row('explore_outcomes', RACE, (), f'100 0 {states} states witnesses', spares=states == 0)
+    # runs that are cut, of which each has all of its fuel
+    for fuel in (0, 1, 9):
+        yield Row('explore_outcomes', ENDLESS, (), f'{fuel} {ALL} {ALL} witnesses')
+    yield Row('explore_outcomes', RACE, (), f'7 {ALL} {ALL} witnesses')
+    # what was found of a state is told again, by a table of all, of one, and of none; and searches that stop
+    for script, most in ((TWO_RACES, FEW), (THEN_A_RACE, EACH)):
+        for kept in (ALL, 1, 0):
+            yield Row('explore_outcomes', script, (), f'200 {kept} {ALL}', most=most)
+            yield Row('explore_outcomes', script, (), f'200 {kept} {ALL} states witnesses', most=0)
+        for states in (9, 8, 5):
+            yield Row('explore_outcomes', script, (), f'200 0 {states} states witnesses', most=FEW)
+        yield Row('explore_outcomes', script, (), f'12 {ALL} {ALL} witnesses', most=most)
+    yield Row('explore_outcomes', MANY_RACES, (), f'9999 {ALL} {ALL}', most=FEW)
+    yield Row('explore_outcomes', MANY_RACES, (), f'9999 {ALL} {ALL} states', most=0)
+
+
+def checks():
+    for script, lines, mode in PLACES:
+        if not lines:
+            yield Row('check_outcomes', script, (), f'100 {ALL} {ALL}', mode)
+            yield Row('check_outcomes', script, (), f'100 0 {ALL} states witnesses explain', mode)
+    for beside in ('witnesses', 'explain', 'witnesses explain'):
+        yield Row('check_outcomes', RACE, (), f'100 {ALL} {ALL} {beside}')
+    for states in (0, 1, 2, 3):
+        yield Row('check_outcomes', RACE, (), f'100 0 {states} states witnesses explain')
+    yield Row('check_outcomes', ENDLESS, (), f'9 {ALL} {ALL} explain')
+    for script in (TWO_RACES, THEN_A_RACE):
+        for kept in (ALL, 1):
+            yield Row('check_outcomes', script, (), f'200 {kept} {ALL} witnesses explain', most=FEW)
+            yield Row('check_outcomes', script, (), f'200 {kept} {ALL} states', most=0)
+        yield Row('check_outcomes', script, (), '200 0 8 states explain', most=FEW)
+    yield Row('check_outcomes', MANY_RACES, (), f'9999 {ALL} {ALL} witnesses', most=FEW)
+
+
+def behind_leaves():
+    for beside in ('witnesses', 'explain', 'witnesses explain'):
+        yield Row('push_behind', RACE, (), f'10 100 {beside}')
+        yield Row('push_behind', BY_THE_FIRST, (), f'10 100 ends {beside}')
+    yield Row('push_behind', RACE, (), '10 100', spares=True)
+    yield Row('push_behind', MESSAGE, (), '10 100 witnesses', spares=True)
+
+
+def sums():
+    """Counts of runs, up to the most that are counted and beyond."""
+    most, over = '18446744073709551615', 'at least 18446744073709551615'
+    for counts, told in (('2 3', '5'), ('0 0', '0'), (f'{most} 0', most), (f'18446744073709551614 1', most), (f'1 {most}', over), (f'{most} {most}', over),
+                         ('more 0', over), ('0 more', over), ('more more', over)):
+        yield Row('Count::plus', argument=counts, by_hand=no_state(line(told)), spares=True)
+
+
+# ---- what must be told
+
+class Limits(NamedTuple):
+    """The fuel, how many states are kept, and how many are come to."""
+    fuel: int
+    kept: int
+    states: int
+
+
+class Visits:
+    """How many states are come to, choices and ends, those that come again counted too, by a search with a table."""
+
+    def __init__(self, kept):
+        self.most, self.kept, self.count = kept, {}, 0
+
+    def behind(self, world, fuel):
+        """How many steps the longest run has that goes on from a world, one more where it is cut."""
+        steps = 0
+        next_one = wide.wide_decision(world)
+        while ending(next_one, fuel - steps) is None and isinstance(next_one, Forced):
+            world, steps = next_world(world, next_one.step), steps + 1
+            next_one = wide.wide_decision(world)
+        self.count += 1
+        outcome = ending(next_one, fuel - steps)
+        if outcome is not None:
+            return steps + outcomes.ended(outcome).longest
+        return steps + (yield from self.at_choice(world, fuel - steps, next_one.steps))
+
+    def at_choice(self, world, fuel, steps):
+        """The same at a choice, whose runs are not gone along again where they are told by the table."""
+        place = outcomes.key(world)
+        if place in self.kept and outcomes.serves(self.kept[place], fuel):
+            return self.kept[place].told.longest
+        longest = 0
+        for step in steps:
+            longest = max(longest, 1 + (yield self.behind(next_world(world, step), fuel - 1)))
+        if place in self.kept or len(self.kept) < self.most:
+            self.kept[place] = outcomes.Kept(fuel, outcomes.Told({}, longest))
+        return longest
+
+
+def visits_of(begun, kept):
+    """How many states are come to in all."""
+    visits = Visits(kept)
+    outcomes.answered(visits.behind(begun.world, begun.fuel))
+    return visits.count
+
+
+def come_to(leaves, most):
+    """The first leaves of a walk that a search without a table comes to, which comes to so many choices and ends at most; and whether there are more."""
+    choices, found = set(), []
+    for leaf in leaves:
+        choices.update(leaf.choices[:place] for place in range(len(leaf.choices)))
+        if len(choices) + len(found) + 1 > most:
+            return found, True
+        found.append(leaf)
+    return found, False
+
+
+class Told(NamedTuple):
+    """What is found, and how many states are come to."""
+    found: outcomes.Found
+    states: int
+
+
+def told_of(begun, limits):
+    """What must be found behind a run. A search that may leave runs out has no table."""
+    if limits.states == ALL:
+        return Told(outcomes.searched(begun, limits.kept), visits_of(begun, limits.kept))
+    assert not limits.kept
+    leaves, more = come_to(wide.wide_walk(begun.world, begun.fuel), limits.states)
+    return Told(outcomes.of_leaves(leaves, more), limits.states if more else visits_of(begun, 0))
+
+
+def states_text(row, told):
+    """How many states are come to, where that is asked for."""
+    return line(f'states {told.states}') if row.has('states') else ''
+
+
+def ways_explored(row):
+    """The ways that runs end from where a debugger is. Its steps stand in front of a witness."""
+    found, limits = walked(row), Limits(*row.numbers())
+    begun = Run(found.world, limits.fuel)
+    told = told_of(begun, limits)
+    firsts = behind_steps(found, Report(tuple(run_by(begun, way.first, ends=True) for way in told.found.ways.values()), told.found.more))
+    return unchanged(trail_text(found), ways_text(row, told, firsts) + states_text(row, told))
+
+
+def ways_text(row, told, firsts):
+    """A line of each way, and of its witness where there is one and it is asked for; and the last line."""
+    text = ''
+    for number, (leaf, way) in enumerate(zip(firsts.leaves, told.found.ways.values())):
+        head, *behind = leaf_lines(number, leaf, row.has('witnesses'))
+        head = head.replace(f'leaf {number} ', f'outcome {number} runs {outcomes.count_text(way.runs)} first ')
+        text += ''.join(map(line, [head, *behind]))
+    runs, more = outcomes.count_text(outcomes.total(told.found)), 'yes' if told.found.more else 'no'
+    return text + line(f'outcomes {len(told.found.ways)} runs {runs} more {more}')
+
+
+def ways_written(row):
+    """What is written of the ways that a script ends."""
+    limits = Limits(*row.numbers())
+    asked = outcomes.Outcomes('row', row.script.encode(), row.mode, limits.fuel, limits.kept, row.has('witnesses'), row.has('explain'))
+    begun = Run(walked(row).world, limits.fuel)
+    told = told_of(begun, limits)
+    firsts = Report(tuple(run_by(begun, way.first, ends=True) for way in told.found.ways.values()), told.found.more)
+    return no_state(tally_text(row, firsts, is_wide=True) + states_text(row, told), outcomes.text_of(asked, told.found))
+
+
+def behind_pushed(row):
+    """The witnesses and explanations of a report."""
+    told = ''
+    for number, leaf in enumerate(listed(row, walked(row), *row.numbers()).leaves):
+        _, *behind = leaf_lines(number, leaf, row.has('witnesses'))
+        told += ''.join(map(line, behind)) + (explanation(row.script, leaf.outcome) if row.has('explain') else '')
+    return no_state(told)
+
+
+OUTCOMES = {'explore_outcomes': ways_explored, 'check_outcomes': ways_written, 'push_behind': behind_pushed, 'Count::plus': by_hand}
