@@ -81,8 +81,7 @@ outcomes_tell s mode fuel o t h =
     let whole = whole_tells o.firsts.leaves.items o.firsts.more h.0 in
     let are : o.firsts.leaves.items ≡ firsts all = are_firsts fuel u o t whole.0 in
     let ends : NoneIsCut all = none_cut all (subst NoneIsCut are (all_end o.firsts.leaves.items whole.1)) in
-    let said = complete s mode [] u refl fuel in
-    (
+    let said = complete s mode [] u refl fuel in (
       subst (λ (ls : List Leaf). HaveAllOutcomes ls u) (sym are) (firsts_have all u (have_outcomes fuel u (wide_walk fuel u) said all refl ends)),
       bound_runs fuel u (wide_walk fuel u) said all refl ends,
     )

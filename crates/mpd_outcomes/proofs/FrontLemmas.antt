@@ -110,8 +110,7 @@ told_after s ways (f ∷ fs) path depth v sums new ts tc deep h told tells at co
     let joined =
     tells_joined ways sums.tally.counts.items ts sums.tally.total tc (tried s w f) (map (put (f.index ∷ [])) (leaves_from (s.limit - depth) v)) here.counts
     (tells_put ways ts tc (f.index ∷ []) (leaves_from (s.limit - depth) v) tells)
-    in
-    (
+    in (
       subst (λ (o : Option World). TellsAt s ways (next_one f) o new) (sym h.1) (record {
         counts = subst (λ (ls : List Leaf). Tells ways new.tally ls) (sym (tried_too_is s f w depth v is))
             (rewritten new.tally.counts.items (added sums.tally.counts.items ts) new.tally.total (plus sums.tally.total tc) _ counts total joined);

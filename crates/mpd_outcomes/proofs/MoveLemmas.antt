@@ -110,7 +110,7 @@ one_down limit b d e a h room forced step deep =
           let left = ap (λ (k : ℕ). height k d.world) here in
           let right = ap (λ (k : ℕ). height k e.world) there in
           omega (arith, one, was, left, right, deep)
-      );
+          );
     }
 
 pub on_beyond : (b d e : Standing) (a : Step) → Beyond b d → done_steps e.trail ≡ done_steps d.trail ++ a ∷ [] → e.trail.program ≡ d.trail.program → e.trail.mode ≡ d.trail.mode → IsReached e → Beyond b e

@@ -295,15 +295,14 @@ left_over s (f ∷ fs) path depth v h =
     let others = leaves_by (s.limit - suc f.depth) w (suc f.index) (drop (suc f.index) f.candidates) in
     let whole : leaves_from (s.limit - f.depth) w ≡ tried s w (next_one f) ++ others =
     leaves_at s w f.candidates f.depth o.fuel o.choice ∙ by_parts (s.limit - suc f.depth) w (suc f.index) f.candidates (let lt = slice_get_within f.candidates f.index o.step o.taken in omega (arith, lt))
-    in
-    (
+    in (
       map (put (picked fs)) others ++ up.0,
       up.1
-      ∙ ap (λ (ls : List Leaf). before s fs (take f.depth path) ++ (map (put (picked fs)) ls ++ up.0)) whole
-      ∙ ap (λ (ls : List Leaf). before s fs (take f.depth path) ++ (ls ++ up.0)) (put_joined (picked fs) (tried s w (next_one f)) others)
-      ∙ ap (λ (ls : List Leaf). before s fs (take f.depth path) ++ ls) (append_assoc (map (put (picked fs)) (tried s w (next_one f))) (map (put (picked fs)) others) up.0)
-      ∙ sym (append_assoc (before s fs (take f.depth path)) (map (put (picked fs)) (tried s w (next_one f))) (map (put (picked fs)) others ++ up.0))
-      ∙ ap (λ (o : Option World). (before s fs (take f.depth path) ++ map (put (picked fs)) (tried_at s (next_one f) o)) ++ (map (put (picked fs)) others ++ up.0)) (sym h.1)
-      ∙ ap (λ (ls : List Leaf). ls ++ (map (put (picked fs)) others ++ up.0)) (come_is s (f ∷ fs) path depth v h)
-      ∙ append_assoc (before s (f ∷ fs) path) (map (put (picked (f ∷ fs))) (leaves_from (s.limit - depth) v)) (map (put (picked fs)) others ++ up.0),
+          ∙ ap (λ (ls : List Leaf). before s fs (take f.depth path) ++ (map (put (picked fs)) ls ++ up.0)) whole
+          ∙ ap (λ (ls : List Leaf). before s fs (take f.depth path) ++ (ls ++ up.0)) (put_joined (picked fs) (tried s w (next_one f)) others)
+          ∙ ap (λ (ls : List Leaf). before s fs (take f.depth path) ++ ls) (append_assoc (map (put (picked fs)) (tried s w (next_one f))) (map (put (picked fs)) others) up.0)
+          ∙ sym (append_assoc (before s fs (take f.depth path)) (map (put (picked fs)) (tried s w (next_one f))) (map (put (picked fs)) others ++ up.0))
+          ∙ ap (λ (o : Option World). (before s fs (take f.depth path) ++ map (put (picked fs)) (tried_at s (next_one f) o)) ++ (map (put (picked fs)) others ++ up.0)) (sym h.1)
+          ∙ ap (λ (ls : List Leaf). ls ++ (map (put (picked fs)) others ++ up.0)) (come_is s (f ∷ fs) path depth v h)
+          ∙ append_assoc (before s (f ∷ fs) path) (map (put (picked (f ∷ fs))) (leaves_from (s.limit - depth) v)) (map (put (picked fs)) others ++ up.0),
     )

@@ -72,11 +72,7 @@ fn at_limit(alloc: Global, debugger: &Debugger<'_>) -> Result<Arrived, AllocErro
 }
 
 /// Goes on by the steps that nobody has to choose.
-fn go_down(
-    alloc: Global,
-    debugger: &mut Debugger<'_>,
-    limit: usize,
-) -> Result<Arrived, AllocError>
+fn go_down(alloc: Global, debugger: &mut Debugger<'_>, limit: usize) -> Result<Arrived, AllocError>
     requires within { debugger.old.trail.depth ≤ limit }
     requires few { limit ≤ STEPS_MAX }
     ensures down { IfOk result (λ a. Down limit (standing_of debugger.old) a (standing_of debugger.new)) }
@@ -183,12 +179,7 @@ fn push_choice(
 }
 
 /// Tells the runs of a state from the table, where what was found of it holds with what is left of the fuel; false where there is nothing.
-fn recall(
-    key: &Vec<i64>,
-    limit: usize,
-    depth: usize,
-    front: &mut Front,
-) -> Result<bool, AllocError>
+fn recall(key: &Vec<i64>, limit: usize, depth: usize, front: &mut Front) -> Result<bool, AllocError>
     requires within { depth ≤ limit }
     requires few { limit ≤ STEPS_MAX }
     ensures { IfOk result (λ b. Recalled key.now limit depth b front.old front.new) }

@@ -61,7 +61,11 @@ impl Table {
         ensures serves { IfSome result (λ found. serves found.now fuel ≡ true) }
     {
         let found = self.map.get(key)?;
-        if found.serves(fuel) { Some(found) } else { None }
+        if found.serves(fuel) {
+            Some(found)
+        } else {
+            None
+        }
     }
 
     /// Keeps what was found of the state of a key. Where the table is full, or memory is refused, it is left out.
@@ -69,7 +73,10 @@ impl Table {
         ensures { KeepsAPart self.old key found self.new }
     {
         let counts = found.tally.counts.len().saturating_mul(2);
-        let words = key.len().saturating_add(counts).saturating_add(WORDS_BESIDE);
+        let words = key
+            .len()
+            .saturating_add(counts)
+            .saturating_add(WORDS_BESIDE);
         if self.map.len() >= self.most || self.room < words {
             drop(key);
             drop(found);

@@ -52,7 +52,10 @@ fn same_outcome(one: &Outcome, other: &Outcome) -> bool
 {
     match (one, other) {
         (Outcome::Done, Outcome::Done) => true,
-        (Outcome::Leftovers(one), Outcome::Leftovers(other)) => same_calls(&one.items, &other.items),
+        (Outcome::Leftovers(one), Outcome::Leftovers(other)) => same_calls(
+            &one.items,
+            &other.items,
+        ),
         (Outcome::Deadlock(one), Outcome::Deadlock(other)) => same_calls(&one.items, &other.items),
         (Outcome::Trap(one), Outcome::Trap(other)) => same_traps(&one.items, &other.items),
         _ => false,

@@ -19,7 +19,7 @@ pub returns-clause-way : goal.returns-clause-way
 returns-clause-way c = (
   record { choices = c.in-Ok.choices; ending = c.args.ending },
   ap (λ (ls : List Leaf). slice_get ls c.len-number.result) c.in_ok-push.ensures.items
-  ∙ ap (slice_get (c.args.front.now.ways.items ++ record { choices = c.in-Ok.choices; ending = c.args.ending } ∷ [])) (c.len-number.ensures ∙ sym c.deref.ensures.len ∙ ap (λ (ls : List Leaf). length ls) c.deref.ensures.value)
-  ∙ last_at c.args.front.now.ways.items (record { choices = c.in-Ok.choices; ending = c.args.ending }),
+      ∙ ap (slice_get (c.args.front.now.ways.items ++ record { choices = c.in-Ok.choices; ending = c.args.ending } ∷ [])) (c.len-number.ensures ∙ sym c.deref.ensures.len ∙ ap (λ (ls : List Leaf). length ls) c.deref.ensures.value)
+      ∙ last_at c.args.front.now.ways.items (record { choices = c.in-Ok.choices; ending = c.args.ending }),
   ending_each c.args.ending,
 )
