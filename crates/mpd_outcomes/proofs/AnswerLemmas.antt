@@ -1,9 +1,8 @@
 -- What is told of a front where a function answers.
-use Rattle.std.proofs.Common.{◌≡◌, ℕ, ℤ, Vec, ◌-◌, ◌<◌, ◌≤◌, ◌+◌, suc, Bool, true, false, List, [], ◌∷◌, ◌++◌, length, reverse, take, slice_get, Option, Some, IsSome, refl, sym, ap, subst, ◌∙◌, arith}
+use Rattle.std.proofs.Common.{◌≡◌, ℕ, ℤ, Vec, ◌-◌, ◌<◌, ◌+◌, suc, true, List, [], ◌∷◌, ◌++◌, length, reverse, take, slice_get, Some, IsSome, sym, ap, subst, ◌∙◌, arith}
 use Rattle.std.specs.List.{All}
 use Rattle.std.proofs.lemmas.Option.{slice_get_within, get_or_from_slice_get}
 use Rattle.mpd_model.specs.declared.step.Step.{Step}
-use Rattle.mpd_model.specs.declared.decision.Decision.{Decision}
 use Rattle.mpd_model.specs.declared.decision.Decision.TheVariants.{Choice}
 use Rattle.mpd_model.specs.steps.World.{World}
 use Rattle.mpd_model.specs.steps.Next.{next}
@@ -21,13 +20,12 @@ use Rattle.mpd_model.specs.script.Program.{Program}
 use Rattle.mpd_walk.specs.declared.ending.Ending.{Ending}
 use Rattle.mpd_states.specs.Height.{height}
 use Rattle.mpd_outcomes.specs.declared.report.Count.TheVariants.{Exactly}
-use Rattle.mpd_outcomes.specs.declared.sums.Tally.{Tally}
 use Rattle.mpd_outcomes.specs.declared.table.Found.{Found}
 use Rattle.mpd_outcomes.specs.declared.search.Front.{Front}
 use Rattle.mpd_outcomes.specs.Outcomes.{leaves_from}
 use Rattle.mpd_outcomes.specs.Table.{serves}
 use Rattle.mpd_outcomes.specs.Keys.{IsKey}
-use Rattle.mpd_outcomes.specs.Front.{Search, At, Before, After, BeforeIn, AfterIn, open_in, only_leaf, beyond_end, Recalled, Opened, Noted}
+use Rattle.mpd_outcomes.specs.Front.{Search, Before, After, BeforeIn, AfterIn, open_in, only_leaf, beyond_end, Recalled, Opened, Noted}
 use Rattle.mpd_outcomes.proofs.MoveLemmas.{run_to, serves_here, found_after, end_after}
 use Rattle.mpd_outcomes.specs.Sums.{one_at}
 use Rattle.mpd_outcomes.proofs.TellLemmas.{tells_one}

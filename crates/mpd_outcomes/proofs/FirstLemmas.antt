@@ -1,9 +1,8 @@
 -- Leaves that end as no leaf before them does: those of two lists, one after the other, and whether they have an end.
-use Rattle.std.proofs.Common.{◌≡◌, ℕ, zero, suc, ◌<◌, ◌+◌, ◌==◌, Bool, true, false, cond, ◌&&◌, ◌||◌, not, Option, Some, None, List, [], ◌∷◌, ◌++◌, map, length, slice_get, inl, inr, append-nil, refl, sym, ap, subst, ◌∙◌, arith}
-use Rattle.std.specs.List.{filter, list_any, list_all}
+use Rattle.std.proofs.Common.{◌≡◌, ℕ, zero, suc, ◌==◌, Bool, true, false, cond, ◌&&◌, ◌||◌, not, Some, List, [], ◌∷◌, ◌++◌, slice_get, inl, inr, append-nil, refl, sym, ap, ◌∙◌}
+use Rattle.std.specs.List.{filter, list_all}
 use Rattle.std.proofs.lemmas.Bool.{and_parts, not-true, eqb-true}
 use Rattle.std.proofs.lemmas.List.Elements.{filter-append}
-use Rattle.std.proofs.lemmas.List.Folds.{list_any-append, list_all-append}
 use Rattle.std.proofs.lemmas.Bool.Decides.{eqb_tells}
 use Rattle.mpd_laws.proofs.ordered.Orderly.{same_id}
 use Rattle.mpd_model.specs.declared.step.CallId.{CallId}

@@ -1,32 +1,20 @@
 -- What each move of a search makes of the leaves that it has come to, and of what is told of them.
-use Rattle.std.proofs.Common.{◌≡◌, ◌⊎◌, ℕ, ℤ, zero, suc, ◌<◌, ◌≤◌, ◌+◌, ◌-◌, ◌==◌, nat_le, max, Bool, true, false, cond, ◌&&◌, ◌||◌, Option, Some, None, List, [], ◌∷◌, ◌++◌, map, length, take, drop, slice_get, inl, inr, append-nil, append_assoc, refl, sym, ap, subst, ◌∙◌, arith}
-use Rattle.std.specs.List.{list_all}
-use Rattle.std.proofs.lemmas.Bool.{and_parts, or_cases, eqb-true, leb-true}
-use Rattle.std.proofs.lemmas.List.{length-append, length-take-le, take-append-le}
-use Rattle.std.proofs.Math.Seq.{take-append_seam, take-length}
-use Rattle.std.specs.declared.alloc.Global.{Global}
+use Rattle.std.proofs.Common.{◌≡◌, ℕ, suc, ◌<◌, ◌+◌, ◌-◌, max, false, Option, Some, None, List, [], ◌∷◌, ◌++◌, map, take, append_assoc, refl, sym, ap, subst, ◌∙◌, arith}
 use Rattle.mpd_model.specs.declared.step.Step.{Step}
 use Rattle.mpd_model.specs.declared.decision.Decision.TheVariants.{Choice}
 use Rattle.mpd_model.specs.steps.World.{World, start}
 use Rattle.mpd_model.specs.steps.Next.{next, fold}
 use Rattle.mpd_policy.specs.Wide.{wide_decision}
-use Rattle.mpd_walk.specs.declared.ending.Ending.{Ending}
 use Rattle.mpd_explore.specs.declared.report.Leaf.{Leaf}
 use Rattle.mpd_states.specs.Height.{height, height_of, highest}
-use Rattle.mpd_states.specs.StateLaws.{IsRunTo}
 use Rattle.mpd_outcomes.specs.declared.report.Count.{Count}
-use Rattle.mpd_outcomes.specs.declared.report.Count.TheVariants.{Exactly}
-use Rattle.mpd_outcomes.specs.declared.table.Found.{Found}
 use Rattle.mpd_outcomes.specs.declared.table.Table.{Table}
-use Rattle.mpd_outcomes.specs.declared.sums.Tally.{Tally}
 use Rattle.mpd_outcomes.specs.declared.sums.Sums.{Sums}
 use Rattle.mpd_outcomes.specs.declared.search.Open.{Open}
-use Rattle.mpd_outcomes.specs.Outcomes.{plus, firsts, leaves_from}
-use Rattle.mpd_outcomes.specs.Sums.{added, has_end, IsWay, Tells, TellsCounts}
-use Rattle.mpd_outcomes.specs.Table.{found_at, serves, key_eq, KeepsAPart}
-use Rattle.mpd_outcomes.specs.Front.{Search, put, picked, leaves_by, leaves_of, tried, next_one, SameRuns, IsOpen, Stands, TellsTried, TellsAt, AllTold, tried_at, before, IsFound, IsTrueTable, come_to, TellsAll, AllToldAfter, only_leaf, ways_with}
-use Rattle.mpd_outcomes.proofs.FirstLemmas.{firsts_known, firsts_new, firsts_ends, firsts_apart, AllApart}
-use Rattle.mpd_outcomes.proofs.TellLemmas.{tells_none, tells_joined, tells_put, tells_one, tells_grown}
+use Rattle.mpd_outcomes.specs.Outcomes.{plus, leaves_from}
+use Rattle.mpd_outcomes.specs.Sums.{added, has_end, Tells, TellsCounts}
+use Rattle.mpd_outcomes.specs.Front.{Search, put, picked, leaves_by, leaves_of, tried, next_one, IsOpen, Stands, TellsTried, TellsAt, AllTold, tried_at, before, IsTrueTable, come_to, AllToldAfter}
+use Rattle.mpd_outcomes.proofs.TellLemmas.{tells_joined, tells_put, tells_grown}
 use Rattle.mpd_outcomes.proofs.WalkLemmas.{leaves_choice, height_choice, tried_more, highest_more}
 
 -- ---- leaves with choices before them

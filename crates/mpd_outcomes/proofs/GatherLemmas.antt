@@ -1,9 +1,9 @@
 -- What is told where a search has stopped.
-use Rattle.std.proofs.Common.{◌≡◌, ℕ, ◌<◌, ◌≤◌, ◌+◌, ◌-◌, nat_lt, Bool, true, false, cond, not, None, Option, List, [], ◌∷◌, ◌++◌, map, length, replicate, reverse, take, slice_get, Some, append-nil, append_assoc, refl, sym, ap, subst, ◌∙◌, arith}
+use Rattle.std.proofs.Common.{◌≡◌, ℕ, ◌≤◌, ◌-◌, nat_lt, Bool, true, false, cond, None, Option, List, [], ◌∷◌, ◌++◌, map, length, replicate, reverse, take, Some, append-nil, append_assoc, sym, ap, subst, ◌∙◌, arith}
 use Rattle.std.specs.List.{AllByRecursion, filter}
 use Rattle.std.proofs.lemmas.Bool.{lt-ltb, le-ltb}
 use Rattle.std.proofs.lemmas.List.{length-append, length-map, length-take}
-use Rattle.std.proofs.Math.Seq.{take-append_seam, take-length}
+use Rattle.std.proofs.Math.Seq.{take-append_seam}
 use Rattle.mpd_model.specs.declared.step.Step.{Step}
 use Rattle.mpd_model.specs.steps.World.{World, start}
 use Rattle.mpd_model.specs.steps.Next.{fold}
@@ -28,7 +28,7 @@ use Rattle.mpd_outcomes.specs.declared.search.Front.{Front}
 use Rattle.mpd_outcomes.specs.Outcomes.{counted, plus, firsts, times, leaves_from, TellsRuns}
 use Rattle.mpd_outcomes.specs.Sums.{added, TellsCounts}
 use Rattle.mpd_outcomes.specs.Gathered.{gathered, gathered_total}
-use Rattle.mpd_outcomes.specs.Front.{Search, put, picked, tried, TellsTried, TellsAt, AllTold, tried_at, before, BeforeIn, DoneIn, open_in, Stopped}
+use Rattle.mpd_outcomes.specs.Front.{Search, put, picked, TellsAt, AllTold, tried_at, before, open_in, Stopped}
 use Rattle.mpd_outcomes.proofs.TellLemmas.{tells_none, tells_joined, tells_put, all_counted}
 use Rattle.mpd_outcomes.proofs.WalkLemmas.{some_leaves}
 use Rattle.mpd_outcomes.proofs.StackLemmas.{left_over}

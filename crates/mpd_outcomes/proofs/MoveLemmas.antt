@@ -1,31 +1,23 @@
 -- Where a search stands after each of its moves.
-use Rattle.std.proofs.Common.{◌≡◌, ◌⊎◌, ℕ, ℤ, zero, suc, ◌<◌, ◌≤◌, ◌+◌, ◌-◌, ◌==◌, nat_le, max, Bool, true, false, cond, ◌&&◌, ◌||◌, Option, Some, None, IsSome, List, [], ◌∷◌, ◌++◌, map, length, take, drop, reverse, slice_get, inl, inr, append-nil, append_assoc, refl, sym, ap, subst, ◌∙◌, arith}
+use Rattle.std.proofs.Common.{◌≡◌, ℕ, suc, ◌<◌, ◌≤◌, ◌+◌, ◌-◌, ◌==◌, nat_le, max, Bool, true, false, cond, ◌&&◌, Some, List, [], ◌∷◌, ◌++◌, map, length, take, inl, inr, append-nil, append_assoc, refl, sym, ap, subst, ◌∙◌, arith}
 use Rattle.std.specs.List.{list_all}
 use Rattle.std.proofs.lemmas.Bool.{and_parts, or_cases, eqb-true, leb-true}
-use Rattle.std.proofs.lemmas.List.{length-append, length-take, length-take-le, take-append-le}
-use Rattle.std.proofs.lemmas.Option.{slice_get_within}
-use Rattle.std.proofs.Math.Seq.{take-append_seam, take-length}
-use Rattle.std.specs.declared.alloc.Global.{Global}
+use Rattle.std.proofs.lemmas.List.{take-append-le}
 use Rattle.mpd_model.specs.declared.step.Step.{Step}
-use Rattle.mpd_model.specs.declared.decision.Decision.TheVariants.{Forced, Choice}
+use Rattle.mpd_model.specs.declared.decision.Decision.TheVariants.{Forced}
 use Rattle.mpd_model.specs.steps.World.{World, start}
 use Rattle.mpd_model.specs.steps.Next.{next, fold}
 use Rattle.mpd_model.specs.runs.Trail.{Trail, Standing, IsReached, done_steps}
-use Rattle.mpd_trail.proofs.KeptLemmas.{fold-append}
 use Rattle.mpd_policy.specs.Wide.{wide_decision}
 use Rattle.mpd_walk.specs.declared.ending.Ending.{Ending}
-use Rattle.mpd_walk.specs.Walk.{wide_walk}
 use Rattle.mpd_walk.specs.Walks.{Beyond}
 use Rattle.mpd_walk.proofs.WalkLemmas.{length-done_steps}
 use Rattle.mpd_explore.specs.declared.report.Leaf.{Leaf}
 use Rattle.mpd_explore.specs.Report.{shown}
-use Rattle.mpd_explore.specs.Search.{Safe}
-use Rattle.mpd_explore.proofs.SearchLemmas.{Went, Came}
-use Rattle.mpd_states.specs.Height.{height, height_of, highest}
+use Rattle.mpd_states.specs.Height.{height}
 use Rattle.mpd_states.specs.StateLaws.{IsRunTo}
 use Rattle.mpd_states.proofs.Heights.{enough_for}
 use Rattle.mpd_outcomes.specs.declared.report.Count.{Count}
-use Rattle.mpd_outcomes.specs.declared.report.Count.TheVariants.{Exactly}
 use Rattle.mpd_outcomes.specs.declared.table.Found.{Found}
 use Rattle.mpd_outcomes.specs.declared.table.Table.{Table}
 use Rattle.mpd_outcomes.specs.declared.sums.Tally.{Tally}
@@ -33,14 +25,12 @@ use Rattle.mpd_outcomes.specs.declared.sums.Sums.{Sums}
 use Rattle.mpd_outcomes.specs.declared.search.Bounds.{Bounds}
 use Rattle.mpd_outcomes.specs.declared.search.Open.{Open}
 use Rattle.mpd_outcomes.specs.Outcomes.{plus, firsts, leaves_from}
-use Rattle.mpd_outcomes.specs.Sums.{added, has_end, IsWay, Tells, TellsCounts}
-use Rattle.mpd_outcomes.specs.Table.{found_at, serves, key_eq, KeepsAPart}
-use Rattle.mpd_outcomes.specs.Keys.{IsKey}
-use Rattle.mpd_outcomes.specs.Front.{Search, search_of, put, picked, leaves_by, tried, next_one, SameRuns, IsOpen, Stands, TellsTried, TellsAt, AllTold, tried_at, before, IsFound, IsTrueTable, At, Before, After, come_to, TellsAll, AllToldAfter, only_leaf, ways_with}
+use Rattle.mpd_outcomes.specs.Sums.{added, has_end, Tells, TellsCounts}
+use Rattle.mpd_outcomes.specs.Table.{serves}
+use Rattle.mpd_outcomes.specs.Front.{Search, search_of, put, picked, SameRuns, IsOpen, Stands, TellsAt, AllTold, tried_at, before, IsFound, IsTrueTable, At, Before, After, come_to, only_leaf, ways_with}
 use Rattle.mpd_outcomes.proofs.FirstLemmas.{firsts_known, firsts_new, firsts_ends, firsts_apart, AllApart}
-use Rattle.mpd_outcomes.proofs.TellLemmas.{tells_none, tells_joined, tells_put, tells_one, tells_grown}
 use Rattle.mpd_outcomes.proofs.WalkLemmas.{leaves_forced, height_forced}
-use Rattle.mpd_outcomes.proofs.FrontLemmas.{put_none, leaves_at, height_at, come_is, told_after, told_grown, table_grown}
+use Rattle.mpd_outcomes.proofs.FrontLemmas.{come_is, told_after, told_grown, table_grown}
 
 -- ---- of a debugger
 

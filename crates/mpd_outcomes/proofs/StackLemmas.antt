@@ -1,15 +1,15 @@
 -- Choices that are opened, gone on at, and closed; the beginning of a search and its end.
-use Rattle.std.proofs.Common.{◌≡◌, ◌⊎◌, ℕ, ℤ, Vec, zero, suc, ◌<◌, ◌≤◌, ◌+◌, ◌-◌, max, Bool, true, false, Option, Some, None, IsSome, List, [], ◌∷◌, ◌++◌, map, length, take, drop, slice_get, inl, inr, append-nil, append_assoc, refl, sym, ap, subst, ◌∙◌, arith}
-use Rattle.std.proofs.lemmas.List.{length-append, length-take, take-append-le, take-append-drop}
+use Rattle.std.proofs.Common.{◌≡◌, ℕ, ℤ, Vec, zero, suc, ◌<◌, ◌≤◌, ◌+◌, ◌-◌, max, true, Option, Some, None, List, [], ◌∷◌, ◌++◌, map, length, take, drop, slice_get, inl, inr, append-nil, append_assoc, refl, sym, ap, subst, ◌∙◌, arith}
+use Rattle.std.proofs.lemmas.List.{take-append-le}
 use Rattle.std.proofs.lemmas.Option.{slice_get_within}
-use Rattle.std.proofs.Math.Seq.{take-append_seam, take-length}
+use Rattle.std.proofs.Math.Seq.{take-append_seam}
 use Rattle.std.specs.declared.alloc.Global.{Global}
 use Rattle.mpd_laws.proofs.buffered.SlotsHeld.{mode_stays}
 use Rattle.mpd_model.specs.declared.step.Step.{Step}
 use Rattle.mpd_model.specs.declared.decision.Decision.TheVariants.{Choice}
 use Rattle.mpd_model.specs.steps.World.{World, start}
-use Rattle.mpd_model.specs.steps.Next.{next, fold}
-use Rattle.mpd_model.specs.runs.Trail.{Trail, Standing, IsReached, done_steps}
+use Rattle.mpd_model.specs.steps.Next.{fold}
+use Rattle.mpd_model.specs.runs.Trail.{Standing, IsReached, done_steps}
 use Rattle.mpd_policy.specs.Wide.{wide_decision}
 use Rattle.mpd_explore.specs.declared.report.Leaf.{Leaf}
 use Rattle.mpd_explore.specs.Search.{Safe}
@@ -19,7 +19,6 @@ use Rattle.mpd_states.specs.StateLaws.{IsRunTo}
 use Rattle.mpd_states.proofs.Laws.{one_walk}
 use Rattle.mpd_walk.specs.Walks.{Beyond}
 use Rattle.mpd_walk.proofs.WalkLemmas.{length-done_steps}
-use Rattle.mpd_walk.specs.Walk.{wide_walk}
 use Rattle.mpd_explore.specs.Report.{shown}
 use Rattle.mpd_outcomes.specs.declared.report.Count.{Count}
 use Rattle.mpd_outcomes.specs.declared.report.Count.TheVariants.{Exactly}
@@ -32,16 +31,13 @@ use Rattle.mpd_outcomes.specs.Outcomes.{plus, firsts, leaves_from}
 use Rattle.mpd_outcomes.specs.Sums.{added, Tells, TellsCounts}
 use Rattle.mpd_outcomes.specs.Table.{found_at, key_eq, KeepsAPart}
 use Rattle.mpd_outcomes.specs.Keys.{IsKey}
-use Rattle.mpd_outcomes.specs.Front.{Search, put, picked, leaves_by, leaves_of, tried, untried, next_one, SameRuns, IsOpen, Stands, TellsTried, TellsAt, AllTold, tried_at, before, IsFound, IsTrueTable, At, Before, After, come_to, TellsAll, AllToldAfter}
+use Rattle.mpd_outcomes.specs.Front.{Search, put, picked, leaves_by, tried, next_one, SameRuns, IsOpen, Stands, TellsTried, TellsAt, AllTold, tried_at, before, IsFound, IsTrueTable, At, Before, After, come_to, AllToldAfter}
 use Rattle.mpd_outcomes.proofs.TellLemmas.{tells_none, all_taken as taken_all}
 use Rattle.mpd_outcomes.proofs.FrontLemmas.{put_none, put_joined, leaves_at, height_at, come_is, told_after}
 use Rattle.mpd_outcomes.proofs.KeyLemmas.{one_key_one_future}
 use Rattle.mpd_outcomes.proofs.WalkLemmas.{by_parts}
 use Rattle.std.proofs.lemmas.Slice.Eq.{slice_eq-Decides}
 use Rattle.std.proofs.lemmas.Bool.Decides.{Decides-int_eq}
-use Rattle.mpd_model.specs.declared.call.Mode.{Mode}
-use Rattle.mpd_model.specs.script.Program.{Program}
-use Rattle.mpd_outcomes.proofs.MoveLemmas.{run_to}
 
 -- ---- of a debugger
 

@@ -1,12 +1,11 @@
 -- What is told of leaves is put together from what is told of their parts.
-use Rattle.std.proofs.Common.{◌≡◌, ◌⊎◌, ℕ, zero, suc, ◌<◌, ◌≤◌, ◌+◌, ◌-◌, ◌==◌, nat_lt, Bool, true, false, cond, ◌&&◌, ◌||◌, not, Option, Some, None, List, [], ◌∷◌, ◌++◌, map, length, replicate, take, set, get_or, slice_get, inl, inr, append-nil, refl, sym, ap, subst, ◌∙◌, arith}
-use Rattle.std.specs.Prelude.{slice_index_or, max, ◌^◌}
-use Rattle.std.specs.List.{filter, list_any, list_all}
-use Rattle.std.proofs.lemmas.Bool.{and_parts, not-true, ltb-true, ltb-false, le-ltb, eqb-true}
-use Rattle.std.proofs.lemmas.Bool.Decides.{eqb_tells}
-use Rattle.std.proofs.lemmas.List.{length-append, length-replicate, length-take}
+use Rattle.std.proofs.Common.{◌≡◌, ◌⊎◌, ℕ, zero, suc, ◌<◌, ◌≤◌, ◌+◌, ◌-◌, nat_lt, Bool, true, false, cond, ◌&&◌, ◌||◌, Some, List, [], ◌∷◌, ◌++◌, map, length, replicate, take, set, get_or, slice_get, inl, inr, refl, sym, ap, ◌∙◌, arith}
+use Rattle.std.specs.Prelude.{◌^◌}
+use Rattle.std.specs.List.{filter, list_all}
+use Rattle.std.proofs.lemmas.Bool.{and_parts, ltb-false, le-ltb}
+use Rattle.std.proofs.lemmas.List.{length-append, length-take}
 use Rattle.std.proofs.lemmas.List.Elements.{filter-append}
-use Rattle.std.proofs.lemmas.List.Folds.{list_any-append, list_all-append, list_all-map}
+use Rattle.std.proofs.lemmas.List.Folds.{list_any-append, list_all-append}
 use Rattle.std.proofs.lemmas.Option.{slice_get_within}
 use Rattle.mpd_walk.specs.declared.ending.Ending.{Ending}
 use Rattle.mpd_explore.specs.declared.report.Leaf.{Leaf}
@@ -15,7 +14,7 @@ use Rattle.mpd_outcomes.specs.declared.report.Count.TheVariants.{Exactly, More}
 use Rattle.mpd_outcomes.specs.Outcomes.{ending_eq, counted, plus, same_end, times}
 use Rattle.mpd_outcomes.specs.Sums.{added, one_at, has_end, IsWay, count_at, TellsCounts}
 use Rattle.mpd_outcomes.specs.Front.{put}
-use Rattle.mpd_outcomes.proofs.FirstLemmas.{ending_same, ending_each, all_at, AllApart, one_place}
+use Rattle.mpd_outcomes.proofs.FirstLemmas.{ending_same, ending_each, AllApart, one_place}
 
 -- ---- counts
 

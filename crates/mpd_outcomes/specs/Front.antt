@@ -1,5 +1,5 @@
 -- Where a search stands: its open choices, the leaves that it has come to and those that it hasn't, and what is told of the former.
-use Rattle.std.specs.Prelude.{◌≡◌, ℕ, ℤ, Vec, suc, ◌+◌, ◌-◌, ◌<◌, ◌≤◌, max, Bool, true, false, if◌then◌else◌, List, [], ◌∷◌, ◌++◌, map, length, take, drop, reverse, slice_get, Option, Some, None}
+use Rattle.std.specs.Prelude.{◌≡◌, ℕ, ℤ, Vec, suc, ◌+◌, ◌-◌, ◌<◌, ◌≤◌, max, Bool, true, false, if◌then◌else◌, List, [], ◌∷◌, ◌++◌, map, take, drop, reverse, slice_get, Option, Some, None}
 use Rattle.std.specs.declared.alloc.Global.{Global}
 use Rattle.mpd_model.specs.declared.step.Step.{Step}
 use Rattle.mpd_model.specs.declared.decision.Decision.TheVariants.{Choice}

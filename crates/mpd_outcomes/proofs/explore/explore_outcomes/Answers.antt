@@ -1,4 +1,4 @@
-use Rattle.std.proofs.Common.{◌≡◌, List, sym, subst}
+use Rattle.std.proofs.Common.{List, sym, subst}
 use Rattle.std.specs.List.{AllByRecursion}
 use Rattle.mpd_model.specs.runs.Trail.{done_steps}
 use Rattle.mpd_model.specs.steps.World.{World}

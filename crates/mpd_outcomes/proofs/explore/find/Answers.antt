@@ -1,7 +1,7 @@
-use Rattle.std.proofs.Common.{◌≡◌, ◌≤◌, refl, reverse, sym, ap, subst, ◌∙◌, [], List, arith}
+use Rattle.std.proofs.Common.{◌≤◌, refl, reverse, sym, ap, subst, List, arith}
 use Rattle.mpd_trail.specs.Views.{standing_of}
 use Rattle.mpd_outcomes.specs.declared.search.Open.{Open}
-use Rattle.mpd_outcomes.specs.Front.{Search, search_of, BeforeIn, Before}
+use Rattle.mpd_outcomes.specs.Front.{Search, search_of, Before}
 use Rattle.mpd_outcomes.proofs.StackLemmas.{begun}
 use Rattle.mpd_outcomes.proofs.explore.find.Goals as goal
 

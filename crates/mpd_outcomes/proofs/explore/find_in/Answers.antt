@@ -1,4 +1,3 @@
-use Rattle.std.proofs.Common.{◌≡◌}
 use Rattle.mpd_trail.specs.Views.{standing_of}
 use Rattle.mpd_outcomes.specs.Front.{Search, search_of}
 use Rattle.mpd_outcomes.proofs.GatherLemmas.{stopped_tells}

@@ -1,13 +1,12 @@
-use Rattle.std.proofs.Common.{◌≡◌, ◌<◌, ◌≤◌, ◌+◌, ◌-◌, suc, List, length, reverse, slice_get, refl, sym, ap, subst, ◌∙◌, arith, add-one}
-use Rattle.mpd_model.specs.steps.World.{World}
+use Rattle.std.proofs.Common.{◌≡◌, ◌≤◌, ◌+◌, ◌-◌, suc, List, length, reverse, slice_get, refl, sym, ap, subst, ◌∙◌, arith, add-one}
 use Rattle.mpd_trail.specs.Views.{standing_of}
-use Rattle.mpd_explore.proofs.SearchLemmas.{Went, Came, safe_same, safe_then}
+use Rattle.mpd_explore.proofs.SearchLemmas.{safe_same, safe_then}
 use Rattle.mpd_explore.specs.declared.report.Leaf.{Leaf}
 use Rattle.mpd_outcomes.specs.declared.table.Found.{Found}
 use Rattle.mpd_outcomes.specs.declared.search.Open.{Open}
 use Rattle.mpd_outcomes.specs.Front.{Search, search_of, After}
 use Rattle.mpd_outcomes.proofs.AnswerLemmas.{popped_after, pushed_before, can_take, came_back, went_on}
-use Rattle.mpd_outcomes.proofs.StackLemmas.{low_enough, back_at, choice_back, safe_came, safe_went, next_before, closed_after, closed_found, closed_above, closed_below, table_kept}
+use Rattle.mpd_outcomes.proofs.StackLemmas.{low_enough, back_at, choice_back, safe_came, safe_went, next_before, closed_after, closed_found, table_kept}
 use Rattle.mpd_outcomes.proofs.search.advance.Goals as goal
 
 pub go_back-requires : goal.go_back-requires

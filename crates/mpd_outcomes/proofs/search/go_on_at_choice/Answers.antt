@@ -1,4 +1,4 @@
-use Rattle.std.proofs.Common.{◌≡◌, sym, subst}
+use Rattle.std.proofs.Common.{sym, subst}
 use Rattle.std.specs.Prelude.{IfOk}
 use Rattle.mpd_trail.specs.Views.{standing_of}
 use Rattle.mpd_explore.proofs.SearchLemmas.{safe_then}

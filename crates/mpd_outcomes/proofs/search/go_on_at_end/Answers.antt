@@ -1,8 +1,5 @@
-use Rattle.std.proofs.Common.{◌≡◌, sym, subst}
-use Rattle.std.specs.Prelude.{IfOk}
 use Rattle.mpd_trail.specs.Views.{standing_of}
-use Rattle.mpd_explore.proofs.SearchLemmas.{safe_then, safe_same}
-use Rattle.mpd_outcomes.specs.Front.{Search, search_of, open_in, AfterIn, Turned}
+use Rattle.mpd_outcomes.specs.Front.{Search, search_of}
 use Rattle.mpd_outcomes.proofs.AnswerLemmas.{noted_after}
 use Rattle.mpd_outcomes.proofs.search.go_on_at_end.Goals as goal
 

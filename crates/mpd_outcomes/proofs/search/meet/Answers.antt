@@ -1,4 +1,4 @@
-use Rattle.std.proofs.Common.{◌≡◌, Some, List, ℤ, slice_get, sym, ap, subst, ◌∙◌}
+use Rattle.std.proofs.Common.{◌≡◌, sym, subst}
 use Rattle.mpd_model.specs.steps.World.{World}
 use Rattle.mpd_model.specs.script.Program.{Program}
 use Rattle.mpd_trail.specs.Views.{standing_of}

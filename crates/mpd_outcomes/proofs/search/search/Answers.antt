@@ -1,4 +1,4 @@
-use Rattle.std.proofs.Common.{◌≡◌, refl, sym, subst}
+use Rattle.std.proofs.Common.{refl, sym, subst}
 use Rattle.mpd_trail.specs.Views.{standing_of}
 use Rattle.mpd_explore.proofs.SearchLemmas.{safe_same}
 use Rattle.mpd_outcomes.specs.Front.{Search, search_of, open_in, BeforeIn, Turned}

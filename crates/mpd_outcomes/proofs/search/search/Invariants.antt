@@ -1,4 +1,3 @@
-use Rattle.std.proofs.Common.{◌≡◌}
 use Rattle.mpd_model.specs.steps.World.{World}
 use Rattle.mpd_trail.specs.Views.{standing_of}
 use Rattle.mpd_explore.specs.Search.{Safe}
