@@ -1,12 +1,12 @@
 -- With enough fuel for the longest run the wide walk is the same.
-use Rattle.std.proofs.Common.{◌≡◌, ℕ, zero, suc, ◌+◌, ◌≤◌, max, Bool, false, ◌||◌, Option, Some, None, List, [], ◌∷◌, ◌++◌, map, refl, ap, ◌∙◌, arith}
+use Rattle.std.proofs.Common.{◌≡◌, ℕ, zero, suc, ◌+◌, ◌≤◌, max, Option, Some, None, List, [], ◌∷◌, ◌++◌, map, refl, ap, arith}
 use Rattle.mpd_model.specs.declared.step.Step.{Step}
 use Rattle.mpd_model.specs.declared.decision.Decision.{Decision}
 use Rattle.mpd_model.specs.declared.decision.Decision.TheVariants.{Forced, Choice, Leaf}
 use Rattle.mpd_model.specs.steps.World.{World}
 use Rattle.mpd_model.specs.steps.Next.{next}
 use Rattle.mpd_policy.specs.Wide.{wide_decision}
-use Rattle.mpd_walk.specs.Walk.{Run, stepped, chosen, runs_of, branches, followed, stopped, wide_walk}
+use Rattle.mpd_walk.specs.Walk.{stepped, chosen, runs_of, branches, followed, stopped, wide_walk}
 use Rattle.mpd_states.specs.Height.{height_of, highest, height_by, height_stopped, height}
 
 abbrev EnoughFor : ℕ → Type 0

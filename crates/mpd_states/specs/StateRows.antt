@@ -1,5 +1,5 @@
 -- Worked rows: what is forgotten, and what isn't.
-use Rattle.std.specs.Prelude.{◌≡◌, ℕ, ℤ, ◌+◌, pos, Bool, true, false, map, List, [], ◌∷◌, ◌++◌, replicate, Option, Some, None, is_some, codes, refl}
+use Rattle.std.specs.Prelude.{◌≡◌, ℕ, ℤ, ◌+◌, pos, Bool, true, map, List, [], ◌∷◌, ◌++◌, replicate, Option, Some, None, is_some, codes, refl}
 use Rattle.std.proofs.Common.{ap}
 use Rattle.mpd_model.specs.declared.place.DeclKind.TheVariants.{Variable, Handle}
 use Rattle.mpd_model.specs.declared.place.Place.{Place}
