@@ -1,5 +1,5 @@
 -- Worked rows of what is written of the ways that runs end.
-use Rattle.std.specs.Prelude.{◌≡◌, ℕ, true, false, List, [], ◌∷◌, codes, refl}
+use Rattle.std.specs.Prelude.{◌≡◌, true, false, List, [], ◌∷◌, codes, refl}
 use Rattle.std.specs.Fmt.{digits}
 use Rattle.mpd_model.specs.declared.outcome.Outcome.TheVariants.{Done, Deadlock}
 use Rattle.mpd_model.specs.steps.World.{call_id}
