@@ -1,5 +1,5 @@
 -- The first runs of all ways to end have what the walk has.
-use Rattle.std.proofs.Common.{◌≡◌, ◌⊎◌, ℕ, Bool, true, false, ◌||◌, ◌≤◌, List, [], ◌∷◌, length, map, take, inl, inr, refl, sym, ap, subst, ◌∙◌}
+use Rattle.std.proofs.Common.{◌≡◌, ℕ, Bool, true, false, ◌||◌, ◌≤◌, List, [], ◌∷◌, length, inl, inr, refl, sym, ap, subst, ◌∙◌}
 use Rattle.std.specs.List.{list_any, Contains}
 use Rattle.std.proofs.lemmas.List.{take_all, length-map}
 use Rattle.mpd_model.specs.declared.call.Mode.{Mode}

@@ -1,5 +1,5 @@
 -- What commands answer that tells all runs lists the leaves of a walk that has every end.
-use Rattle.std.proofs.Common.{◌≡◌, ◌⊎◌, ◌+◌, ℕ, Bool, true, false, ◌&&◌, ◌||◌, ◌==◌, not, cond, List, [], ◌∷◌, length, map, take, Some, inl, inr, refl, sym, ap, ◌∙◌, arith}
+use Rattle.std.proofs.Common.{◌≡◌, ◌⊎◌, ◌+◌, ℕ, Bool, true, false, ◌||◌, ◌==◌, not, cond, List, [], ◌∷◌, length, map, inl, inr, refl, sym, ap, ◌∙◌, arith}
 use Rattle.std.specs.List.{list_any, AllByRecursion}
 use Rattle.std.proofs.lemmas.Bool.{eqb-true}
 use Rattle.std.proofs.lemmas.List.{take_all}
@@ -12,7 +12,7 @@ use Rattle.mpd_model.specs.declared.limits.TheConstants.{RUNS_MAX}
 use Rattle.mpd_model.specs.declared.outcome.Outcome.TheVariants as outcome
 use Rattle.mpd_walk.specs.declared.ending.Ending.{Ending}
 use Rattle.mpd_walk.specs.declared.ending.Ending.TheVariants as ending
-use Rattle.mpd_walk.specs.Walk.{Run, wide_walk}
+use Rattle.mpd_walk.specs.Walk.{wide_walk}
 use Rattle.mpd_explore.specs.declared.report.Leaf.{Leaf}
 use Rattle.mpd_explore.specs.declared.report.Limits.{Limits}
 use Rattle.mpd_explore.specs.Sleeping.{walk_by, walk_of}
