@@ -12,7 +12,9 @@ pub mod witness;
 
 pub use asleep::{asleep_at, is_asleep};
 pub use explorer::{explore, explore_with};
-pub use print::{print_report, push_leaf_text, push_leaves, push_total, witness_here};
+pub use print::{
+    print_report, push_choices, push_leaf_text, push_leaves, push_total, witness_here,
+};
 pub use report::{ChoiceList, Ending, Leaf, Limits, Report, Witness};
 pub use verifier::{WitnessFault, verify, verify_from};
 pub use watch::{Unwatched, Watch};

@@ -30,8 +30,8 @@ fn push_decimal(out: &mut String, number: usize) -> Result<(), AllocError>
     Ok(())
 }
 
-/// Adds choices, with one space between two.
-fn push_choices(out: &mut String, choices: &[usize]) -> Result<(), AllocError>
+/// Adds choices, with one space between two. An `Err` is want of memory.
+pub fn push_choices(out: &mut String, choices: &[usize]) -> Result<(), AllocError>
     ensures { OnOk result (string_bytes out.new ≡ string_bytes out.old ++ choices_text choices.now) }
 {
     let Some((first, rest)) = choices.split_first() else {

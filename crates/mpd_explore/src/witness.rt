@@ -1,8 +1,8 @@
 //! The witness of a leaf: its run is made again, along its choices and the schedule that it was listed by.
 
 ghost use Rattle.std.specs.Prelude.{◌≡◌, ◌+◌, ◌≤◌, ◌++◌, IfOk, OnErr, IsSome, length};
-ghost use Rattle.mpd_model.specs.runs.Trail.{done_steps, IsReached};
-ghost use Rattle.mpd_trail.specs.Views.{standing_of};
+ghost use Rattle.mpd_model.specs.runs.Trail.{done_steps};
+ghost use Rattle.mpd_trail.specs.Views.{AsFound, standing_of};
 ghost use Rattle.mpd_walk.specs.Walk.{run_by, steps_by};
 ghost use Rattle.mpd_walk.specs.Walks.{Beyond};
 ghost use Rattle.mpd_explore.specs.Witness.{witness_by, IsDeadlock};
@@ -54,9 +54,7 @@ fn retraced<S: Schedule>(
     requires fits { debugger.old.trail.depth + fuel ≤ STEPS_MAX }
     requires some { IsSome (run_by S.decides fuel choices.now debugger.old.world) }
     ensures steps { IfOk result (λ steps. steps ≡ done_steps debugger.old.trail ++ steps_by (run_by S.decides fuel choices.now debugger.old.world)) }
-    ensures trail { debugger.new.trail ≡ debugger.old.trail }
-    ensures world { debugger.new.world ≡ debugger.old.world }
-    ensures reached { IsReached (standing_of debugger.new) }
+    ensures as_found { AsFound (standing_of debugger.old) (standing_of debugger.new) }
 {
     debugger.state_is_reached();
     let base = debugger.depth();
@@ -79,9 +77,7 @@ pub fn witness_of<S: Schedule>(
     requires fits { debugger.old.trail.depth + fuel ≤ STEPS_MAX }
     requires listed { IsSome (run_by S.decides fuel leaf.now.choices debugger.old.world) }
     ensures witness { IfOk result (λ o. o ≡ witness_by (done_steps debugger.old.trail ++ steps_by (run_by S.decides fuel leaf.now.choices debugger.old.world)) leaf.now.ending) }
-    ensures trail { debugger.new.trail ≡ debugger.old.trail }
-    ensures world { debugger.new.world ≡ debugger.old.world }
-    ensures reached { IsReached (standing_of debugger.new) }
+    ensures as_found { AsFound (standing_of debugger.old) (standing_of debugger.new) }
     ensures memory { OnErr result (IsDeadlock leaf.now.ending) }
 {
     debugger.state_is_reached();

@@ -32,7 +32,7 @@ use Rattle.mpd_view.specs.Steps.{step_words}
 use Rattle.mpd_view.specs.Standing.{standing_text}
 use Rattle.mpd_moves.specs.declared.moves.TheConstants.{NO_CANDIDATE}
 use Rattle.mpd_moves.specs.declared.moves.Doing.{Doing}
-use Rattle.mpd_moves.specs.declared.moves.Doing.TheVariants.{Asks, Undoes, Seeks, Follows, Looks}
+use Rattle.mpd_moves.specs.declared.moves.Doing.TheVariants.{Asks, Undoes, Seeks, Follows, Blames, Looks}
 use Rattle.mpd_runs.specs.declared.way.Way.TheVariants as way
 use Rattle.mpd_runs.specs.Seek.{count_words}
 use Rattle.mpd_moves.specs.News.{Known, news_text}
@@ -102,7 +102,7 @@ abbrev pub goto_command : Trail → ℕ → Command
 goto_command t n = if nat_lt t.depth n && nat_le (n - t.depth) (ahead_of t) then command.Redo (n - t.depth) else command.Goto n
 
 -- what a word does with a session: it asks for something that changes it, goes back to the last choice, lays a run ahead, the first that
--- ends so or that of a number, or changes nothing
+-- ends so or that of a number, goes to the step that decided, or changes nothing
 abbrev pub doing_of : Trail → World → Word → Doing
 doing_of t w (word.Next n) = Asks (next_command t w n)
 doing_of t w (word.Run n) = Asks (run_command t w n)
@@ -117,6 +117,7 @@ doing_of t w (word.Delete n) = Asks (command.Unbreak n)
 doing_of t w (word.Follow n) = Follows n
 doing_of t w word.Deadlock = Seeks way.Deadlock
 doing_of t w word.Trap = Seeks way.Trap
+doing_of t w word.Blame = Blames
 doing_of t w other = Looks
 
 -- ---- the step that a word takes, told before it is taken

@@ -5,5 +5,7 @@
 pub mod moves;
 pub mod news;
 
-pub use moves::{Doing, Scene, doing_of, lead_of, lead_text, push_break_line, push_reply};
+pub use moves::{
+    Doing, Scene, doing_of, goto_command, lead_of, lead_text, push_break_line, push_reply,
+};
 pub use news::{Known, Lead, known_for};

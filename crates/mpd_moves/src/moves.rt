@@ -59,6 +59,8 @@ pub enum Doing {
     Seeks(Way),
     /// It lays the steps of the run of this number ahead.
     Follows(usize),
+    /// It goes to the step that decided how the run ends.
+    Blames,
     /// It changes nothing.
     Looks,
 }
@@ -225,7 +227,7 @@ fn redo_command(debugger: &Debugger<'_>, count: usize) -> Command
 }
 
 /// What `goto` asks for: to go back, or along the steps that lie ahead.
-fn goto_command(debugger: &Debugger<'_>, depth: usize) -> Command
+pub fn goto_command(debugger: &Debugger<'_>, depth: usize) -> Command
     ensures { result ≡ spec.goto_command debugger.now.trail depth }
 {
     let here = debugger.depth();
@@ -253,6 +255,7 @@ pub fn doing_of(alloc: Global, debugger: &Debugger<'_>, word: Word) -> Result<Do
         Word::Follow(number) => Ok(Doing::Follows(number)),
         Word::Deadlock => Ok(Doing::Seeks(Way::Deadlock)),
         Word::Trap => Ok(Doing::Seeks(Way::Trap)),
+        Word::Blame => Ok(Doing::Blames),
         Word::Breaks
         | Word::List(_)
         | Word::Print(_, _)

@@ -35,3 +35,7 @@ kind_words (Some kind) = 32 ∷ kind_text kind
 -- `line 9, 0.1 recv from 1 tag 2`
 abbrev pub placed : Program → Board → CallId → List ℕ
 placed s b c = codes "line " ++ decimal (issue_line s.lines (call_at b c)) ++ codes ", " ++ id_text c ++ kind_words (kind_at b c)
+
+-- `rank 1, line 5`
+abbrev pub issuer : Program → Board → CallId → List ℕ
+issuer s b c = codes "rank " ++ decimal c.rank ++ codes ", line " ++ decimal (issue_line s.lines (call_at b c))

@@ -15,7 +15,7 @@ pub mod values;
 pub use find::find_named;
 pub use list::{push_list, push_list_about};
 pub use name::{NameFault, Named};
-pub use placed::{issue_line, push_placed, rank_line};
+pub use placed::{issue_line, push_issuer, push_placed, rank_line};
 pub use source::push_source;
 pub use text::{push_break, push_cell_name};
 pub use values::{push_named, push_spaced, push_variables};

@@ -50,3 +50,12 @@ pub fn push_placed(core: &Core<'_>, out: &mut String, call: CallId) -> Result<()
     }
     Ok(())
 }
+
+/// Adds the rank of a call, and its line.
+pub fn push_issuer(core: &Core<'_>, out: &mut String, call: CallId) -> Result<(), AllocError>
+    ensures { OnOk result (string_bytes out.new ≡ string_bytes out.old ++ spec.issuer core.now.program core.now.world.board call) }
+{
+    let rank = call.rank;
+    let line = issue_line(core, call);
+    write!(out, "rank {rank}, line {line}")
+}

@@ -1,6 +1,6 @@
 -- The records lead from the first world to the last.
-use Rattle.std.proofs.Common.{◌≡◌, ℕ, ◌<◌, ◌≤◌, ◌+◌, Bool, true, false, List, [], ◌∷◌, ◌++◌, length, take, drop, reverse, get_or, slice_get, Option, Some, None, IfSome, IsSome, refl, sym, ap, subst, ◌∙◌, arith, cond}
-use Rattle.std.specs.Option.{option_and_then, option_map, option_map_or}
+use Rattle.std.proofs.Common.{◌≡◌, ℕ, ◌<◌, ◌≤◌, ◌+◌, Bool, true, false, List, [], ◌∷◌, ◌++◌, length, take, drop, reverse, get_or, slice_get, Option, Some, None, IfSome, IsSome, Ok, refl, sym, ap, subst, ◌∙◌, arith, cond}
+use Rattle.std.specs.Option.{option_and_then, option_map}
 use Rattle.std.proofs.lemmas.List.{reverse-append, reverse-reverse, length-append, length-reverse, take_more, take_all, take-take, take-append-drop, length-take}
 use Rattle.std.proofs.lemmas.Option.{get_or_from_slice_get, slice_get_within}
 use Rattle.mpd_model.specs.declared.limits.TheConstants.{STEPS_MAX}
@@ -22,6 +22,8 @@ use Rattle.mpd_core.specs.Steps.{other_step, any_step}
 use Rattle.mpd_core.specs.Records.{record_of, woken_at, local_record_at, wake_record_at}
 use Rattle.mpd_core.specs.Undone.{undone, CanUndo}
 use Rattle.mpd_core.specs.Writes.{most_writes, most_writes_back}
+use Rattle.mpd_trail.specs.Views.{DebuggerView}
+use Rattle.mpd_trail.specs.Moved.{StepApplied, NextRedone}
 use Rattle.mpd_trail.specs.Kept.{local_rank, Drawn, drawn, TakesBack, LeadsBy, IsStart, LeadsTo, Keeps}
 use Rattle.mpd_trail.proofs.StepLemmas.{is_step-true, noted_there}
 
@@ -168,6 +170,27 @@ same_some (Some c) a b e f = cc
 -- what holds of the step that stands there holds of whatever stands there
 pub of_next : (P : Step → Type 0) (o : Option Step) (a : Step) → o ≡ Some a → P a → (b : Step) → o ≡ Some b → P b
 of_next P o a e holds b f = subst P (same_some o a b e f) holds
+
+-- the step that stands next, taken as the one at the depth, is taken again
+pub next_redone : {T U E F : Type 0} (s n : DebuggerView) (a : Step) (t : T) (u : U) → slice_get s.trail.steps s.trail.depth ≡ Some a → StepApplied {T = T} {E = E} a s n (Ok t) → NextRedone {T = U} {E = F} s n (Ok u)
+next_redone s n a t u there h =
+    let o : Option Step = slice_get s.trail.steps s.trail.depth in
+    record {
+      moved = record {
+        ok = applied_next s.trail n.trail a there h.moved.ok;
+        reached = h.moved.reached;
+        err = tt;
+        err_world = tt;
+        program = h.moved.program;
+        mode = h.moved.mode;
+        rises = h.moved.rises;
+        unwritten = tt;
+      };
+      world = of_next (λ b. next s.world b ≡ Some n.world) o a there h.world;
+      steps = of_next (λ b. done_steps n.trail ≡ done_steps s.trail ++ b ∷ []) o a there h.steps;
+      few = of_next (λ b. n.writes ≤ s.writes + most_writes s.trail.program.ranks b) o a there h.few;
+      room = record { room_left = h.room.room_left; err_room = tt };
+    }
 
 -- ---- other steps behind the depth
 

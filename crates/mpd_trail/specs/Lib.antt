@@ -3,4 +3,5 @@ pub mod Kept
 pub mod Run
 pub mod Views
 pub mod Writes
+pub mod Moved
 pub mod KindRows

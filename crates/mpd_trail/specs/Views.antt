@@ -1,8 +1,8 @@
 -- What a debugger shows to contracts, part by part, and where it stands.
-use Rattle.std.specs.Prelude.{ℕ, refl}
+use Rattle.std.specs.Prelude.{◌≡◌, ℕ, refl}
 use Rattle.std.specs.Coded.{Coded, code_by, coded×, coded_ℕ}
 use Rattle.mpd_model.specs.steps.World.{World, world_code}
-use Rattle.mpd_model.specs.runs.Trail.{Trail, Standing, trail_code}
+use Rattle.mpd_model.specs.runs.Trail.{Trail, Standing, IsReached, trail_code}
 
 pub record DebuggerView : Type 0 where
   pub trail : Trail
@@ -20,6 +20,12 @@ debugger_view_code =
 -- where it stands
 abbrev pub standing_of : DebuggerView → Standing
 standing_of v = record { trail = v.trail; world = v.world }
+
+-- a debugger that is as it was
+pub record AsFound (d e : Standing) : Type 0 where
+  pub trail : e.trail ≡ d.trail
+  pub world : e.world ≡ d.world
+  pub reached : IsReached e
 
 -- where a list of commands has come: the trail, for how many steps room is left, and how many writes there were
 pub record Place : Type 0 where

@@ -1,14 +1,13 @@
 //! The trail: the steps that were taken, of which some may be undone, and the state that they lead to.
 
-ghost use Rattle.std.specs.Prelude.{◌≡◌, ◌↔◌, ◌<◌, ◌≤◌, IfOk, OnOk, OnErr, IsErrOf, IsOk, IsSome, IfSome, IfNone, Some, None, [], ◌∷◌, ◌++◌, ◌+◌, ◌-◌, length, take, drop, slice_get, vec_len, vec_capacity};
+ghost use Rattle.std.specs.Prelude.{◌≡◌, ◌↔◌, ◌<◌, ◌≤◌, IfOk, OnOk, OnErr, IsErrOf, IsOk, IsSome, IfSome, IfNone, Some, None, ◌+◌, ◌-◌, length, take, slice_get, vec_len, vec_capacity};
 ghost use Rattle.mpd_model.specs.steps.Next.{next};
-ghost use Rattle.mpd_model.specs.runs.Trail.{first_standing, IsReached, IsRun, done_steps, noted, applied, taken_back, redone, gone_back, forgotten, with_steps, step_eq};
+ghost use Rattle.mpd_model.specs.runs.Trail.{first_standing, IsReached, IsRun, done_steps, noted, forgotten, with_steps, step_eq};
 ghost use Rattle.mpd_model.specs.declared.step.Step.{Step};
-ghost use Rattle.mpd_core.specs.Writes.{most_writes};
 ghost use Rattle.mpd_trail.specs.Faults.{apply_fault, apply_fault_number, apply_fault_name, redo_fault_number, redo_fault_name, at_start_name, not_before_name};
 ghost use Rattle.mpd_trail.specs.Kept.{room_in};
-ghost use Rattle.mpd_trail.specs.Views.{standing_of};
-ghost use Rattle.mpd_trail.specs.Writes.{most_writes_of};
+ghost use Rattle.mpd_trail.specs.Moved.{StepApplied, NextRedone, LastUndone, UndoneTo};
+ghost use Rattle.mpd_trail.specs.Views.{AsFound, standing_of};
 
 use mpd_code::Code;
 use mpd_core::{AnyStep, Core, OtherRecord, StepFault};
@@ -341,9 +340,7 @@ impl<'c> Debugger<'c> {
         ensures room { OnOk result (1 ≤ self.new.room) }
         ensures never_less { self.old.room ≤ self.new.room }
         ensures memory { OnErr result (self.old.room ≡ 0) }
-        ensures trail { self.new.trail ≡ self.old.trail }
-        ensures world { self.new.world ≡ self.old.world }
-        ensures reached { IsReached (standing_of self.new) }
+        ensures as_found { AsFound (standing_of self.old) (standing_of self.new) }
         ensures writes { self.new.writes ≡ self.old.writes }
     {
         self.core.keep_room()?;
@@ -359,24 +356,12 @@ impl<'c> Debugger<'c> {
     /// refusal none.
     #[tactic(auto, using(crate::proofs::KeptLemmas::keeping))]
     pub fn apply(&mut self, step: Step) -> Result<(), ApplyFault>
-        ensures ok { OnOk result (self.new.trail ≡ applied self.old.trail step) }
-        ensures world { OnOk result (next self.old.world step ≡ Some self.new.world) }
-        ensures steps { OnOk result (done_steps self.new.trail ≡ done_steps self.old.trail ++ step ∷ []) }
-        ensures reached { IsReached (standing_of self.new) }
+        ensures taken { StepApplied step self.old self.new result }
         ensures room { OnOk result (self.old.trail.depth < STEPS_MAX) }
         ensures not_enabled { IsErrOf result ApplyFault.NotEnabled ↔ (next self.old.world step ≡ None) }
         ensures full { IsErrOf result ApplyFault.Full ↔ (IsSome (next self.old.world step) × (self.old.trail.depth ≡ STEPS_MAX)) }
         ensures memory { IsErrOf result ApplyFault.Memory → IsSome (next self.old.world step) × (self.old.trail.depth < STEPS_MAX) }
         ensures no_room { IsErrOf result ApplyFault.Memory → self.old.room ≡ 0 }
-        ensures err { OnErr result (self.new.trail ≡ self.old.trail) }
-        ensures err_world { OnErr result (self.new.world ≡ self.old.world) }
-        ensures program { self.new.trail.program ≡ self.old.trail.program }
-        ensures mode { self.new.trail.mode ≡ self.old.trail.mode }
-        ensures room_left { self.old.room ≤ self.new.room + 1 }
-        ensures err_room { OnErr result (self.old.room ≤ self.new.room) }
-        ensures rises { OnOk result (self.old.writes + 1 ≤ self.new.writes) }
-        ensures few { OnOk result (self.new.writes ≤ self.old.writes + most_writes self.old.trail.program.ranks step) }
-        ensures unwritten { OnErr result (self.new.writes ≡ self.old.writes) }
     {
         let depth = self.locals.len() + self.others.len();
         if depth >= STEPS_MAX {
@@ -411,18 +396,8 @@ impl<'c> Debugger<'c> {
     /// step is left (24), and so never for want of memory.
     #[tactic(auto, using(crate::proofs::KeptLemmas::keeping))]
     pub fn undo(&mut self) -> Result<(), AtStart>
-        ensures ok { OnOk result (self.new.trail ≡ taken_back self.old.trail) }
-        ensures steps { OnOk result (done_steps self.new.trail ≡ take (self.old.trail.depth - 1) (done_steps self.old.trail)) }
-        ensures reached { IsReached (standing_of self.new) }
+        ensures undone { LastUndone self.old self.new result }
         ensures some { IsOk result ↔ (0 < self.old.trail.depth) }
-        ensures err { OnErr result (self.new.trail ≡ self.old.trail) }
-        ensures err_world { OnErr result (self.new.world ≡ self.old.world) }
-        ensures program { self.new.trail.program ≡ self.old.trail.program }
-        ensures mode { self.new.trail.mode ≡ self.old.trail.mode }
-        ensures room_left { self.old.room ≤ self.new.room }
-        ensures rises { OnOk result (self.old.writes + 1 ≤ self.new.writes) }
-        ensures few { OnOk result ((step : Step) → done_steps self.old.trail ≡ done_steps self.new.trail ++ step ∷ [] → self.new.writes ≤ self.old.writes + most_writes self.old.trail.program.ranks step) }
-        ensures unwritten { OnErr result (self.new.writes ≡ self.old.writes) }
     {
         let Some(last) = (self.locals.len() + self.others.len()).checked_sub(1) else {
             return Err(AtStart);
@@ -448,20 +423,8 @@ impl<'c> Debugger<'c> {
     pub fn forward(&mut self, step: Step) -> Result<(), AllocError>
         requires enabled { IsSome (next self.old.world step) }
         requires few { self.old.trail.depth < STEPS_MAX }
-        ensures ok { OnOk result (self.new.trail ≡ applied self.old.trail step) }
-        ensures world { OnOk result (next self.old.world step ≡ Some self.new.world) }
-        ensures steps { OnOk result (done_steps self.new.trail ≡ done_steps self.old.trail ++ step ∷ []) }
-        ensures reached { IsReached (standing_of self.new) }
+        ensures taken { StepApplied step self.old self.new result }
         ensures no_room { OnErr result (self.old.room ≡ 0) }
-        ensures err { OnErr result (self.new.trail ≡ self.old.trail) }
-        ensures err_world { OnErr result (self.new.world ≡ self.old.world) }
-        ensures program { self.new.trail.program ≡ self.old.trail.program }
-        ensures mode { self.new.trail.mode ≡ self.old.trail.mode }
-        ensures room_left { self.old.room ≤ self.new.room + 1 }
-        ensures err_room { OnErr result (self.old.room ≤ self.new.room) }
-        ensures rises { OnOk result (self.old.writes + 1 ≤ self.new.writes) }
-        ensures few { OnOk result (self.new.writes ≤ self.old.writes + most_writes self.old.trail.program.ranks step) }
-        ensures unwritten { OnErr result (self.new.writes ≡ self.old.writes) }
     {
         match self.apply(step) {
             Ok(()) => Ok(()),
@@ -474,23 +437,11 @@ impl<'c> Debugger<'c> {
     /// where a growth was refused, which is nowhere where room was kept. All steps stay. It takes as many writes as `apply` does.
     #[tactic(auto, using(crate::proofs::KeptLemmas::keeping))]
     pub fn redo(&mut self) -> Result<(), RedoFault>
-        ensures ok { OnOk result (self.new.trail ≡ redone self.old.trail) }
-        ensures world { OnOk result ((step : Step) → slice_get self.old.trail.steps self.old.trail.depth ≡ Some step → next self.old.world step ≡ Some self.new.world) }
-        ensures steps { OnOk result ((step : Step) → slice_get self.old.trail.steps self.old.trail.depth ≡ Some step → done_steps self.new.trail ≡ done_steps self.old.trail ++ step ∷ []) }
-        ensures reached { IsReached (standing_of self.new) }
+        ensures taken { NextRedone self.old self.new result }
         ensures undone { OnOk result (self.old.trail.depth < length self.old.trail.steps) }
         ensures no_redo { IsErrOf result RedoFault.NoRedo ↔ (self.old.trail.depth ≡ length self.old.trail.steps) }
         ensures memory { IsErrOf result RedoFault.Memory → self.old.trail.depth < length self.old.trail.steps }
         ensures no_room { IsErrOf result RedoFault.Memory → self.old.room ≡ 0 }
-        ensures err { OnErr result (self.new.trail ≡ self.old.trail) }
-        ensures err_world { OnErr result (self.new.world ≡ self.old.world) }
-        ensures program { self.new.trail.program ≡ self.old.trail.program }
-        ensures mode { self.new.trail.mode ≡ self.old.trail.mode }
-        ensures room_left { self.old.room ≤ self.new.room + 1 }
-        ensures err_room { OnErr result (self.old.room ≤ self.new.room) }
-        ensures rises { OnOk result (self.old.writes + 1 ≤ self.new.writes) }
-        ensures few { OnOk result ((step : Step) → slice_get self.old.trail.steps self.old.trail.depth ≡ Some step → self.new.writes ≤ self.old.writes + most_writes self.old.trail.program.ranks step) }
-        ensures unwritten { OnErr result (self.new.writes ≡ self.old.writes) }
     {
         let Some(step) = self.next_undone() else {
             return Err(RedoFault::NoRedo);
@@ -504,18 +455,8 @@ impl<'c> Debugger<'c> {
     /// Takes steps back, the last first, until so many are left that are not undone. It is refused exactly where there are fewer
     /// (26), and so never for want of memory. Each step takes as many writes as `undo` does.
     pub fn undo_to(&mut self, depth: usize) -> Result<(), NotBefore>
-        ensures ok { OnOk result (self.new.trail ≡ gone_back self.old.trail depth) }
-        ensures steps { OnOk result (done_steps self.new.trail ≡ take depth (done_steps self.old.trail)) }
-        ensures reached { IsReached (standing_of self.new) }
+        ensures undone { UndoneTo depth self.old self.new result }
         ensures before { IsOk result ↔ (depth ≤ self.old.trail.depth) }
-        ensures err { OnErr result (self.new.trail ≡ self.old.trail) }
-        ensures err_world { OnErr result (self.new.world ≡ self.old.world) }
-        ensures program { self.new.trail.program ≡ self.old.trail.program }
-        ensures mode { self.new.trail.mode ≡ self.old.trail.mode }
-        ensures room_left { self.old.room ≤ self.new.room }
-        ensures rises { OnOk result (self.old.writes + (self.old.trail.depth - depth) ≤ self.new.writes) }
-        ensures few { OnOk result (self.new.writes ≤ self.old.writes + most_writes_of self.old.trail.program.ranks (drop depth (done_steps self.old.trail))) }
-        ensures unwritten { OnErr result (self.new.writes ≡ self.old.writes) }
     {
         self.state_is_reached();
         if depth > self.depth() {

@@ -177,6 +177,7 @@ word_with ds topic.Check z rest = fitting topic.Check (option_map word.Check (nu
 word_with ds topic.Follow z rest = fitting topic.Follow (option_map word.Follow (only_number rest))
 word_with ds topic.Deadlock z rest = fitting topic.Deadlock (alone word.Deadlock rest)
 word_with ds topic.Trap z rest = fitting topic.Trap (alone word.Trap rest)
+word_with ds topic.Blame z rest = fitting topic.Blame (alone word.Blame rest)
 word_with ds topic.Words z rest = fitting topic.Words (alone word.Words rest)
 word_with ds topic.Enabled z rest = fitting topic.Enabled (alone word.Enabled rest)
 word_with ds topic.Show z rest = fitting topic.Show (alone word.Show rest)

@@ -273,6 +273,7 @@ fn word_with(code: &Code, topic: Topic, line: &[u8], rest: &[u8]) -> Result<Word
         Topic::Follow => fitting(topic, only_number(rest).map(Word::Follow)),
         Topic::Deadlock => fitting(topic, alone(Word::Deadlock, rest)),
         Topic::Trap => fitting(topic, alone(Word::Trap, rest)),
+        Topic::Blame => fitting(topic, alone(Word::Blame, rest)),
         Topic::Words => fitting(topic, alone(Word::Words, rest)),
         Topic::Enabled => fitting(topic, alone(Word::Enabled, rest)),
         Topic::Show => fitting(topic, alone(Word::Show, rest)),

@@ -34,6 +34,7 @@ pub enum Topic {
     Follow,
     Deadlock,
     Trap,
+    Blame,
     Words,
     Enabled,
     Show,
@@ -42,7 +43,7 @@ pub enum Topic {
 }
 
 /// What the words are called, in the order of the table, the whole name of each before its short forms.
-pub const NAMES: [(&str, Topic); 56] = [
+pub const NAMES: [(&str, Topic); 57] = [
     ("next", Topic::Next),
     ("n", Topic::Next),
     ("step", Topic::Next),
@@ -91,6 +92,7 @@ pub const NAMES: [(&str, Topic); 56] = [
     ("f", Topic::Follow),
     ("deadlock", Topic::Deadlock),
     ("trap", Topic::Trap),
+    ("blame", Topic::Blame),
     ("words", Topic::Words),
     ("enabled", Topic::Enabled),
     ("show", Topic::Show),
@@ -102,7 +104,7 @@ pub const NAMES: [(&str, Topic); 56] = [
 ];
 
 /// A word of each line of help, in the order of the table.
-pub const TOPICS: [Topic; 29] = [
+pub const TOPICS: [Topic; 30] = [
     Topic::Next,
     Topic::Run,
     Topic::Back,
@@ -127,6 +129,7 @@ pub const TOPICS: [Topic; 29] = [
     Topic::Follow,
     Topic::Deadlock,
     Topic::Trap,
+    Topic::Blame,
     Topic::Words,
     Topic::Enabled,
     Topic::Show,
@@ -230,6 +233,7 @@ pub(crate) fn usage_of(topic: Topic) -> &'static str
         Topic::Follow => "follow N",
         Topic::Deadlock => "deadlock",
         Topic::Trap => "trap",
+        Topic::Blame => "blame",
         Topic::Words => "words",
         Topic::Enabled => "enabled",
         Topic::Show => "show",
@@ -280,6 +284,7 @@ pub(crate) fn purpose_of(topic: Topic) -> &'static str
         Topic::Follow => "lays the steps of a run ahead",
         Topic::Deadlock => "lays the first deadlock's steps ahead",
         Topic::Trap => "lays the first trap's steps ahead",
+        Topic::Blame => "goes to the step that decided how the run ends",
         Topic::Words => "lists the steps taken as trace words",
         Topic::Enabled => "lists the steps that are enabled",
         Topic::Show => "shows the whole state, as a trace does",
@@ -311,6 +316,7 @@ pub(crate) fn details_of(topic: Topic) -> &'static str
         Topic::Follow => "; N is its number in a check from here",
         Topic::Deadlock => "; the first from here, so that run and redo go there",
         Topic::Trap => "; a trap ends a rank at an error, as a failed assert or a division by 0",
+        Topic::Blame => "; from there on every run ends badly",
         Topic::Words => "; to be kept in a file",
         Topic::Show => "; docs/FORMATS.md, \"Text of show\"",
         _ => "",

@@ -58,6 +58,8 @@ pub enum Word {
     Deadlock,
     /// Lay the steps to the first trap ahead.
     Trap,
+    /// Go to the step that decided how the run ends.
+    Blame,
     /// List the steps taken as trace words.
     Words,
     /// List the steps that are enabled.

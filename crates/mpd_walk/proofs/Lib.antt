@@ -1,3 +1,4 @@
 pub mod WalkLemmas
 pub mod RunLemmas
 pub mod ChoiceLemmas
+pub mod FewLemmas

@@ -7,11 +7,12 @@ use Rattle.mpd_model.specs.declared.decision.Decision.TheVariants.{Forced, Choic
 use Rattle.mpd_model.specs.steps.World.{World}
 use Rattle.mpd_model.specs.steps.Next.{next}
 use Rattle.mpd_model.specs.runs.Trail.{Trail, Standing, IsReached, done_steps, world_of, gone_back, forgotten}
+use Rattle.mpd_trail.specs.Views.{AsFound}
 use Rattle.mpd_walk.specs.declared.along.Stop.{Stop}
 use Rattle.mpd_walk.specs.declared.along.Stop.TheVariants.{Ended, Fuel, Untaken}
 use Rattle.mpd_walk.specs.Walked.{Walked, Chose}
 use Rattle.mpd_walk.specs.Walked.Walked.{here, forced, chosen}
-use Rattle.mpd_walk.specs.Walks.{Beyond, AsFound, Gone, StopsBy, Goes, Walks}
+use Rattle.mpd_walk.specs.Walks.{Beyond, Gone, StopsBy, Goes, Walks}
 
 -- ---- a debugger that goes on
 

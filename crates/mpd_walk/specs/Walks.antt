@@ -20,12 +20,6 @@ pub record Beyond (d e : Standing) : Type 0 where
   pub path : List Step
   pub done_steps_are : done_steps e.trail ≡ done_steps d.trail ++ path
 
--- a debugger that is as it was
-pub record AsFound (d e : Standing) : Type 0 where
-  pub trail : e.trail ≡ d.trail
-  pub world : e.world ≡ d.world
-  pub reached : IsReached e
-
 -- A debugger has gone on along a way.
 pub record Gone {C : Type 0} (decide : World → Decision) (takes : C → ℕ → World → List Step → ℕ → C → Type 0) (passes : C → ℕ → World → Step → C → Type 0) (d : Standing) (c : C) (e : Standing) (f : C) : Type 0 where
   pub choices : List ℕ

@@ -4,9 +4,9 @@ ghost use Rattle.std.specs.Prelude.{◌≡◌, ◌<◌, ◌≤◌, ◌+◌, ◌+
 ghost use Rattle.mpd_walk.specs.declared.along.Stop.TheVariants as stop_is;
 ghost use Rattle.mpd_model.specs.steps.Next.{fold};
 ghost use Rattle.mpd_model.specs.runs.Trail.{Standing, done_steps, gone_back, forgotten, IsReached};
-ghost use Rattle.mpd_trail.specs.Views.{standing_of};
+ghost use Rattle.mpd_trail.specs.Views.{AsFound, standing_of};
 ghost use Rattle.mpd_walk.specs.Walk.{ending_by, run_by, steps_by};
-ghost use Rattle.mpd_walk.specs.Walks.{Beyond, AsFound, Goes, Walks, ending_after};
+ghost use Rattle.mpd_walk.specs.Walks.{Beyond, Goes, Walks, ending_after};
 
 use crate::chooser::Chooser;
 use crate::choosers::ByChoices;

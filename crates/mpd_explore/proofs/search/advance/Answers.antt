@@ -47,7 +47,7 @@ returns-in_err-forward-clause-safe g c =
     let fs : List Open = reverse c.pop.new.self.items in
     let at : At s (top ∷ fs) d = rw (reverse_pushed c.pop.new.self.items c.loop-top.frontier.stack.items top c.in-Some.ensures.items) at i.at in
     let came : Came d top.depth e = record { done_steps_are = c.go_back.ensures.steps; depth = ap (λ (t : Trail). t.depth) c.go_back.ensures.trail; program = ap (λ (t : Trail). t.program) c.go_back.ensures.trail; mode = ap (λ (t : Trail). t.mode) c.go_back.ensures.trail; reached = c.go_back.ensures.reached } in
-    safe_then s.base begun e n (safe_then s.base begun d e i.safe (safe_popped s top fs d e at came)) (safe_same s.base e n c.in_err-forward.ensures.err c.in_err-forward.ensures.reached)
+    safe_then s.base begun e n (safe_then s.base begun d e i.safe (safe_popped s top fs d e at came)) (safe_same s.base e n c.in_err-forward.ensures.taken.moved.err c.in_err-forward.ensures.taken.moved.reached)
 
 pub returns-in-Some-taken-clause-advanced : goal.returns-in-Some-taken-clause-advanced
 returns-in-Some-taken-clause-advanced g c =
@@ -62,7 +62,7 @@ returns-in-Some-taken-clause-advanced g c =
     let popped = reverse_pushed c.pop.new.self.items c.loop-top.frontier.stack.items top c.in-Some.ensures.items in
     let at : At s (top ∷ fs) d = rw popped at i.at in
     let came : Came d top.depth e = record { done_steps_are = c.go_back.ensures.steps; depth = ap (λ (t : Trail). t.depth) c.go_back.ensures.trail; program = ap (λ (t : Trail). t.program) c.go_back.ensures.trail; mode = ap (λ (t : Trail). t.mode) c.go_back.ensures.trail; reached = c.go_back.ensures.reached } in
-    let went : Went e c.in-Some-taken.step n = record { done_steps_are = c.in_ok-forward.ensures.steps; world = c.in_ok-forward.ensures.world; depth = ap (λ (t : Trail). t.depth) c.in_ok-forward.ensures.ok; program = c.in_ok-forward.ensures.program; mode = c.in_ok-forward.ensures.mode; reached = c.in_ok-forward.ensures.reached } in
+    let went : Went e c.in-Some-taken.step n = record { done_steps_are = c.in_ok-forward.ensures.taken.steps; world = c.in_ok-forward.ensures.taken.world; depth = ap (λ (t : Trail). t.depth) c.in_ok-forward.ensures.taken.moved.ok; program = c.in_ok-forward.ensures.taken.moved.program; mode = c.in_ok-forward.ensures.taken.moved.mode; reached = c.in_ok-forward.ensures.taken.moved.reached } in
     let h = tried_some s e.world _ c.in_ok-taken.taken c.in-Some-taken.step _ _ c.in-Some-taken.is c.in_ok-taken.ensures in
     retaken s top (reverse c.args.frontier.now.stack.items) fs c.open_choice.new.frontier _ begun d e n c.in-Some-taken.step (top.index + 1) h.0 at came (add-one top.index) refl h.1 h.2 went
     (i.same ∙ ap (λ xs. after s xs d) popped) (let few = i.fewer in let left = ap (λ xs. states_left s xs d) popped in omega (arith, few, left))
@@ -79,7 +79,7 @@ returns-in-Some-taken-clause-safe g c =
     let fs : List Open = reverse c.pop.new.self.items in
     let at : At s (top ∷ fs) d = rw (reverse_pushed c.pop.new.self.items c.loop-top.frontier.stack.items top c.in-Some.ensures.items) at i.at in
     let came : Came d top.depth e = record { done_steps_are = c.go_back.ensures.steps; depth = ap (λ (t : Trail). t.depth) c.go_back.ensures.trail; program = ap (λ (t : Trail). t.program) c.go_back.ensures.trail; mode = ap (λ (t : Trail). t.mode) c.go_back.ensures.trail; reached = c.go_back.ensures.reached } in
-    let went : Went e c.in-Some-taken.step n = record { done_steps_are = c.in_ok-forward.ensures.steps; world = c.in_ok-forward.ensures.world; depth = ap (λ (t : Trail). t.depth) c.in_ok-forward.ensures.ok; program = c.in_ok-forward.ensures.program; mode = c.in_ok-forward.ensures.mode; reached = c.in_ok-forward.ensures.reached } in
+    let went : Went e c.in-Some-taken.step n = record { done_steps_are = c.in_ok-forward.ensures.taken.steps; world = c.in_ok-forward.ensures.taken.world; depth = ap (λ (t : Trail). t.depth) c.in_ok-forward.ensures.taken.moved.ok; program = c.in_ok-forward.ensures.taken.moved.program; mode = c.in_ok-forward.ensures.taken.moved.mode; reached = c.in_ok-forward.ensures.taken.moved.reached } in
     safe_then s.base begun e n (safe_then s.base begun d e i.safe (safe_popped s top fs d e at came)) (safe_pushed s fs e n c.in-Some-taken.step (at_popped s top fs d e at came) went)
 
 pub loop-top-preserved : goal.loop-top-preserved

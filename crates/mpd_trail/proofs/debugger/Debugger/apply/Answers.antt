@@ -1,11 +1,11 @@
-use Rattle.std.proofs.Common.{◌≡◌, ◌<◌, ◌+◌, ℕ, [], ◌∷◌, ◌++◌, length, Some, None, refl, ap, ◌∙◌, rules}
+use Rattle.std.proofs.Common.{◌≡◌, ◌<◌, ◌+◌, ℕ, [], ◌∷◌, ◌++◌, length, ap, ◌∙◌, rules}
 use Rattle.mpd_model.specs.declared.limits.TheConstants.{STEPS_MAX}
 use Rattle.mpd_model.specs.declared.step.Step.TheVariants.{Local}
 use Rattle.mpd_model.specs.steps.World.{start}
 use Rattle.mpd_model.specs.runs.Trail.{noted}
 use Rattle.mpd_core.specs.Steps.{other_step}
 use Rattle.mpd_trail.specs.Kept.{Keeps}
-use Rattle.mpd_trail.proofs.KeptLemmas.{is_local, is_other, keeps_local, keeps_apart, keeps_reached}
+use Rattle.mpd_trail.proofs.KeptLemmas.{is_local, is_other, keeps_local, keeps_apart, keeping}
 use Rattle.mpd_trail.proofs.debugger.Debugger.apply.Goals as goal
 
 pub invariant_of-self-in-Local : goal.invariant_of-self-in-Local
@@ -24,8 +24,8 @@ invariant_of-self-in-Local c =
     (keeps_local s.core.program (start s.core.program s.mode) s.locals.items s.others.items s.steps.items s.core.world c.step_local.new.self.world u p c.self.invariant room c.in_ok-done-in-Local.ensures.stepped.ok
     c.in_ok-done-in-Local.ensures.stepped.back c.in_ok-done-in-Local.ensures.stepped.can c.in_ok-done-in-Local.ensures.stepped.recorded)
 
-pub returns-in_ok-done-in-Local-clause-reached : goal.returns-in_ok-done-in-Local-clause-reached
-returns-in_ok-done-in-Local-clause-reached c =
+pub returns-in_ok-done-in-Local-clause-taken : goal.returns-in_ok-done-in-Local-clause-taken
+returns-in_ok-done-in-Local-clause-taken c =
     let s = c.self.inside in
     let a = c.args.step in
     let p = c.in-Local.rank in
@@ -40,7 +40,7 @@ returns-in_ok-done-in-Local-clause-reached c =
     rw (pushed, apart, kept, c.in_ok-done-in-Local.ensures.stepped.program)
     (keeps_local s.core.program (start s.core.program s.mode) s.locals.items s.others.items s.steps.items s.core.world c.step_local.new.self.world u p c.self.invariant room c.in_ok-done-in-Local.ensures.stepped.ok
     c.in_ok-done-in-Local.ensures.stepped.back c.in_ok-done-in-Local.ensures.stepped.can c.in_ok-done-in-Local.ensures.stepped.recorded) in
-    keeps_reached _ c.push_reserved.new.self.items c.keep_next.new.others.items refl after
+    search (rules, keeping, after)
 
 pub invariant_of-self-in-Other : goal.invariant_of-self-in-Other
 invariant_of-self-in-Other c =
@@ -58,8 +58,8 @@ invariant_of-self-in-Other c =
     (keeps_apart s.core.program (start s.core.program s.mode) s.locals.items s.others.items s.steps.items s.core.world c.step_other.new.self.world u o c.self.invariant room c.in_ok-done-in-Other.ensures.stepped.ok
     c.in_ok-done-in-Other.ensures.stepped.back c.in_ok-done-in-Other.ensures.stepped.can c.in_ok-done-in-Other.ensures.stepped.recorded)
 
-pub returns-in_ok-done-in-Other-clause-reached : goal.returns-in_ok-done-in-Other-clause-reached
-returns-in_ok-done-in-Other-clause-reached c =
+pub returns-in_ok-done-in-Other-clause-taken : goal.returns-in_ok-done-in-Other-clause-taken
+returns-in_ok-done-in-Other-clause-taken c =
     let s = c.self.inside in
     let a = c.args.step in
     let o = c.in-Other.other in
@@ -74,4 +74,4 @@ returns-in_ok-done-in-Other-clause-reached c =
     rw (own, pushed, kept, c.in_ok-done-in-Other.ensures.stepped.program)
     (keeps_apart s.core.program (start s.core.program s.mode) s.locals.items s.others.items s.steps.items s.core.world c.step_other.new.self.world u o c.self.invariant room c.in_ok-done-in-Other.ensures.stepped.ok
     c.in_ok-done-in-Other.ensures.stepped.back c.in_ok-done-in-Other.ensures.stepped.can c.in_ok-done-in-Other.ensures.stepped.recorded) in
-    keeps_reached _ c.keep_next.new.locals.items c.push_reserved-in-Other.new.self.items refl after
+    search (rules, keeping, after)

@@ -18,8 +18,8 @@ loop-self-preserved c =
       trail = back_more s.trail m.trail n.trail i.trail back;
       least = omega (arith, deep);
       most = omega (arith, deep, i.most);
-      reached = c.undo.ensures.reached;
-      room = omega (arith, i.room, c.undo.ensures.room_left);
+      reached = c.undo.ensures.undone.moved.reached;
+      room = omega (arith, i.room, c.undo.ensures.undone.room_left);
       rises = search rules;
       few = back_few s m n c.state_is_reached.ensures.reached i.trail back some i.most (search rules) i.few;
     }
