@@ -9,6 +9,7 @@ use Rattle.mpd_model.specs.steps.World.{World, start}
 use Rattle.mpd_model.specs.steps.Next.{fold}
 use Rattle.mpd_model.specs.runs.Decisions.{CanFollow}
 use Rattle.mpd_model.specs.runs.Trail.{Standing, IsReached, done_steps, gone_back, forgotten, step_eq}
+use Rattle.mpd_trail.specs.Views.{AsFound}
 use Rattle.mpd_policy.specs.Wide.{wide_decision, sleeps_on}
 use Rattle.mpd_walk.specs.Walk.{wide_walk}
 use Rattle.mpd_explore.specs.declared.report.Leaf.{Leaf}
@@ -28,7 +29,7 @@ use Rattle.mpd_outcomes.specs.declared.search.Front.{Front}
 use Rattle.mpd_outcomes.specs.Outcomes.{counted, plus, firsts, times, leaves_from, TellsRuns}
 use Rattle.mpd_outcomes.specs.Sums.{added, TellsCounts}
 use Rattle.mpd_outcomes.specs.Gathered.{gathered, gathered_total}
-use Rattle.mpd_outcomes.specs.Front.{Search, put, picked, TellsAt, AllTold, tried_at, before, open_in, Stopped}
+use Rattle.mpd_outcomes.specs.Front.{Search, put, picked, TellsAt, AllTold, tried_at, before, open_in, Turned, come_now}
 use Rattle.mpd_outcomes.proofs.TellLemmas.{tells_none, tells_joined, tells_put, all_counted}
 use Rattle.mpd_outcomes.proofs.WalkLemmas.{some_leaves}
 use Rattle.mpd_outcomes.proofs.StackLemmas.{left_over}
@@ -52,24 +53,26 @@ gathered_tells s ways (f ∷ fs) path sums cs c rest told h =
 
 -- what is told of the first runs
 told_runs : (fuel : ℕ) (w : World) (o : Outcomes) (ls rest : List Leaf) (ways : List Leaf) (cs : List Count) → leaves_from fuel w ≡ ls ++ rest → ways ≡ firsts ls → TellsCounts ways cs o.total ls
-    → o.firsts.leaves.items ≡ ways → o.counts.items ≡ cs ++ replicate (length ways - length cs) (Exactly 0) → o.firsts.more ≡ nat_lt (length ls) (length (ls ++ rest)) → TellsRuns fuel w o
+    → o.firsts.leaves.items ≡ ways → o.counts.items ≡ cs ++ replicate (length ways - length cs) (Exactly 0) → o.firsts.more ≡ nat_lt (length ls) (length (ls ++ rest)) → (t : TellsRuns fuel w o) × (take t.runs (leaves_from fuel w) ≡ ls)
 told_runs fuel w o ls rest ways cs whole ways_are tells leaves counts more =
     let long : length (wide_walk fuel w) ≡ length (ls ++ rest) = sym (length-map (wide_walk fuel w) shown) ∙ ap (λ (l : List Leaf). length l) whole in
     let many = length-append ls rest in
-    let front : take (length ls) (leaves_from fuel w) ≡ ls = ap (take (length ls)) whole ∙ take-append_seam ls rest in
-    record {
-      runs = length ls;
-      few = omega (arith, long, many);
-      firsts_are = leaves ∙ ways_are ∙ ap firsts (sym front);
-      counts_are = counts ∙ all_counted (λ l. counted (times ls l)) cs ways tells.few tells.counts ∙ (λ j. map (λ (l : Leaf). counted (times (sym front j) l)) ((ways_are ∙ ap firsts (sym front)) j));
-      total_is = tells.total_is;
-      more_is = more ∙ ap (nat_lt (length ls)) (sym long);
-    }
+    let front : take (length ls) (leaves_from fuel w) ≡ ls = ap (take (length ls)) whole ∙ take-append_seam ls rest in (
+      record {
+        runs = length ls;
+        few = omega (arith, long, many);
+        firsts_are = leaves ∙ ways_are ∙ ap firsts (sym front);
+        counts_are = counts ∙ all_counted (λ l. counted (times ls l)) cs ways tells.few tells.counts ∙ (λ j. map (λ (l : Leaf). counted (times (sym front j) l)) ((ways_are ∙ ap firsts (sym front)) j));
+        total_is = tells.total_is;
+        more_is = more ∙ ap (nat_lt (length ls)) (sym long);
+      },
+      front,
+    )
 
 -- where it was stopped there are runs from where it stands, and where all are come to there are no others
-pub stopped_tells : (s : Search) (f : Front) (d : Standing) (more : Bool) (o : Outcomes) → ((v : World) → CanFollow v (wide_decision v)) → Stopped s more f d → o.firsts.leaves.items ≡ f.ways.items → o.firsts.more ≡ more
+pub stopped_tells : (s : Search) (f : Front) (d : Standing) (more : Bool) (o : Outcomes) → ((v : World) → CanFollow v (wide_decision v)) → Turned s more f d → o.firsts.leaves.items ≡ f.ways.items → o.firsts.more ≡ more
     → o.counts.items ≡ gathered (reverse f.stack.items) f.sums.tally.counts.items [] ++ replicate (length f.ways.items - length (gathered (reverse f.stack.items) f.sums.tally.counts.items [])) (Exactly 0)
-    → o.total ≡ gathered_total (reverse f.stack.items) f.sums.tally.total (Exactly 0) → TellsRuns (s.limit - s.base) s.root o
+    → o.total ≡ gathered_total (reverse f.stack.items) f.sums.tally.total (Exactly 0) → (t : TellsRuns (s.limit - s.base) s.root o) × (take t.runs (leaves_from (s.limit - s.base) s.root) ≡ come_now s more f d)
 stopped_tells s f d true o law h leaves more counts total =
     let path = done_steps d.trail in
     let ls = before s (open_in f) path in
@@ -133,10 +136,12 @@ safe_deep base d m reached h at =
     let y = length-done_steps d reached in
     omega (arith, a, l, r, x, y, at)
 
-pub trail_back : (base : ℕ) (d m e : Standing) → IsReached d → length d.trail.steps ≡ d.trail.depth → Safe base d m → base ≡ d.trail.depth → e.trail ≡ forgotten (gone_back m.trail base) → e.trail ≡ d.trail
+trail_back : (base : ℕ) (d m e : Standing) → IsReached d → length d.trail.steps ≡ d.trail.depth → Safe base d m → base ≡ d.trail.depth → e.trail ≡ forgotten (gone_back m.trail base) → e.trail ≡ d.trail
 trail_back base d m e reached clean h at is =
     as_found d.trail m.trail e.trail clean (let deep = safe_deep base d m reached h at in omega (arith, deep, at)) h.program h.mode (subst (λ (n : ℕ). take n (done_steps m.trail) ≡ take n (done_steps d.trail)) at h.below)
     (is ∙ ap (λ (n : ℕ). forgotten (gone_back m.trail n)) at)
 
-pub world_back : (base : ℕ) (d m e : Standing) → IsReached d → IsReached e → length d.trail.steps ≡ d.trail.depth → Safe base d m → base ≡ d.trail.depth → e.trail ≡ forgotten (gone_back m.trail base) → e.world ≡ d.world
-world_back base d m e reached back clean h at is = world_found d e reached back (trail_back base d m e reached clean h at is)
+pub all_back : (base : ℕ) (d m e : Standing) → IsReached d → IsReached e → length d.trail.steps ≡ d.trail.depth → Safe base d m → base ≡ d.trail.depth → e.trail ≡ forgotten (gone_back m.trail base) → AsFound d e
+all_back base d m e reached back clean h at is =
+    let same : e.trail ≡ d.trail = trail_back base d m e reached clean h at is in
+    record { trail = same; world = world_found d e reached back same; reached = back }

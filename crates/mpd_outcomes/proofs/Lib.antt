@@ -3,11 +3,15 @@ mod KeyLemmas
 mod PushLemmas
 mod FutureLemmas
 pub mod FirstLemmas
-mod TellLemmas
-mod WalkLemmas
+pub mod TellLemmas
+pub mod WalkLemmas
 mod FrontLemmas
 mod MoveLemmas
 mod StackLemmas
 mod EndLemmas
 mod AnswerLemmas
 mod GatherLemmas
+mod GoalLemmas
+mod PartLemmas
+mod TableLemmas
+mod AlongLemmas

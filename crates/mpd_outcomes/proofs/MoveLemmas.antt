@@ -112,6 +112,10 @@ on_beyond b d e a h steps program mode reached = record {
   done_steps_are = steps ∙ ap (λ (p : List Step). p ++ a ∷ []) h.done_steps_are ∙ append_assoc (done_steps b.trail) h.path (a ∷ []);
 }
 
+-- on the way down no leaf is come to
+pub down_come : (s : Search) (fs : List Open) (d e : Standing) → At s fs d → Beyond d e → before s fs (done_steps e.trail) ≡ before s fs (done_steps d.trail)
+down_come s fs d e at beyond = ap (before s fs) beyond.done_steps_are ∙ before_on s fs (done_steps d.trail) beyond.path d.trail.depth d.world (at_length s fs d at) at.stands
+
 -- the way down
 pub gone_down : (s : Search) (fs : List Open) (ways : List Leaf) (sums : Sums) (t : Table) (d e : Standing) → Before s fs ways sums t d → Beyond d e
     → SameRuns s.limit d.trail.depth d.world e.trail.depth e.world → d.trail.depth ≤ e.trail.depth → e.trail.depth ≤ s.limit → Before s fs ways sums t e
@@ -128,7 +132,7 @@ gone_down s fs ways sums t d e h beyond same le within =
         stands = subst (λ (p : List Step). Stands s fs p e.trail.depth e.world) (sym beyond.done_steps_are)
             (stands_on s fs path beyond.path d.trail.depth e.trail.depth d.world e.world long same le at.stands);
       };
-      ways_are = h.ways_are ∙ ap firsts (sym (ap (before s fs) beyond.done_steps_are ∙ before_on s fs path beyond.path d.trail.depth d.world long at.stands));
+      ways_are = h.ways_are ∙ ap firsts (sym (down_come s fs d e at beyond));
       told = subst (λ (p : List Step). AllTold s ways fs p sums) (sym beyond.done_steps_are) (told_on s ways fs path beyond.path d.trail.depth d.world sums long at.stands h.told);
       table = h.table;
     }
@@ -192,6 +196,15 @@ ways_by ways cs e b is = ap (λ (t : Bool). cond t ways (ways ++ record { choice
 pub known_ways : (ways : List Leaf) (cs : List ℕ) (e : Ending) → has_end ways e ≡ true → ways ≡ ways_with ways cs e
 known_ways ways cs e is = sym (ways_by ways cs e true is)
 
+-- the leaf of a run that ends there
+pub end_come : (s : Search) (fs : List Open) (d : Standing) (ending : Ending) → At s fs d → leaves_from (s.limit - d.trail.depth) d.world ≡ only_leaf ending ∷ []
+    → come_to s fs (done_steps d.trail) ≡ before s fs (done_steps d.trail) ++ record { choices = picked fs; ending = ending } ∷ []
+end_come s fs d ending at only =
+    let path = done_steps d.trail in
+    let leaf : Leaf = record { choices = picked fs; ending = ending } in
+    let put_leaf : map (put (picked fs)) (only_leaf ending ∷ []) ≡ leaf ∷ [] = λ j. record { choices = append-nil (picked fs) j; ending = ending } ∷ [] in
+    come_is s fs path d.trail.depth d.world at.stands ∙ ap (λ (ls : List Leaf). before s fs path ++ map (put (picked fs)) ls) only ∙ ap (λ (ls : List Leaf). before s fs path ++ ls) put_leaf
+
 pub end_after : (s : Search) (fs : List Open) (ways new_ways : List Leaf) (sums new : Sums) (t : Table) (d : Standing) (ending : Ending) (deep : ℕ) (ones : List Count) (one : Count) → Before s fs ways sums t d
     → leaves_from (s.limit - d.trail.depth) d.world ≡ only_leaf ending ∷ [] → deep ≡ d.trail.depth + height (s.limit - d.trail.depth) d.world
     → new_ways ≡ ways_with ways (picked fs) ending → ((AllApart new_ways) → TellsCounts new_ways ones one (only_leaf ending ∷ []))
@@ -208,11 +221,8 @@ end_after s fs ways new_ways sums new t d ending deep ones one h only at ways_ar
     known_is : has_end (before s fs path) ending ≡ has_end ways ending
     known_is = sym (ap (λ (ws : List Leaf). has_end ws ending) h.ways_are ∙ firsts_ends (before s fs path) ending)
 
-    put_leaf : map (put (picked fs)) (only_leaf ending ∷ []) ≡ leaf ∷ []
-    put_leaf = λ j. record { choices = append-nil (picked fs) j; ending = ending } ∷ []
-
     come : come_to s fs path ≡ before s fs path ++ leaf ∷ []
-    come = come_is s fs path d.trail.depth d.world h.at.stands ∙ ap (λ (ls : List Leaf). before s fs path ++ map (put (picked fs)) ls) only ∙ ap (λ (ls : List Leaf). before s fs path ++ ls) put_leaf
+    come = end_come s fs d ending h.at only
 
     after_with : (ws : List Leaf) → AllTold s ws fs path sums → IsTrueTable s ws t → TellsCounts ws ones one (only_leaf ending ∷ []) → ws ≡ firsts (come_to s fs path) → After s fs ws new t d
     after_with ws told table told_one are = record {

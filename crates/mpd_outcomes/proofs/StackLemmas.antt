@@ -1,5 +1,5 @@
 -- Choices that are opened, gone on at, and closed; the beginning of a search and its end.
-use Rattle.std.proofs.Common.{◌≡◌, ℕ, ℤ, Vec, zero, suc, ◌<◌, ◌≤◌, ◌+◌, ◌-◌, max, true, Option, Some, None, List, [], ◌∷◌, ◌++◌, map, length, take, drop, slice_get, inl, inr, append-nil, append_assoc, refl, sym, ap, subst, ◌∙◌, arith}
+use Rattle.std.proofs.Common.{◌≡◌, ℕ, ℤ, Vec, zero, suc, ◌<◌, ◌≤◌, ◌+◌, ◌-◌, max, true, Option, Some, None, List, [], ◌∷◌, ◌++◌, map, length, take, drop, slice_get, inl, inr, append-nil, append_assoc, refl, sym, ap, subst, ◌∙◌, arith, IfSome}
 use Rattle.std.proofs.lemmas.List.{take-append-le}
 use Rattle.std.proofs.lemmas.Option.{slice_get_within}
 use Rattle.std.proofs.Math.Seq.{take-append_seam}
@@ -29,9 +29,9 @@ use Rattle.mpd_outcomes.specs.declared.sums.Sums.{Sums}
 use Rattle.mpd_outcomes.specs.declared.search.Open.{Open}
 use Rattle.mpd_outcomes.specs.Outcomes.{plus, firsts, leaves_from}
 use Rattle.mpd_outcomes.specs.Sums.{added, Tells, TellsCounts}
-use Rattle.mpd_outcomes.specs.Table.{found_at, key_eq, KeepsAPart}
+use Rattle.mpd_outcomes.specs.Table.{found_at, key_eq, KeepsAPart, KeepsLess}
 use Rattle.mpd_outcomes.specs.Keys.{IsKey}
-use Rattle.mpd_outcomes.specs.Front.{Search, put, picked, leaves_by, tried, next_one, SameRuns, IsOpen, Stands, TellsTried, TellsAt, AllTold, tried_at, before, IsFound, IsTrueTable, At, Before, After, come_to, AllToldAfter}
+use Rattle.mpd_outcomes.specs.Front.{Search, put, picked, leaves_by, tried, next_one, SameRuns, IsOpen, Stands, TellsTried, TellsAt, AllTold, tried_at, before, IsFound, IsTrueTable, KeptBy, At, Before, After, come_to, AllToldAfter}
 use Rattle.mpd_outcomes.proofs.TellLemmas.{tells_none, all_taken as taken_all}
 use Rattle.mpd_outcomes.proofs.FrontLemmas.{put_none, put_joined, leaves_at, height_at, come_is, told_after}
 use Rattle.mpd_outcomes.proofs.KeyLemmas.{one_key_one_future}
@@ -81,7 +81,7 @@ low_enough s f fs d at = let lt = at.stands.2.above in omega (arith, lt)
 -- ---- a choice is opened
 
 -- a search goes on from a state by a candidate of an open choice that stands there
-at_candidate : (s : Search) (f : Open) (fs : List Open) (d e : Standing) (a : Step) → At s fs d → f.depth ≡ d.trail.depth → wide_decision d.world ≡ Choice f.candidates → IsKey s.program d.world f.key.items
+at_candidate : (s : Search) (f : Open) (fs : List Open) (d e : Standing) (a : Step) → At s fs d → f.depth ≡ d.trail.depth → wide_decision d.world ≡ Choice f.candidates → IfSome f.key (λ k. IsKey s.program d.world k.items)
     → d.trail.depth < s.limit → slice_get f.candidates f.index ≡ Some a → Went d a e → At s (f ∷ fs) e
 at_candidate s f fs d e a at here choice key room taken went =
     let long = at_length s fs d at in
@@ -114,22 +114,32 @@ path_cut : (d e : Standing) (f : Open) (a : Step) → length (done_steps d.trail
 path_cut d e f a long here went =
     ap (take f.depth) went.done_steps_are ∙ ap (λ (n : ℕ). take n (done_steps d.trail ++ a ∷ [])) (here ∙ sym long) ∙ take-append_seam (done_steps d.trail) (a ∷ [])
 
+-- nothing is tried at it yet
+nothing_tried : (s : Search) (f : Open) (w : World) → f.index ≡ 0 → tried s w f ≡ []
+nothing_tried s f w first = ap (λ (n : ℕ). leaves_by (s.limit - suc f.depth) w 0 (take n f.candidates)) first
+
+pub opened_come : (s : Search) (f : Open) (fs : List Open) (d e : Standing) (a : Step) → At s fs d → f.depth ≡ d.trail.depth → f.index ≡ 0 → Went d a e → before s (f ∷ fs) (done_steps e.trail) ≡ before s fs (done_steps d.trail)
+opened_come s f fs d e a at here first went =
+    let cut = path_cut d e f a (at_length s fs d at) here went in
+    let there : fold (start s.program s.mode) (take f.depth (done_steps e.trail)) ≡ Some d.world = ap (fold (start s.program s.mode)) cut ∙ leads_there s fs d at in
+    (λ j. before s fs (cut j) ++ map (put (picked fs)) (tried_at s f (there j)))
+    ∙ ap (λ (ls : List Leaf). before s fs (done_steps d.trail) ++ map (put (picked fs)) ls) (nothing_tried s f d.world first)
+    ∙ append-nil (before s fs (done_steps d.trail))
+
 -- at its first candidate
 pub opened_before : (s : Search) (f : Open) (fs : List Open) (ways : List Leaf) (sums new : Sums) (t : Table) (d e : Standing) (a : Step) → Before s fs ways sums t d → f.depth ≡ d.trail.depth → f.index ≡ 0 → f.outer ≡ sums
-    → wide_decision d.world ≡ Choice f.candidates → IsKey s.program d.world f.key.items → d.trail.depth < s.limit → slice_get f.candidates 0 ≡ Some a → Went d a e
+    → wide_decision d.world ≡ Choice f.candidates → IfSome f.key (λ k. IsKey s.program d.world k.items) → d.trail.depth < s.limit → slice_get f.candidates 0 ≡ Some a → Went d a e
     → new.tally.counts.items ≡ [] → new.tally.total ≡ Exactly 0 → new.deepest ≡ suc d.trail.depth → Before s (f ∷ fs) ways new t e
 opened_before s f fs ways sums new t d e a h here first outer choice key room taken went counts total deepest =
     let at = h.at in
     let cut = path_cut d e f a (at_length s fs d at) here went in
     let there : fold (start s.program s.mode) (take f.depth (done_steps e.trail)) ≡ Some d.world = ap (fold (start s.program s.mode)) cut ∙ leads_there s fs d at in
-    let nothing : tried s d.world f ≡ [] = ap (λ (n : ℕ). leaves_by (s.limit - suc f.depth) d.world 0 (take n f.candidates)) first in
     record {
       at = at_candidate s f fs d e a at here choice key room (ap (slice_get f.candidates) first ∙ taken) went;
-      ways_are = h.ways_are
-          ∙ sym (ap firsts ((λ j. before s fs (cut j) ++ map (put (picked fs)) (tried_at s f (there j))) ∙ ap (λ (ls : List Leaf). before s fs (done_steps d.trail) ++ map (put (picked fs)) ls) nothing ∙ append-nil (before s fs (done_steps d.trail))));
+      ways_are = h.ways_are ∙ sym (ap firsts (opened_come s f fs d e a at here first went));
       told = (
         subst (λ (o : Option World). TellsAt s ways f o new) (sym there) (record {
-          counts = subst (λ (ls : List Leaf). Tells ways new.tally ls) (sym nothing)
+          counts = subst (λ (ls : List Leaf). Tells ways new.tally ls) (sym (nothing_tried s f d.world first))
               (subst (λ (cs : List Count). TellsCounts ways cs new.tally.total []) (sym counts) (subst (λ (c : Count). TellsCounts ways [] c []) (sym total) (tells_none ways)));
           deepest = (let none = ap (λ (n : ℕ). highest (height (s.limit - suc f.depth)) d.world (take n f.candidates)) first in omega (arith, deepest, here, none));
         }),
@@ -163,6 +173,12 @@ back_at s f fs d e at came = record {
 pub choice_back : (s : Search) (f : Open) (fs : List Open) (d e : Standing) → (at : At s (f ∷ fs) d) → Came d f.depth e → wide_decision e.world ≡ Choice f.candidates
 choice_back s f fs d e at came = ap wide_decision (back_world s f fs d e at came) ∙ at.stands.2.choice
 
+-- the leaves that were come to are the same where the next candidate is taken
+pub next_come : (s : Search) (f : Open) (fs : List Open) (d e k : Standing) (a : Step) → At s (f ∷ fs) d → Came d f.depth e → Went e a k → before s (next_one f ∷ fs) (done_steps k.trail) ≡ come_to s (f ∷ fs) (done_steps d.trail)
+next_come s f fs d e k a at came went =
+    let cut : take f.depth (done_steps k.trail) ≡ take f.depth (done_steps d.trail) = path_cut e k f a (at_length s fs e (back_at s f fs d e at came)) (sym came.depth) went ∙ came.done_steps_are in
+    λ j. before s fs (cut j) ++ map (put (picked fs)) (tried_at s (next_one f) (fold (start s.program s.mode) (cut j)))
+
 -- the next candidate is taken
 pub next_before : (s : Search) (f g : Open) (fs : List Open) (ways : List Leaf) (sums : Sums) (t : Table) (d e k : Standing) (a : Step) → (h : After s (f ∷ fs) ways sums t d) → Came d f.depth e → g ≡ next_one f
     → slice_get f.candidates (suc f.index) ≡ Some a → Went e a k → Before s (g ∷ fs) ways sums t k
@@ -173,9 +189,9 @@ next_before s f g fs ways sums t d e k a h came is taken went =
     let o = at.stands.2 in
     let cut : take f.depth (done_steps k.trail) ≡ take f.depth (done_steps d.trail) = path_cut e k f a (at_length s fs e e_at) (sym came.depth) went ∙ came.done_steps_are in
     subst (λ (z : Open). Before s (z ∷ fs) ways sums t k) (sym is) (record {
-      at = at_candidate s (next_one f) fs e k a e_at (sym came.depth) (ap wide_decision same ∙ o.choice) (subst (λ (w : World). IsKey s.program w f.key.items) (sym same) o.key)
+      at = at_candidate s (next_one f) fs e k a e_at (sym came.depth) (ap wide_decision same ∙ o.choice) (subst (λ (w : World). IfSome f.key (λ k. IsKey s.program w k.items)) (sym same) o.key)
           (let deep = came.depth in let room = o.fuel in omega (arith, deep, room)) taken went;
-      ways_are = h.ways_are ∙ ap firsts (λ j. before s fs (sym cut j) ++ map (put (picked fs)) (tried_at s (next_one f) (fold (start s.program s.mode) (sym cut j))));
+      ways_are = h.ways_are ∙ ap firsts (sym (next_come s f fs d e k a at came went));
       told = subst (λ (p : List Step). TellsAt s ways (next_one f) (fold (start s.program s.mode) p) sums × AllTold s ways fs p f.outer) (sym cut) h.told;
       table = h.table;
     })
@@ -208,16 +224,26 @@ module _ (s : Search) (f : Open) (fs : List Open) (ways : List Leaf) (sums : Sum
       omega (arith, deep, all, high)
 
   -- what is kept of it is true of each state of its key
-  pub closed_found : (found : Found) → found.fuel ≡ s.limit - f.depth → found.height ≡ sums.deepest - f.depth → found.tally ≡ sums.tally → (v : World) → IsRunTo s.program s.mode v → IsKey s.program v f.key.items → IsFound s ways found v
-  closed_found found fuel_is height_is tally_is v run key =
+  pub closed_found : (k : Vec ℤ Global) → f.key ≡ Some k → (found : Found) → found.fuel ≡ s.limit - f.depth → found.height ≡ sums.deepest - f.depth → found.tally ≡ sums.tally → (v : World) → IsRunTo s.program s.mode v → IsKey s.program v k.items → IsFound s ways found v
+  closed_found k k_is found fuel_is height_is tally_is v run key =
       let w_run : IsRunTo s.program s.mode closed_world = (take f.depth (done_steps d.trail), h.at.stands.1) in
-      let future = one_key_one_future s.program closed_world v (mode_stays s.program s.mode w_run.0 closed_world w_run.1 ∙ sym (mode_stays s.program s.mode run.0 v run.1)) f.key.items is_open.key key in
+      let future = one_key_one_future s.program closed_world v (mode_stays s.program s.mode w_run.0 closed_world w_run.1 ∙ sym (mode_stays s.program s.mode run.0 v run.1)) k.items (subst (λ (o : Option (Vec ℤ Global)). IfSome o (λ q. IsKey s.program closed_world q.items)) k_is is_open.key) key in
       let one = one_walk s.program s.mode closed_world v w_run run future (s.limit - f.depth) in
       let deep = closed_deep in
       record {
         counts = subst (λ (ls : List Leaf). Tells ways found.tally ls) (ap (map shown) one.walk_same ∙ ap (λ (n : ℕ). leaves_from n v) (sym fuel_is)) (subst (λ (y : Tally). Tells ways y (leaves_from (s.limit - f.depth) closed_world)) (sym tally_is) closed_tells);
         height_is = height_is ∙ (omega (arith, deep)) ∙ one.height_same ∙ ap (λ (n : ℕ). height n v) (sym fuel_is);
       }
+
+  -- closing it comes to no other leaf
+  pub closed_come : (e : Standing) → Came d f.depth e → come_to s (f ∷ fs) (done_steps d.trail) ≡ come_to s fs (done_steps e.trail)
+  closed_come e came =
+      let path = take f.depth (done_steps d.trail) in
+      ap (λ (o : Option World). before s fs path ++ map (put (picked fs)) (tried_at s (next_one f) o)) h.at.stands.1
+      ∙ ap (λ (cs : List Step). before s fs path ++ map (put (picked fs)) (leaves_by (s.limit - suc f.depth) closed_world 0 cs)) all_taken
+      ∙ ap (λ (ls : List Leaf). before s fs path ++ map (put (picked fs)) ls) (sym (leaves_at s closed_world f.candidates f.depth is_open.fuel is_open.choice))
+      ∙ sym (come_is s fs path f.depth closed_world h.at.stands.3)
+      ∙ ap (come_to s fs) (sym came.done_steps_are)
 
   -- after it is closed the runs of the choice round it are told with these
   pub closed_after : (new : Sums) (u : Table) (e : Standing) → Came d f.depth e
@@ -229,13 +255,7 @@ module _ (s : Search) (f : Open) (fs : List Open) (ways : List Leaf) (sums : Sum
       let told = told_after s ways fs path f.depth closed_world f.outer new sums.tally.counts.items sums.tally.total sums.deepest h.at.stands.3 h.told.1 closed_tells closed_deep counts total deepest in
       record {
         at = e_at;
-        ways_are = h.ways_are
-            ∙ ap firsts
-            (ap (λ (o : Option World). before s fs path ++ map (put (picked fs)) (tried_at s (next_one f) o)) h.at.stands.1
-            ∙ ap (λ (cs : List Step). before s fs path ++ map (put (picked fs)) (leaves_by (s.limit - suc f.depth) closed_world 0 cs)) all_taken
-            ∙ ap (λ (ls : List Leaf). before s fs path ++ map (put (picked fs)) ls) (sym (leaves_at s closed_world f.candidates f.depth is_open.fuel is_open.choice))
-            ∙ sym (come_is s fs path f.depth closed_world h.at.stands.3)
-            ∙ ap (come_to s fs) (sym came.done_steps_are));
+        ways_are = h.ways_are ∙ ap firsts (closed_come e came);
         told = subst (λ (p : List Step). AllToldAfter s ways fs p new) (sym came.done_steps_are) told;
         table = table;
       }
@@ -258,6 +278,16 @@ table_kept s ways t u key found old new kept = λ q f at v run is.
   where
     items_same : (k q : Vec ℤ Global) → key_eq k q ≡ true → k.items ≡ q.items
     items_same k q e = (slice_eq-Decides Decides-int_eq k.items q.items (key_eq k q) refl).0 e
+
+-- where there is a key
+pub table_kept_by : (s : Search) (ways : List Leaf) (t u : Table) (key : Option (Vec ℤ Global)) (found : Found) → IsTrueTable s ways t → ((k : Vec ℤ Global) → key ≡ Some k → (v : World) → IsRunTo s.program s.mode v → IsKey s.program v k.items → IsFound s ways found v)
+    → KeptBy t key found u → IsTrueTable s ways u
+table_kept_by s ways t u None found old new kept = subst (IsTrueTable s ways) (sym kept) old
+table_kept_by s ways t u (Some key) found old new kept = table_kept s ways t u key found old (new key refl) kept
+
+-- a table that keeps less
+pub less_before : (s : Search) (fs : List Open) (ways : List Leaf) (sums : Sums) (t u : Table) (d : Standing) → KeepsLess t u → Before s fs ways sums t d → Before s fs ways sums u d
+less_before s fs ways sums t u d less h = record { at = h.at; ways_are = h.ways_are; told = h.told; table = λ key found at. h.table key found (less key found at) }
 
 -- ---- the beginning
 

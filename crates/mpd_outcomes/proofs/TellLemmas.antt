@@ -24,7 +24,7 @@ by_test n b e = ap (λ (t : Bool). cond t (Exactly n) More) e
 over : (n m : ℕ) → 2 ^ 64 ≤ n → nat_lt (n + m) (2 ^ 64) ≡ false
 over n m le = le-ltb (n + m) (2 ^ 64) (omega (arith, le))
 
-plus_counted : (n m : ℕ) → plus (counted n) (counted m) ≡ counted (n + m)
+pub plus_counted : (n m : ℕ) → plus (counted n) (counted m) ≡ counted (n + m)
 plus_counted n m = by (nat_lt n (2 ^ 64)) refl (nat_lt m (2 ^ 64)) refl
   where
     by : (a : Bool) → nat_lt n (2 ^ 64) ≡ a → (b : Bool) → nat_lt m (2 ^ 64) ≡ b → plus (counted n) (counted m) ≡ counted (n + m)

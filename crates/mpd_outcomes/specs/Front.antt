@@ -1,5 +1,5 @@
 -- Where a search stands: its open choices, the leaves that it has come to and those that it hasn't, and what is told of the former.
-use Rattle.std.specs.Prelude.{◌≡◌, ℕ, ℤ, Vec, suc, ◌+◌, ◌-◌, ◌<◌, ◌≤◌, max, Bool, true, false, if◌then◌else◌, List, [], ◌∷◌, ◌++◌, map, take, drop, reverse, slice_get, Option, Some, None}
+use Rattle.std.specs.Prelude.{◌≡◌, ◌⊎◌, ℕ, ℤ, Vec, suc, ◌+◌, ◌-◌, ◌<◌, ◌≤◌, max, Bool, true, false, if◌then◌else◌, List, [], ◌∷◌, ◌++◌, length, map, take, drop, reverse, slice_get, Option, Some, None, IfSome}
 use Rattle.std.specs.declared.alloc.Global.{Global}
 use Rattle.mpd_model.specs.declared.step.Step.{Step}
 use Rattle.mpd_model.specs.declared.decision.Decision.TheVariants.{Choice}
@@ -26,6 +26,9 @@ use Rattle.mpd_outcomes.specs.declared.search.Arrived.TheVariants as arrived_is
 use Rattle.mpd_outcomes.specs.declared.search.Bounds.{Bounds}
 use Rattle.mpd_outcomes.specs.declared.search.Open.{Open}
 use Rattle.mpd_outcomes.specs.declared.search.Front.{Front}
+use Rattle.mpd_outcomes.specs.declared.search.Reach.{Reach}
+use Rattle.mpd_outcomes.specs.declared.report.Goal.{Goal}
+use Rattle.mpd_outcomes.specs.Goals.{states_along, StopsAt}
 use Rattle.mpd_outcomes.specs.Outcomes.{plus, leaves_from, firsts}
 use Rattle.mpd_outcomes.specs.Sums.{added, one_at, has_end, IsWay, Tells}
 use Rattle.mpd_outcomes.specs.Table.{found_at, serves, KeepsAPart}
@@ -81,7 +84,7 @@ pub record SameRuns (limit m : ℕ) (u : World) (n : ℕ) (w : World) : Type 0 w
 -- An open choice stands at this world, and its candidate leads to a state whose runs are those from another one, at this depth.
 pub record IsOpen (s : Search) (f : Open) (w : World) (depth : ℕ) (v : World) : Type 0 where
   pub choice : wide_decision w ≡ Choice f.candidates
-  pub key : IsKey s.program w f.key.items
+  pub key : IfSome f.key (λ k. IsKey s.program w k.items)
   pub above : f.depth < depth
   pub fuel : f.depth < s.limit
   pub step : Step
@@ -231,7 +234,7 @@ pub record Joined (t : Tally) (depth : ℕ) (f g : Front) : Type 0 where
   pub stack : g.stack.items ≡ f.stack.items
 
 -- a choice is opened at its first candidate
-pub record Opened (depth : ℕ) (candidates : List Step) (key : Vec ℤ Global) (f g : Front) : Type 0 where
+pub record Opened (depth : ℕ) (candidates : List Step) (key : Option (Vec ℤ Global)) (f g : Front) : Type 0 where
   pub stack : (o : Open) × (g.stack.items ≡ f.stack.items ++ o ∷ []) × (o ≡ record { depth = depth; candidates = candidates; index = 0; key = key; outer = f.sums })
   pub counts : g.sums.tally.counts.items ≡ []
   pub total : g.sums.tally.total ≡ Exactly 0
@@ -239,31 +242,61 @@ pub record Opened (depth : ℕ) (candidates : List Step) (key : Vec ℤ Global) 
   pub ways_are : g.ways.items ≡ f.ways.items
   pub table : g.table ≡ f.table
 
+-- what was found is kept by the key of its state, where there is one
+abbrev pub KeptBy : Table → Option (Vec ℤ Global) → Found → Table → Type 0
+KeptBy old None found new = new ≡ old
+KeptBy old (Some key) found new = KeepsAPart old key found new
+
 -- a choice whose candidates are all tried is closed: what is told of its runs joins what is told round it, and may be kept
-pub record Closed (limit depth : ℕ) (key : Vec ℤ Global) (outer : Sums) (f g : Front) : Type 0 where
+pub record Closed (limit depth : ℕ) (key : Option (Vec ℤ Global)) (outer : Sums) (f g : Front) : Type 0 where
   pub counts : g.sums.tally.counts.items ≡ added outer.tally.counts.items f.sums.tally.counts.items
   pub total : g.sums.tally.total ≡ plus outer.tally.total f.sums.tally.total
   pub deepest : g.sums.deepest ≡ max outer.deepest f.sums.deepest
   pub ways_are : g.ways.items ≡ f.ways.items
   pub stack : g.stack.items ≡ f.stack.items
-  pub table : KeepsAPart f.table key (record { fuel = limit - depth; height = f.sums.deepest - depth; tally = f.sums.tally }) g.table
+  pub table : KeptBy f.table key (record { fuel = limit - depth; height = f.sums.deepest - depth; tally = f.sums.tally }) g.table
 
 -- its runs are told from the table, or it is opened
 abbrev pub Met : Search → Bool → Front → Standing → Type 0
 Met s true g e = BeforeIn s g e
 Met s false g e = AfterIn s g e
 
--- it goes on, or all runs are come to
+-- there are runs from where it stands, or all runs are come to
 abbrev pub Turned : Search → Bool → Front → Standing → Type 0
 Turned s true g e = BeforeIn s g e
 Turned s false g e = DoneIn s g
 
--- it was stopped, or all runs are come to
-abbrev pub Stopped : Search → Bool → Front → Standing → Type 0
-Stopped s true g e = BeforeIn s g e
-Stopped s false g e = DoneIn s g
+-- the leaves that were come to where it stands; all of them where none are left
+abbrev pub come_now : Search → Bool → Front → Standing → List Leaf
+come_now s true g e = before s (open_in g) (done_steps e.trail)
+come_now s false g e = leaves_from (s.limit - s.base) s.root
+
+-- no way is new, or one is, and it is that of the last leaf that was come to
+abbrev pub Grows : List Leaf → List Leaf → List Leaf → List Leaf → Type 0
+Grows ways new ls more = (new ≡ ways) ⊎ ((l : Leaf) × (new ≡ ways ++ l ∷ []) × (more ≡ ls ++ l ∷ []))
+
+-- how many states stand along the leaves that were come to, and those at which a choice is open
+abbrev pub states_now : Search → Bool → Front → Standing → ℕ
+states_now s true g e = states_along (before s (open_in g) (done_steps e.trail)) + length (open_in g)
+states_now s false g e = states_along (leaves_from (s.limit - s.base) s.root)
+
+abbrev pub states_met : Search → Bool → Front → Standing → ℕ
+states_met s true g e = states_now s true g e
+states_met s false g e = states_along (come_to s (open_in g) (done_steps e.trail))
+
+-- A search has gone on: to more runs, of which at most the last ends in a new way, and along more states.
+pub record WentOn (s : Search) (f : Front) (d : Standing) (more : Bool) (g : Front) (e : Standing) : Type 0 where
+  pub turned : Turned s more g e
+  pub grows : Grows f.ways.items g.ways.items (before s (open_in f) (done_steps d.trail)) (come_now s more g e)
+  pub states : states_now s true f d < states_now s more g e
+
+-- A search has stopped: of the leaves that were come to none but the last one meets the goal, and no more states were come to than there are.
+pub record Stopped (s : Search) (until : Option Goal) (reach : Reach) (g : Front) (e : Standing) : Type 0 where
+  pub turned : Turned s reach.more g e
+  pub stops : StopsAt until (come_now s reach.more g e)
+  pub few : reach.visited ≤ states_now s reach.more g e
 
 -- what was found is told, or nothing
-abbrev pub Recalled : Vec ℤ Global → ℕ → ℕ → Bool → Front → Front → Type 0
-Recalled key limit depth true f g = (found : Found) × (found_at f.table key ≡ Some found) × (serves found (limit - depth) ≡ true) × Joined found.tally (depth + found.height) f g × (g.table ≡ f.table)
+abbrev pub Recalled : Option (Vec ℤ Global) → ℕ → ℕ → Bool → Front → Front → Type 0
+Recalled key limit depth true f g = (k : Vec ℤ Global) × (key ≡ Some k) × (found : Found) × (found_at f.table k ≡ Some found) × (serves found (limit - depth) ≡ true) × Joined found.tally (depth + found.height) f g × (g.table ≡ f.table)
 Recalled key limit depth false f g = g ≡ f

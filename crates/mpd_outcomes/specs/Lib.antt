@@ -1,8 +1,12 @@
 pub mod Outcomes
 pub mod Sums
+pub mod Parts
 pub mod Table
 pub mod Words
 pub mod Keys
 pub mod KeyRows
 pub mod Front
 pub mod Gathered
+pub mod Goals
+pub mod CountText
+pub mod GoalRows

@@ -1,10 +1,10 @@
 //! The ways that the runs of a script end.
 
-ghost use Rattle.std.specs.Prelude.{◌≡◌, ◌+◌, ◌-◌, ◌≤◌, ◌++◌, IfOk, OnOk, IsSome, [], length, map, replicate, reverse, string_bytes};
-ghost use Rattle.std.specs.List.{AllByRecursion};
-ghost use Rattle.mpd_model.specs.runs.Trail.{done_steps, IsReached};
+ghost use Rattle.std.specs.Prelude.{◌≡◌, ◌+◌, ◌-◌, ◌≤◌, ◌<◌, ◌++◌, true, false, IfOk, OnOk, OnErr, IsSome, [], length, map, replicate, reverse, string_bytes};
+ghost use Rattle.std.specs.List.{AllByRecursion, list_any};
+ghost use Rattle.mpd_model.specs.runs.Trail.{done_steps};
 ghost use Rattle.mpd_model.specs.steps.World.{World};
-ghost use Rattle.mpd_trail.specs.Views.{standing_of};
+ghost use Rattle.mpd_trail.specs.Views.{AsFound, standing_of};
 ghost use Rattle.mpd_policy.specs.Wide.{wide_decision};
 ghost use Rattle.mpd_walk.specs.Walk.{run_by};
 ghost use Rattle.mpd_walk.specs.Walks.{Beyond};
@@ -17,6 +17,7 @@ ghost use Rattle.mpd_outcomes.specs.Sums.{added};
 ghost use Rattle.mpd_outcomes.specs.Gathered.{gathered, gathered_total};
 ghost use Rattle.mpd_outcomes.specs.Table.{NothingKept};
 ghost use Rattle.mpd_outcomes.specs.Front.{search_of, BeforeIn};
+ghost use Rattle.mpd_outcomes.specs.Goals.{meets_any, StopsAt, StopsFor, StopsRuns};
 
 use crate::report::{Outcomes, StateLimits};
 use crate::search::{Bounds, Front, Open, Reach, search};
@@ -46,10 +47,11 @@ fn outer_of(choice: Open) -> Sums
     outer
 }
 
-/// Puts what is told of some runs before what is told of others.
+/// Puts what is told of some runs before what is told of others. An `Err` is want of memory, and comes only where counts are told of these.
 fn join(all: &mut Tally, level: Sums) -> Result<(), AllocError>
     ensures counts { OnOk result (all.new.counts.items ≡ added level.tally.counts.items all.old.counts.items) }
     ensures total { OnOk result (all.new.total ≡ plus level.tally.total all.old.total) }
+    ensures memory { OnErr result (0 < length all.old.counts.items) }
 {
     let Sums {
         mut tally,
@@ -63,11 +65,13 @@ fn join(all: &mut Tally, level: Sums) -> Result<(), AllocError>
     Ok(())
 }
 
-/// What is told of all runs that were come to: those by the candidates that were tried at each open choice.
+/// What is told of all runs that were come to: those by the candidates that were tried at each open choice. An `Err` is want of memory, and
+/// comes only where a choice is open.
 fn gather(alloc: Global, front: &mut Front) -> Result<Tally, AllocError>
     ensures counts { IfOk result (λ t. t.counts.items ≡ gathered (reverse front.old.stack.items) front.old.sums.tally.counts.items []) }
     ensures total { IfOk result (λ t. t.total ≡ gathered_total (reverse front.old.stack.items) front.old.sums.tally.total (count_is.Exactly 0)) }
     ensures ways { front.new.ways ≡ front.old.ways }
+    ensures memory { OnErr result (0 < length front.old.stack.items) }
 {
     let mut all = Tally::none(alloc);
     while let Some(open) = front.stack.pop() {
@@ -80,13 +84,15 @@ fn gather(alloc: Global, front: &mut Front) -> Result<Tally, AllocError>
     Ok(mem::replace(&mut front.sums.tally, Tally::none(alloc)))
 }
 
-/// What is told where a search has stopped.
+/// What is told where a search has stopped. An `Err` is want of memory, and comes only where a choice is open or a way is found.
 fn told_at(alloc: Global, front: &mut Front, reach: Reach) -> Result<Outcomes, AllocError>
     ensures leaves { IfOk result (λ o. o.firsts.leaves.items ≡ front.old.ways.items) }
     ensures more { IfOk result (λ o. o.firsts.more ≡ reach.more) }
     ensures counts { IfOk result (λ o. o.counts.items ≡ gathered (reverse front.old.stack.items) front.old.sums.tally.counts.items [] ++ replicate (length front.old.ways.items - length (gathered (reverse front.old.stack.items) front.old.sums.tally.counts.items [])) (count_is.Exactly 0)) }
     ensures total { IfOk result (λ o. o.total ≡ gathered_total (reverse front.old.stack.items) front.old.sums.tally.total (count_is.Exactly 0)) }
     ensures texts { IfOk result (λ o. o.firsts.witnesses.items ≡ []) }
+    ensures visited { IfOk result (λ o. o.visited ≡ reach.visited) }
+    ensures memory { OnErr result (0 < length front.old.stack.items + length front.old.ways.items) }
 {
     let Tally { mut counts, total } = gather(alloc, front)?;
     pad(&mut counts, front.ways.len())?;
@@ -122,27 +128,34 @@ fn beginning(alloc: Global, depth: usize, kept: usize) -> Front
     }
 }
 
-/// What is told of the runs that a search comes to, to where it stops. The debugger is left anywhere above the base.
+/// What is told of the runs that a search comes to, to where it stops. The debugger is left anywhere above the base. An `Err` is want of
+/// memory, and comes only where the search may come to a state, or a choice is open, or a way is found.
 fn find_in(
     alloc: Global,
     debugger: &mut Debugger<'_>,
     bounds: Bounds,
-    most: usize,
+    limits: StateLimits,
     front: &mut Front,
 ) -> Result<Outcomes, AllocError>
     requires stands { (root : World) × BeforeIn (search_of bounds debugger.old.trail root) front.old (standing_of debugger.old) }
     requires few { bounds.limit ≤ STEPS_MAX }
-    ensures told { (root : World) → BeforeIn (search_of bounds debugger.old.trail root) front.old (standing_of debugger.old) → IfOk result (λ o. TellsRuns (bounds.limit - bounds.base) root o) }
+    requires unmet { list_any (meets_any limits.until) front.old.ways.items ≡ false }
     ensures texts { IfOk result (λ o. o.firsts.witnesses.items ≡ []) }
+    ensures stops { IfOk result (λ o. StopsAt limits.until o.firsts.leaves.items) }
+    ensures last { (root : World) → BeforeIn (search_of bounds debugger.old.trail root) front.old (standing_of debugger.old) → IfOk result (λ o. StopsRuns limits.until (bounds.limit - bounds.base) root o) }
+    ensures limit { IfOk result (λ o. StopsFor limits o.firsts.more o.visited o.firsts.leaves.items) }
+    ensures none { IfOk result (λ o. limits.visited ≡ 0 → (o.firsts.leaves.items ≡ front.old.ways.items) × (o.firsts.more ≡ true)) }
+    ensures memory { OnErr result (0 < limits.visited + length front.old.stack.items + length front.old.ways.items) }
     ensures safe { Safe bounds.base (standing_of debugger.old) (standing_of debugger.new) }
 {
     wide_decisions_can_be_followed();
-    let reach = search(alloc, debugger, bounds, most, front)?;
+    let reach = search(alloc, debugger, bounds, limits, front)?;
     let outcomes = told_at(alloc, front, reach)?;
     Ok(outcomes)
 }
 
-/// The ways that the runs from here end. The debugger is left anywhere above the base.
+/// The ways that the runs from here end. The debugger is left anywhere above the base. An `Err` is want of memory, and comes only where the
+/// search may come to a state.
 fn find(
     alloc: Global,
     debugger: &mut Debugger<'_>,
@@ -152,13 +165,17 @@ fn find(
     requires base { bounds.base ≡ debugger.old.trail.depth }
     requires within { bounds.base ≤ bounds.limit }
     requires few { bounds.limit ≤ STEPS_MAX }
-    ensures told { IfOk result (λ o. TellsRuns (bounds.limit - bounds.base) debugger.old.world o) }
     ensures texts { IfOk result (λ o. o.firsts.witnesses.items ≡ []) }
+    ensures stops { IfOk result (λ o. StopsAt limits.until o.firsts.leaves.items) }
+    ensures last { IfOk result (λ o. StopsRuns limits.until (bounds.limit - bounds.base) debugger.old.world o) }
+    ensures limit { IfOk result (λ o. StopsFor limits o.firsts.more o.visited o.firsts.leaves.items) }
+    ensures none { IfOk result (λ o. limits.visited ≡ 0 → (o.firsts.leaves.items ≡ []) × (o.firsts.more ≡ true)) }
+    ensures memory { OnErr result (0 < limits.visited) }
     ensures safe { Safe bounds.base (standing_of debugger.old) (standing_of debugger.new) }
 {
     debugger.state_is_reached();
     let mut front = beginning(alloc, bounds.base, limits.kept);
-    let told = find_in(alloc, debugger, bounds, limits.visited, &mut front);
+    let told = find_in(alloc, debugger, bounds, limits, &mut front);
     drop(front);
     told
 }
@@ -190,9 +207,7 @@ fn text_of(
     requires fits { debugger.old.trail.depth + fuel ≤ STEPS_MAX }
     requires some { IsSome (run_by wide_decision fuel leaf.now.choices debugger.old.world) }
     ensures text { IfOk result (λ t. string_bytes t ≡ witness_text wide_decision (done_steps debugger.old.trail) fuel debugger.old.world leaf.now) }
-    ensures trail { debugger.new.trail ≡ debugger.old.trail }
-    ensures world { debugger.new.world ≡ debugger.old.world }
-    ensures reached { IsReached (standing_of debugger.new) }
+    ensures as_found { AsFound (standing_of debugger.old) (standing_of debugger.new) }
 {
     debugger.state_is_reached();
     let base = debugger.depth();
@@ -201,7 +216,8 @@ fn text_of(
     told
 }
 
-/// The texts of the witnesses of runs, where they are asked for. The debugger is left as found.
+/// The texts of the witnesses of runs, where they are asked for. The debugger is left as found. An `Err` is want of memory, and comes only
+/// where there is a leaf.
 fn texts_of(
     alloc: Global,
     debugger: &mut Debugger<'_>,
@@ -212,9 +228,8 @@ fn texts_of(
     requires fits { debugger.old.trail.depth + limits.fuel ≤ STEPS_MAX }
     requires listed { AllByRecursion (HasWitness wide_decision debugger.old.trail.program debugger.old.trail.mode (done_steps debugger.old.trail) limits.fuel debugger.old.world) leaves.now }
     ensures texts { IfOk result (λ texts. map string_bytes texts.items ≡ witness_texts wide_decision limits.witnesses (done_steps debugger.old.trail) limits.fuel debugger.old.world leaves.now) }
-    ensures trail { debugger.new.trail ≡ debugger.old.trail }
-    ensures world { debugger.new.world ≡ debugger.old.world }
-    ensures reached { IsReached (standing_of debugger.new) }
+    ensures as_found { AsFound (standing_of debugger.old) (standing_of debugger.new) }
+    ensures memory { OnErr result (0 < length leaves.now) }
 {
     debugger.state_is_reached();
     let mut texts = Vec::new(alloc);
@@ -228,7 +243,8 @@ fn texts_of(
     Ok(texts)
 }
 
-/// The ways that the runs from here end, without the texts of witnesses. The debugger is left as found.
+/// The ways that the runs from here end, without the texts of witnesses. The debugger is left as found. An `Err` is want of memory, and
+/// comes only where the search may come to a state.
 fn found_from(
     alloc: Global,
     debugger: &mut Debugger<'_>,
@@ -236,11 +252,13 @@ fn found_from(
 ) -> Result<Outcomes, AllocError>
     requires clean { length debugger.old.trail.steps ≡ debugger.old.trail.depth }
     requires fits { debugger.old.trail.depth + limits.fuel ≤ STEPS_MAX }
-    ensures told { IfOk result (λ o. TellsRuns limits.fuel debugger.old.world o) }
     ensures texts { IfOk result (λ o. o.firsts.witnesses.items ≡ []) }
-    ensures trail { debugger.new.trail ≡ debugger.old.trail }
-    ensures world { debugger.new.world ≡ debugger.old.world }
-    ensures reached { IsReached (standing_of debugger.new) }
+    ensures stops { IfOk result (λ o. StopsAt limits.until o.firsts.leaves.items) }
+    ensures last { IfOk result (λ o. StopsRuns limits.until limits.fuel debugger.old.world o) }
+    ensures limit { IfOk result (λ o. StopsFor limits o.firsts.more o.visited o.firsts.leaves.items) }
+    ensures none { IfOk result (λ o. limits.visited ≡ 0 → (o.firsts.leaves.items ≡ []) × (o.firsts.more ≡ true)) }
+    ensures memory { OnErr result (0 < limits.visited) }
+    ensures as_found { AsFound (standing_of debugger.old) (standing_of debugger.new) }
 {
     debugger.state_is_reached();
     let base = debugger.depth();
@@ -254,9 +272,11 @@ fn found_from(
 }
 
 /// The ways that the runs from here end, along the wide walk (docs/DEFINITIONS.md, "Outcomes of a script"): for each how many runs end so,
-/// and the first of them. Where a limit stops the search, this is told of the first runs of the walk, and there are more. Fuel counts from
-/// here. The debugger is left as found, also where memory is refused, which is what an `Err` says. No undone step is kept, and the depth
-/// and the fuel are at most 1,000,000 steps together.
+/// and the first of them. Where a limit stops the search, this is told of the first runs of the walk, and there are more. So it is where it
+/// stops for an end: of these runs none but the last ends so. Fuel counts from here. The debugger is left as found, also where an
+/// `Err` says that memory was refused: for what may come next, a step, an open choice, counts, or what is told. That comes only where the
+/// search may come to a state; where it may come to none, no way is told, and there are more runs. A state that memory is refused for isn't
+/// kept, and the table gives up all the others. No undone step is kept, and the depth and the fuel are at most 1,000,000 steps together.
 pub fn explore_outcomes(
     alloc: Global,
     debugger: &mut Debugger<'_>,
@@ -267,9 +287,12 @@ pub fn explore_outcomes(
     ensures told { IfOk result (λ o. TellsRuns limits.fuel debugger.old.world o) }
     ensures witnesses { IfOk result (λ o. AllByRecursion (HasWitness wide_decision debugger.old.trail.program debugger.old.trail.mode (done_steps debugger.old.trail) limits.fuel debugger.old.world) o.firsts.leaves.items) }
     ensures texts { IfOk result (λ o. map string_bytes o.firsts.witnesses.items ≡ witness_texts wide_decision limits.witnesses (done_steps debugger.old.trail) limits.fuel debugger.old.world o.firsts.leaves.items) }
-    ensures trail { debugger.new.trail ≡ debugger.old.trail }
-    ensures world { debugger.new.world ≡ debugger.old.world }
-    ensures reached { IsReached (standing_of debugger.new) }
+    ensures stops { IfOk result (λ o. StopsAt limits.until o.firsts.leaves.items) }
+    ensures last { IfOk result (λ o. StopsRuns limits.until limits.fuel debugger.old.world o) }
+    ensures limit { IfOk result (λ o. StopsFor limits o.firsts.more o.visited o.firsts.leaves.items) }
+    ensures none { IfOk result (λ o. limits.visited ≡ 0 → (o.firsts.leaves.items ≡ []) × (o.firsts.more ≡ true)) }
+    ensures memory { OnErr result (0 < limits.visited) }
+    ensures as_found { AsFound (standing_of debugger.old) (standing_of debugger.new) }
 {
     debugger.state_is_reached();
     wide_decisions_can_be_followed();

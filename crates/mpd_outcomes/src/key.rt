@@ -1,7 +1,7 @@
 //! The key of a state: states of a script that have the same words have the same future (docs/DEFINITIONS.md, "States with the same
 //! future").
 
-ghost use Rattle.std.specs.Prelude.{◌≡◌, ◌<◌, ◌++◌, IfOk, OnOk, length, pos, slice_set};
+ghost use Rattle.std.specs.Prelude.{◌≡◌, ◌<◌, ◌++◌, IfOk, OnOk, [], length, pos, slice_set};
 ghost use Rattle.std.specs.List.{flat_map};
 ghost use Rattle.mpd_model.specs.steps.World.{call_numbers};
 ghost use Rattle.mpd_model.specs.steps.Outcomes.{first_number};
@@ -58,36 +58,43 @@ fn blank_overwritten(vars: &mut [i64], last: Option<CallKind>)
     }
 }
 
-/// The variables of a rank.
-fn variables(alloc: Global, state: &RankState) -> Result<Vec<i64>, AllocError>
-    ensures { IfOk result (λ vars. vars.items ≡ state.now.vars) }
+/// Adds the variables of a rank that is blocked for a call: those that it overwrites aren't told.
+fn push_blocked_variables(
+    alloc: Global,
+    words: &mut Vec<i64>,
+    state: &RankState,
+    last: Option<CallKind>,
+) -> Result<(), AllocError>
+    ensures { OnOk result (words.new.items ≡ words.old.items ++ sized (blanked (overwritten last) state.now.vars)) }
 {
-    let mut vars = Vec::new(alloc);
-    vars.extend_from_slice(state.variables())?;
-    Ok(vars)
+    match last {
+        Some(CallKind::Recv(_)) => {
+            let mut vars = Vec::from_slice(alloc, state.variables())?;
+            blank_overwritten(&mut vars, last);
+            push_sized(words, &vars)
+        }
+        _ => push_sized(words, state.variables()),
+    }
 }
 
-/// The variables of a rank that may still be read: none where it has no statement left or is trapped. Where it is blocked, those that
-/// its last call overwrites aren't told.
-fn live_variables(
+/// Adds the variables of a rank that may still be read: none where it has no statement left or is trapped. Where it is blocked, those
+/// that its last call overwrites aren't told.
+fn push_live(
     alloc: Global,
+    words: &mut Vec<i64>,
     state: &RankState,
     code: &Code,
     last: Option<CallKind>,
-) -> Result<Vec<i64>, AllocError>
-    ensures { IfOk result (λ vars. vars.items ≡ live_vars (overwritten last) state.now.activity (left_at code.now.program state.now.node) state.now.vars) }
+) -> Result<(), AllocError>
+    ensures { OnOk result (words.new.items ≡ words.old.items ++ sized (live_vars (overwritten last) state.now.activity (left_at code.now.program state.now.node) state.now.vars)) }
 {
     if state.next_statement(code).is_none() {
-        return Ok(Vec::new(alloc));
+        return push_sized(words, &[]);
     }
     match state.activity() {
-        Activity::Running => variables(alloc, state),
-        Activity::Blocked => {
-            let mut vars = variables(alloc, state)?;
-            blank_overwritten(&mut vars, last);
-            Ok(vars)
-        }
-        Activity::Trapped(_) => Ok(Vec::new(alloc)),
+        Activity::Running => push_sized(words, state.variables()),
+        Activity::Blocked => push_blocked_variables(alloc, words, state, last),
+        Activity::Trapped(_) => push_sized(words, &[]),
     }
 }
 
@@ -212,30 +219,37 @@ fn push_blocked(words: &mut Vec<i64>, board: &Board, state: &RankState) -> Resul
     }
 }
 
-/// The part of a rank.
-fn rank_part(
+/// How many words there is room for in a part at first.
+const ROOM_OF_PART: usize = 64;
+
+/// How many words there is room for in a key at first, for each rank.
+const ROOM_OF_RANK: usize = 32;
+
+/// Writes the part of a rank, in place of what is there.
+fn write_part(
     alloc: Global,
+    part: &mut Vec<i64>,
     board: &Board,
     state: &RankState,
     code: &Code,
-) -> Result<Vec<i64>, AllocError>
-    ensures words { IfOk result (λ part. part.items ≡ spec.rank_words board.now.board state.now.rank (rank_of code.now.program state.now)) }
-    ensures placed { IfOk result (λ _. left_at code.now.program state.now.node ≡ spec.left_from code.now.program (first_number (left_at code.now.program state.now.node))) }
+) -> Result<(), AllocError>
+    ensures words { OnOk result (part.new.items ≡ spec.rank_words board.now.board state.now.rank (rank_of code.now.program state.now)) }
+    ensures placed { OnOk result (left_at code.now.program state.now.node ≡ spec.left_from code.now.program (first_number (left_at code.now.program state.now.node))) }
 {
     let rank = state.number();
     let last = board.kind(board.last_call(rank));
-    let mut part = Vec::new(alloc);
-    push_place(&mut part, state, code)?;
-    push_sized(&mut part, &live_variables(alloc, state, code, last)?)?;
-    push_handles(&mut part, board, rank, state.handles())?;
-    push_calls(&mut part, board, rank)?;
-    push_blocked(&mut part, board, state)?;
-    Ok(part)
+    part.clear();
+    push_place(part, state, code)?;
+    push_live(alloc, part, state, code, last)?;
+    push_handles(part, board, rank, state.handles())?;
+    push_calls(part, board, rank)?;
+    push_blocked(part, board, state)
 }
 
-/// Adds the part of a rank, behind its length.
+/// Adds the part of a rank, behind its length. It is written to `part` first.
 fn push_rank(
     alloc: Global,
+    part: &mut Vec<i64>,
     key: &mut Vec<i64>,
     core: &Core<'_>,
     rank: usize,
@@ -244,20 +258,36 @@ fn push_rank(
     ensures words { OnOk result (key.new.items ≡ key.old.items ++ sized (spec.part_at core.now.world rank)) }
     ensures placed { OnOk result (spec.IsPlaced core.now.program core.now.world rank) }
 {
-    let part = rank_part(alloc, core.board(), core.rank(rank), core.code())?;
-    push_sized(key, &part)
+    write_part(alloc, part, core.board(), core.rank(rank), core.code())?;
+    push_sized(key, part)
+}
+
+/// Adds the parts of all ranks, each written to `part` first, so that none asks for memory of its own.
+fn push_ranks(
+    alloc: Global,
+    part: &mut Vec<i64>,
+    key: &mut Vec<i64>,
+    core: &Core<'_>,
+) -> Result<(), AllocError>
+    requires { key.old.items ≡ [] }
+    ensures { OnOk result (spec.IsKey core.now.program core.now.world key.new.items) }
+{
+    core.all_ranks_are_there();
+    let count = core.rank_count();
+    for rank in 0..count {
+        push_rank(alloc, part, key, core, rank)?;
+    }
+    Ok(())
 }
 
 /// The key of a state. An `Err` is want of memory.
 pub(crate) fn key_of(alloc: Global, core: &Core<'_>) -> Result<Vec<i64>, AllocError>
     ensures { IfOk result (λ k. spec.IsKey core.now.program core.now.world k.items) }
 {
-    core.all_ranks_are_there();
-    let mut key = Vec::new(alloc);
-    let count = core.rank_count();
-    for rank in 0..count {
-        push_rank(alloc, &mut key, core, rank)?;
-    }
+    let room = core.rank_count().saturating_mul(ROOM_OF_RANK);
+    let mut part = Vec::with_capacity(alloc, ROOM_OF_PART)?;
+    let mut key = Vec::with_capacity(alloc, room)?;
+    push_ranks(alloc, &mut part, &mut key, core)?;
     Ok(key)
 }
 

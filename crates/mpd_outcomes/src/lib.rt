@@ -3,12 +3,16 @@
 
 mod explore;
 mod key;
+mod parts;
 mod report;
 mod search;
+mod store;
 mod sums;
 mod table;
+mod text;
 mod ways;
 mod words;
 
 pub use explore::explore_outcomes;
-pub use report::{Count, Outcomes, StateLimits};
+pub use report::{Count, Goal, Outcomes, StateLimits};
+pub use text::push_count;

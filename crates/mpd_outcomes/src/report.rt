@@ -2,8 +2,10 @@
 
 ghost use Rattle.std.specs.Prelude.{◌≡◌};
 ghost use Rattle.mpd_outcomes.specs.Outcomes.{plus};
+ghost use Rattle.mpd_outcomes.specs.Goals.{meets};
 
-use mpd_explore::Report;
+use mpd_explore::{Ending, Report};
+use mpd_model::Outcome;
 
 /// How many runs there are.
 #[derive(Clone, Copy, PartialEq, Eq)]
@@ -29,6 +31,33 @@ impl Count {
     }
 }
 
+/// How a run ends for which a search stops.
+#[derive(Clone, Copy)]
+pub enum Goal {
+    /// In a deadlock.
+    Deadlock,
+    /// With a trap.
+    Trap,
+    /// In a deadlock or with a trap.
+    Bad,
+    /// Done, also where messages are left over.
+    Well,
+}
+
+impl Goal {
+    /// Whether a run that ends so meets it.
+    pub fn is_met(self, ending: &Ending) -> bool
+        ensures { result ≡ meets self ending.now }
+    {
+        match (self, ending) {
+            (Goal::Deadlock | Goal::Bad, Ending::Ended(Outcome::Deadlock(_))) => true,
+            (Goal::Trap | Goal::Bad, Ending::Ended(Outcome::Trap(_))) => true,
+            (Goal::Well, Ending::Ended(Outcome::Done | Outcome::Leftovers(_))) => true,
+            _ => false,
+        }
+    }
+}
+
 /// How far a search goes that comes to each state once.
 #[derive(Clone, Copy)]
 pub struct StateLimits {
@@ -40,6 +69,8 @@ pub struct StateLimits {
     pub visited: usize,
     /// Whether the witnesses of deadlocks are wanted.
     pub witnesses: bool,
+    /// For which end the search stops, as soon as a run is found that ends so. Without one all runs are come to.
+    pub until: Option<Goal>,
 }
 
 /// The ways that runs end, in the order of the first run of each.

@@ -1,6 +1,7 @@
 //! The search: open choices on a stack, the debugger going forward and back, and a table of the states whose runs are told.
 
-ghost use Rattle.std.specs.Prelude.{◌≡◌, ◌+◌, ◌≤◌, ◌<◌, ℕ, IfOk, OnOk, IfSome, IfNone, Some, length, reverse, take, slice_get};
+ghost use Rattle.std.specs.List.{list_any};
+ghost use Rattle.std.specs.Prelude.{◌≡◌, ◌+◌, ◌≤◌, ◌<◌, ℕ, true, false, IfOk, OnOk, OnErr, IfSome, IfNone, Some, length, reverse, take, slice_get};
 ghost use Rattle.mpd_model.specs.runs.Trail.{done_steps, gone_back, IsReached};
 ghost use Rattle.mpd_model.specs.steps.World.{World};
 ghost use Rattle.mpd_model.specs.declared.decision.Decision.TheVariants as decision_is;
@@ -9,13 +10,17 @@ ghost use Rattle.mpd_outcomes.specs.declared.search.Arrived.TheVariants as arriv
 ghost use Rattle.mpd_policy.specs.Wide.{wide_decision};
 ghost use Rattle.mpd_walk.specs.Walks.{Beyond};
 ghost use Rattle.mpd_explore.specs.Search.{Safe};
-ghost use Rattle.mpd_outcomes.specs.Front.{search_of, picked, open_in, ways_with, beyond_end, IsArrived, Down, Noted, Opened, Closed, Recalled, BeforeIn, AfterIn, Met, Turned, Stopped};
+ghost use Rattle.mpd_outcomes.specs.Front.{search_of, picked, open_in, ways_with, beyond_end, IsArrived, Down, Noted, Opened, Closed, KeptBy, Recalled, BeforeIn, AfterIn, Met, Turned, come_to, come_now, states_now, states_met, Stopped, WentOn};
 ghost use Rattle.mpd_outcomes.specs.Sums.{IsWay};
+ghost use Rattle.mpd_outcomes.specs.Table.{KeepsLess};
+ghost use Rattle.mpd_outcomes.specs.Keys.{IsKey};
+ghost use Rattle.mpd_outcomes.specs.Goals.{meets_any, StopsAt, StopsFor};
 
 use crate::key::key_of;
+use crate::report::StateLimits;
 use crate::sums::{Sums, Tally};
 use crate::table::{Found, Table};
-use crate::ways::way_of;
+use crate::ways::{is_goal_met, way_of};
 use mpd_explore::{ChoiceList, Ending, Leaf};
 use mpd_model::{Decision, STEPS_MAX, Step, StepList};
 use mpd_policy::{wide_decide, wide_decisions_can_be_followed};
@@ -30,14 +35,14 @@ pub(crate) struct Bounds {
     pub(crate) limit: usize,
 }
 
-/// A choice that is open: the depth where it is, its candidates, the one that is taken, the key of its state, and what is told of the runs
-/// round it: those by the candidates that were tried at the choice above.
+/// A choice that is open: the depth where it is, its candidates, the one that is taken, the key of its state, where memory was there for it,
+/// and what is told of the runs round it: those by the candidates that were tried at the choice above.
 #[derive(Drop)]
 pub(crate) struct Open {
     pub(crate) depth: usize,
     pub(crate) candidates: StepList,
     pub(crate) index: usize,
-    pub(crate) key: Vec<i64>,
+    pub(crate) key: Option<Vec<i64>>,
     pub(crate) outer: Sums,
 }
 
@@ -157,7 +162,7 @@ fn push_choice(
     alloc: Global,
     depth: usize,
     candidates: StepList,
-    key: Vec<i64>,
+    key: Option<Vec<i64>>,
     front: &mut Front,
 ) -> Result<(), AllocError>
     requires { depth ≤ STEPS_MAX }
@@ -179,11 +184,19 @@ fn push_choice(
 }
 
 /// Tells the runs of a state from the table, where what was found of it holds with what is left of the fuel; false where there is nothing.
-fn recall(key: &Vec<i64>, limit: usize, depth: usize, front: &mut Front) -> Result<bool, AllocError>
+fn recall(
+    key: &Option<Vec<i64>>,
+    limit: usize,
+    depth: usize,
+    front: &mut Front,
+) -> Result<bool, AllocError>
     requires within { depth ≤ limit }
     requires few { limit ≤ STEPS_MAX }
     ensures { IfOk result (λ b. Recalled key.now limit depth b front.old front.new) }
 {
+    let Some(key) = key else {
+        return Ok(false);
+    };
     let Some(found) = front.table.recall(key, limit - depth) else {
         return Ok(false);
     };
@@ -226,6 +239,20 @@ fn go_back(debugger: &mut Debugger<'_>, depth: usize)
     let _ = debugger.undo_to(depth);
 }
 
+/// The key of where a debugger stands. Where memory is refused there is none, and the table gives up what it keeps.
+fn key_here(alloc: Global, debugger: &Debugger<'_>, table: &mut Table) -> Option<Vec<i64>>
+    ensures key { IfSome result (λ key. IsKey debugger.now.trail.program debugger.now.world key.items) }
+    ensures less { KeepsLess table.old table.new }
+{
+    match key_of(alloc, debugger.core()) {
+        Ok(key) => Some(key),
+        Err(_fault) => {
+            table.give_up(alloc);
+            None
+        }
+    }
+}
+
 /// A choice is come to: its runs are told from the table, or it is opened, which is what is answered.
 fn meet(
     alloc: Global,
@@ -239,17 +266,13 @@ fn meet(
     requires fuel { debugger.old.trail.depth < bounds.limit }
     requires few { bounds.limit ≤ STEPS_MAX }
     ensures met { (root : World) → BeforeIn (search_of bounds debugger.old.trail root) front.old (standing_of debugger.old) → IfOk result (λ b. Met (search_of bounds debugger.old.trail root) b front.new (standing_of debugger.new)) }
+    ensures states { (root : World) → BeforeIn (search_of bounds debugger.old.trail root) front.old (standing_of debugger.old) → IfOk result (λ b. states_now (search_of bounds debugger.old.trail root) true front.old (standing_of debugger.old) < states_met (search_of bounds debugger.old.trail root) b front.new (standing_of debugger.new)) }
+    ensures ways { OnOk result (front.new.ways.items ≡ front.old.ways.items) }
     ensures safe { Safe bounds.base (standing_of debugger.old) (standing_of debugger.new) }
 {
     debugger.state_is_reached();
     wide_decisions_can_be_followed();
-    let key = match key_of(alloc, debugger.core()) {
-        Ok(key) => key,
-        Err(fault) => {
-            drop(candidates);
-            return Err(fault);
-        }
-    };
+    let key = key_here(alloc, debugger, &mut front.table);
     let depth = debugger.depth();
     if recall(&key, bounds.limit, depth, front)? {
         return Ok(false);
@@ -263,11 +286,22 @@ fn meet(
     Ok(true)
 }
 
+/// Keeps what was found of the state of a key, where there is one.
+fn keep_by(alloc: Global, key: Option<Vec<i64>>, found: Found, table: &mut Table)
+    ensures { KeptBy table.old key found table.new }
+{
+    match key {
+        Some(key) => table.keep(alloc, key, found),
+        None => drop(found),
+    }
+}
+
 /// Closes a choice whose candidates are all tried: what is told of their runs joins what is told round it, and is kept.
 fn close(
+    alloc: Global,
     limit: usize,
     depth: usize,
-    key: Vec<i64>,
+    key: Option<Vec<i64>>,
     outer: Sums,
     front: &mut Front,
 ) -> Result<(), AllocError>
@@ -286,13 +320,14 @@ fn close(
         height: deepest - depth,
         tally,
     };
-    front.table.keep(key, found);
+    keep_by(alloc, key, found, &mut front.table);
     Ok(())
 }
 
 /// Goes back to the innermost open choice with a candidate left, closing those that have none, and takes that candidate; false where no
 /// choice is open any more.
 fn advance(
+    alloc: Global,
     debugger: &mut Debugger<'_>,
     bounds: Bounds,
     front: &mut Front,
@@ -300,6 +335,8 @@ fn advance(
     requires stands { (root : World) × AfterIn (search_of bounds debugger.old.trail root) front.old (standing_of debugger.old) }
     requires few { bounds.limit ≤ STEPS_MAX }
     ensures turned { (root : World) → AfterIn (search_of bounds debugger.old.trail root) front.old (standing_of debugger.old) → IfOk result (λ b. Turned (search_of bounds debugger.old.trail root) b front.new (standing_of debugger.new)) }
+    ensures ways { OnOk result (front.new.ways.items ≡ front.old.ways.items) }
+    ensures come { (root : World) → AfterIn (search_of bounds debugger.old.trail root) front.old (standing_of debugger.old) → IfOk result (λ b. come_now (search_of bounds debugger.old.trail root) b front.new (standing_of debugger.new) ≡ come_to (search_of bounds debugger.old.trail root) (open_in front.old) (done_steps debugger.old.trail)) }
     ensures safe { Safe bounds.base (standing_of debugger.old) (standing_of debugger.new) }
 {
     debugger.state_is_reached();
@@ -325,7 +362,7 @@ fn advance(
             return Ok(true);
         }
         drop(candidates);
-        close(bounds.limit, depth, key, outer, front)?;
+        close(alloc, bounds.limit, depth, key, outer, front)?;
     }
     Ok(false)
 }
@@ -342,14 +379,14 @@ fn go_on_at_choice(
     requires choice { wide_decision debugger.old.world ≡ decision_is.Choice candidates }
     requires fuel { debugger.old.trail.depth < bounds.limit }
     requires few { bounds.limit ≤ STEPS_MAX }
-    ensures turned { (root : World) → BeforeIn (search_of bounds debugger.old.trail root) front.old (standing_of debugger.old) → IfOk result (λ b. Turned (search_of bounds debugger.old.trail root) b front.new (standing_of debugger.new)) }
+    ensures went_on { (root : World) → BeforeIn (search_of bounds debugger.old.trail root) front.old (standing_of debugger.old) → IfOk result (λ b. WentOn (search_of bounds debugger.old.trail root) front.old (standing_of debugger.old) b front.new (standing_of debugger.new)) }
     ensures safe { Safe bounds.base (standing_of debugger.old) (standing_of debugger.new) }
 {
     let is_open = meet(alloc, debugger, bounds, candidates, front)?;
     if is_open {
         return Ok(true);
     }
-    advance(debugger, bounds, front)
+    advance(alloc, debugger, bounds, front)
 }
 
 /// Goes on from the end of a run; false where all runs are come to.
@@ -363,13 +400,14 @@ fn go_on_at_end(
     requires stands { (root : World) × BeforeIn (search_of bounds debugger.old.trail root) front.old (standing_of debugger.old) }
     requires end { IsArrived bounds.limit (standing_of debugger.old) (arrived_is.End ending) }
     requires few { bounds.limit ≤ STEPS_MAX }
-    ensures turned { (root : World) → BeforeIn (search_of bounds debugger.old.trail root) front.old (standing_of debugger.old) → IfOk result (λ b. Turned (search_of bounds debugger.old.trail root) b front.new (standing_of debugger.new)) }
+    ensures went_on { (root : World) → BeforeIn (search_of bounds debugger.old.trail root) front.old (standing_of debugger.old) → IfOk result (λ b. WentOn (search_of bounds debugger.old.trail root) front.old (standing_of debugger.old) b front.new (standing_of debugger.new)) }
     ensures safe { Safe bounds.base (standing_of debugger.old) (standing_of debugger.new) }
 {
     debugger.state_is_reached();
+    wide_decisions_can_be_followed();
     let depth = debugger.depth();
     note_end(alloc, depth, ending, front)?;
-    advance(debugger, bounds, front)
+    advance(alloc, debugger, bounds, front)
 }
 
 /// Comes to the next state, a choice or an end, and goes on from there; false where all runs are come to.
@@ -381,7 +419,7 @@ fn turn(
 ) -> Result<bool, AllocError>
     requires stands { (root : World) × BeforeIn (search_of bounds debugger.old.trail root) front.old (standing_of debugger.old) }
     requires few { bounds.limit ≤ STEPS_MAX }
-    ensures turned { (root : World) → BeforeIn (search_of bounds debugger.old.trail root) front.old (standing_of debugger.old) → IfOk result (λ b. Turned (search_of bounds debugger.old.trail root) b front.new (standing_of debugger.new)) }
+    ensures went_on { (root : World) → BeforeIn (search_of bounds debugger.old.trail root) front.old (standing_of debugger.old) → IfOk result (λ b. WentOn (search_of bounds debugger.old.trail root) front.old (standing_of debugger.old) b front.new (standing_of debugger.new)) }
     ensures safe { Safe bounds.base (standing_of debugger.old) (standing_of debugger.new) }
 {
     match go_down(alloc, debugger, bounds.limit)? {
@@ -397,30 +435,36 @@ pub(crate) struct Reach {
     pub(crate) more: bool,
 }
 
-/// Comes to so many states at most.
+/// Comes to so many states at most, and to none after a run that ends as is looked for. An `Err` is want of memory, and comes only where it
+/// may come to a state; where it may come to none, nothing changes, and there are more runs.
 pub(crate) fn search(
     alloc: Global,
     debugger: &mut Debugger<'_>,
     bounds: Bounds,
-    most: usize,
+    limits: StateLimits,
     front: &mut Front,
 ) -> Result<Reach, AllocError>
     requires stands { (root : World) × BeforeIn (search_of bounds debugger.old.trail root) front.old (standing_of debugger.old) }
     requires few { bounds.limit ≤ STEPS_MAX }
-    ensures stopped { (root : World) → BeforeIn (search_of bounds debugger.old.trail root) front.old (standing_of debugger.old) → IfOk result (λ r. Stopped (search_of bounds debugger.old.trail root) r.more front.new (standing_of debugger.new)) }
+    requires unmet { list_any (meets_any limits.until) front.old.ways.items ≡ false }
+    ensures stopped { (root : World) → BeforeIn (search_of bounds debugger.old.trail root) front.old (standing_of debugger.old) → IfOk result (λ r. Stopped (search_of bounds debugger.old.trail root) limits.until r front.new (standing_of debugger.new)) }
+    ensures stops { OnOk result (StopsAt limits.until front.new.ways.items) }
+    ensures limit { IfOk result (λ r. StopsFor limits r.more r.visited front.new.ways.items) }
+    ensures none { IfOk result (λ r. limits.visited ≡ 0 → (front.new ≡ front.old) × (r.more ≡ true)) }
+    ensures memory { OnErr result (0 < limits.visited) }
     ensures safe { Safe bounds.base (standing_of debugger.old) (standing_of debugger.new) }
 {
-    for visited in 0..most {
+    for visited in 0..limits.visited {
         let is_left = turn(alloc, debugger, bounds, front)?;
-        if !is_left {
+        if !is_left || is_goal_met(limits.until, &front.ways) {
             return Ok(Reach {
                 visited: visited + 1,
-                more: false,
+                more: is_left,
             });
         }
     }
     Ok(Reach {
-        visited: most,
+        visited: limits.visited,
         more: true,
     })
 }

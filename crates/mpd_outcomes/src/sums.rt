@@ -1,6 +1,6 @@
 //! What is told of some runs, put together from parts.
 
-ghost use Rattle.std.specs.Prelude.{◌≡◌, ◌∷◌, [], ◌++◌, ◌-◌, IfOk, OnOk, replicate, max, length};
+ghost use Rattle.std.specs.Prelude.{◌≡◌, ◌∷◌, [], ◌++◌, ◌-◌, ◌<◌, IfOk, OnOk, OnErr, replicate, max, length};
 ghost use Rattle.mpd_outcomes.specs.declared.report.Count.TheVariants as count_is;
 ghost use Rattle.mpd_outcomes.specs.Outcomes.{plus};
 ghost use Rattle.mpd_outcomes.specs.Sums.{added, one_at};
@@ -22,11 +22,14 @@ pub(crate) struct Sums {
     pub(crate) deepest: usize,
 }
 
-/// Adds counts, each to the one of its number. Where there is none, it is 0.
+/// Adds counts, each to the one of its number. Where there is none, it is 0. An `Err` is want of memory, and comes only where there are
+/// counts to add.
 fn add_counts(counts: &mut Vec<Count>, others: &[Count]) -> Result<(), AllocError>
-    ensures { OnOk result (counts.new.items ≡ added counts.old.items others.now) }
+    ensures counts { OnOk result (counts.new.items ≡ added counts.old.items others.now) }
+    ensures memory { OnErr result (0 < length others.now) }
 {
     let many = others.len();
+    counts.reserve_exact(many.saturating_sub(counts.len()))?;
     for number in 0..many {
         if number < counts.len() {
             counts[number] = counts[number].plus(others[number]);
@@ -37,9 +40,10 @@ fn add_counts(counts: &mut Vec<Count>, others: &[Count]) -> Result<(), AllocErro
     Ok(())
 }
 
-/// Makes counts as many as there are ways, by zeros at the end.
+/// Makes counts as many as there are ways, by zeros at the end. An `Err` is want of memory, and comes only where there are fewer.
 pub(crate) fn pad(counts: &mut Vec<Count>, many: usize) -> Result<(), AllocError>
-    ensures { OnOk result (counts.new.items ≡ counts.old.items ++ replicate (many - length counts.old.items) (count_is.Exactly 0)) }
+    ensures counts { OnOk result (counts.new.items ≡ counts.old.items ++ replicate (many - length counts.old.items) (count_is.Exactly 0)) }
+    ensures memory { OnErr result (length counts.old.items < many) }
 {
     let missing = many.saturating_sub(counts.len());
     for _done in 0..missing {
@@ -74,10 +78,11 @@ impl Tally {
         })
     }
 
-    /// Adds what is told of other runs.
+    /// Adds what is told of other runs. An `Err` is want of memory, and comes only where counts are told of them.
     pub(crate) fn add(&mut self, other: &Tally) -> Result<(), AllocError>
         ensures counts { OnOk result (self.new.counts.items ≡ added self.old.counts.items other.now.counts.items) }
         ensures total { OnOk result (self.new.total ≡ plus self.old.total other.now.total) }
+        ensures memory { OnErr result (0 < length other.now.counts.items) }
     {
         add_counts(&mut self.counts, &other.counts)?;
         self.total = self.total.plus(other.total);

@@ -5,7 +5,9 @@ ghost use Rattle.mpd_model.specs.steps.World.{id_eq};
 ghost use Rattle.std.specs.Cmp.Lexicographic.{pointwise};
 ghost use Rattle.mpd_outcomes.specs.Outcomes.{ending_eq, outcome_eq, trap_eq, trapped_eq};
 ghost use Rattle.mpd_outcomes.specs.Sums.{has_end, IsWay};
+ghost use Rattle.mpd_outcomes.specs.Goals.{ends_at};
 
+use crate::report::Goal;
 use mpd_explore::{Ending, Leaf};
 use mpd_model::{CallId, Outcome, Trap, TrappedRank};
 
@@ -84,4 +86,14 @@ pub(crate) fn way_of(leaves: &[Leaf], ending: &Ending) -> Option<usize>
         }
     }
     None
+}
+
+/// Whether the last of some leaves ends as a search stops for.
+pub(crate) fn is_goal_met(until: Option<Goal>, leaves: &[Leaf]) -> bool
+    ensures { result ≡ ends_at until leaves.now }
+{
+    match (until, leaves.last()) {
+        (Some(goal), Some(leaf)) => goal.is_met(&leaf.ending),
+        _ => false,
+    }
 }

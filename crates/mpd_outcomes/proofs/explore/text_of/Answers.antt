@@ -6,8 +6,5 @@ use Rattle.mpd_outcomes.proofs.explore.text_of.Goals as goal
 pub put_back-requires : goal.put_back-requires
 put_back-requires c = omega (arith, c.depth-base.ensures.value, beyond_depth (standing_of c.args.debugger.now) (standing_of c.text_there-told.new.debugger) c.state_is_reached.ensures.reached c.text_there-told.ensures.beyond)
 
-pub returns-clause-trail : goal.returns-clause-trail
-returns-clause-trail c = (c.put_back.ensures.found (standing_of c.args.debugger.now) c.state_is_reached.ensures.reached c.requires.clean c.depth-base.ensures.value c.text_there-told.ensures.beyond).trail
-
-pub returns-clause-world : goal.returns-clause-world
-returns-clause-world c = (c.put_back.ensures.found (standing_of c.args.debugger.now) c.state_is_reached.ensures.reached c.requires.clean c.depth-base.ensures.value c.text_there-told.ensures.beyond).world
+pub returns-clause-as_found : goal.returns-clause-as_found
+returns-clause-as_found c = c.put_back.ensures.found (standing_of c.args.debugger.now) c.state_is_reached.ensures.reached c.requires.clean c.depth-base.ensures.value c.text_there-told.ensures.beyond

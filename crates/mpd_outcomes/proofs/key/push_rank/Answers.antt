@@ -8,6 +8,6 @@ pub returns-clause-words : goal.returns-clause-words
 returns-clause-words c =
     subst (λ (ws : List ℤ). OnOk c.push_sized.result (c.push_sized.new.words.items ≡ c.args.key.now.items ++ sized ws))
     (c.deref.ensures.value
-    ∙ part_is c.args.core.now.world c.args.core.now.program c.code.result.now.program c.board.result.now.board c.args.rank c.rank.result.now.rank c.rank.result.now c.in_ok-part.part.items
-    c.board.ensures c.rank.ensures.number c.code.ensures c.rank.ensures.world c.in_ok-part.ensures.words)
+    ∙ part_is c.args.core.now.world c.args.core.now.program c.code.result.now.program c.board.result.now.board c.args.rank c.rank.result.now.rank c.rank.result.now c.write_part.new.part.items
+    c.board.ensures c.rank.ensures.number c.code.ensures c.rank.ensures.world c.in_ok-write_part.ensures.words)
     c.push_sized.ensures

@@ -22,11 +22,11 @@ pub loop-depth-preserved : goal.loop-depth-preserved
 loop-depth-preserved c =
     let i = c.loop-depth.invariant in
     let d : wide_decision c.loop-depth.debugger.world ≡ Forced c.in-Forced.step = ap wide_decision (sym c.core.ensures.world) ∙ sym c.in_ok-outcome.ensures.ok ∙ c.in-Forced.is in
-    let deep : c.forward.new.self.trail.depth ≡ c.loop-depth.debugger.trail.depth + 1 = ap (λ (t : Trail). t.depth) c.in_ok-forward-in-Forced.ensures.ok in
+    let deep : c.forward.new.self.trail.depth ≡ c.loop-depth.debugger.trail.depth + 1 = ap (λ (t : Trail). t.depth) c.in_ok-forward-in-Forced.ensures.taken.moved.ok in
     let room : c.loop-depth.debugger.trail.depth < c.args.limit = (let lt = c.loop-depth-test.true in let at = i.depth in omega (arith, lt, at)) in
     record {
       depth = (let at = i.depth in omega (arith, deep, at));
-      same = one_down c.args.limit (standing_of c.args.debugger.now) (standing_of c.loop-depth.debugger) (standing_of c.forward.new.self) c.in-Forced.step i.same room d c.in_ok-forward-in-Forced.ensures.world deep;
-      beyond = on_beyond (standing_of c.args.debugger.now) (standing_of c.loop-depth.debugger) (standing_of c.forward.new.self) c.in-Forced.step i.beyond c.in_ok-forward-in-Forced.ensures.steps c.in_ok-forward-in-Forced.ensures.program
-          c.in_ok-forward-in-Forced.ensures.mode c.in_ok-forward-in-Forced.ensures.reached;
+      same = one_down c.args.limit (standing_of c.args.debugger.now) (standing_of c.loop-depth.debugger) (standing_of c.forward.new.self) c.in-Forced.step i.same room d c.in_ok-forward-in-Forced.ensures.taken.world deep;
+      beyond = on_beyond (standing_of c.args.debugger.now) (standing_of c.loop-depth.debugger) (standing_of c.forward.new.self) c.in-Forced.step i.beyond c.in_ok-forward-in-Forced.ensures.taken.steps c.in_ok-forward-in-Forced.ensures.taken.moved.program
+          c.in_ok-forward-in-Forced.ensures.taken.moved.mode c.in_ok-forward-in-Forced.ensures.taken.moved.reached;
     }

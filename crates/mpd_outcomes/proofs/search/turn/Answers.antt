@@ -1,10 +1,10 @@
 use Rattle.std.proofs.Common.{sym, subst}
-use Rattle.std.specs.Prelude.{IfOk}
 use Rattle.mpd_trail.specs.Views.{standing_of}
 use Rattle.mpd_explore.proofs.SearchLemmas.{safe_then}
 use Rattle.mpd_outcomes.specs.declared.search.Arrived.{Arrived}
-use Rattle.mpd_outcomes.specs.Front.{Search, search_of, open_in, IsArrived, BeforeIn, Turned}
+use Rattle.mpd_outcomes.specs.Front.{Search, search_of, open_in, IsArrived, BeforeIn}
 use Rattle.mpd_outcomes.proofs.MoveLemmas.{gone_down, same_search}
+use Rattle.mpd_outcomes.proofs.AlongLemmas.{went_down}
 use Rattle.mpd_outcomes.proofs.StackLemmas.{safe_down}
 use Rattle.mpd_outcomes.proofs.search.turn.Goals as goal
 
@@ -45,17 +45,10 @@ go_on_at_end-requires-clause-stands c =
 pub go_on_at_end-requires-clause-end : goal.go_on_at_end-requires-clause-end
 go_on_at_end-requires-clause-end c = subst (λ (a : Arrived). IsArrived c.args.bounds.limit (standing_of c.go_down.new.debugger) a) c.in-End.is c.in_ok-candidates.ensures.down.arrived
 
-pub returns-in-Choice-clause-turned : goal.returns-in-Choice-clause-turned
-returns-in-Choice-clause-turned c = λ root g.
-    let s : Search = search_of c.args.bounds c.args.debugger.now.trail root in
-    let e = standing_of c.go_down.new.debugger in
-    let down = c.in_ok-candidates.ensures.down in
-    let before : BeforeIn s c.args.front.now e =
-    gone_down s (open_in c.args.front.now) c.args.front.now.ways.items c.args.front.now.sums c.args.front.now.table (standing_of c.args.debugger.now) e g c.go_down.ensures.beyond down.same down.deeper down.within
-    in
-    let same = same_search c.args.bounds c.args.debugger.now.trail root (open_in c.args.front.now) e before.at in
-    subst (λ (z : Search). IfOk c.go_on_at_choice.result (λ b. Turned z b c.go_on_at_choice.new.front (standing_of c.go_on_at_choice.new.debugger))) same
-    (c.go_on_at_choice.ensures.turned root (subst (λ (z : Search). BeforeIn z c.args.front.now e) (sym same) before))
+pub returns-in-Choice-clause-went_on : goal.returns-in-Choice-clause-went_on
+returns-in-Choice-clause-went_on c = λ root g.
+    went_down c.go_on_at_choice.result c.args.bounds c.args.debugger.now.trail root c.args.front.now (standing_of c.args.debugger.now) (standing_of c.go_down.new.debugger) c.in_ok-candidates.field-0
+    c.go_on_at_choice.new.front (standing_of c.go_on_at_choice.new.debugger) g c.in_ok-candidates.ensures.down c.go_down.ensures.beyond (c.go_on_at_choice.ensures.went_on root)
 
 pub returns-in-Choice-clause-safe : goal.returns-in-Choice-clause-safe
 returns-in-Choice-clause-safe c =
@@ -65,17 +58,10 @@ returns-in-Choice-clause-safe c =
     let e = standing_of c.go_down.new.debugger in
     safe_then s.base d e (standing_of c.go_on_at_choice.new.debugger) (safe_down s (open_in c.args.front.now) d e r.1.at c.go_down.ensures.beyond) c.go_on_at_choice.ensures.safe
 
-pub returns-in-End-clause-turned : goal.returns-in-End-clause-turned
-returns-in-End-clause-turned c = λ root g.
-    let s : Search = search_of c.args.bounds c.args.debugger.now.trail root in
-    let e = standing_of c.go_down.new.debugger in
-    let down = c.in_ok-candidates.ensures.down in
-    let before : BeforeIn s c.args.front.now e =
-    gone_down s (open_in c.args.front.now) c.args.front.now.ways.items c.args.front.now.sums c.args.front.now.table (standing_of c.args.debugger.now) e g c.go_down.ensures.beyond down.same down.deeper down.within
-    in
-    let same = same_search c.args.bounds c.args.debugger.now.trail root (open_in c.args.front.now) e before.at in
-    subst (λ (z : Search). IfOk c.go_on_at_end.result (λ b. Turned z b c.go_on_at_end.new.front (standing_of c.go_on_at_end.new.debugger))) same
-    (c.go_on_at_end.ensures.turned root (subst (λ (z : Search). BeforeIn z c.args.front.now e) (sym same) before))
+pub returns-in-End-clause-went_on : goal.returns-in-End-clause-went_on
+returns-in-End-clause-went_on c = λ root g.
+    went_down c.go_on_at_end.result c.args.bounds c.args.debugger.now.trail root c.args.front.now (standing_of c.args.debugger.now) (standing_of c.go_down.new.debugger) c.in_ok-candidates.field-0
+    c.go_on_at_end.new.front (standing_of c.go_on_at_end.new.debugger) g c.in_ok-candidates.ensures.down c.go_down.ensures.beyond (c.go_on_at_end.ensures.went_on root)
 
 pub returns-in-End-clause-safe : goal.returns-in-End-clause-safe
 returns-in-End-clause-safe c =

@@ -6,7 +6,7 @@ use Rattle.mpd_outcomes.proofs.sums.add_counts.Goals.{then-number-len, else-numb
 use Rattle.mpd_outcomes.proofs.sums.add_counts.Goals as goal
 
 pub loop-number-init : goal.loop-number-init
-loop-number-init c = sym (added_none c.args.counts.now.items)
+loop-number-init c = c.reserve_exact.ensures.items ∙ sym (added_none c.args.counts.now.items)
 
 pub loop-number-preserved : goal.loop-number-preserved
 loop-number-preserved c =

@@ -2,7 +2,7 @@ use Rattle.mpd_outcomes.specs.Words.{sized}
 use Rattle.mpd_outcomes.specs.Keys.{part_at}
 use Rattle.mpd_outcomes.proofs.PushLemmas.{given_more}
 use borrow.Author.Count.{below_more}
-use Rattle.mpd_outcomes.proofs.key.key_of.Goals as goal
+use Rattle.mpd_outcomes.proofs.key.push_ranks.Goals as goal
 
 pub loop-rank-preserved : goal.loop-rank-preserved
 loop-rank-preserved c = record {

@@ -2,7 +2,7 @@ use Rattle.std.proofs.Common.{◌≡◌, ℕ, ◌<◌, ◌-◌, ◌++◌}
 use Rattle.std.specs.List.{flat_map, range_with_len}
 use Rattle.mpd_outcomes.specs.Words.{sized}
 use Rattle.mpd_outcomes.specs.Keys.{part_at, key_words, IsPlaced}
-use Rattle.mpd_outcomes.proofs.key.key_of.Given as goal
+use Rattle.mpd_outcomes.proofs.key.push_ranks.Given as goal
 
 abbrev pub invariant-loop-rank : goal.invariant-loop-rank
 invariant-loop-rank l = record {
