@@ -1,0 +1,4 @@
+mod ListLemmas
+mod SightLemmas
+mod BackLemmas
+pub mod ToldLemmas

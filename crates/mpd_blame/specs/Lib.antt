@@ -1,0 +1,4 @@
+pub mod Blame
+pub mod Words
+pub mod WordRows
+pub mod Told

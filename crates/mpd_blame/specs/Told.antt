@@ -1,0 +1,39 @@
+-- What is told of the step that decided how a run ends.
+use Rattle.std.specs.Prelude.{◌≡◌, ℕ, Bool, true, false, List, [], ◌∷◌}
+use Rattle.std.specs.List.{AllZip}
+use Rattle.mpd_model.specs.declared.call.Mode.{Mode}
+use Rattle.mpd_model.specs.declared.step.Step.{Step}
+use Rattle.mpd_model.specs.script.Program.{Program}
+use Rattle.mpd_model.specs.steps.World.{World, start}
+use Rattle.mpd_model.specs.runs.Trail.{Standing}
+use Rattle.mpd_model.specs.texts.Texts.{line}
+use Rattle.mpd_policy.specs.Wide.{wide_decision}
+use Rattle.mpd_walk.specs.Walk.{run_by, steps_by}
+use Rattle.mpd_explore.specs.declared.report.Leaf.{Leaf}
+use Rattle.mpd_blame.specs.declared.back.Blame.{Blame}
+use Rattle.mpd_blame.specs.Blame.{ends_badly, IsBlame, IsThere}
+use Rattle.mpd_blame.specs.Words.{blame_words}
+
+-- `  decided from the start: no run ends well`
+abbrev pub blame_line : Program → World → Blame → List ℕ
+blame_line s w b = line (32 ∷ 32 ∷ blame_words s w b)
+
+-- the line of a run from the start of a script
+pub record IsBlamed (most limit : ℕ) (s : Program) (mode : Mode) (steps : List Step) (text : List ℕ) : Type 0 where
+  pub blame : Blame
+  pub is : IsBlame most limit (start s mode) steps blame
+  pub world : World
+  pub there : IsThere (start s mode) steps blame world
+  pub text_is : text ≡ blame_line s world blame
+
+-- that of a leaf from where a debugger stands, which is the start: none where it doesn't end badly
+abbrev pub LineIf : ℕ → ℕ → Standing → Leaf → Bool → List ℕ → Type 0
+LineIf most limit d l false text = text ≡ []
+LineIf most limit d l true text = IsBlamed most limit d.trail.program d.trail.mode (steps_by (run_by wide_decision limit l.choices d.world)) text
+
+abbrev pub IsLine : ℕ → ℕ → Standing → Leaf → List ℕ → Type 0
+IsLine most limit d l text = LineIf most limit d l (ends_badly l) text
+
+-- those of some leaves, in their order
+abbrev pub AreBlamed : ℕ → ℕ → Standing → List Leaf → List (List ℕ) → Type 0
+AreBlamed most limit d leaves texts = AllZip (IsLine most limit d) leaves texts

@@ -1,0 +1,214 @@
+//! The last step of a run before which some run still ends well, found by going back along the run.
+
+ghost use Rattle.std.specs.Prelude.{◌≡◌, ◌+◌, ◌-◌, ◌<◌, ◌≤◌, true, IfOk, OnOk, OnErr, Some, None, length, slice_get};
+ghost use Rattle.mpd_model.specs.steps.World.{start};
+ghost use Rattle.mpd_model.specs.steps.Next.{next};
+ghost use Rattle.mpd_model.specs.runs.Trail.{forgotten, gone_back, step_eq, IsReached};
+ghost use Rattle.mpd_trail.specs.Views.{standing_of};
+ghost use Rattle.mpd_policy.specs.Wide.{wide_decision};
+ghost use Rattle.mpd_outcomes.specs.Goals.{states_along};
+ghost use Rattle.mpd_outcomes.specs.Outcomes.{leaves_from};
+ghost use Rattle.mpd_blame.specs.declared.sight.Sight.TheVariants as sight_is;
+ghost use Rattle.mpd_blame.specs.Blame.{is_doomed, tells, IsBack, IsBlame, IsOnly, IsThere, Turned};
+
+use crate::sight::{Looked, Sight, look};
+use mpd_meaning::steps::{every_step_that_leads_on_is_listed, reached_worlds_have_calls};
+use mpd_model::{Decision, STEPS_MAX, Step};
+use mpd_outcomes::StateLimits;
+use mpd_policy::{wide_decide, wide_decisions_can_be_followed};
+use mpd_trail::Debugger;
+use mpd_walk::put_back;
+use std::alloc::{AllocError, Global};
+
+/// The step that decided how a run ends.
+#[derive(Clone, Copy)]
+pub struct Decided {
+    /// How many steps of the run stand before it.
+    pub depth: usize,
+    /// The step.
+    pub taken: Step,
+    /// The first step of the first run that ends well from there.
+    pub other: Step,
+}
+
+/// Where it was decided how a run ends. To end well is to end done, also where messages are left over; to end badly is to end in a
+/// deadlock or with a trap.
+#[derive(Clone, Copy)]
+pub enum Blame {
+    /// By this step: before it some run ends well, and from there on every run ends badly.
+    At(Decided),
+    /// From the start of the script on every run ends badly.
+    FromStart,
+    /// After more than so many steps every run ends badly. Of the runs after so many steps none was found that ends well, and some were
+    /// not come to or are cut.
+    OrEarlier(usize),
+    /// From the end of the run some run still ends well.
+    Open,
+    /// Of the runs from the end of the run none was found that ends well, and some were not come to or are cut.
+    Unknown,
+}
+
+/// Whether two steps are one.
+fn is_same(one: Step, other: Step) -> bool
+    ensures { result ≡ step_eq one other }
+{
+    one == other
+}
+
+/// Whether this step is all that can come next along the wide walk.
+fn is_only(alloc: Global, debugger: &Debugger<'_>, step: Step) -> Result<bool, AllocError>
+    ensures { IfOk result (λ b. b ≡ true → IsOnly (wide_decision debugger.now.world) step) }
+{
+    match wide_decide(alloc, debugger.core())? {
+        Decision::Leaf(outcome) => {
+            drop(outcome);
+            Ok(false)
+        }
+        Decision::Forced(forced) => Ok(is_same(forced, step)),
+        Decision::Choice(candidates) => {
+            let is_one = candidates.items.len() == 1 && is_same(candidates.items[0], step);
+            drop(candidates);
+            Ok(is_one)
+        }
+    }
+}
+
+/// The last step that was taken.
+fn last_step(debugger: &Debugger<'_>) -> Step
+    requires clean { length debugger.now.trail.steps ≡ debugger.now.trail.depth }
+    requires some { 0 < debugger.now.trail.depth }
+    ensures { slice_get debugger.now.trail.steps (debugger.now.trail.depth - 1) ≡ Some result }
+{
+    let last = debugger.depth() - 1;
+    debugger.steps()[last]
+}
+
+/// Takes the last step back, and answers it.
+fn step_back(debugger: &mut Debugger<'_>) -> Step
+    requires clean { length debugger.old.trail.steps ≡ debugger.old.trail.depth }
+    requires some { 0 < debugger.old.trail.depth }
+    ensures step { slice_get debugger.old.trail.steps (debugger.old.trail.depth - 1) ≡ Some result }
+    ensures leads { next debugger.new.world result ≡ Some debugger.old.world }
+    ensures trail { debugger.new.trail ≡ forgotten (gone_back debugger.old.trail (debugger.old.trail.depth - 1)) }
+    ensures reached { IsReached (standing_of debugger.new) }
+{
+    debugger.state_is_reached();
+    let step = last_step(debugger);
+    let last = debugger.depth() - 1;
+    put_back(debugger, last);
+    step
+}
+
+/// What is told of a step that was taken after so many steps, if anything: nothing where every run from there ends badly.
+fn told(depth: usize, taken: Step, sight: Sight) -> Option<Blame>
+    requires { sight ≡ sight_is.Well None → ⊥ }
+    ensures { result ≡ tells depth taken sight }
+{
+    match sight {
+        Sight::Doomed => None,
+        Sight::Unknown => Some(Blame::OrEarlier(depth)),
+        Sight::Well(other) => {
+            let Some(other) = other else { unreachable!() };
+            Some(Blame::At(Decided {
+                depth,
+                taken,
+                other,
+            }))
+        }
+    }
+}
+
+/// How a search is limited after so many states.
+fn limits_after(limits: StateLimits, visited: usize) -> StateLimits
+    ensures fuel { result.fuel ≡ limits.fuel }
+    ensures visited { result.visited ≡ limits.visited - visited }
+{
+    StateLimits {
+        visited: limits.visited.saturating_sub(visited),
+        ..limits
+    }
+}
+
+/// Takes a step back, and says what is told then, if anything: nothing where every run from there ends badly, too. So many states more are
+/// come to at most, and these are counted.
+fn turn(
+    alloc: Global,
+    debugger: &mut Debugger<'_>,
+    limits: &mut StateLimits,
+) -> Result<Option<Blame>, AllocError>
+    requires clean { length debugger.old.trail.steps ≡ debugger.old.trail.depth }
+    requires some { 0 < debugger.old.trail.depth }
+    requires within { debugger.old.trail.depth ≤ limits.old.fuel }
+    requires few { limits.old.fuel ≤ STEPS_MAX }
+    requires doomed { is_doomed (limits.old.fuel - debugger.old.trail.depth) debugger.old.world ≡ true }
+    ensures turned { IfOk result (λ o. Turned limits.old.visited limits.old.fuel (standing_of debugger.old) o (standing_of debugger.new)) }
+    ensures spent { OnOk result (limits.old.visited ≤ limits.new.visited + states_along (leaves_from (limits.old.fuel - debugger.new.trail.depth) debugger.new.world)) }
+    ensures fuel { limits.new.fuel ≡ limits.old.fuel }
+    ensures trail { debugger.new.trail ≡ forgotten (gone_back debugger.old.trail (debugger.old.trail.depth - 1)) }
+    ensures reached { IsReached (standing_of debugger.new) }
+{
+    debugger.state_is_reached();
+    let taken = step_back(debugger);
+    wide_decisions_can_be_followed();
+    reached_worlds_have_calls();
+    every_step_that_leads_on_is_listed();
+    if is_only(alloc, debugger, taken)? {
+        return Ok(None);
+    }
+    let Looked { sight, visited } = look(alloc, debugger, *limits)?;
+    *limits = limits_after(*limits, visited);
+    Ok(told(debugger.depth(), taken, sight))
+}
+
+/// The same, step after step, from the end of a run from which every run ends badly, as was found by coming to so many states.
+fn turns(
+    alloc: Global,
+    debugger: &mut Debugger<'_>,
+    limits: StateLimits,
+    visited: usize,
+) -> Result<Blame, AllocError>
+    requires clean { length debugger.old.trail.steps ≡ debugger.old.trail.depth }
+    requires within { debugger.old.trail.depth ≤ limits.fuel }
+    requires few { limits.fuel ≤ STEPS_MAX }
+    requires doomed { is_doomed (limits.fuel - debugger.old.trail.depth) debugger.old.world ≡ true }
+    requires come { visited ≤ states_along (leaves_from (limits.fuel - debugger.old.trail.depth) debugger.old.world) }
+    ensures blame { IfOk result (λ b. IsBlame limits.visited limits.fuel (start debugger.old.trail.program debugger.old.trail.mode) debugger.old.trail.steps b) }
+    ensures there { IfOk result (λ b. IsThere (start debugger.old.trail.program debugger.old.trail.mode) debugger.old.trail.steps b debugger.new.world) }
+    ensures back { IsBack (standing_of debugger.old) (standing_of debugger.new) }
+{
+    debugger.state_is_reached();
+    let mut limits = limits_after(limits, visited);
+    let depth = debugger.depth();
+    for _undone in 0..depth {
+        if let Some(blame) = turn(alloc, debugger, &mut limits)? {
+            return Ok(blame);
+        }
+    }
+    Ok(Blame::FromStart)
+}
+
+/// The step that decided how the run ends that a debugger has taken from the start of its script. Each run has as many steps as the fuel says
+/// at most, those of the run that stand before it among them; so many states are come to at most, from all states of the run together. An
+/// `Err` is want of memory, and comes only where a state may be come to. The debugger is left on the way back along its run: where the step
+/// was decided, where that is told.
+pub fn blame_run(
+    alloc: Global,
+    debugger: &mut Debugger<'_>,
+    limits: StateLimits,
+) -> Result<Blame, AllocError>
+    requires clean { length debugger.old.trail.steps ≡ debugger.old.trail.depth }
+    requires within { debugger.old.trail.depth ≤ limits.fuel }
+    requires few { limits.fuel ≤ STEPS_MAX }
+    ensures blame { IfOk result (λ b. IsBlame limits.visited limits.fuel (start debugger.old.trail.program debugger.old.trail.mode) debugger.old.trail.steps b) }
+    ensures there { IfOk result (λ b. IsThere (start debugger.old.trail.program debugger.old.trail.mode) debugger.old.trail.steps b debugger.new.world) }
+    ensures back { IsBack (standing_of debugger.old) (standing_of debugger.new) }
+    ensures memory { OnErr result (0 < limits.visited) }
+{
+    debugger.state_is_reached();
+    let Looked { sight, visited } = look(alloc, debugger, limits)?;
+    match sight {
+        Sight::Well(_) => Ok(Blame::Open),
+        Sight::Unknown => Ok(Blame::Unknown),
+        Sight::Doomed => turns(alloc, debugger, limits, visited),
+    }
+}

@@ -1,0 +1,120 @@
+//! The line of the step that decided, for each of some runs from the start of a script (docs/FORMATS.md, "The step that decides").
+
+ghost use Rattle.std.specs.Prelude.{◌≡◌, ◌≤◌, ◌<◌, ◌++◌, true, IfOk, OnErr, IsSome, length, map, string_bytes};
+ghost use Rattle.std.specs.List.{AllByRecursion};
+ghost use Rattle.mpd_model.specs.runs.Trail.{done_steps};
+ghost use Rattle.mpd_trail.specs.Views.{AsFound, standing_of};
+ghost use Rattle.mpd_policy.specs.Wide.{wide_decision};
+ghost use Rattle.mpd_walk.specs.Walk.{run_by, steps_by};
+ghost use Rattle.mpd_walk.specs.Walks.{Beyond};
+ghost use Rattle.mpd_explore.specs.Witness.{HasWitness};
+ghost use Rattle.mpd_blame.specs.Told.{blame_line, AreBlamed, IsBlamed, IsLine};
+ghost use Rattle.mpd_blame.specs.Blame.{ends_badly, IsBack};
+
+use crate::back::{Blame, blame_run};
+use crate::words::push_blame;
+use mpd_core::Core;
+use mpd_explore::Leaf;
+use mpd_model::STEPS_MAX;
+use mpd_outcomes::{Goal, StateLimits};
+use mpd_trail::Debugger;
+use mpd_walk::{Wide, follow, put_back};
+use std::alloc::{AllocError, Global};
+
+/// Where it was decided how a run ends, as a line that begins with two spaces. The core is in the state before the step that decided it.
+fn line_of(alloc: Global, core: &Core<'_>, blame: Blame) -> Result<String, AllocError>
+    ensures { IfOk result (λ t. string_bytes t ≡ blame_line core.now.program core.now.world blame) }
+{
+    let mut line = String::new(alloc);
+    line.push_str("  ")?;
+    push_blame(core, &mut line, blame)?;
+    line.push('\n')?;
+    Ok(line)
+}
+
+/// The line of the run that a debugger has taken from the start of its script. The debugger is left on the way back along this run.
+fn line_here(
+    alloc: Global,
+    debugger: &mut Debugger<'_>,
+    limits: StateLimits,
+) -> Result<String, AllocError>
+    requires clean { length debugger.old.trail.steps ≡ debugger.old.trail.depth }
+    requires within { debugger.old.trail.depth ≤ limits.fuel }
+    requires few { limits.fuel ≤ STEPS_MAX }
+    ensures line { IfOk result (λ t. IsBlamed limits.visited limits.fuel debugger.old.trail.program debugger.old.trail.mode debugger.old.trail.steps (string_bytes t)) }
+    ensures back { IsBack (standing_of debugger.old) (standing_of debugger.new) }
+{
+    let blame = blame_run(alloc, debugger, limits)?;
+    line_of(alloc, debugger.core(), blame)
+}
+
+/// The line of the run from the start that some choices tell. The debugger is left on this run.
+fn line_there(
+    alloc: Global,
+    debugger: &mut Debugger<'_>,
+    limits: StateLimits,
+    choices: &[usize],
+) -> Result<String, AllocError>
+    requires at_start { debugger.old.trail.depth ≡ 0 }
+    requires few { limits.fuel ≤ STEPS_MAX }
+    requires some { IsSome (run_by wide_decision limits.fuel choices.now debugger.old.world) }
+    ensures line { IfOk result (λ t. IsBlamed limits.visited limits.fuel debugger.old.trail.program debugger.old.trail.mode (steps_by (run_by wide_decision limits.fuel choices.now debugger.old.world)) (string_bytes t)) }
+    ensures beyond { Beyond (standing_of debugger.old) (standing_of debugger.new) }
+{
+    debugger.state_is_reached();
+    follow(alloc, &Wide, debugger, limits.fuel, choices)?;
+    debugger.forget_undone();
+    line_here(alloc, debugger, limits)
+}
+
+/// The line of the step that decided how the run of a leaf of the wide walk ends, where that is a deadlock or a trap; else no text. The
+/// debugger stands at the start of its script, with no undone step, and is left as found, also where memory is refused, which is what an `Err`
+/// says; that comes only where the leaf ends so. The fuel is at most 1,000,000 steps.
+pub fn line_of_leaf(
+    alloc: Global,
+    debugger: &mut Debugger<'_>,
+    limits: StateLimits,
+    leaf: &Leaf,
+) -> Result<String, AllocError>
+    requires clean { length debugger.old.trail.steps ≡ debugger.old.trail.depth }
+    requires at_start { debugger.old.trail.depth ≡ 0 }
+    requires few { limits.fuel ≤ STEPS_MAX }
+    requires some { IsSome (run_by wide_decision limits.fuel leaf.now.choices debugger.old.world) }
+    ensures line { IfOk result (λ t. IsLine limits.visited limits.fuel (standing_of debugger.old) leaf.now (string_bytes t)) }
+    ensures as_found { AsFound (standing_of debugger.old) (standing_of debugger.new) }
+    ensures memory { OnErr result (ends_badly leaf.now ≡ true) }
+{
+    debugger.state_is_reached();
+    if !Goal::Bad.is_met(&leaf.ending) {
+        return Ok(String::new(alloc));
+    }
+    let line = line_there(alloc, debugger, limits, &leaf.choices.items);
+    put_back(debugger, 0);
+    line
+}
+
+/// For each of some leaves of the wide walk the line of the step that decided how its run ends; no text for one that is no deadlock and no
+/// trap. The debugger stands at the start of its script, with no undone step, and is left as found, also where memory is refused, which is
+/// what an `Err` says; that comes only where there is a leaf. The fuel is at most 1,000,000 steps.
+pub fn blame_lines(
+    alloc: Global,
+    debugger: &mut Debugger<'_>,
+    limits: StateLimits,
+    leaves: &[Leaf],
+) -> Result<Vec<String>, AllocError>
+    requires clean { length debugger.old.trail.steps ≡ debugger.old.trail.depth }
+    requires at_start { debugger.old.trail.depth ≡ 0 }
+    requires few { limits.fuel ≤ STEPS_MAX }
+    requires listed { AllByRecursion (HasWitness wide_decision debugger.old.trail.program debugger.old.trail.mode (done_steps debugger.old.trail) limits.fuel debugger.old.world) leaves.now }
+    ensures lines { IfOk result (λ lines. AreBlamed limits.visited limits.fuel (standing_of debugger.old) leaves.now (map string_bytes lines.items)) }
+    ensures as_found { AsFound (standing_of debugger.old) (standing_of debugger.new) }
+    ensures memory { OnErr result (0 < length leaves.now) }
+{
+    debugger.state_is_reached();
+    let mut lines = Vec::new(alloc);
+    for leaf in leaves {
+        let line = line_of_leaf(alloc, debugger, limits, leaf)?;
+        lines.push(line)?;
+    }
+    Ok(lines)
+}
