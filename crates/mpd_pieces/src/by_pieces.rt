@@ -2,8 +2,8 @@
 
 ghost use Rattle.std.specs.Prelude.{◌≡◌, ◌+◌, ◌<◌, ◌≤◌, ◌++◌, ◌||◌, ◌&&◌, nat_lt, false, map, drop, IfOk, OnOk, IsErrOf, length, string_bytes};
 ghost use Rattle.std.specs.List.{AllByRecursion};
-ghost use Rattle.mpd_model.specs.runs.Trail.{done_steps, IsReached};
-ghost use Rattle.mpd_trail.specs.Views.{standing_of};
+ghost use Rattle.mpd_model.specs.runs.Trail.{done_steps};
+ghost use Rattle.mpd_trail.specs.Views.{AsFound, standing_of};
 ghost use Rattle.mpd_explore.specs.Report.{any_bad};
 ghost use Rattle.mpd_explore.specs.Sleeping.{decides_by};
 ghost use Rattle.mpd_explore.specs.WitnessTexts.{witness_texts};
@@ -51,9 +51,7 @@ fn add_part<W: Watch>(
     ensures more { OnOk result (report.new.more ≡ (report.old.more || part_left limits piece.now.choices debugger.old.world)) }
     ensures texts { OnOk result (map string_bytes report.new.witnesses.items ≡ map string_bytes report.old.witnesses.items ++ witness_texts (decides_by limits.ends) limits.witnesses (done_steps debugger.old.trail) limits.fuel debugger.old.world (part limits piece.now.choices debugger.old.world)) }
     ensures last { IfOk result (λ last. last ≡ (limits.until_bad && any_bad (part limits piece.now.choices debugger.old.world))) }
-    ensures trail { debugger.new.trail ≡ debugger.old.trail }
-    ensures world { debugger.new.world ≡ debugger.old.world }
-    ensures reached { IsReached (standing_of debugger.new) }
+    ensures as_found { AsFound (standing_of debugger.old) (standing_of debugger.new) }
 {
     let found = explore_at(alloc, debugger, &piece.choices.items, limits, watch)?;
     let is_last = limits.ends_with_report(&found);
@@ -85,9 +83,7 @@ fn has_run(
     requires fits { debugger.old.trail.depth + limits.fuel ≤ STEPS_MAX }
     requires reaches { Reaches (decides_by limits.ends) limits.fuel piece.now.choices debugger.old.world }
     ensures run { IfOk result (λ b. b ≡ nat_lt 0 (length (walk_at limits piece.now.choices debugger.old.world))) }
-    ensures trail { debugger.new.trail ≡ debugger.old.trail }
-    ensures world { debugger.new.world ≡ debugger.old.world }
-    ensures reached { IsReached (standing_of debugger.new) }
+    ensures as_found { AsFound (standing_of debugger.old) (standing_of debugger.new) }
 {
     let found = explore_at(
         alloc,
@@ -110,9 +106,7 @@ fn have_run(
     requires fits { debugger.old.trail.depth + limits.fuel ≤ STEPS_MAX }
     requires reaches { AllByRecursion (λ cs. Reaches (decides_by limits.ends) limits.fuel cs debugger.old.world) (choices_of pieces.now) }
     ensures run { IfOk result (λ b. b ≡ have_run limits debugger.old.world pieces.now) }
-    ensures trail { debugger.new.trail ≡ debugger.old.trail }
-    ensures world { debugger.new.world ≡ debugger.old.world }
-    ensures reached { IsReached (standing_of debugger.new) }
+    ensures as_found { AsFound (standing_of debugger.old) (standing_of debugger.new) }
 {
     debugger.state_is_reached();
     for place in 0..pieces.len() {
@@ -138,9 +132,7 @@ pub fn is_left(
     requires reaches { AllByRecursion (λ cs. Reaches (decides_by limits.ends) limits.fuel cs debugger.old.world) (choices_of pieces.now) }
     requires within { place ≤ length pieces.now }
     ensures left { IfOk result (λ b. b ≡ have_run limits debugger.old.world (drop place pieces.now)) }
-    ensures trail { debugger.new.trail ≡ debugger.old.trail }
-    ensures world { debugger.new.world ≡ debugger.old.world }
-    ensures reached { IsReached (standing_of debugger.new) }
+    ensures as_found { AsFound (standing_of debugger.old) (standing_of debugger.new) }
 {
     decisions_can_be_followed();
     debugger.state_is_reached();
@@ -172,9 +164,7 @@ fn explore_pieces<W: Watch>(
     ensures leaves { IfOk result (λ r. r.leaves.items ≡ report_of limits debugger.old.world pieces.now) }
     ensures more { IfOk result (λ r. r.more ≡ more_of limits debugger.old.world pieces.now) }
     ensures texts { IfOk result (λ r. map string_bytes r.witnesses.items ≡ witness_texts (decides_by limits.ends) limits.witnesses (done_steps debugger.old.trail) limits.fuel debugger.old.world r.leaves.items) }
-    ensures trail { debugger.new.trail ≡ debugger.old.trail }
-    ensures world { debugger.new.world ≡ debugger.old.world }
-    ensures reached { IsReached (standing_of debugger.new) }
+    ensures as_found { AsFound (standing_of debugger.old) (standing_of debugger.new) }
 {
     decisions_can_be_followed();
     debugger.state_is_reached();
@@ -213,9 +203,7 @@ pub fn explore_by_pieces<W: Watch>(
     ensures texts { IfOk result (λ r. map string_bytes r.witnesses.items ≡ witness_texts (decides_by limits.ends) limits.witnesses (done_steps debugger.old.trail) limits.fuel debugger.old.world r.leaves.items) }
     ensures few { OnOk result (length (pieces (decides_by limits.ends) choices limits.fuel debugger.old.world) ≤ PIECES_MAX) }
     ensures many { IsErrOf result SplitFault.TooManyPieces → PIECES_MAX < length (pieces (decides_by limits.ends) choices limits.fuel debugger.old.world) }
-    ensures trail { debugger.new.trail ≡ debugger.old.trail }
-    ensures world { debugger.new.world ≡ debugger.old.world }
-    ensures reached { IsReached (standing_of debugger.new) }
+    ensures as_found { AsFound (standing_of debugger.old) (standing_of debugger.new) }
 {
     match split(alloc, debugger, choices, limits) {
         Ok(pieces) => {

@@ -2,8 +2,8 @@
 
 ghost use Rattle.std.specs.Prelude.{◌≡◌, ◌+◌, ◌<◌, ◌≤◌, ◌⊎◌, [], false, map, IfOk, OnOk, OnErr, length, string_bytes};
 ghost use Rattle.std.specs.List.{AllByRecursion};
-ghost use Rattle.mpd_model.specs.runs.Trail.{done_steps, IsReached};
-ghost use Rattle.mpd_trail.specs.Views.{standing_of};
+ghost use Rattle.mpd_model.specs.runs.Trail.{done_steps};
+ghost use Rattle.mpd_trail.specs.Views.{AsFound, standing_of};
 ghost use Rattle.mpd_explore.specs.Report.{shown, listed, left_out};
 ghost use Rattle.mpd_explore.specs.Sleeping.{decides_by};
 ghost use Rattle.mpd_explore.specs.Witness.{HasWitness};
@@ -113,9 +113,7 @@ fn explore_piece<S: Schedule, W: Watch>(
     ensures more { IfOk result (λ r. r.more ≡ left_out limits (map shown (walk_from (rules_of S.decides S.same S.keeps limits.ends) limits.fuel choices.now [] debugger.old.world))) }
     ensures witnesses { IfOk result (λ r. AllByRecursion (HasWitness S.decides debugger.old.trail.program debugger.old.trail.mode (done_steps debugger.old.trail) limits.fuel debugger.old.world) r.leaves.items) }
     ensures texts { IfOk result (λ r. map string_bytes r.witnesses.items ≡ witness_texts S.decides limits.witnesses (done_steps debugger.old.trail) limits.fuel debugger.old.world r.leaves.items) }
-    ensures trail { debugger.new.trail ≡ debugger.old.trail }
-    ensures world { debugger.new.world ≡ debugger.old.world }
-    ensures reached { IsReached (standing_of debugger.new) }
+    ensures as_found { AsFound (standing_of debugger.old) (standing_of debugger.new) }
     ensures memory { OnErr result ((0 < limits.runs) ⊎ (0 < length choices.now)) }
 {
     debugger.state_is_reached();
@@ -144,9 +142,7 @@ pub fn explore_at<W: Watch>(
     ensures more { IfOk result (λ r. r.more ≡ part_left limits choices.now debugger.old.world) }
     ensures witnesses { IfOk result (λ r. AllByRecursion (HasWitness (decides_by limits.ends) debugger.old.trail.program debugger.old.trail.mode (done_steps debugger.old.trail) limits.fuel debugger.old.world) r.leaves.items) }
     ensures texts { IfOk result (λ r. map string_bytes r.witnesses.items ≡ witness_texts (decides_by limits.ends) limits.witnesses (done_steps debugger.old.trail) limits.fuel debugger.old.world r.leaves.items) }
-    ensures trail { debugger.new.trail ≡ debugger.old.trail }
-    ensures world { debugger.new.world ≡ debugger.old.world }
-    ensures reached { IsReached (standing_of debugger.new) }
+    ensures as_found { AsFound (standing_of debugger.old) (standing_of debugger.new) }
     ensures memory { OnErr result ((0 < limits.runs) ⊎ (0 < length choices.now)) }
 {
     if limits.ends {

@@ -2,8 +2,7 @@
 
 ghost use Rattle.std.specs.Prelude.{◌≡◌, ◌+◌, ◌-◌, ◌<◌, ◌≤◌, ◌++◌, ◌∷◌, ◌||◌, [], false, map, length, IfOk, OnOk, IsErrOf};
 ghost use Rattle.std.specs.List.{AllByRecursion, range_with_len};
-ghost use Rattle.mpd_model.specs.runs.Trail.{IsReached};
-ghost use Rattle.mpd_trail.specs.Views.{standing_of};
+ghost use Rattle.mpd_trail.specs.Views.{AsFound, standing_of};
 ghost use Rattle.mpd_explore.specs.Sleeping.{decides_by};
 ghost use Rattle.mpd_pieces.specs.Pieces.{Reaches, pieces, numbered};
 ghost use Rattle.mpd_walk.specs.Walks.{Beyond};
@@ -157,9 +156,7 @@ fn candidates_behind<S: Schedule>(
     requires fits { debugger.old.trail.depth + fuel ≤ STEPS_MAX }
     requires reaches { Reaches S.decides fuel choices.now debugger.old.world }
     ensures longer { IfOk result (λ m. longer S.decides fuel choices.now debugger.old.world ≡ map (λ cs. choices.now ++ cs) (counted m)) }
-    ensures trail { debugger.new.trail ≡ debugger.old.trail }
-    ensures world { debugger.new.world ≡ debugger.old.world }
-    ensures reached { IsReached (standing_of debugger.new) }
+    ensures as_found { AsFound (standing_of debugger.old) (standing_of debugger.new) }
 {
     debugger.state_is_reached();
     let base = debugger.depth();
@@ -259,9 +256,7 @@ fn push_grown<S: Schedule>(
     ensures few { OnOk result (length made.new.items ≤ PIECES_MAX) }
     ensures still { IfOk result (λ grows. grows ≡ false → longer S.decides fuel choices.now debugger.old.world ≡ choices.now ∷ []) }
     ensures many { IsErrOf result SplitFault.TooManyPieces → PIECES_MAX < length made.old.items + length (longer S.decides fuel choices.now debugger.old.world) }
-    ensures trail { debugger.new.trail ≡ debugger.old.trail }
-    ensures world { debugger.new.world ≡ debugger.old.world }
-    ensures reached { IsReached (standing_of debugger.new) }
+    ensures as_found { AsFound (standing_of debugger.old) (standing_of debugger.new) }
 {
     let count = candidates_behind(alloc, schedule, debugger, fuel, choices)?;
     match push_longer(alloc, made, choices, count) {
@@ -299,9 +294,7 @@ fn grown<S: Schedule>(
     ensures few { IfOk result (λ l. length l.made.items ≤ PIECES_MAX) }
     ensures still { IfOk result (λ l. l.grows ≡ false → all_longer S.decides fuel debugger.old.world from.now ≡ choices_of from.now) }
     ensures many { IsErrOf result SplitFault.TooManyPieces → PIECES_MAX < length (all_longer S.decides fuel debugger.old.world from.now) }
-    ensures trail { debugger.new.trail ≡ debugger.old.trail }
-    ensures world { debugger.new.world ≡ debugger.old.world }
-    ensures reached { IsReached (standing_of debugger.new) }
+    ensures as_found { AsFound (standing_of debugger.old) (standing_of debugger.new) }
 {
     debugger.state_is_reached();
     let mut made = Vec::new(alloc);
@@ -349,9 +342,7 @@ fn split_by<S: Schedule>(
     ensures ok { IfOk result (λ v. v.items ≡ numbered 0 (pieces S.decides choices fuel debugger.old.world)) }
     ensures few { OnOk result (length (pieces S.decides choices fuel debugger.old.world) ≤ PIECES_MAX) }
     ensures many { IsErrOf result SplitFault.TooManyPieces → PIECES_MAX < length (pieces S.decides choices fuel debugger.old.world) }
-    ensures trail { debugger.new.trail ≡ debugger.old.trail }
-    ensures world { debugger.new.world ≡ debugger.old.world }
-    ensures reached { IsReached (standing_of debugger.new) }
+    ensures as_found { AsFound (standing_of debugger.old) (standing_of debugger.new) }
 {
     schedule.can_be_followed();
     debugger.state_is_reached();
@@ -385,9 +376,7 @@ pub fn split(
     ensures ok { IfOk result (λ v. v.items ≡ numbered 0 (pieces (decides_by limits.ends) choices limits.fuel debugger.old.world)) }
     ensures few { OnOk result (length (pieces (decides_by limits.ends) choices limits.fuel debugger.old.world) ≤ PIECES_MAX) }
     ensures many { IsErrOf result SplitFault.TooManyPieces → PIECES_MAX < length (pieces (decides_by limits.ends) choices limits.fuel debugger.old.world) }
-    ensures trail { debugger.new.trail ≡ debugger.old.trail }
-    ensures world { debugger.new.world ≡ debugger.old.world }
-    ensures reached { IsReached (standing_of debugger.new) }
+    ensures as_found { AsFound (standing_of debugger.old) (standing_of debugger.new) }
 {
     if limits.ends {
         return split_by(alloc, &Wide, debugger, choices, limits.fuel);

@@ -2,8 +2,8 @@
 ghost use Rattle.std.specs.Prelude.{◌≡◌, ◌↔◌, ◌<◌, ◌≤◌, ◌+◌, ◌⊎◌, true, false, [], All, length, map, IfOk, OnOk, IsErrOf, string_bytes};
 ghost use Rattle.std.specs.List.{AllByRecursion};
 ghost use Rattle.crossbeam_deque.specs.Handles.{view, IsPassOf, worker_deque, worker_view, stealer_deque};
-ghost use Rattle.mpd_model.specs.runs.Trail.{done_steps, IsReached};
-ghost use Rattle.mpd_trail.specs.Views.{standing_of};
+ghost use Rattle.mpd_model.specs.runs.Trail.{done_steps};
+ghost use Rattle.mpd_trail.specs.Views.{AsFound, standing_of};
 ghost use Rattle.mpd_explore.specs.Sleeping.{decides_by};
 ghost use Rattle.mpd_explore.specs.Witness.{HasWitness};
 ghost use Rattle.mpd_explore.specs.WitnessTexts.{witness_texts};
@@ -256,9 +256,7 @@ pub fn check<G: Gate, R: Threads + Sync>(
     ensures workers { IsErrOf result PoolFault.BadWorkers ↔ ((crew.entry.workers ≡ 0) ⊎ (WORKERS_MAX < crew.entry.workers)) }
     ensures few { OnOk result (length (pieces (decides_by plan.limits.ends) plan.split plan.limits.fuel debugger.old.world) ≤ PIECES_MAX) }
     ensures many { IsErrOf result PoolFault.TooManyPieces → PIECES_MAX < length (pieces (decides_by plan.limits.ends) plan.split plan.limits.fuel debugger.old.world) }
-    ensures trail { debugger.new.trail ≡ debugger.old.trail }
-    ensures world { debugger.new.world ≡ debugger.old.world }
-    ensures reached { IsReached (standing_of debugger.new) }
+    ensures as_found { AsFound (standing_of debugger.old) (standing_of debugger.new) }
 {
     debugger.state_is_reached();
     if crew.workers == 0 || crew.workers > WORKERS_MAX {

@@ -8,3 +8,5 @@ pub mod LastChoiceLemmas
 pub mod EndLemmas
 pub mod LookLemmas
 pub mod SeekLemmas
+pub mod CountLemmas
+pub mod StateLemmas

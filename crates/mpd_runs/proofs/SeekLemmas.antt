@@ -12,7 +12,6 @@ use Rattle.mpd_policy.specs.Wide.{wide_decision}
 use Rattle.mpd_policy.proofs.WideLemmas.{wide_leaf}
 use Rattle.mpd_model.specs.runs.Decisions.{CanFollow}
 use Rattle.mpd_model.specs.runs.Trail.{Trail, done_steps, forgotten, IsReached}
-use Rattle.mpd_model.specs.declared.limits.TheConstants.{RUNS_MAX}
 use Rattle.mpd_trail.proofs.KeptLemmas.{fold-append}
 use Rattle.mpd_walk.specs.declared.ending.Ending.{Ending}
 use Rattle.mpd_explore.specs.declared.report.Leaf as leaf
@@ -24,9 +23,19 @@ use Rattle.mpd_runs.specs.declared.search.WholeRun.{WholeRun}
 use Rattle.mpd_runs.specs.declared.way.Way.{Way}
 use Rattle.mpd_runs.specs.Ways.{ends_in, first_in}
 use Rattle.mpd_explore.specs.Report.{ended_by}
-use Rattle.mpd_runs.specs.Runs.{fuel_at, all_runs, first_runs, are_more, is_number, none_line}
-use Rattle.mpd_runs.specs.Seek.{LeadsTo, LiesAhead, Looked, whole_run, found_run, numbered_run, nothing_line}
+use Rattle.mpd_runs.specs.declared.counts.WayCounts.{WayCounts}
+use Rattle.mpd_runs.specs.declared.search.Search.{Search}
+use Rattle.mpd_runs.specs.declared.search.Scope.{Scope}
+use Rattle.mpd_runs.specs.declared.search.Scope.TheVariants.{WideWalk, Listed}
+use Rattle.mpd_runs.specs.declared.search.Sought.{Sought}
+use Rattle.mpd_runs.specs.declared.search.Sought.TheVariants.{Found, Nothing}
+use Rattle.mpd_runs.specs.declared.states.ByStates.{ByStates}
+use Rattle.mpd_runs.specs.Counts.{counts_of}
+use Rattle.mpd_runs.specs.Runs.{fuel_at, all_runs, first_runs, is_number}
+use Rattle.mpd_runs.specs.declared.states.TheConstants.{STATES_VISITED}
+use Rattle.mpd_runs.specs.Seek.{LeadsTo, LiesAhead, Looked, whole_run, found_in, counts_in, numbered_run, IsSoughtFrom, IsSearch, FoundLies, StatesTell, TooMany}
 use Rattle.mpd_runs.proofs.EndLemmas.{few_steps, run_leads}
+use Rattle.mpd_runs.proofs.StateLemmas.{unmapped}
 
 -- ---- the steps of a run
 
@@ -116,27 +125,52 @@ pub copied_lies : (t u : Trail) (o : Option WholeRun) → u ≡ forgotten t → 
 copied_lies t u None e k h = tt
 copied_lies t u (Some r) e k h = copy_lies t u r e k h
 
-pub found_is : (x : Way) (t u : Trail) (v w : World) (n : ℕ) (leaves : List leaf.Leaf) (others : Bool) (o : Option WholeRun) → done_steps u ≡ done_steps t → v ≡ w → n ≡ fuel_at t.depth → Looked x n v leaves others
-    → o ≡ option_map (whole_run (done_steps u) n v) (first_in x leaves) → o ≡ found_run x t w
-found_is x t u v w n leaves others o k same fuel h e =
-    e ∙ ap (option_map (whole_run (done_steps u) n v)) h.first
-    ∙ ap (λ before. option_map (whole_run before n v) (first_in x (first_runs RUNS_MAX n v))) k
-    ∙ ap (λ m. option_map (whole_run (done_steps t) m v) (first_in x (first_runs RUNS_MAX m v))) fuel
-    ∙ ap (λ z. option_map (whole_run (done_steps t) (fuel_at t.depth) z) (first_in x (first_runs RUNS_MAX (fuel_at t.depth) z))) same
+pub copied_found : (t u : Trail) (q : Sought) → u ≡ forgotten t → done_steps u ≡ done_steps t → FoundLies u q → FoundLies t q
+copied_found t u (Found r) e k h = copy_lies t u r e k h
+copied_found t u (Nothing counts) e k h = tt
 
-unmapped : (f : leaf.Leaf → WholeRun) (o : Option leaf.Leaf) → option_map f o ≡ None → o ≡ None
-unmapped f None e = refl
-unmapped f (Some l) e = absurd cc
+pub sought_on : (x : Way) (t u : Trail) (v w : World) (n : ℕ) (s : Search) → done_steps u ≡ done_steps t → v ≡ w → n ≡ fuel_at t.depth → IsSoughtFrom s.scope x (done_steps u) n v s.sought → (s.scope ≡ Listed → (s.states ≡ STATES_VISITED) × TooMany x n v)
+    → IsSearch x t w s
+sought_on x t u v w n s k same fuel h stopped =
+    let one = subst (λ before. IsSoughtFrom s.scope x before n v s.sought) k h in
+    let two = subst (λ m. IsSoughtFrom s.scope x (done_steps t) m v s.sought) fuel one in
+    (subst (λ z. IsSoughtFrom s.scope x (done_steps t) (fuel_at t.depth) z s.sought) same two, λ e. ((stopped e).0, subst (λ z. TooMany x (fuel_at t.depth) z) same (subst (λ m. TooMany x m v) fuel (stopped e).1)))
 
-pub nothing_is : (x : Way) (t u : Trail) (v w : World) (n : ℕ) (leaves : List leaf.Leaf) (others : Bool) (o : Option WholeRun) → v ≡ w → n ≡ fuel_at t.depth → Looked x n v leaves others
-    → o ≡ option_map (whole_run (done_steps u) n v) (first_in x leaves) → o ≡ None → none_line x leaves others ≡ nothing_line x t w
-nothing_is x t u v w n leaves others o same fuel h e none =
-    let first : first_in x leaves ≡ None = unmapped (whole_run (done_steps u) n v) (first_in x leaves) (sym e ∙ none) in
-    ap (λ ls. none_line x ls others) (h.all first) ∙ ap (none_line x (first_runs RUNS_MAX n v)) (h.rest first)
-    ∙ ap (λ m. none_line x (first_runs RUNS_MAX m v) (are_more RUNS_MAX m v)) fuel
-    ∙ ap (λ z. none_line x (first_runs RUNS_MAX (fuel_at t.depth) z) (are_more RUNS_MAX (fuel_at t.depth) z)) same
+-- ---- among the runs that are listed
 
-pub ruleset seeking = (copied_lies, found_is, nothing_is)
+pub listed_found : (x : Way) (before : List Step) (n : ℕ) (w : World) (leaves : List leaf.Leaf) (others : Bool) (o : Option WholeRun) (r : WholeRun) → Looked x n w leaves others
+    → o ≡ option_map (whole_run before n w) (first_in x leaves) → o ≡ Some r → found_in Listed x before n w ≡ Some r
+listed_found x before n w leaves others o r h is e = ap (option_map (whole_run before n w)) (sym h.first) ∙ sym is ∙ e
+
+pub listed_none : (x : Way) (before : List Step) (n : ℕ) (w : World) (leaves : List leaf.Leaf) (others : Bool) (o : Option WholeRun) (counts : WayCounts) → Looked x n w leaves others
+    → o ≡ option_map (whole_run before n w) (first_in x leaves) → o ≡ None → counts ≡ counts_of leaves others → (found_in Listed x before n w ≡ None) × (counts ≡ counts_in Listed n w)
+listed_none x before n w leaves others o counts h is e told =
+    let first : first_in x leaves ≡ None = unmapped (whole_run before n w) (first_in x leaves) (sym is ∙ e) in
+    (ap (option_map (whole_run before n w)) (sym h.first ∙ first), told ∙ (λ i. counts_of (h.all first i) (h.rest first i)))
+
+pub ruleset listing = (listed_found, listed_none)
+
+-- ---- by states first
+
+pub states_found : (x : Way) (before : List Step) (n : ℕ) (w : World) (b : ByStates) (r : WholeRun) → StatesTell x before n w b → b.found ≡ Some r → found_in WideWalk x before n w ≡ Some r
+states_found x before n w b r h e = h.first r e
+
+pub states_none : (x : Way) (before : List Step) (n : ℕ) (w : World) (b : ByStates) → StatesTell x before n w b → b.found ≡ None → b.counts.more ≡ false → (found_in WideWalk x before n w ≡ None) × (b.counts ≡ counts_in WideWalk n w)
+states_none x before n w b h none last = h.all none last
+
+pub states_stopped : (x : Way) (before : List Step) (n : ℕ) (w : World) (b : ByStates) → StatesTell x before n w b → b.found ≡ None → b.counts.more ≡ true → (b.states ≡ STATES_VISITED) × TooMany x n w
+states_stopped x before n w b h none more = h.stopped none more
+
+pub found_lies : (t : Trail) (o : Option WholeRun) (r : WholeRun) → IfSome o (LiesAhead t) → o ≡ Some r → LiesAhead t r
+found_lies t o r h e = subst (λ (p : Option WholeRun). IfSome p (LiesAhead t)) e h
+
+pub sought_after : (k : Scope) (x : Way) (t u : Trail) (n : ℕ) (v w : World) (q : Sought) → u ≡ t → v ≡ w → IsSoughtFrom k x (done_steps u) n v q → IsSoughtFrom k x (done_steps t) n w q
+sought_after k x t u n v w q same here h = subst (λ z. IsSoughtFrom k x (done_steps t) n z q) here (subst (λ y. IsSoughtFrom k x (done_steps y) n v q) same h)
+
+pub lies_after : (t u : Trail) (q : Sought) → u ≡ t → FoundLies u q → FoundLies t q
+lies_after t u q same h = subst (λ y. FoundLies y q) same h
+
+pub ruleset seeking = (states_found, states_none, states_stopped, found_lies, sought_after, lies_after, sought_on, copied_found)
 
 -- ---- the run of a number
 

@@ -8,6 +8,7 @@ pub mod First
 pub mod Given
 pub mod Read
 pub mod Ways
+pub mod Counts
 pub mod Runs
 pub mod Seek
 pub mod SeekRows

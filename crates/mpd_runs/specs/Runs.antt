@@ -10,10 +10,13 @@ use Rattle.mpd_explore.specs.declared.report.Leaf.{Leaf}
 use Rattle.mpd_explore.specs.Sleeping.{walk_by}
 use Rattle.mpd_explore.specs.Report.{shown}
 use Rattle.mpd_explore.specs.ReportText.{ending_text}
+use Rattle.mpd_outcomes.specs.declared.report.Count.{Count}
+use Rattle.mpd_outcomes.specs.CountText.{count_text}
+use Rattle.mpd_runs.specs.declared.counts.WayCounts.{WayCounts}
 use Rattle.mpd_runs.specs.declared.listing.TheConstants.{FUEL}
 use Rattle.mpd_runs.specs.declared.way.Way.{Way}
-use Rattle.mpd_runs.specs.declared.way.Way.TheVariants as way
-use Rattle.mpd_runs.specs.Ways.{way_name, count_in, ways}
+use Rattle.mpd_runs.specs.Ways.{way_name, ways}
+use Rattle.mpd_runs.specs.Counts.{counts_of, count_of, is_count}
 
 -- ---- runs
 
@@ -53,8 +56,8 @@ abbrev pub leaf_lines : ℕ → List Leaf → List ℕ
 leaf_lines place [] = []
 leaf_lines place (l ∷ ls) = leaf_line place l ++ leaf_lines (suc place) ls
 
-abbrev pub runs_words : ℕ → List ℕ
-runs_words n = if n == 1 then codes "1 run" else decimal n ++ codes " runs"
+abbrev pub runs_words : Count → List ℕ
+runs_words c = if is_count 1 c then codes "1 run" else count_text c ++ codes " runs"
 
 abbrev pub more_words : Bool → List ℕ
 more_words true = codes ", and there are more"
@@ -66,23 +69,23 @@ separator true = codes " ("
 separator false = codes ", "
 
 -- `, 3 cut`, where any run ends so
-abbrev pub way_words : Bool → ℕ → Way → List ℕ
-way_words first n x = if n == 0 then [] else separator first ++ decimal n ++ 32 ∷ way_name x
+abbrev pub way_words : Bool → Count → Way → List ℕ
+way_words first c x = if is_count 0 c then [] else separator first ++ count_text c ++ 32 ∷ way_name x
 
 -- whether a way that comes behind is still the first that is told
-abbrev pub still_first : Bool → ℕ → Bool
-still_first first n = if n == 0 then first else false
+abbrev pub still_first : Bool → Count → Bool
+still_first first c = if is_count 0 c then first else false
 
-abbrev pub tally : Bool → List Leaf → List Way → List ℕ
-tally first leaves [] = []
-tally first leaves (x ∷ xs) = way_words first (count_in x leaves) x ++ tally (still_first first (count_in x leaves)) leaves xs
+abbrev pub tally : Bool → WayCounts → List Way → List ℕ
+tally first counts [] = []
+tally first counts (x ∷ xs) = way_words first (count_of counts x) x ++ tally (still_first first (count_of counts x)) counts xs
 
 -- `3 runs, and no more (2 done, 1 cut)`
-abbrev pub total_line : List Leaf → Bool → List ℕ
-total_line leaves more = line (runs_words (length leaves) ++ more_words more ++ tally true leaves ways ++ codes ")")
+abbrev pub total_line : WayCounts → List ℕ
+total_line counts = line (runs_words counts.total ++ more_words counts.more ++ tally true counts ways ++ codes ")")
 
 abbrev pub report_text : List Leaf → Bool → List ℕ
-report_text leaves more = leaf_lines 0 leaves ++ total_line leaves more
+report_text leaves more = leaf_lines 0 leaves ++ total_line (counts_of leaves more)
 
 abbrev pub no_number_line : List ℕ
 no_number_line = line (codes "refused: 1 to 65536 runs can be asked for")
@@ -92,13 +95,13 @@ abbrev pub check_text : Trail → World → ℕ → List ℕ
 check_text t w n = if is_number n then report_text (first_runs n (fuel_at t.depth) w) (are_more n (fuel_at t.depth) w) else no_number_line
 
 -- whether some runs have all ways to end: there are no more, and none is cut
-abbrev pub sees_all : List Leaf → Bool → Bool
-sees_all leaves more = not more && (count_in way.Cut leaves == 0)
+abbrev pub sees_all : WayCounts → Bool
+sees_all counts = not counts.more && is_count 0 counts.cut
 
 abbrev pub found_words : Bool → List ℕ
 found_words true = codes " from here: "
 found_words false = codes " found from here: "
 
 -- `no deadlock from here: 2 runs, and no more (1 done, 1 trap)`
-abbrev pub none_line : Way → List Leaf → Bool → List ℕ
-none_line x leaves more = codes "no " ++ way_name x ++ found_words (sees_all leaves more) ++ total_line leaves more
+abbrev pub none_line : Way → WayCounts → List ℕ
+none_line x counts = codes "no " ++ way_name x ++ found_words (sees_all counts) ++ total_line counts

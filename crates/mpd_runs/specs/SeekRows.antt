@@ -1,6 +1,6 @@
 -- Worked rows of the runs from where a trail stands: of a script whose ends no walk by the plain decisions has all. What is wanted was worked
 -- out by hand.
-use Rattle.std.specs.Prelude.{◌≡◌, ℕ, pos, map, List, [], ◌∷◌, ◌++◌, Option, Some, None, codes, refl}
+use Rattle.std.specs.Prelude.{◌≡◌, ℕ, pos, map, List, [], ◌∷◌, ◌++◌, Option, Some, None, false, codes, refl}
 use Rattle.std.specs.Option.{option_map}
 use Rattle.std.specs.Fmt.{digits}
 use Rattle.mpd_model.specs.declared.place.DeclKind.TheVariants.{Variable}
@@ -17,12 +17,15 @@ use Rattle.mpd_model.specs.steps.World.{World, call_id, start}
 use Rattle.mpd_model.specs.texts.Texts.{line}
 use Rattle.mpd_policy.specs.Wide.{wide_decision}
 use Rattle.mpd_walk.specs.declared.ending.Ending.TheVariants.{Ended}
+use Rattle.mpd_outcomes.specs.declared.report.Count.TheVariants.{Exactly, More}
 use Rattle.mpd_walk.specs.Walk.{run_by}
 use Rattle.mpd_explore.specs.Sleeping.{awake_by}
 use Rattle.mpd_runs.specs.declared.search.WholeRun.{WholeRun}
 use Rattle.mpd_runs.specs.declared.way.Way.{Way}
 use Rattle.mpd_runs.specs.declared.way.Way.TheVariants as way
 use Rattle.mpd_runs.specs.Ways.{first_in}
+use Rattle.mpd_runs.specs.declared.counts.WayCounts.{WayCounts}
+use Rattle.mpd_runs.specs.Counts.{counts_of}
 use Rattle.mpd_runs.specs.Runs.{first_runs, are_more, report_text, none_line}
 use Rattle.mpd_runs.specs.Seek.{whole_run}
 
@@ -73,9 +76,23 @@ row_listed = refl
 
 -- so many runs at most, and so much fuel: it is told of all of them, of one where there are more, and of one that is cut where the choice is
 abbrev none_of : ℕ × ℕ → List ℕ
-none_of s = none_line way.Trap (first_runs s.0 s.1 begun) (are_more s.0 s.1 begun)
+none_of s = none_line way.Trap (counts_of (first_runs s.0 s.1 begun) (are_more s.0 s.1 begun))
 
 pub row_none : map {B = List ℕ} none_of ((9, 9) ∷ (1, 9) ∷ (9, 5) ∷ [])
     ≡ line (codes "no trap from here: 2 runs, and no more (1 leftovers, 1 deadlock)") ∷ line (codes "no trap found from here: 1 run, and there are more (1 deadlock)") ∷ line (codes "no trap found from here: 1 run, and no more (1 cut)") ∷ []
 unfolding awake_by wide_decision digits
 row_none = refl
+
+-- so many runs that they aren't counted, and one of them
+abbrev many : WayCounts
+many = record { done = More; leftovers = Exactly 0; deadlock = Exactly 0; trap = Exactly 1; cut = Exactly 0; total = More; more = false }
+
+abbrev many_cut : WayCounts
+many_cut = record { done = More; leftovers = Exactly 0; deadlock = Exactly 0; trap = Exactly 0; cut = More; total = More; more = false }
+
+pub row_many : map {B = List ℕ} (none_line way.Deadlock) (many ∷ many_cut ∷ [])
+    ≡ line (codes "no deadlock from here: at least 18446744073709551615 runs, and no more (at least 18446744073709551615 done, 1 trap)")
+    ∷ line (codes "no deadlock found from here: at least 18446744073709551615 runs, and no more (at least 18446744073709551615 done, at least 18446744073709551615 cut)")
+    ∷ []
+unfolding digits
+row_many = refl

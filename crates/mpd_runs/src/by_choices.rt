@@ -1,8 +1,8 @@
 //! The steps of the run that some choices tell along a schedule.
 
 ghost use Rattle.std.specs.Prelude.{◌≡◌, ◌+◌, ◌≤◌, ℕ, IfOk, Err, length, drop};
-ghost use Rattle.mpd_model.specs.runs.Trail.{done_steps, IsReached};
-ghost use Rattle.mpd_trail.specs.Views.{standing_of};
+ghost use Rattle.mpd_model.specs.runs.Trail.{done_steps};
+ghost use Rattle.mpd_trail.specs.Views.{AsFound, standing_of};
 ghost use Rattle.mpd_runs.specs.Led.{Led};
 ghost use Rattle.mpd_walk.specs.Walks.{Beyond};
 ghost use Rattle.mpd_runs.specs.Along.{Ends, GoesOn};
@@ -97,9 +97,7 @@ pub fn steps_by_choices<S: Schedule>(
     requires clean { length debugger.old.trail.steps ≡ debugger.old.trail.depth }
     requires fits { debugger.old.trail.depth + fuel ≤ STEPS_MAX }
     ensures led { Led S.decides fuel choices.now debugger.old.world result }
-    ensures trail { debugger.new.trail ≡ debugger.old.trail }
-    ensures world { debugger.new.world ≡ debugger.old.world }
-    ensures reached { IsReached (standing_of debugger.new) }
+    ensures as_found { AsFound (standing_of debugger.old) (standing_of debugger.new) }
 {
     debugger.state_is_reached();
     let base = debugger.depth();

@@ -1,7 +1,7 @@
 //! Steps that are given.
 
 ghost use Rattle.std.specs.Prelude.{◌≡◌, ◌++◌, ◌∷◌, [], ℕ, Some, None, OnOk, IsErrOf};
-ghost use Rattle.mpd_model.specs.steps.Next.{next};
+ghost use Rattle.mpd_model.specs.steps.Next.{fold, next};
 ghost use Rattle.mpd_model.specs.runs.Trail.{done_steps};
 ghost use Rattle.mpd_runs.specs.Given.{StopsAt};
 
@@ -39,6 +39,7 @@ fn take_at(debugger: &mut Debugger<'_>, place: usize, step: Step) -> Result<(), 
 #[tactic(auto, using(crate::proofs::GivenLemmas::taking))]
 pub fn take_steps(debugger: &mut Debugger<'_>, steps: &[Step]) -> Result<(), StepsFault>
     ensures taken { OnOk result (done_steps debugger.new.trail ≡ done_steps debugger.old.trail ++ steps.now) }
+    ensures leads { OnOk result (fold debugger.old.world steps.now ≡ Some debugger.new.world) }
     ensures not_enabled { (place : ℕ) → IsErrOf result (StepsFault.NotEnabled place) → StopsAt debugger.old.world steps.now place }
 {
     let mut place = 0;

@@ -5,6 +5,7 @@
 pub mod by_choices;
 pub mod choice;
 pub mod choices;
+pub mod counts;
 pub mod fault;
 pub mod first;
 pub mod given;
@@ -12,18 +13,23 @@ pub mod laws;
 pub mod listing;
 pub mod read;
 pub mod search;
+pub mod states;
 pub mod way;
 pub mod write;
 
 pub use by_choices::steps_by_choices;
 pub use choice::{last_choice, push_no_choice};
 pub use choices::choices_of;
+pub use counts::{WayCounts, counts_told, is_count};
 pub use fault::{ChoicesFault, WordsFault, WriteFault};
 pub use first::lead_first;
 pub use given::{StepsFault, take_steps};
 pub use laws::a_run_or_a_bad_choice;
-pub use listing::{FUEL, push_none, push_runs};
+pub use listing::{FUEL, push_none, push_runs, sees_all};
 pub use read::{ReadFault, steps_of};
-pub use search::{Search, WholeRun, numbered_run, push_ahead, push_count, push_no_run, seek};
+pub use search::{
+    Scope, Search, Sought, WholeRun, numbered_run, push_ahead, push_count, push_no_run, seek,
+};
+pub use states::{STATES_KEPT, STATES_VISITED};
 pub use way::{WAYS, Way};
 pub use write::write_words;

@@ -3,6 +3,7 @@
 ghost use Rattle.std.specs.Prelude.{◌≡◌, ◌≤◌, ◌<◌, ◌+◌, ◌++◌, true, false, IfOk, OnOk, length, string_bytes};
 ghost use Rattle.std.specs.List.{AllByRecursion};
 ghost use Rattle.mpd_model.specs.runs.Trail.{done_steps};
+ghost use Rattle.mpd_trail.specs.Views.{AsFound, standing_of};
 ghost use Rattle.mpd_model.specs.texts.Texts.{spaced};
 ghost use Rattle.mpd_explore.specs.Report.{ended_by, left_out};
 ghost use Rattle.mpd_explore.specs.ReportText.{ending_text};
@@ -10,9 +11,11 @@ ghost use Rattle.mpd_explore.specs.Witness.{HasWitness};
 ghost use Rattle.mpd_policy.specs.Wide.{wide_decision};
 ghost use Rattle.mpd_runs.specs.Runs as spec;
 
-use crate::way::{WAYS, Way, count_in};
+use crate::counts::{WayCounts, counts_of, is_count};
+use crate::way::{WAYS, Way};
 use mpd_explore::{Ending, Leaf, Limits, Report, Unwatched, explore};
 use mpd_model::{RUNS_MAX, STEPS_MAX, print_outcome};
+use mpd_outcomes::{Count, push_count};
 use mpd_trail::Debugger;
 use std::alloc::{AllocError, Global};
 
@@ -43,8 +46,7 @@ pub(crate) fn first_runs(
     ensures leaves { IfOk result (λ r. r.leaves.items ≡ ended_by until_bad (spec.first_runs runs fuel debugger.old.world)) }
     ensures more { IfOk result (λ r. r.more ≡ left_out (record { runs = runs; fuel = fuel; witnesses = false; until_bad = until_bad; ends = true }) (spec.all_runs fuel debugger.old.world)) }
     ensures has { IfOk result (λ r. AllByRecursion (HasWitness wide_decision debugger.old.trail.program debugger.old.trail.mode (done_steps debugger.old.trail) fuel debugger.old.world) r.leaves.items) }
-    ensures trail { debugger.new.trail ≡ debugger.old.trail }
-    ensures world { debugger.new.world ≡ debugger.old.world }
+    ensures as_found { AsFound (standing_of debugger.old) (standing_of debugger.new) }
 {
     let limits = Limits {
         runs,
@@ -148,31 +150,32 @@ fn separator(is_first: bool) -> &'static str
 }
 
 /// Adds how many runs end in a way, where any does.
-fn push_way(out: &mut String, is_first: bool, count: usize, way: Way) -> Result<(), AllocError>
+fn push_way(out: &mut String, is_first: bool, count: Count, way: Way) -> Result<(), AllocError>
     ensures { OnOk result (string_bytes out.new ≡ string_bytes out.old ++ spec.way_words is_first count way) }
 {
-    if count == 0 {
+    if is_count(count, 0) {
         return Ok(());
     }
     out.push_str(separator(is_first))?;
-    write!(out, "{count} ")?;
+    push_count(out, count)?;
+    out.push_str(" ")?;
     out.push_str(way.name())
 }
 
 /// Whether the next way is the first that is told, behind one in which so many runs end.
-fn still_first(is_first: bool, count: usize) -> bool
+fn still_first(is_first: bool, count: Count) -> bool
     ensures { result ≡ spec.still_first is_first count }
 {
-    if count == 0 { is_first } else { false }
+    if is_count(count, 0) { is_first } else { false }
 }
 
 /// Adds how many runs end in each of some ways.
-fn push_tally(out: &mut String, leaves: &[Leaf], ways: &[Way]) -> Result<(), AllocError>
-    ensures { OnOk result (string_bytes out.new ≡ string_bytes out.old ++ spec.tally true leaves.now ways.now) }
+fn push_tally(out: &mut String, counts: WayCounts, ways: &[Way]) -> Result<(), AllocError>
+    ensures { OnOk result (string_bytes out.new ≡ string_bytes out.old ++ spec.tally true counts ways.now) }
 {
     let mut is_first = true;
     for way in ways {
-        let count = count_in(*way, leaves);
+        let count = counts.of(*way);
         push_way(out, is_first, count, *way)?;
         is_first = still_first(is_first, count);
     }
@@ -180,13 +183,14 @@ fn push_tally(out: &mut String, leaves: &[Leaf], ways: &[Way]) -> Result<(), All
 }
 
 /// Adds how many runs there are.
-fn push_count_of_runs(out: &mut String, count: usize) -> Result<(), AllocError>
+fn push_count_of_runs(out: &mut String, count: Count) -> Result<(), AllocError>
     ensures { OnOk result (string_bytes out.new ≡ string_bytes out.old ++ spec.runs_words count) }
 {
-    if count == 1 {
+    if is_count(count, 1) {
         return out.push_str("1 run");
     }
-    write!(out, "{count} runs")
+    push_count(out, count)?;
+    out.push_str(" runs")
 }
 
 /// Whether there are more, in words.
@@ -201,12 +205,12 @@ fn more_words(more: bool) -> &'static str
 }
 
 /// Adds the last line: how many runs there are, whether there are more, and how many end in each way.
-fn push_total(out: &mut String, leaves: &[Leaf], more: bool) -> Result<(), AllocError>
-    ensures { OnOk result (string_bytes out.new ≡ string_bytes out.old ++ spec.total_line leaves.now more) }
+fn push_total(out: &mut String, counts: WayCounts) -> Result<(), AllocError>
+    ensures { OnOk result (string_bytes out.new ≡ string_bytes out.old ++ spec.total_line counts) }
 {
-    push_count_of_runs(out, leaves.len())?;
-    out.push_str(more_words(more))?;
-    push_tally(out, leaves, &WAYS)?;
+    push_count_of_runs(out, counts.total)?;
+    out.push_str(more_words(counts.more))?;
+    push_tally(out, counts, &WAYS)?;
     out.push_str(")\n")
 }
 
@@ -224,14 +228,14 @@ pub fn push_runs(
     }
     let report = runs_from(alloc, debugger, runs)?;
     push_leaves(alloc, out, &report.leaves)?;
-    push_total(out, &report.leaves, report.more)
+    push_total(out, counts_of(&report.leaves, report.more))
 }
 
 /// Whether some runs have all ways to end: there are no more, and none is cut.
-fn sees_all(leaves: &[Leaf], more: bool) -> bool
-    ensures { result ≡ spec.sees_all leaves.now more }
+pub fn sees_all(counts: WayCounts) -> bool
+    ensures { result ≡ spec.sees_all counts }
 {
-    !more && count_in(Way::Cut, leaves) == 0
+    !counts.more && is_count(counts.cut, 0)
 }
 
 /// What is told between a way and the runs that were looked at, by whether these have all ways to end.
@@ -246,12 +250,11 @@ fn found_words(sees_all: bool) -> &'static str
 }
 
 /// Adds that no run ends in a way, and what was looked at. An `Err` is want of memory.
-pub fn push_none(out: &mut String, way: Way, report: &Report) -> Result<(), AllocError>
-    ensures { OnOk result (string_bytes out.new ≡ string_bytes out.old ++ spec.none_line way report.now.leaves.items report.now.more) }
+pub fn push_none(out: &mut String, way: Way, counts: WayCounts) -> Result<(), AllocError>
+    ensures { OnOk result (string_bytes out.new ≡ string_bytes out.old ++ spec.none_line way counts) }
 {
     out.push_str("no ")?;
     out.push_str(way.name())?;
-    let all = sees_all(&report.leaves, report.more);
-    out.push_str(found_words(all))?;
-    push_total(out, &report.leaves, report.more)
+    out.push_str(found_words(sees_all(counts)))?;
+    push_total(out, counts)
 }

@@ -1,20 +1,23 @@
 //! The first run that ends in one way, and the run of a number, with their steps from the start of the script. Both are of the wide walk that
 //! takes two steps which do not conflict in one order alone.
 
-ghost use Rattle.std.specs.Prelude.{◌≡◌, ◌≤◌, ◌<◌, ◌+◌, ◌++◌, None, Some, IfOk, IfSome, OnOk, length, slice_get, string_bytes};
+ghost use Rattle.std.specs.Prelude.{◌≡◌, ◌≤◌, ◌<◌, ◌+◌, ◌++◌, IfOk, IfSome, OnOk, length, slice_get, string_bytes};
 ghost use Rattle.std.specs.List.{AllByRecursion};
 ghost use Rattle.std.specs.Option.{option_map};
 ghost use Rattle.mpd_model.specs.runs.Trail.{done_steps};
+ghost use Rattle.mpd_trail.specs.Views.{AsFound, standing_of};
 ghost use Rattle.mpd_explore.specs.Witness.{HasWitness};
 ghost use Rattle.mpd_policy.specs.Wide.{wide_decision};
 ghost use Rattle.mpd_walk.specs.Walk.{run_by, steps_by};
 ghost use Rattle.mpd_runs.specs.Ways as ways;
-ghost use Rattle.mpd_runs.specs.Runs as runs;
 ghost use Rattle.mpd_runs.specs.Seek as spec;
-ghost use Rattle.mpd_runs.specs.Seek.{LiesAhead, Looked};
+ghost use Rattle.mpd_runs.specs.Seek.{LiesAhead, Looked, IsSoughtFrom, IsSearch, FoundLies, TooMany};
+ghost use Rattle.mpd_runs.specs.declared.search.Scope.TheVariants as scope_is;
 
 use crate::by_choices::steps_by_choices;
+use crate::counts::{WayCounts, counts_of};
 use crate::listing::{first_runs, fuel_at, is_number, push_ending};
+use crate::states::{ByStates, STATES_VISITED, by_states};
 use crate::way::{Way, first_in};
 use mpd_explore::{Ending, Leaf, Report};
 use mpd_model::{CallList, Outcome, RUNS_MAX, STEPS_MAX, StepList, TrapList};
@@ -30,13 +33,33 @@ pub struct WholeRun {
     pub ending: Ending,
 }
 
+/// Which runs are looked at.
+#[derive(Clone, Copy)]
+pub enum Scope {
+    /// All runs of the wide walk, by coming to each state once.
+    WideWalk,
+    /// The first 65,536 of the runs that are listed, since there are too many states.
+    Listed,
+}
+
+/// What came of looking at them.
+#[derive(Drop)]
+pub enum Sought {
+    /// The first run that ends in the way that was looked for.
+    Found(WholeRun),
+    /// There is none, and so the runs end.
+    Nothing(WayCounts),
+}
+
 /// What came of looking for a run.
 #[derive(Drop)]
 pub struct Search {
-    /// The runs that were looked at.
-    pub report: Report,
-    /// The first of them that ends in the way that was looked for, where there is one.
-    pub found: Option<WholeRun>,
+    /// Which runs were looked at.
+    pub scope: Scope,
+    /// How many states were come to before that.
+    pub states: usize,
+    /// What came of it.
+    pub sought: Sought,
 }
 
 // ---- one run
@@ -95,8 +118,7 @@ fn steps_of(
     requires clean { length debugger.old.trail.steps ≡ debugger.old.trail.depth }
     requires fits { debugger.old.trail.depth + fuel ≤ STEPS_MAX }
     ensures steps { IfOk result (λ steps. steps ≡ done_steps debugger.old.trail ++ steps_by (run_by wide_decision fuel leaf.now.choices debugger.old.world)) }
-    ensures trail { debugger.new.trail ≡ debugger.old.trail }
-    ensures world { debugger.new.world ≡ debugger.old.world }
+    ensures as_found { AsFound (standing_of debugger.old) (standing_of debugger.new) }
 {
     match steps_by_choices(alloc, &Wide, debugger, &leaf.choices.items, fuel) {
         Ok(more) => joined(alloc, debugger, more),
@@ -118,6 +140,7 @@ fn whole_run(
     ensures steps { IfOk result (λ r. r.steps ≡ done_steps debugger.old.trail ++ steps_by (run_by wide_decision fuel leaf.now.choices debugger.old.world)) }
     ensures ending { IfOk result (λ r. r.ending ≡ leaf.now.ending) }
     ensures lies { IfOk result (LiesAhead debugger.old.trail) }
+    ensures as_found { AsFound (standing_of debugger.old) (standing_of debugger.new) }
 {
     wide_decisions_can_be_followed();
     debugger.state_is_reached();
@@ -142,8 +165,7 @@ fn look(alloc: Global, copy: &mut Debugger<'_>, fuel: usize, way: Way) -> Result
     requires fits { copy.old.trail.depth + fuel ≤ STEPS_MAX }
     ensures looked { IfOk result (λ r. Looked way fuel copy.old.world r.leaves.items r.more) }
     ensures has { IfOk result (λ r. AllByRecursion (HasWitness wide_decision copy.old.trail.program copy.old.trail.mode (done_steps copy.old.trail) fuel copy.old.world) r.leaves.items) }
-    ensures trail { copy.new.trail ≡ copy.old.trail }
-    ensures world { copy.new.world ≡ copy.old.world }
+    ensures as_found { AsFound (standing_of copy.old) (standing_of copy.new) }
 {
     let report = first_runs(alloc, copy, RUNS_MAX, fuel, true)?;
     if falls_short(&report, way) {
@@ -155,7 +177,7 @@ fn look(alloc: Global, copy: &mut Debugger<'_>, fuel: usize, way: Way) -> Result
 
 /// The first of some runs that ends in a way.
 #[tactic(auto, using(crate::proofs::SeekLemmas::finding))]
-fn found_in(
+pub(crate) fn found_in(
     alloc: Global,
     copy: &mut Debugger<'_>,
     fuel: usize,
@@ -167,7 +189,9 @@ fn found_in(
     requires has { AllByRecursion (HasWitness wide_decision copy.old.trail.program copy.old.trail.mode (done_steps copy.old.trail) fuel copy.old.world) leaves.now }
     ensures value { IfOk result (λ o. o ≡ option_map (spec.whole_run (done_steps copy.old.trail) fuel copy.old.world) (ways.first_in way leaves.now)) }
     ensures lies { IfOk result (λ o. IfSome o (LiesAhead copy.old.trail)) }
+    ensures as_found { AsFound (standing_of copy.old) (standing_of copy.new) }
 {
+    copy.state_is_reached();
     match first_in(way, leaves) {
         None => Ok(None),
         Some(leaf) => {
@@ -177,20 +201,80 @@ fn found_in(
     }
 }
 
-/// Looks for the first run that ends in a way, from where a debugger stands, in the order of the walk, among the first 65,536. An `Err` is
-/// want of memory.
+/// Looks for the first run that ends in a way among the first 65,536 that are listed.
+#[tactic(auto, using(crate::proofs::SeekLemmas::listing))]
+fn by_runs(
+    alloc: Global,
+    copy: &mut Debugger<'_>,
+    fuel: usize,
+    way: Way,
+) -> Result<Sought, AllocError>
+    requires clean { length copy.old.trail.steps ≡ copy.old.trail.depth }
+    requires fits { copy.old.trail.depth + fuel ≤ STEPS_MAX }
+    ensures sought { IfOk result (IsSoughtFrom scope_is.Listed way (done_steps copy.old.trail) fuel copy.old.world) }
+    ensures lies { IfOk result (FoundLies copy.old.trail) }
+{
+    let report = look(alloc, copy, fuel, way)?;
+    let found = found_in(alloc, copy, fuel, &report.leaves, way)?;
+    match found {
+        Some(run) => Ok(Sought::Found(run)),
+        None => Ok(Sought::Nothing(counts_of(&report.leaves, report.more))),
+    }
+}
+
+/// Looks for the first run that ends in a way, by states, and where these are too many among the first runs that are listed.
+#[tactic(auto, using(crate::proofs::SeekLemmas::seeking))]
+fn seek_on(
+    alloc: Global,
+    copy: &mut Debugger<'_>,
+    fuel: usize,
+    way: Way,
+) -> Result<Search, AllocError>
+    requires clean { length copy.old.trail.steps ≡ copy.old.trail.depth }
+    requires fits { copy.old.trail.depth + fuel ≤ STEPS_MAX }
+    ensures sought { IfOk result (λ s. IsSoughtFrom s.scope way (done_steps copy.old.trail) fuel copy.old.world s.sought) }
+    ensures stopped { IfOk result (λ s. s.scope ≡ scope_is.Listed → (s.states ≡ STATES_VISITED) × TooMany way fuel copy.old.world) }
+    ensures lies { IfOk result (λ s. FoundLies copy.old.trail s.sought) }
+{
+    let ByStates {
+        found,
+        counts,
+        states,
+    } = by_states(alloc, copy, fuel, way)?;
+    if let Some(run) = found {
+        return Ok(Search {
+            scope: Scope::WideWalk,
+            states,
+            sought: Sought::Found(run),
+        });
+    }
+    if !counts.more {
+        return Ok(Search {
+            scope: Scope::WideWalk,
+            states,
+            sought: Sought::Nothing(counts),
+        });
+    }
+    let sought = by_runs(alloc, copy, fuel, way)?;
+    Ok(Search {
+        scope: Scope::Listed,
+        states,
+        sought,
+    })
+}
+
+/// Looks for the first run that ends in a way, from where a debugger stands, in the order of the wide walk, and comes to each state once.
+/// Where as many states were come to as may be (`STATES_VISITED`), and none was found, it looks among the first 65,536 of the runs that
+/// are listed. An `Err` is want of memory.
 #[tactic(auto, using(crate::proofs::SeekLemmas::seeking))]
 pub fn seek(alloc: Global, debugger: &Debugger<'_>, way: Way) -> Result<Search, AllocError>
-    ensures found { IfOk result (λ s. s.found ≡ spec.found_run way debugger.now.trail debugger.now.world) }
-    ensures none { IfOk result (λ s. s.found ≡ None → runs.none_line way s.report.leaves.items s.report.more ≡ spec.nothing_line way debugger.now.trail debugger.now.world) }
-    ensures lies { IfOk result (λ s. IfSome s.found (LiesAhead debugger.now.trail)) }
+    ensures search { IfOk result (IsSearch way debugger.now.trail debugger.now.world) }
+    ensures lies { IfOk result (λ s. FoundLies debugger.now.trail s.sought) }
 {
     debugger.state_is_reached();
     let fuel = fuel_at(debugger.depth());
     let mut copy = debugger.copy()?;
-    let report = look(alloc, &mut copy, fuel, way)?;
-    let found = found_in(alloc, &mut copy, fuel, &report.leaves, way)?;
-    Ok(Search { report, found })
+    seek_on(alloc, &mut copy, fuel, way)
 }
 
 // ---- the run of a number

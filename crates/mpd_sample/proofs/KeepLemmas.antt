@@ -1,10 +1,13 @@
 -- The place of a leaf among leaves that rise, and what is added there.
-use Rattle.std.proofs.Common.{◌≡◌, ℕ, zero, suc, ◌+◌, ◌-◌, ◌/◌, ◌<◌, ◌≤◌, if◌then◌else◌, Bool, true, false, List, [], ◌∷◌, length, map, take, drop, get_or, insert, Ordering, Less, Equal, Greater, is_eq, is_lt, refl, sym, ap, subst, ◌∙◌, arith}
+use Rattle.std.proofs.Common.{◌≡◌, ℕ, zero, suc, ◌+◌, ◌-◌, ◌/◌, ◌<◌, ◌≤◌, if◌then◌else◌, Bool, true, false, List, [], ◌∷◌, length, map, take, drop, get_or, insert, Ordering, Less, Equal, Greater, is_eq, is_lt, String, string_bytes, refl, sym, ap, subst, ◌∙◌, arith}
 use Rattle.std.specs.List.{AllByRecursion}
 use Rattle.std.specs.List.Sorted.{IsStrictlySortedBy}
+use Rattle.std.specs.Global.{Global, Box}
+use Rattle.std.proofs.lemmas.List.{length-map}
 use Rattle.mpd_explore.specs.declared.report.Leaf.{Leaf}
+use Rattle.mpd_explore.proofs.ListLemmas.{drop_at}
 use Rattle.mpd_sample.specs.Order.{order, leaf_order, Rises, with_leaf_by, with_leaf}
-use Rattle.mpd_sample.specs.Drawing.{IsPlace, begins_with, TextsAre, IsEven}
+use Rattle.mpd_sample.specs.Drawing.{IsPlace, begins_with, TextsAre, IsEven, in_box, text_in}
 use Rattle.mpd_sample.proofs.OrderLemmas.{order_then}
 
 -- ---- the search for a place
@@ -130,3 +133,38 @@ leaf_added l ls new one other cs ds i b h k m n at is off pushed =
     let own : IsPlace l.choices ls i = rw (h, k) at at in
     let begins : b ≡ begins_with l.choices (drop i ls) = rw (m, n) at is in
     pushed ∙ insert_is l ls i own.within own.before own.behind (sym begins ∙ off)
+
+-- ---- what stands in boxes
+
+box_read : {A : Type 0} (boxes : List (Box A)) (i : ℕ) (b : Box A) → b ≡ get_or boxes i b → in_box b ≡ get_or (map in_box boxes) i (in_box b)
+box_read [] i b h = refl
+box_read (c ∷ boxes) zero b h = ap in_box h
+box_read (c ∷ boxes) (suc i) b h = box_read boxes i b h
+
+pub box_put : {A : Type 0} (boxes new : List (Box A)) (i : ℕ) (b : Box A) (x : A) → new ≡ insert boxes i b → in_box b ≡ x → map in_box new ≡ insert (map in_box boxes) i x
+box_put boxes new i b x pushed h = ap (map in_box) pushed ∙ sym (map_insert in_box b boxes i) ∙ ap (λ y. insert (map in_box boxes) i y) h
+
+none_left : (cs : List ℕ) (ls : List Leaf) → NoneBefore cs (drop (length ls) ls)
+none_left cs [] = tt
+none_left cs (l ∷ ls) = none_left cs ls
+
+pub boxed_first : (cs : List ℕ) (boxes : List (Box Leaf)) (n : ℕ) → n ≡ length boxes → Searching cs (map in_box boxes) 0 n
+boxed_first cs boxes n is =
+    let long : n ≡ length (map in_box boxes) = is ∙ sym (length-map boxes in_box) in
+    record { ordered = omega arith; within = omega (arith, long); before = tt; behind = subst (λ m. NoneBefore cs (drop m (map in_box boxes))) (sym long) (none_left cs (map in_box boxes)) }
+
+pub boxed_within : (cs : List ℕ) (boxes : List (Box Leaf)) (low high : ℕ) → Searching cs (map in_box boxes) low high → high ≤ length boxes
+boxed_within cs boxes low high s = omega (arith, s.within, length-map boxes in_box)
+
+pub boxed_then : (cs : List ℕ) (boxes : List (Box Leaf)) (low high i next_low next_high : ℕ) (y : Box Leaf) (l : Leaf) (b : Bool) → Rises (map in_box boxes) → Searching cs (map in_box boxes) low high → low < high → i ≡ low + (high - low) / 2 → y ≡ get_or boxes i y → l ≡ in_box y → b ≡ is_lt (order l.choices cs)
+    → next_low ≡ (if b then i + 1 else low) → next_high ≡ (if b then high else i) → Searching cs (map in_box boxes) next_low next_high
+boxed_then cs boxes low high i next_low next_high y l b rises s some middle read own h one other =
+    searching_then cs (map in_box boxes) low high i next_low next_high (in_box y) b rises s some middle (box_read boxes i y read) (h ∙ ap (λ (m : Leaf). is_lt (order m.choices cs)) own) one other
+
+pub boxed_begins : (cs : List ℕ) (boxes : List (Box Leaf)) (i : ℕ) (y : Box Leaf) (l : Leaf) (b : Bool) → i < length boxes → y ≡ get_or boxes i y → l ≡ in_box y → b ≡ is_eq (order l.choices cs) → b ≡ begins_with cs (drop i (map in_box boxes))
+boxed_begins cs boxes i y l b within read own h =
+    h ∙ ap (λ (m : Leaf). is_eq (order m.choices cs)) own ∙ sym (ap (begins_with cs) (drop_at (map in_box boxes) i (in_box y) (omega (arith, within, length-map boxes in_box)) (box_read boxes i y read)))
+
+pub texts_unboxed : (boxes : List (Box (String Global))) (texts : List (String Global)) → texts ≡ map in_box boxes → map string_bytes texts ≡ map text_in boxes
+texts_unboxed [] texts h = ap (map string_bytes) h
+texts_unboxed (b ∷ boxes) texts h = ap (map string_bytes) h ∙ ap (λ ts. text_in b ∷ ts) (texts_unboxed boxes (map in_box boxes) refl)

@@ -1,5 +1,6 @@
 -- Where a debugger stands while a run is drawn, and what a report has of the runs that were drawn so far.
-use Rattle.std.specs.Prelude.{◌≡◌, ℕ, ◌<◌, ◌≤◌, Bool, true, false, ◌&&◌, List, [], ◌∷◌, ◌++◌, map, length, take, drop, Some}
+use Rattle.std.specs.Prelude.{◌≡◌, ℕ, ◌<◌, ◌≤◌, Bool, true, false, ◌&&◌, List, [], ◌∷◌, ◌++◌, map, length, take, drop, Some, String, string_bytes}
+use Rattle.std.specs.Global.{Global, Box, Vec}
 use Rattle.std.specs.declared.cmp.Ordering.TheVariants.{Less}
 use Rattle.std.specs.Ordering.{is_lt, is_eq}
 use Rattle.std.specs.List.{AllByRecursion}
@@ -44,7 +45,19 @@ abbrev pub begins_with : List ℕ → List Leaf → Bool
 begins_with choices [] = false
 begins_with choices (l ∷ ls) = is_eq (order l.choices choices)
 
--- ---- a report
+-- ---- what is held while runs are drawn, and a report
+
+abbrev pub in_box : {A : Type 0} → Box A → A
+in_box b = b.value
+
+abbrev pub leaves_in : Vec (Box Leaf) → List Leaf
+leaves_in leaves = map in_box leaves.items
+
+abbrev pub text_in : Box (String Global) → List ℕ
+text_in b = string_bytes b.value
+
+abbrev pub texts_in : Vec (Box (String Global)) → List (List ℕ)
+texts_in texts = map text_in texts.items
 
 -- the texts of leaves, where they are asked for
 abbrev pub TextsAre : Bool → (Leaf → List ℕ) → List Leaf → List (List ℕ) → Type 0

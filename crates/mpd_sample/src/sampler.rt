@@ -2,8 +2,8 @@
 
 ghost use Rattle.std.specs.Prelude.{◌≡◌, ◌+◌, ◌<◌, ◌≤◌, true, false, [], length, map, nat_lt, IfOk, OnOk, OnErr, string_bytes};
 ghost use Rattle.std.specs.List.{AllByRecursion};
-ghost use Rattle.mpd_model.specs.runs.Trail.{done_steps, gone_back, forgotten, IsReached};
-ghost use Rattle.mpd_trail.specs.Views.{standing_of};
+ghost use Rattle.mpd_model.specs.runs.Trail.{done_steps, gone_back, forgotten};
+ghost use Rattle.mpd_trail.specs.Views.{AsFound, standing_of};
 ghost use Rattle.mpd_policy.specs.Wide.{wide_decision};
 ghost use Rattle.mpd_walk.specs.Walk.{wide_walk};
 ghost use Rattle.mpd_explore.specs.Report.{shown};
@@ -12,11 +12,11 @@ ghost use Rattle.mpd_explore.specs.WitnessTexts.{witness_texts};
 ghost use Rattle.mpd_sample.specs.Order.{Rises};
 ghost use Rattle.mpd_sample.specs.Drawn.{seeded, draws, sampled, is_listed};
 ghost use Rattle.mpd_walk.specs.Walks.{Beyond};
-ghost use Rattle.mpd_sample.specs.Drawing.{IsEven, Adds, Samples};
+ghost use Rattle.mpd_sample.specs.Drawing.{IsEven, Adds, Samples, leaves_in, texts_in};
 
 use crate::draw::draw_leaf;
-use crate::keep::keep_leaf;
-use mpd_explore::{Leaf, Limits, Report, Unwatched, Watch, explore_with};
+use crate::keep::{Held, keep_leaf, report_of};
+use mpd_explore::{Limits, Report, Unwatched, Watch, explore_with};
 use mpd_model::STEPS_MAX;
 use mpd_policy::wide_decisions_can_be_followed;
 use mpd_trail::Debugger;
@@ -25,72 +25,68 @@ use rand::{Rng, SeedableRng};
 use rand_pcg::Pcg64;
 use std::alloc::{AllocError, Global};
 
-/// Draws a run, and adds its leaf to a report; whether the drawing ends behind it. The debugger is left anywhere above where it stood.
+/// Draws a run, and adds its leaf to those held; whether the drawing ends behind it. The debugger is left anywhere above where it stood.
 fn draw_into<R: Rng>(
     alloc: Global,
     debugger: &mut Debugger<'_>,
     limits: Limits,
     random: &mut R,
-    report: &mut Report,
+    held: &mut Held,
 ) -> Result<bool, AllocError>
     requires fits { debugger.old.trail.depth + limits.fuel ≤ STEPS_MAX }
-    requires rises { Rises report.old.leaves.items }
-    requires even { IsEven limits.witnesses report.old.leaves.items (map string_bytes report.old.witnesses.items) }
-    ensures adds { IfOk result (λ last. Adds limits (standing_of debugger.old) (R.stream random.old) report.old.leaves.items (map string_bytes report.old.witnesses.items) last report.new.leaves.items (map string_bytes report.new.witnesses.items) (R.stream random.new)) }
+    requires rises { Rises (leaves_in held.old.leaves) }
+    requires even { IsEven limits.witnesses (leaves_in held.old.leaves) (texts_in held.old.texts) }
+    ensures adds { IfOk result (λ last. Adds limits (standing_of debugger.old) (R.stream random.old) (leaves_in held.old.leaves) (texts_in held.old.texts) last (leaves_in held.new.leaves) (texts_in held.new.texts) (R.stream random.new)) }
     ensures beyond { Beyond (standing_of debugger.old) (standing_of debugger.new) }
 {
     let leaf = draw_leaf(alloc, debugger, limits.fuel, random)?;
     let is_last = limits.ends_with(&leaf);
-    keep_leaf(alloc, debugger, limits.witnesses, leaf, report)?;
+    keep_leaf(alloc, debugger, limits.witnesses, leaf, held)?;
     Ok(is_last)
 }
 
-/// Draws a run, adds its leaf to a report, and comes back; whether the drawing ends behind it.
+/// Draws a run, adds its leaf to those held, and comes back; whether the drawing ends behind it.
 fn add_run<R: Rng>(
     alloc: Global,
     debugger: &mut Debugger<'_>,
     limits: Limits,
     random: &mut R,
-    report: &mut Report,
+    held: &mut Held,
 ) -> Result<bool, AllocError>
     requires clean { length debugger.old.trail.steps ≡ debugger.old.trail.depth }
     requires fits { debugger.old.trail.depth + limits.fuel ≤ STEPS_MAX }
-    requires rises { Rises report.old.leaves.items }
-    requires even { IsEven limits.witnesses report.old.leaves.items (map string_bytes report.old.witnesses.items) }
-    ensures adds { IfOk result (λ last. Adds limits (standing_of debugger.old) (R.stream random.old) report.old.leaves.items (map string_bytes report.old.witnesses.items) last report.new.leaves.items (map string_bytes report.new.witnesses.items) (R.stream random.new)) }
-    ensures trail { debugger.new.trail ≡ debugger.old.trail }
-    ensures world { debugger.new.world ≡ debugger.old.world }
-    ensures reached { IsReached (standing_of debugger.new) }
+    requires rises { Rises (leaves_in held.old.leaves) }
+    requires even { IsEven limits.witnesses (leaves_in held.old.leaves) (texts_in held.old.texts) }
+    ensures adds { IfOk result (λ last. Adds limits (standing_of debugger.old) (R.stream random.old) (leaves_in held.old.leaves) (texts_in held.old.texts) last (leaves_in held.new.leaves) (texts_in held.new.texts) (R.stream random.new)) }
+    ensures as_found { AsFound (standing_of debugger.old) (standing_of debugger.new) }
 {
     debugger.state_is_reached();
     let base = debugger.depth();
-    let added = draw_into(alloc, debugger, limits, random, report);
+    let added = draw_into(alloc, debugger, limits, random, held);
     put_back(debugger, base);
     added
 }
 
-/// Draws runs, and adds each to a report that has none.
+/// Draws runs, and adds each to those held, of which there is none.
 fn gather<R: Rng, W: Watch>(
     alloc: Global,
     debugger: &mut Debugger<'_>,
     limits: Limits,
     random: &mut R,
-    report: &mut Report,
+    held: &mut Held,
     watch: &mut W,
 ) -> Result<(), AllocError>
     requires clean { length debugger.old.trail.steps ≡ debugger.old.trail.depth }
     requires fits { debugger.old.trail.depth + limits.fuel ≤ STEPS_MAX }
-    requires none_told { report.old.leaves.items ≡ [] }
-    requires none_written { report.old.witnesses.items ≡ [] }
-    ensures samples { OnOk result (Samples limits (done_steps debugger.old.trail) debugger.old.world (R.stream random.old) report.new.leaves.items (map string_bytes report.new.witnesses.items)) }
-    ensures trail { debugger.new.trail ≡ debugger.old.trail }
-    ensures world { debugger.new.world ≡ debugger.old.world }
-    ensures reached { IsReached (standing_of debugger.new) }
+    requires none_told { held.old.leaves.items ≡ [] }
+    requires none_written { held.old.texts.items ≡ [] }
+    ensures samples { OnOk result (Samples limits (done_steps debugger.old.trail) debugger.old.world (R.stream random.old) (leaves_in held.new.leaves) (texts_in held.new.texts)) }
+    ensures as_found { AsFound (standing_of debugger.old) (standing_of debugger.new) }
     ensures memory { OnErr result (0 < limits.runs) }
 {
     debugger.state_is_reached();
     for turn in 0..limits.runs {
-        let is_last = add_run(alloc, debugger, limits, random, report)?;
+        let is_last = add_run(alloc, debugger, limits, random, held)?;
         watch.leaf(turn + 1);
         if is_last {
             return Ok(());
@@ -110,21 +106,15 @@ fn collect<W: Watch>(
     requires clean { length debugger.old.trail.steps ≡ debugger.old.trail.depth }
     requires fits { debugger.old.trail.depth + limits.fuel ≤ STEPS_MAX }
     ensures samples { IfOk result (λ r. Samples limits (done_steps debugger.old.trail) debugger.old.world (seeded seed) r.leaves.items (map string_bytes r.witnesses.items)) }
-    ensures trail { debugger.new.trail ≡ debugger.old.trail }
-    ensures world { debugger.new.world ≡ debugger.old.world }
-    ensures reached { IsReached (standing_of debugger.new) }
+    ensures as_found { AsFound (standing_of debugger.old) (standing_of debugger.new) }
     ensures memory { OnErr result (0 < limits.runs) }
 {
     let mut random = Pcg64::seed_from_u64(seed);
-    let mut report = Report {
-        leaves: Vec::new(alloc),
-        more: false,
-        witnesses: Vec::new(alloc),
-    };
-    match gather(alloc, debugger, limits, &mut random, &mut report, watch) {
-        Ok(()) => Ok(report),
+    let mut held = Held::new(alloc);
+    match gather(alloc, debugger, limits, &mut random, &mut held, watch) {
+        Ok(()) => report_of(alloc, held),
         Err(fault) => {
-            drop(report);
+            drop(held);
             Err(fault)
         }
     }
@@ -140,9 +130,7 @@ fn has_more(
     requires clean { length debugger.old.trail.steps ≡ debugger.old.trail.depth }
     requires fits { debugger.old.trail.depth + limits.fuel ≤ STEPS_MAX }
     ensures more { IfOk result (λ more. more ≡ nat_lt count (length (wide_walk limits.fuel debugger.old.world))) }
-    ensures trail { debugger.new.trail ≡ debugger.old.trail }
-    ensures world { debugger.new.world ≡ debugger.old.world }
-    ensures reached { IsReached (standing_of debugger.new) }
+    ensures as_found { AsFound (standing_of debugger.old) (standing_of debugger.new) }
     ensures memory { OnErr result (0 < count) }
 {
     let mut asked = limits;
@@ -181,9 +169,7 @@ pub fn sample<W: Watch>(
     ensures all { IfOk result (λ r. r.more ≡ false → r.leaves.items ≡ map shown (wide_walk limits.fuel debugger.old.world)) }
     ensures witnesses { IfOk result (λ r. AllByRecursion (HasWitness wide_decision debugger.old.trail.program debugger.old.trail.mode (done_steps debugger.old.trail) limits.fuel debugger.old.world) r.leaves.items) }
     ensures texts { IfOk result (λ r. map string_bytes r.witnesses.items ≡ witness_texts wide_decision limits.witnesses (done_steps debugger.old.trail) limits.fuel debugger.old.world r.leaves.items) }
-    ensures trail { debugger.new.trail ≡ debugger.old.trail }
-    ensures world { debugger.new.world ≡ debugger.old.world }
-    ensures reached { IsReached (standing_of debugger.new) }
+    ensures as_found { AsFound (standing_of debugger.old) (standing_of debugger.new) }
     ensures memory { OnErr result (0 < limits.runs) }
 {
     wide_decisions_can_be_followed();

@@ -47,9 +47,9 @@ loop-place-preserved g c =
       more = more_next l d.world ps n p old.more new.more within c.index-pieces-place.is i.more more;
       texts = texts_next (decides_by l.ends) l.witnesses (done_steps d.trail) l.fuel d.world old.leaves.items (part l p.choices d.world) new.leaves.items _ _ leaves i.texts texts;
       good = good_next l.until_bad c.in_ok-is_last.is_last old.leaves.items (part l p.choices d.world) new.leaves.items leaves last c.if-is_last.false i.good;
-      trail = c.in_ok-is_last.ensures.trail ∙ i.trail;
-      world = c.in_ok-is_last.ensures.world ∙ i.world;
-      reached = c.in_ok-is_last.ensures.reached;
+      trail = c.in_ok-is_last.ensures.as_found.trail ∙ i.trail;
+      world = c.in_ok-is_last.ensures.as_found.world ∙ i.world;
+      reached = c.in_ok-is_last.ensures.as_found.reached;
     }
 
 pub returns-then-is_last-clause-leaves : goal.returns-then-is_last-clause-leaves
@@ -85,7 +85,7 @@ returns-then-is_last-clause-more g c =
     let joined : new.leaves.items ≡ parts l d.world (take (n + 1) ps) = parts_next l d.world ps n p old.leaves.items new.leaves.items within c.index-pieces-place.is i.leaves leaves in
     let any = more_next l d.world ps n p old.more new.more within c.index-pieces-place.is i.more more in
     let left : c.in_ok-others.others ≡ have_run l d.world (drop (n + 1) ps) =
-    c.in_ok-others.ensures.left ∙ ap (λ w. have_run l w (drop (n + 1) ps)) (c.in_ok-is_last.ensures.world ∙ i.world) in
+    c.in_ok-others.ensures.left ∙ ap (λ w. have_run l w (drop (n + 1) ps)) (c.in_ok-is_last.ensures.as_found.world ∙ i.world) in
     ends_more l d.world ps (n + 1) p.choices old.leaves.items new.leaves.items c.in_ok-is_last.is_last new.more c.in_ok-others.others c.is_more.result joined leaves i.good last c.if-is_last.true any left c.is_more.ensures
 
 pub returns-then-is_last-clause-texts : goal.returns-then-is_last-clause-texts

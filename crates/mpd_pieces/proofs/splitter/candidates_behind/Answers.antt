@@ -6,8 +6,5 @@ use Rattle.mpd_pieces.proofs.splitter.candidates_behind.Goals as goal
 pub put_back-requires : goal.put_back-requires
 put_back-requires g c = omega (arith, c.depth-base.ensures.value, beyond_depth (standing_of c.args.debugger.now) (standing_of c.look_behind-found.new.debugger) c.state_is_reached.ensures.reached c.look_behind-found.ensures.beyond)
 
-pub returns-clause-trail : goal.returns-clause-trail
-returns-clause-trail g c = (c.put_back.ensures.found (standing_of c.args.debugger.now) c.state_is_reached.ensures.reached c.requires.clean c.depth-base.ensures.value c.look_behind-found.ensures.beyond).trail
-
-pub returns-clause-world : goal.returns-clause-world
-returns-clause-world g c = (c.put_back.ensures.found (standing_of c.args.debugger.now) c.state_is_reached.ensures.reached c.requires.clean c.depth-base.ensures.value c.look_behind-found.ensures.beyond).world
+pub returns-clause-as_found : goal.returns-clause-as_found
+returns-clause-as_found g c = c.put_back.ensures.found (standing_of c.args.debugger.now) c.state_is_reached.ensures.reached c.requires.clean c.depth-base.ensures.value c.look_behind-found.ensures.beyond

@@ -31,9 +31,9 @@ loop-piece-preserved g c =
       adds = grown_more g.S.Schedule.decides c.args.fuel w c.args.from.now c.loop-piece.piece-index p cs c.loop-piece.made.items c.push_grown.new.made.items c.loop-piece-test.true c.piece-item.is own i.adds adds;
       few = c.in-Ok.ensures.few;
       still = λ h. let both = neither c.loop-piece.grows c.in-Ok.more (sym c.either-grows.ensures ∙ h) in still_more g.S.Schedule.decides c.args.fuel w c.args.from.now c.loop-piece.piece-index p cs c.loop-piece-test.true c.piece-item.is own (rw i.world at (c.in-Ok.ensures.still both.1)) (i.still both.0);
-      trail = c.in-Ok.ensures.trail ∙ i.trail;
-      world = c.in-Ok.ensures.world ∙ i.world;
-      reached = c.in-Ok.ensures.reached;
+      trail = c.in-Ok.ensures.as_found.trail ∙ i.trail;
+      world = c.in-Ok.ensures.as_found.world ∙ i.world;
+      reached = c.in-Ok.ensures.as_found.reached;
     }
 
 pub returns-clause-ok : goal.returns-clause-ok

@@ -21,7 +21,7 @@ returns-in-Forced-clause-looked g c =
     let d = standing_of c.args.debugger.now in
     let e = standing_of c.forward.new.self in
     let forced : decide d.world ≡ Forced c.in-Forced.step = ap decide (sym c.core.ensures.world) ∙ sym c.in_ok-decide.ensures.ok ∙ c.in-Forced.is in
-    (ap (λ (t : Trail). t.depth) c.in_ok-forward-in-Forced.ensures.ok, λ n. pieces_forced decide 0 n d.world e.world c.in-Forced.step forced c.in_ok-forward-in-Forced.ensures.world)
+    (ap (λ (t : Trail). t.depth) c.in_ok-forward-in-Forced.ensures.taken.moved.ok, λ n. pieces_forced decide 0 n d.world e.world c.in-Forced.step forced c.in_ok-forward-in-Forced.ensures.taken.world)
 
 pub returns-clause-looked : goal.returns-clause-looked
 returns-clause-looked g c =

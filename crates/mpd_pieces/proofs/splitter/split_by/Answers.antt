@@ -47,9 +47,9 @@ loop-choice-preserved g c =
     record {
       made = next_level g.S.Schedule.decides c.args.fuel c.loop-choice.choice w c.deref.result.now c.in-Ok.level.made.items (c.deref.ensures.value ∙ i.made) grown;
       few = c.in-Ok.ensures.few;
-      trail = c.in-Ok.ensures.trail ∙ i.trail;
-      world = c.in-Ok.ensures.world ∙ i.world;
-      reached = c.in-Ok.ensures.reached;
+      trail = c.in-Ok.ensures.as_found.trail ∙ i.trail;
+      world = c.in-Ok.ensures.as_found.world ∙ i.world;
+      reached = c.in-Ok.ensures.as_found.reached;
     }
 
 pub returns-clause-few : goal.returns-clause-few

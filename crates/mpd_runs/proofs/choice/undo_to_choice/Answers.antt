@@ -8,4 +8,4 @@ use Rattle.mpd_runs.proofs.choice.undo_to_choice.Goals as goal
 pub loop-undone-preserved : goal.loop-undone-preserved
 loop-undone-preserved c =
     undoing_more c.args.debugger.now.trail (standing_of c.loop-undone.debugger) (standing_of c.undo.new.self) c.loop-undone.undone c.in_ok-is_open.is_open c.loop-undone.invariant (search rules) (search (rules, deep_enough))
-    c.undo.ensures.reached (c.in_ok-is_open.ensures ∙ ap (λ w. is_choice (decision w)) c.core.ensures.world) c.if-is_open.false
+    c.undo.ensures.undone.moved.reached (c.in_ok-is_open.ensures ∙ ap (λ w. is_choice (decision w)) c.core.ensures.world) c.if-is_open.false

@@ -12,6 +12,6 @@ returns-clause-value c =
     let u = c.first_runs.new.debugger in
     let number : is_number c.args.number ≡ true = search rules in
     numbered_is c.args.number c.args.debugger.now.trail u.trail u.world c.args.debugger.now.world c.fuel_at-fuel.result c.in_ok-report.report.leaves.items c.in_ok-found.found number
-    (ap done_steps c.in_ok-report.ensures.trail ∙ c.in_ok-copy.ensures.steps) (c.in_ok-report.ensures.world ∙ c.in_ok-copy.ensures.world) (c.fuel_at-fuel.ensures.value ∙ ap fuel_at c.depth.ensures.value)
-    (c.in_ok-report.ensures.leaves ∙ ap (λ z. ended_by false (first_runs c.args.number c.fuel_at-fuel.result z)) (sym c.in_ok-report.ensures.world))
+    (ap done_steps c.in_ok-report.ensures.as_found.trail ∙ c.in_ok-copy.ensures.steps) (c.in_ok-report.ensures.as_found.world ∙ c.in_ok-copy.ensures.world) (c.fuel_at-fuel.ensures.value ∙ ap fuel_at c.depth.ensures.value)
+    (c.in_ok-report.ensures.leaves ∙ ap (λ z. ended_by false (first_runs c.args.number c.fuel_at-fuel.result z)) (sym c.in_ok-report.ensures.as_found.world))
     (c.in_ok-found.ensures.value ∙ ap (λ ls. option_map (whole_run (done_steps u.trail) c.fuel_at-fuel.result u.world) (slice_get ls (c.args.number - 1))) c.deref.ensures.value)

@@ -18,7 +18,7 @@ returns-in-Ok-clause-all g c =
     let w : World = c.args.debugger.now.world in
     let lists : List (List ℕ) = draws c.args.limits.until_bad c.args.limits.fuel c.args.limits.runs w (seeded c.args.seed) in
     let told : c.in-Ok.more ≡ nat_lt (length c.in_ok-report.report.leaves.items) (length (wide_walk c.args.limits.fuel w)) =
-    more_told _ (length c.in_ok-report.report.leaves.items) c.args.limits.fuel w _ c.in-Ok.more c.in-Ok.ensures.more c.in_ok-report.ensures.world (omega (arith, c.in_ok-report.report.leaves.ok)) in
+    more_told _ (length c.in_ok-report.report.leaves.items) c.args.limits.fuel w _ c.in-Ok.more c.in-Ok.ensures.more c.in_ok-report.ensures.as_found.world (omega (arith, c.in_ok-report.report.leaves.ok)) in
     sample_all lists c.args.limits.fuel w c.in_ok-report.report.leaves.items c.in-Ok.more c.in_ok-report.ensures.samples.leaves_are told
 
 pub returns-in-Ok-clause-witnesses : goal.returns-in-Ok-clause-witnesses
