@@ -1,11 +1,13 @@
--- Of some ends the first of each kind.
-use Rattle.std.proofs.Common.{◌≡◌, ℕ, zero, suc, ◌<◌, ◌+◌, Bool, true, false, not, ◌||◌, cond, List, [], ◌∷◌, ◌++◌, length, take, get_or, slice_get, refl, sym, ap, ◌∙◌, arith}
+-- Of some ends the first of each kind, and what is told of it.
+use Rattle.std.proofs.Common.{◌≡◌, ℕ, zero, suc, ◌<◌, ◌+◌, Bool, true, false, not, ◌||◌, cond, List, [], ◌∷◌, ◌++◌, ◌⊎◌, inl, inr, length, map, take, get_or, slice_get, refl, sym, ap, ap₂, ◌∙◌, arith, append-nil, Result, Ok, Err, IfOk}
 use Rattle.std.specs.List.{list_any}
 use Rattle.std.specs.Str.{bytes_eq}
 use Rattle.std.proofs.lemmas.List.{take_more}
 use Rattle.std.proofs.lemmas.List.Folds.{list_any-append}
 use Rattle.std.proofs.lemmas.Slice.Eq.{bytes_eq-Decides}
-use Rattle.mpd_explain.specs.Told.{text_at, same_at, is_first}
+use Rattle.mpd_explore.specs.declared.report.Leaf.{Leaf}
+use Rattle.mpd_explore.specs.Printed.{total_line}
+use Rattle.mpd_explain.specs.Told.{text_at, same_at, is_first, behind_leaf, ends_of, firsts, end_lines, group_lines, ends_with, explained_text}
 
 -- the text of a number that is there
 at_within : (ends : List (List ℕ)) (n : ℕ) → n < length ends → text_at (slice_get ends n) ≡ get_or ends n []
@@ -40,3 +42,30 @@ finds_more ends n b numbers now within finds test more = λ text.
     ∙ ap (λ t. t || list_any f (cond b (n ∷ []) [])) (finds text)
     ∙ step_by f n b (list_any (bytes_eq text) (take n ends)) (bytes_eq text own) (ap (bytes_eq text) at) known
     ∙ sym (list_any-append (bytes_eq text) (take n ends) (own ∷ [])) ∙ ap (list_any (bytes_eq text)) (sym (take_more ends n [] within))
+
+-- ---- what stands after the lines of groups
+
+no_ends : {A : Type 0} (v : A → List ℕ) (ends : List (List ℕ)) (e : ℕ) (ns : List ℕ) (texts : List A) → (ns ≡ []) ⊎ (texts ≡ []) → ends_with ends e ns (map v texts) ≡ []
+no_ends v ends e ns texts (inl none) = ap (λ (ms : List ℕ). ends_with ends e ms (map v texts)) none
+no_ends v ends e [] texts (inr none) = refl
+no_ends v ends e (n ∷ ns) texts (inr none) = ap (λ ts. ends_with ends e (n ∷ ns) (map v ts)) none
+
+-- where either list has come to its end, all lines were told
+pub all_ends : {A : Type 0} (v : A → List ℕ) (ends : List (List ℕ)) (e : ℕ) (ns : List ℕ) (texts : List A) (so_far all : List ℕ) → (ns ≡ []) ⊎ (texts ≡ []) → so_far ++ ends_with ends e ns (map v texts) ≡ all → so_far ≡ all
+all_ends v ends e ns texts so_far all none told = sym (append-nil so_far) ∙ ap (λ (z : List ℕ). so_far ++ z) (sym (no_ends v ends e ns texts none)) ∙ told
+
+-- with what stands after the first leaf of each, it is the text of the groups
+groups_with : (witnesses texts ends : List (List ℕ)) (e : ℕ) (ns : List ℕ) → ends_with ends e ns (map (behind_leaf witnesses texts) ns) ≡ group_lines witnesses texts ends e ns
+groups_with witnesses texts ends e [] = refl
+groups_with witnesses texts ends e (n ∷ ns) = ap (λ (z : List ℕ). end_lines witnesses texts ends e n ++ z) (groups_with witnesses texts ends (suc e) ns)
+
+grouped_is : (witnesses texts : List (List ℕ)) (leaves : List Leaf) (more : Bool) (ends : List (List ℕ)) (ns : List ℕ) (after : List (List ℕ)) → ends ≡ ends_of leaves → ns ≡ firsts (ends_of leaves) → after ≡ map (behind_leaf witnesses texts) ns
+    → ends_with ends 0 ns after ++ total_line leaves more ≡ explained_text true witnesses texts leaves more
+grouped_is witnesses texts leaves more ends ns after es is all =
+    ap (λ (z : List ℕ). z ++ total_line leaves more)
+    (ap (ends_with ends 0 ns) all ∙ groups_with witnesses texts ends 0 ns ∙ ap₂ (λ (ts : List (List ℕ)) (ms : List ℕ). group_lines witnesses texts ts 0 ms) es is)
+
+pub grouped_told : {A E : Type 0} (r : Result A E) (text_of : A → List ℕ) (witnesses texts : List (List ℕ)) (leaves : List Leaf) (more : Bool) (ends : List (List ℕ)) (ns : List ℕ) (after : List (List ℕ)) → ends ≡ ends_of leaves → ns ≡ firsts (ends_of leaves)
+    → after ≡ map (behind_leaf witnesses texts) ns → IfOk r (λ t. text_of t ≡ ends_with ends 0 ns after ++ total_line leaves more) → IfOk r (λ t. text_of t ≡ explained_text true witnesses texts leaves more)
+grouped_told (Ok t) text_of witnesses texts leaves more ends ns after es is all told = told ∙ grouped_is witnesses texts leaves more ends ns after es is all
+grouped_told (Err e) text_of witnesses texts leaves more ends ns after es is all told = tt

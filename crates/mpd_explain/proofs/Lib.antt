@@ -3,3 +3,4 @@ pub mod TellLemmas
 pub mod PrintLemmas
 pub mod GroupLemmas
 pub mod CallLemmas
+pub mod FirstLemmas

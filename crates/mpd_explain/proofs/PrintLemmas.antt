@@ -20,23 +20,17 @@ pub some_at : {A : Type 0} (v : A → List ℕ) (xs : List A) (n : ℕ) (x : A) 
 some_at v xs n x within read = ap text_at (slice_get-map v xs n ∙ ap (option_map v) (slice_get_read xs (length xs) n x refl within read))
 
 -- the line of a witness by its text, the empty one where there is none
-numbered_by : (n : ℕ) (o : Option (List ℕ)) → numbered_at n o ≡ numbered n (text_at o)
+pub numbered_by : (n : ℕ) (o : Option (List ℕ)) → numbered_at n o ≡ numbered n (text_at o)
 numbered_by n None = refl
 numbered_by n (Some text) = refl
 
-numbered_empty : (n : ℕ) (text : List ℕ) → (length text == 0) ≡ true → numbered n text ≡ []
+pub numbered_empty : (n : ℕ) (text : List ℕ) → (length text == 0) ≡ true → numbered n text ≡ []
 numbered_empty n [] h = refl
 numbered_empty n (c ∷ cs) h = grind (arith, nat_tests)
 
-numbered_full : (n : ℕ) (text : List ℕ) → (length text == 0) ≡ false → numbered n text ≡ (codes "witness " ++ decimal n) ++ text
+pub numbered_full : (n : ℕ) (text : List ℕ) → (length text == 0) ≡ false → numbered n text ≡ (codes "witness " ++ decimal n) ++ text
 numbered_full n [] h = cc
 numbered_full n (c ∷ cs) h = refl
-
-pub no_witness : (n : ℕ) (o : Option (List ℕ)) → (length (text_at o) == 0) ≡ true → numbered_at n o ≡ []
-no_witness n o h = numbered_by n o ∙ numbered_empty n (text_at o) h
-
-pub a_witness : (n : ℕ) (o : Option (List ℕ)) → (length (text_at o) == 0) ≡ false → numbered_at n o ≡ (codes "witness " ++ decimal n) ++ text_at o
-a_witness n o h = numbered_by n o ∙ numbered_full n (text_at o) h
 
 -- ---- numbers that are chosen, one at a time
 
@@ -71,4 +65,4 @@ plain_told (Err e) text_of grouped witnesses texts leaves more g none is = tt
 
 pub ruleset placing = (none_at, some_at)
 
-pub ruleset witnessing = (no_witness, a_witness)
+pub ruleset witnessing = (numbered_empty, numbered_full)

@@ -14,9 +14,8 @@ use Rattle.mpd_model.specs.steps.World.{RankWorld, World, start}
 use Rattle.mpd_model.specs.steps.Next.{next, fold, waits}
 use Rattle.mpd_walk.specs.declared.ending.Ending.{Ending}
 use Rattle.mpd_walk.specs.declared.ending.Ending.TheVariants.{Ended, Cut}
-use Rattle.mpd_explore.specs.Report.{is_bad}
 use Rattle.mpd_explain.specs.Requests.{call_of, request_handles}
-use Rattle.mpd_explain.specs.Explained.{told_at, explanation}
+use Rattle.mpd_explain.specs.Explained.{tells_of, told_at, explanation}
 
 -- ---- a rank that isn't there
 
@@ -68,16 +67,16 @@ fold_append w (a ∷ xs) ys = fold_by (next w a) xs ys (λ v. fold_append v xs y
 pub told_behind : (s : Program) (mode : Mode) (before steps : List Step) (w : World) (e : Ending) → fold (start s mode) before ≡ Some w → told_at s (fold w steps) e ≡ explanation s mode (before ++ steps) e
 told_behind s mode before steps w e leads = ap (λ o. told_at s o e) (sym (fold_append (start s mode) before steps ∙ ap (option_and_then (λ v. fold v steps)) leads))
 
-told_none : (s : Program) (o : Option World) (e : Ending) → is_bad e ≡ false → told_at s o e ≡ []
+told_none : (s : Program) (o : Option World) (e : Ending) → tells_of e ≡ false → told_at s o e ≡ []
 told_none s None e good = refl
 told_none s (Some w) Cut good = refl
 told_none s (Some w) (Ended Done) good = refl
-told_none s (Some w) (Ended (Leftovers calls)) good = refl
+told_none s (Some w) (Ended (Leftovers calls)) good = cc
 told_none s (Some w) (Ended (Deadlock blocked)) good = cc
 told_none s (Some w) (Ended (Trap ranks)) good = cc
 
--- of what is no deadlock and no trap nothing is told
-pub untold : (s : Program) (mode : Mode) (steps : List Step) (e : Ending) → is_bad e ≡ false → explanation s mode steps e ≡ []
+-- of what is no deadlock and no trap, and has no leftovers, nothing is told
+pub untold : (s : Program) (mode : Mode) (steps : List Step) (e : Ending) → tells_of e ≡ false → explanation s mode steps e ≡ []
 untold s mode steps e good = told_none s (fold (start s mode) steps) e good
 
 pub ruleset telling = (no_handles, at_barrier)

@@ -1,9 +1,11 @@
--- What is told of a run that ends in a deadlock or a trap: a text of lines that begin with two spaces.
-use Rattle.std.specs.Prelude.{ℕ, if◌then◌else◌, List, [], ◌∷◌, ◌++◌, Option, Some, None, slice_get, codes}
+-- What is told of a run that ends in a deadlock, a trap or leftovers: a text of lines that begin with two spaces.
+use Rattle.std.specs.Prelude.{ℕ, Bool, true, false, if◌then◌else◌, List, [], ◌∷◌, ◌++◌, Option, Some, None, slice_get, codes}
 use Rattle.std.specs.Fmt.{decimal}
 use Rattle.std.specs.List.{flat_map}
 use Rattle.mpd_model.specs.declared.step.CallId.{CallId}
 use Rattle.mpd_model.specs.declared.step.Step.{Step}
+use Rattle.mpd_model.specs.declared.call.Activity.{Activity}
+use Rattle.mpd_model.specs.declared.call.Activity.TheVariants.{Running, Blocked, Trapped}
 use Rattle.mpd_model.specs.declared.call.CallKind.{CallKind}
 use Rattle.mpd_model.specs.declared.call.CallKind.TheVariants.{Send, Recv, Wait, Waitany, Barrier}
 use Rattle.mpd_model.specs.declared.call.Mode.{Mode}
@@ -12,7 +14,7 @@ use Rattle.mpd_model.specs.declared.call.RecvCall.{RecvCall}
 use Rattle.mpd_model.specs.declared.outcome.TrappedRank.{TrappedRank}
 use Rattle.mpd_model.specs.declared.outcome.Outcome.TheVariants.{Done, Leftovers, Deadlock, Trap}
 use Rattle.mpd_model.specs.script.Program.{Program}
-use Rattle.mpd_model.specs.steps.World.{RankWorld, World, Board, kind_at, is_barrier, rank_numbers, start}
+use Rattle.mpd_model.specs.steps.World.{RankWorld, World, Board, kind_at, is_barrier, last_call, rank_numbers, start}
 use Rattle.mpd_model.specs.steps.Next.{fold, is_at_barrier}
 use Rattle.mpd_model.specs.steps.Outcomes.{has_ended}
 use Rattle.mpd_model.specs.texts.Texts.{line, trap_name}
@@ -69,24 +71,34 @@ helps s b c = miss_line s b (nearest b c) ++ taken_line s b (taken b c)
 abbrev pub request_lines : Program → Board → CallId → List ℕ
 request_lines s b c = request_line s b c ++ helps s b c
 
--- why a rank is not at a barrier
-abbrev pub absence : Option RankWorld → List ℕ
-absence None = codes "it is none"
-absence (Some r) = if has_ended r then codes "it has ended" else codes "it is at another call"
+-- the call that a rank waits in
+abbrev pub last_text : Program → Board → CallId → List ℕ
+last_text s b c = codes "it waits at " ++ placed s b c
 
--- `    rank 1 is not there: it has ended`
+-- where a rank stands: that call, or the line that it has not got past
+abbrev pub stand_text : Program → World → ℕ → Activity → List ℕ
+stand_text s w q Blocked = last_text s w.board (last_call w.board q)
+stand_text s w q Running = codes "it is at line " ++ decimal (rank_line s.lines (slice_get w.ranks q))
+stand_text s w q (Trapped t) = codes "it is at line " ++ decimal (rank_line s.lines (slice_get w.ranks q))
+
+-- why a rank is not at a barrier
+abbrev pub absence : Program → World → ℕ → Option RankWorld → List ℕ
+absence s w q None = codes "it is none"
+absence s w q (Some r) = if has_ended r then codes "it has ended" else stand_text s w q r.activity
+
+-- `    rank 1 is not there: it has ended`, `    rank 2 is not there: it waits at line 9, 2.0 recv from 1 tag 2`
 abbrev pub absence_line : ℕ → List ℕ → List ℕ
 absence_line q why = line (codes "    rank " ++ decimal q ++ codes " is not there: " ++ why)
 
 -- that of a rank which is not at a barrier
-abbrev pub absent_line : World → ℕ → List ℕ
-absent_line w q = if is_at_barrier w q then [] else absence_line q (absence (slice_get w.ranks q))
+abbrev pub absent_line : Program → World → ℕ → List ℕ
+absent_line s w q = if is_at_barrier w q then [] else absence_line q (absence s w q (slice_get w.ranks q))
 
 -- the lines behind that of a blocked call
 abbrev pub details : Program → World → CallId → Option CallKind → List ℕ
-details s w c kind = if is_barrier kind then flat_map (absent_line w) (rank_numbers w.board) else helps s w.board c ++ flat_map (request_lines s w.board) (requests w c.rank kind)
+details s w c kind = if is_barrier kind then flat_map (absent_line s w) (rank_numbers w.board) else helps s w.board c ++ flat_map (request_lines s w.board) (requests w c.rank kind)
 
--- ---- deadlocks and traps
+-- ---- deadlocks, traps and leftovers
 
 -- `  rank 0 waits at line 9, 0.1 recv from 1 tag 2: for a send of rank 1 with tag 2`
 abbrev pub blocked_line : Program → Board → CallId → List ℕ
@@ -104,11 +116,23 @@ deadlock_text s w blocked = flat_map (blocked_lines s w) blocked ++ flat_map (wa
 abbrev pub trap_line : Program → World → TrappedRank → List ℕ
 trap_line s w t = line (codes "  rank " ++ decimal t.rank ++ codes ", line " ++ decimal (rank_line s.lines (slice_get w.ranks t.rank)) ++ codes ": trap " ++ trap_name t.trap)
 
+-- `  left over: line 18, 3.0 isend to 0 tag 4 value 30`
+abbrev pub left_line : Program → Board → CallId → List ℕ
+left_line s b c = line (codes "  left over: " ++ placed s b c)
+
+-- whether something is told of a run that ends so
+abbrev pub tells_of : Ending → Bool
+tells_of Cut = false
+tells_of (Ended Done) = false
+tells_of (Ended (Leftovers calls)) = true
+tells_of (Ended (Deadlock blocked)) = true
+tells_of (Ended (Trap ranks)) = true
+
 -- what is told of a run that ends so in a world
 abbrev pub told : Program → World → Ending → List ℕ
 told s w Cut = []
 told s w (Ended Done) = []
-told s w (Ended (Leftovers calls)) = []
+told s w (Ended (Leftovers calls)) = flat_map (left_line s w.board) calls
 told s w (Ended (Deadlock blocked)) = deadlock_text s w blocked
 told s w (Ended (Trap ranks)) = flat_map (trap_line s w) ranks
 

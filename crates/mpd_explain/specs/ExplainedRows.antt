@@ -3,7 +3,7 @@ use Rattle.std.specs.Prelude.{◌≡◌, ℕ, pos, true, false, map, List, [], �
 use Rattle.std.specs.Fmt.{digits}
 use Rattle.mpd_model.specs.declared.place.DeclKind.TheVariants.{Variable}
 use Rattle.mpd_model.specs.declared.expr.BinaryOp.TheVariants.{Equal, Divide}
-use Rattle.mpd_model.specs.declared.call.Mode.TheVariants.{Rendezvous}
+use Rattle.mpd_model.specs.declared.call.Mode.TheVariants.{Rendezvous, Buffered}
 use Rattle.mpd_model.specs.declared.stmt.Simple.TheVariants as st
 use Rattle.mpd_model.specs.declared.outcome.Outcome.TheVariants as o
 use Rattle.mpd_model.specs.script.Declaration.{Declared}
@@ -111,6 +111,21 @@ divided = record {
 pub row_divided : map {B = List ℕ} (λ (r : Run). explanation divided Rendezvous r.steps r.ending) (walk 20 (start divided Rendezvous)) ≡ line (codes "  rank 1, line 7: trap zero-divisor") ∷ []
 unfolding walk decision digits
 row_divided = refl
+
+-- two messages that nobody receives: with buffers they are left over, and else the first one blocks its rank
+-- if rank == 0 { send 5 to 1 tag 1; send 6 to 1 tag 2; } else { print 1; }
+abbrev unread : Program
+unread = record {
+  version = 1;
+  ranks = 2;
+  decls = one_variable;
+  body = branch (op2 Equal own_rank (n 0)) (then_more (simple (st.Send (record { value = n 5; to = n 1; tag = n 1 }))) (then_more (simple (st.Send (record { value = n 6; to = n 1; tag = n 2 }))) no_more)) (then_more (simple (st.Print (n 1))) no_more) ∷ [];
+  lines = 4 ∷ 5 ∷ 6 ∷ 8 ∷ [];
+}
+
+pub row_unread : map {B = List ℕ} (λ (r : Run). explanation unread Buffered r.steps r.ending) (walk 20 (start unread Buffered)) ≡ (line (codes "  left over: line 5, 0.0 send to 1 tag 1 value 5") ++ line (codes "  left over: line 6, 0.1 send to 1 tag 2 value 6")) ∷ []
+unfolding walk decision digits
+row_unread = refl
 
 -- ---- cycles: ranks 1, 3 and 2 wait for one another, rank 0 for rank 1, rank 4 for no one rank
 

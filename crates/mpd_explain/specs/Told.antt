@@ -60,6 +60,16 @@ abbrev pub group_lines : List (List ℕ) → List (List ℕ) → List (List ℕ)
 group_lines witnesses texts ends e [] = []
 group_lines witnesses texts ends e (n ∷ ns) = end_lines witnesses texts ends e n ++ group_lines witnesses texts ends (suc e) ns
 
+-- the line of the end whose first leaf is number n, and what stands after it
+abbrev pub end_with : List (List ℕ) → ℕ → ℕ → List ℕ → List ℕ
+end_with ends e n after = end_line e (times (text_at (slice_get ends n)) ends) n (text_at (slice_get ends n)) ++ after
+
+-- the same of ends, of which the first is number e, by what stands after the line of each
+abbrev pub ends_with : List (List ℕ) → ℕ → List ℕ → List (List ℕ) → List ℕ
+ends_with ends e [] texts = []
+ends_with ends e (n ∷ ns) [] = []
+ends_with ends e (n ∷ ns) (after ∷ texts) = end_with ends e n after ++ ends_with ends (suc e) ns texts
+
 -- ---- the whole
 
 -- the lines of all leaves, or of the ends that differ

@@ -4,17 +4,16 @@
 ghost use Rattle.std.specs.Prelude.{◌≡◌, ◌+◌, ◌≤◌, ◌<◌, ◌++◌, IfOk, OnErr, IsSome, Some, IsTrue, length, map, string_bytes};
 ghost use Rattle.std.specs.List.{AllByRecursion};
 ghost use Rattle.mpd_model.specs.steps.Next.{fold};
-ghost use Rattle.mpd_model.specs.runs.Trail.{done_steps, IsReached};
-ghost use Rattle.mpd_trail.specs.Views.{standing_of};
-ghost use Rattle.mpd_explore.specs.Report.{is_bad};
+ghost use Rattle.mpd_model.specs.runs.Trail.{done_steps};
+ghost use Rattle.mpd_trail.specs.Views.{AsFound, standing_of};
 ghost use Rattle.mpd_walk.specs.Walk.{run_by, steps_by};
 ghost use Rattle.mpd_explore.specs.Witness.{HasWitness};
-ghost use Rattle.mpd_explain.specs.Explained.{told_at};
+ghost use Rattle.mpd_explain.specs.Explained.{tells_of, told_at};
 ghost use Rattle.mpd_explain.specs.Explanations.{explanation_of, explanations};
 ghost use Rattle.mpd_walk.specs.Walks.{Beyond};
 
 use crate::list::push_text;
-use crate::sentences::told;
+use crate::sentences::{tells_of, told};
 use mpd_explore::{Leaf, Report};
 use mpd_model::STEPS_MAX;
 use mpd_trail::Debugger;
@@ -38,10 +37,10 @@ fn retell<S: Schedule>(
     told(alloc, debugger.core(), &leaf.ending)
 }
 
-/// The explanation of a leaf that was listed along a schedule, where that is a deadlock or a trap: its run is made again from where the
-/// debugger stands, and what is told is read off its end. Of any other leaf it is the empty text. The fuel is the one of that exploration.
-/// The debugger is left as found, also where memory is refused, which is what an `Err` says; that comes only where the leaf is a deadlock
-/// or a trap.
+/// The explanation of a leaf that was listed along a schedule, where that is a deadlock or a trap, or has leftovers: its run is made again
+/// from where the debugger stands, and what is told is read off its end. Of any other leaf it is the empty text. The fuel is the one of that
+/// exploration. The debugger is left as found, also where memory is refused, which is what an `Err` says; that comes only where the leaf is
+/// one of these three.
 pub fn explain<S: Schedule>(
     alloc: Global,
     schedule: &S,
@@ -53,13 +52,11 @@ pub fn explain<S: Schedule>(
     requires fits { debugger.old.trail.depth + fuel ≤ STEPS_MAX }
     requires listed { IsSome (run_by S.decides fuel leaf.now.choices debugger.old.world) }
     ensures text { IfOk result (λ t. string_bytes t ≡ explanation_of S.decides debugger.old.trail.program debugger.old.trail.mode (done_steps debugger.old.trail) fuel debugger.old.world leaf.now) }
-    ensures trail { debugger.new.trail ≡ debugger.old.trail }
-    ensures world { debugger.new.world ≡ debugger.old.world }
-    ensures reached { IsReached (standing_of debugger.new) }
-    ensures memory { OnErr result (IsTrue (is_bad leaf.now.ending)) }
+    ensures as_found { AsFound (standing_of debugger.old) (standing_of debugger.new) }
+    ensures memory { OnErr result (IsTrue (tells_of leaf.now.ending)) }
 {
     debugger.state_is_reached();
-    if !leaf.is_bad() {
+    if !tells_of(&leaf.ending) {
         return Ok(String::new(alloc));
     }
     let base = debugger.depth();
@@ -81,9 +78,7 @@ pub fn explain_all<S: Schedule>(
     requires fits { debugger.old.trail.depth + fuel ≤ STEPS_MAX }
     requires listed { AllByRecursion (HasWitness S.decides debugger.old.trail.program debugger.old.trail.mode (done_steps debugger.old.trail) fuel debugger.old.world) report.now.leaves.items }
     ensures texts { IfOk result (λ texts. map string_bytes texts.items ≡ explanations S.decides debugger.old.trail.program debugger.old.trail.mode (done_steps debugger.old.trail) fuel debugger.old.world report.now.leaves.items) }
-    ensures trail { debugger.new.trail ≡ debugger.old.trail }
-    ensures world { debugger.new.world ≡ debugger.old.world }
-    ensures reached { IsReached (standing_of debugger.new) }
+    ensures as_found { AsFound (standing_of debugger.old) (standing_of debugger.new) }
     ensures memory { OnErr result (0 < length report.now.leaves.items) }
 {
     debugger.state_is_reached();

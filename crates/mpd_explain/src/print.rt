@@ -4,7 +4,7 @@ ghost use Rattle.std.specs.Prelude.{◌≡◌, ◌++◌, ◌∷◌, ◌≤◌, �
 ghost use Rattle.std.specs.List.{list_any};
 ghost use Rattle.std.specs.Str.{bytes_eq};
 ghost use Rattle.mpd_explore.specs.ReportText.{ending_text, leaf_line};
-ghost use Rattle.mpd_explore.specs.Printed.{numbered_at, told_text};
+ghost use Rattle.mpd_explore.specs.Printed.{numbered, numbered_at, told_text, total_line};
 ghost use Rattle.mpd_explain.specs.Told as told;
 
 use crate::list::{push_if, push_text};
@@ -21,21 +21,28 @@ fn push_leaf(alloc: Global, out: &mut String, number: usize, leaf: &Leaf) -> Res
     out.push('\n')
 }
 
-/// Adds the line of the witness of this number, where there is a text of it that isn't empty.
+/// Adds the line of the witness of this number by its text, unless that is empty.
 #[tactic(auto, using(crate::proofs::PrintLemmas::witnessing))]
-fn push_witness(out: &mut String, number: usize, witnesses: &[String]) -> Result<(), AllocError>
-    ensures { OnOk result (string_bytes out.new ≡ string_bytes out.old ++ numbered_at number (slice_get (map string_bytes witnesses.now) number)) }
+pub(crate) fn push_numbered(out: &mut String, number: usize, text: &str) -> Result<(), AllocError>
+    ensures { OnOk result (string_bytes out.new ≡ string_bytes out.old ++ numbered number text.now) }
 {
-    let text = text_at(witnesses, number);
     if text.is_empty() {
         return Ok(());
     }
     write!(out, "witness {number}{text}")
 }
 
+/// Adds the line of the witness of this number, where there is a text of it that isn't empty.
+#[tactic(auto, using(crate::proofs::PrintLemmas::numbered_by))]
+fn push_witness(out: &mut String, number: usize, witnesses: &[String]) -> Result<(), AllocError>
+    ensures { OnOk result (string_bytes out.new ≡ string_bytes out.old ++ numbered_at number (slice_get (map string_bytes witnesses.now) number)) }
+{
+    push_numbered(out, number, text_at(witnesses, number))
+}
+
 /// The text of this number, the empty one where there is none.
 #[tactic(auto, using(crate::proofs::PrintLemmas::placing))]
-fn text_at(texts: &[String], number: usize) -> &str
+pub fn text_at(texts: &[String], number: usize) -> &str
     ensures { result.now ≡ told.text_at (slice_get (map string_bytes texts.now) number) }
 {
     if number >= texts.len() {
@@ -131,8 +138,9 @@ fn has_end(text: &str, ends: &[String], numbers: &[usize]) -> bool
         .any(|number| is_same(text, text_at(ends, *number)))
 }
 
-/// The numbers of the ends that are the first of their kind. Each is compared with those that were found, and with no others.
-fn firsts(alloc: Global, ends: &[String]) -> Result<Vec<usize>, AllocError>
+/// The numbers of the texts that are the first of their kind. Each is compared with those that were found, and with no others. An `Err` is
+/// want of memory.
+pub fn firsts(alloc: Global, ends: &[String]) -> Result<Vec<usize>, AllocError>
     ensures numbers { IfOk result (λ numbers. numbers.items ≡ told.firsts (map string_bytes ends.now)) }
 {
     let mut numbers = Vec::new(alloc);
@@ -144,99 +152,90 @@ fn firsts(alloc: Global, ends: &[String]) -> Result<Vec<usize>, AllocError>
     Ok(numbers)
 }
 
-/// Adds the lines of an end whose first leaf has this number.
+/// How leaves end, and which of them are the first to end so.
+#[derive(Drop)]
+pub(crate) struct Groups {
+    pub(crate) ends: Vec<String>,
+    pub(crate) firsts: Vec<usize>,
+}
+
+/// Leaves by how they end.
+pub(crate) fn groups_of(alloc: Global, leaves: &[Leaf]) -> Result<Groups, AllocError>
+    ensures ends { IfOk result (λ groups. map string_bytes groups.ends.items ≡ told.ends_of leaves.now) }
+    ensures firsts { IfOk result (λ groups. groups.firsts.items ≡ told.firsts (told.ends_of leaves.now)) }
+{
+    let ends = ends_of(alloc, leaves)?;
+    let firsts = firsts(alloc, &ends)?;
+    Ok(Groups { ends, firsts })
+}
+
+/// Adds the line of an end whose first leaf has this number, and what stands after it.
 fn push_end(
     out: &mut String,
     place: usize,
     number: usize,
     ends: &[String],
-    witnesses: &[String],
-    texts: &[String],
+    after: &str,
 ) -> Result<(), AllocError>
-    ensures { OnOk result (string_bytes out.new ≡ string_bytes out.old ++ told.end_lines (map string_bytes witnesses.now) (map string_bytes texts.now) (map string_bytes ends.now) place number) }
+    ensures { OnOk result (string_bytes out.new ≡ string_bytes out.old ++ told.end_with (map string_bytes ends.now) place number after.now) }
 {
     let end = text_at(ends, number);
     let count = times(end, ends);
     write!(out, "end {place} leaves {count} first {number} {end}\n")?;
-    push_behind(out, number, witnesses, texts)
+    out.push_str(after)
 }
 
-/// Adds the lines of the ends whose first leaves have these numbers.
+/// Adds the lines of the ends whose first leaves have these numbers, and what stands after each.
 fn push_ends(
     out: &mut String,
     numbers: &[usize],
     ends: &[String],
-    witnesses: &[String],
     texts: &[String],
 ) -> Result<(), AllocError>
-    ensures { OnOk result (string_bytes out.new ≡ string_bytes out.old ++ told.group_lines (map string_bytes witnesses.now) (map string_bytes texts.now) (map string_bytes ends.now) 0 numbers.now) }
+    ensures { OnOk result (string_bytes out.new ≡ string_bytes out.old ++ told.ends_with (map string_bytes ends.now) 0 numbers.now (map string_bytes texts.now)) }
 {
     let mut place = 0;
-    for number in numbers {
-        push_end(out, place, *number, ends, witnesses, texts)?;
+    for (number, after) in numbers.iter().zip(texts.iter()) {
+        push_end(out, place, *number, ends, after)?;
         place += 1;
     }
     Ok(())
 }
 
-/// Adds the lines of the different ends of all leaves, in the order in which the leaves have them first.
-fn push_groups(
+/// The text of a report whose leaves are grouped so, by what stands after the line of each group. An `Err` is want of memory.
+pub(crate) fn print_groups(
     alloc: Global,
-    out: &mut String,
-    leaves: &[Leaf],
-    witnesses: &[String],
-    texts: &[String],
-) -> Result<(), AllocError>
-    ensures { OnOk result (string_bytes out.new ≡ string_bytes out.old ++ told.body_text true (map string_bytes witnesses.now) (map string_bytes texts.now) leaves.now) }
-{
-    let ends = ends_of(alloc, leaves)?;
-    let numbers = firsts(alloc, &ends)?;
-    push_ends(out, &numbers, &ends, witnesses, texts)
-}
-
-/// Adds the lines of all leaves, or of the ends that differ.
-fn push_body(
-    alloc: Global,
-    out: &mut String,
     report: &Report,
+    groups: &Groups,
     texts: &[String],
-    is_grouped: bool,
-) -> Result<(), AllocError>
-    ensures { OnOk result (string_bytes out.new ≡ string_bytes out.old ++ told.body_text is_grouped (map string_bytes report.now.witnesses.items) (map string_bytes texts.now) report.now.leaves.items) }
+) -> Result<String, AllocError>
+    ensures { IfOk result (λ t. string_bytes t ≡ told.ends_with (map string_bytes groups.now.ends.items) 0 groups.now.firsts.items (map string_bytes texts.now) ++ total_line report.now.leaves.items report.now.more) }
 {
-    if is_grouped {
-        return push_groups(alloc, out, &report.leaves, &report.witnesses, texts);
-    }
-    push_leaves(alloc, out, &report.leaves, &report.witnesses, texts)
+    let mut out = String::new(alloc);
+    push_ends(&mut out, &groups.firsts, &groups.ends, texts)?;
+    push_total(&mut out, report)?;
+    Ok(out)
 }
 
 /// The text of a report with these explanations.
-fn explained(
-    alloc: Global,
-    report: &Report,
-    texts: &[String],
-    is_grouped: bool,
-) -> Result<String, AllocError>
-    ensures { IfOk result (λ t. string_bytes t ≡ told.explained_text is_grouped (map string_bytes report.now.witnesses.items) (map string_bytes texts.now) report.now.leaves.items report.now.more) }
+fn explained(alloc: Global, report: &Report, texts: &[String]) -> Result<String, AllocError>
+    ensures { IfOk result (λ t. string_bytes t ≡ told.explained_text false (map string_bytes report.now.witnesses.items) (map string_bytes texts.now) report.now.leaves.items report.now.more) }
 {
     let mut out = String::new(alloc);
-    push_body(alloc, &mut out, report, texts, is_grouped)?;
+    push_leaves(alloc, &mut out, &report.leaves, &report.witnesses, texts)?;
     push_total(&mut out, report)?;
     Ok(out)
 }
 
 /// A report as text: behind the line of each leaf that of its witness, where the report has their texts, and the leaf's explanation,
-/// where there is a text of its number; and at last how many leaves there are, and whether there are others. Where it is grouped, each
-/// different end stands there once in the place of the leaves, in the order in which the leaves have them first: how many leaves end
-/// so, and the number of the first of them, whose witness and explanation follow. An `Err` is want of memory.
+/// where there is a text of its number; and at last how many leaves there are, and whether there are others. An `Err` is want of memory.
 pub fn print_explained(
     alloc: Global,
     report: &Report,
     texts: &[String],
-    is_grouped: bool,
 ) -> Result<String, AllocError>
-    ensures text { IfOk result (λ t. string_bytes t ≡ told.explained_text is_grouped (map string_bytes report.now.witnesses.items) (map string_bytes texts.now) report.now.leaves.items report.now.more) }
-    ensures plain { is_grouped ≡ false → texts.now ≡ [] → IfOk result (λ t. string_bytes t ≡ told_text (map string_bytes report.now.witnesses.items) report.now.leaves.items report.now.more) }
+    ensures text { IfOk result (λ t. string_bytes t ≡ told.explained_text false (map string_bytes report.now.witnesses.items) (map string_bytes texts.now) report.now.leaves.items report.now.more) }
+    ensures plain { texts.now ≡ [] → IfOk result (λ t. string_bytes t ≡ told_text (map string_bytes report.now.witnesses.items) report.now.leaves.items report.now.more) }
 {
-    explained(alloc, report, texts, is_grouped)
+    explained(alloc, report, texts)
 }

@@ -1,12 +1,12 @@
-//! What is told of calls that are blocked and of ranks that are trapped (docs/FORMATS.md, "Explanations").
+//! What is told of calls that are blocked or left over, and of ranks that are trapped (docs/FORMATS.md, "Explanations").
 
 ghost use Rattle.std.specs.Prelude.{◌≡◌, ◌++◌, IfOk, OnOk, OnErr, IsTrue, codes, slice_get, string_bytes};
 ghost use Rattle.std.specs.Fmt.{decimal};
 ghost use Rattle.std.specs.List.{flat_map};
 ghost use Rattle.mpd_model.specs.steps.World.{call_at, kind_at, rank_numbers};
 ghost use Rattle.mpd_names.specs.Placed as placed;
-ghost use Rattle.mpd_explore.specs.Report.{is_bad};
 ghost use Rattle.mpd_explain.specs.Explained as explained;
+ghost use Rattle.mpd_explain.specs.Explained.{tells_of};
 ghost use Rattle.mpd_explain.specs.Waits.{waits_line};
 
 use crate::near_miss::{Miss, miss_text, nearest, taken};
@@ -14,7 +14,7 @@ use crate::request_calls::{is_at_barrier, requests};
 use crate::waits::{push_cycle_lines, push_waits_line};
 use mpd_core::Core;
 use mpd_explore::Ending;
-use mpd_model::{CallId, CallKind, Outcome, RecvCall, SendCall, TrappedRank, is_barrier};
+use mpd_model::{Activity, CallId, CallKind, Outcome, RecvCall, SendCall, TrappedRank, is_barrier};
 use mpd_names::{push_placed, rank_line};
 use std::alloc::{AllocError, Global};
 
@@ -174,45 +174,72 @@ fn push_requests(
     Ok(())
 }
 
-/// Why a rank is not at a barrier.
+/// Adds the call that a rank waits in.
+fn push_last(core: &Core<'_>, out: &mut String, call: CallId) -> Result<(), AllocError>
+    ensures { OnOk result (string_bytes out.new ≡ string_bytes out.old ++ explained.last_text core.now.program core.now.world.board call) }
+{
+    out.push_str("it waits at ")?;
+    push_placed(core, out, call)?;
+    Ok(())
+}
+
+/// Adds where a rank stands: the call that it waits in, or the line that it has not got past.
+fn push_stand(
+    core: &Core<'_>,
+    out: &mut String,
+    rank: usize,
+    activity: Activity,
+) -> Result<(), AllocError>
+    ensures { OnOk result (string_bytes out.new ≡ string_bytes out.old ++ explained.stand_text core.now.program core.now.world rank activity) }
+{
+    match activity {
+        Activity::Blocked => push_last(core, out, core.board().last_call(rank)),
+        Activity::Running => push_number(out, "it is at line ", rank_line(core, rank)),
+        Activity::Trapped(_) => push_number(out, "it is at line ", rank_line(core, rank)),
+    }
+}
+
+/// Adds why a rank is not at a barrier.
 #[tactic(auto, using(crate::proofs::TellLemmas::telling))]
-fn absence(core: &Core<'_>, rank: usize) -> &'static str
-    ensures { result.now ≡ explained.absence (slice_get core.now.world.ranks rank) }
+fn push_absence(core: &Core<'_>, out: &mut String, rank: usize) -> Result<(), AllocError>
+    ensures { OnOk result (string_bytes out.new ≡ string_bytes out.old ++ explained.absence core.now.program core.now.world rank (slice_get core.now.world.ranks rank)) }
 {
     if rank >= core.rank_count() {
-        return "it is none";
+        return out.push_str("it is none");
     }
     if core.rank(rank).has_ended(core.code()) {
-        "it has ended"
-    } else {
-        "it is at another call"
+        return out.push_str("it has ended");
+    }
+    match core.activity(rank) {
+        None => out.push_str("it is none"),
+        Some(activity) => push_stand(core, out, rank, activity),
     }
 }
 
 /// Adds the line of a rank that is not at a barrier.
-fn push_absence(out: &mut String, rank: usize, why: &str) -> Result<(), AllocError>
-    ensures { OnOk result (string_bytes out.new ≡ string_bytes out.old ++ explained.absence_line rank why.now) }
+fn push_absence_line(core: &Core<'_>, out: &mut String, rank: usize) -> Result<(), AllocError>
+    ensures { OnOk result (string_bytes out.new ≡ string_bytes out.old ++ explained.absence_line rank (explained.absence core.now.program core.now.world rank (slice_get core.now.world.ranks rank))) }
 {
     push_number(out, "    rank ", rank)?;
     out.push_str(" is not there: ")?;
-    out.push_str(why)?;
+    push_absence(core, out, rank)?;
     out.push_str("\n")?;
     Ok(())
 }
 
 /// Adds the line of a rank that is not at a barrier, unless it is.
 fn push_absent(core: &Core<'_>, out: &mut String, rank: usize) -> Result<(), AllocError>
-    ensures { OnOk result (string_bytes out.new ≡ string_bytes out.old ++ explained.absent_line core.now.world rank) }
+    ensures { OnOk result (string_bytes out.new ≡ string_bytes out.old ++ explained.absent_line core.now.program core.now.world rank) }
 {
     if is_at_barrier(core, rank) {
         return Ok(());
     }
-    push_absence(out, rank, absence(core, rank))
+    push_absence_line(core, out, rank)
 }
 
 /// Adds a line for each rank that is not at a barrier.
 pub fn push_all_absent(core: &Core<'_>, out: &mut String) -> Result<(), AllocError>
-    ensures { OnOk result (string_bytes out.new ≡ string_bytes out.old ++ flat_map (explained.absent_line core.now.world) (rank_numbers core.now.world.board)) }
+    ensures { OnOk result (string_bytes out.new ≡ string_bytes out.old ++ flat_map (explained.absent_line core.now.program core.now.world) (rank_numbers core.now.world.board)) }
 {
     let count = core.rank_count();
     for rank in 0..count {
@@ -325,8 +352,39 @@ fn push_traps(core: &Core<'_>, out: &mut String, traps: &[TrappedRank]) -> Resul
     Ok(())
 }
 
-/// Adds what is told of a run that ends so in this state. An `Err` is want of memory, and comes only where it ends in a deadlock or with a
-/// trap: of other ends nothing is told.
+/// Adds the line of a call that is left over.
+fn push_left(core: &Core<'_>, out: &mut String, call: CallId) -> Result<(), AllocError>
+    ensures { OnOk result (string_bytes out.new ≡ string_bytes out.old ++ explained.left_line core.now.program core.now.world.board call) }
+{
+    out.push_str("  left over: ")?;
+    push_placed(core, out, call)?;
+    out.push_str("\n")
+}
+
+/// Adds the lines of all calls that are left over.
+fn push_all_left(core: &Core<'_>, out: &mut String, calls: &[CallId]) -> Result<(), AllocError>
+    ensures { OnOk result (string_bytes out.new ≡ string_bytes out.old ++ flat_map (explained.left_line core.now.program core.now.world.board) calls.now) }
+{
+    for call in calls {
+        push_left(core, out, *call)?;
+    }
+    Ok(())
+}
+
+/// Whether something is told of a run that ends so.
+pub(crate) fn tells_of(ending: &Ending) -> bool
+    ensures { result ≡ tells_of ending.now }
+{
+    match ending {
+        Ending::Ended(Outcome::Deadlock(_)) => true,
+        Ending::Ended(Outcome::Trap(_)) => true,
+        Ending::Ended(Outcome::Leftovers(_)) => true,
+        Ending::Ended(Outcome::Done) | Ending::Cut => false,
+    }
+}
+
+/// Adds what is told of a run that ends so in this state. An `Err` is want of memory, and comes only where it ends in a deadlock, with a
+/// trap, or with leftovers: of other ends nothing is told.
 pub fn push_told(
     alloc: Global,
     core: &Core<'_>,
@@ -334,12 +392,13 @@ pub fn push_told(
     ending: &Ending,
 ) -> Result<(), AllocError>
     ensures text { OnOk result (string_bytes out.new ≡ string_bytes out.old ++ explained.told core.now.program core.now.world ending.now) }
-    ensures memory { OnErr result (IsTrue (is_bad ending.now)) }
+    ensures memory { OnErr result (IsTrue (tells_of ending.now)) }
 {
     match ending {
         Ending::Ended(Outcome::Deadlock(calls)) => push_deadlock(alloc, core, out, &calls.items),
         Ending::Ended(Outcome::Trap(traps)) => push_traps(core, out, &traps.items),
-        Ending::Ended(Outcome::Done) | Ending::Ended(Outcome::Leftovers(_)) | Ending::Cut => Ok(()),
+        Ending::Ended(Outcome::Leftovers(calls)) => push_all_left(core, out, &calls.items),
+        Ending::Ended(Outcome::Done) | Ending::Cut => Ok(()),
     }
 }
 

@@ -8,7 +8,7 @@ use Rattle.mpd_model.specs.script.Program.{Program}
 use Rattle.mpd_model.specs.steps.World.{World, Board, call_at, last_call}
 use Rattle.mpd_model.specs.steps.Next.{any_call}
 use Rattle.mpd_model.specs.texts.Texts.{line, step_text}
-use Rattle.mpd_names.specs.Placed.{issue_line, rank_line, placed}
+use Rattle.mpd_names.specs.Placed.{issue_line, rank_line, placed, issuer}
 
 -- the line that a rank stands at, and that of the call which it issued last
 abbrev pub line_of : Program → World → ℕ → ℕ
@@ -20,10 +20,6 @@ call_line_of s b c = issue_line s.lines (call_at b c)
 -- `local 1: line 5`
 abbrev pub at_line : Step → ℕ → List ℕ
 at_line a number = step_text a ++ codes ": line " ++ decimal number
-
--- `rank 1, line 5`
-abbrev pub issuer : Program → Board → CallId → List ℕ
-issuer s b c = codes "rank " ++ decimal c.rank ++ codes ", line " ++ decimal (call_line_of s b c)
 
 -- ` of rank 1, line 5`
 abbrev pub issued : Program → Board → CallId → List ℕ

@@ -61,13 +61,13 @@ requests_text s w c kind = flat_map (match_text s w.board) (requests w c.rank ki
 abbrev pub waitany_text : Program → World → CallId → Option CallKind → List ℕ
 waitany_text s w c kind = if waits_in w c then requests_text s w c kind else []
 
-abbrev pub barrier_text : World → CallId → List ℕ
-barrier_text w c = if waits_in w c then flat_map (absent_line w) (rank_numbers w.board) else []
+abbrev pub barrier_text : Program → World → CallId → List ℕ
+barrier_text s w c = if waits_in w c then flat_map (absent_line s w) (rank_numbers w.board) else []
 
 abbrev pub waited_text : Program → World → CallId → CallKind → List ℕ
 waited_text s w c (Wait t) = requests_text s w c (Some (Wait t))
 waited_text s w c (Waitany a) = waitany_text s w c (Some (Waitany a))
-waited_text s w c Barrier = barrier_text w c
+waited_text s w c Barrier = barrier_text s w c
 waited_text s w c kind = []
 
 -- ---- the whole

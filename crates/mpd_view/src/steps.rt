@@ -6,7 +6,7 @@ ghost use Rattle.mpd_view.specs.Steps as words;
 
 use mpd_core::Core;
 use mpd_model::{CallId, Step};
-use mpd_names::{issue_line, push_placed, rank_line};
+use mpd_names::{issue_line, push_issuer, push_placed, rank_line};
 use std::alloc::AllocError;
 
 /// Adds a step, and one line that it is about.
@@ -14,15 +14,6 @@ fn push_at_line(out: &mut String, step: Step, line: usize) -> Result<(), AllocEr
     ensures { OnOk result (string_bytes out.new ≡ string_bytes out.old ++ words.at_line step line) }
 {
     write!(out, "{step}: line {line}")
-}
-
-/// Adds the rank of a call, and its line.
-fn push_issuer(core: &Core<'_>, out: &mut String, call: CallId) -> Result<(), AllocError>
-    ensures { OnOk result (string_bytes out.new ≡ string_bytes out.old ++ words.issuer core.now.program core.now.world.board call) }
-{
-    let rank = call.rank;
-    let line = issue_line(core, call);
-    write!(out, "rank {rank}, line {line}")
 }
 
 /// Adds whose call it is, and its line.

@@ -202,7 +202,7 @@ fn push_waitany(
 
 /// Adds the ranks that are not at a barrier, while the rank of the call waits there.
 fn push_barrier(core: &Core<'_>, out: &mut String, call: CallId) -> Result<(), AllocError>
-    ensures { OnOk result (string_bytes out.new ≡ string_bytes out.old ++ whys.barrier_text core.now.world call) }
+    ensures { OnOk result (string_bytes out.new ≡ string_bytes out.old ++ whys.barrier_text core.now.program core.now.world call) }
 {
     if waits_in(core, call) {
         push_all_absent(core, out)

@@ -10,23 +10,53 @@ use Rattle.mpd_witness.specs.declared.report_lines.LineKind.TheVariants.{OfLeaf,
 use Rattle.mpd_witness.specs.declared.report_text.ReportFault.{ReportFault}
 use Rattle.mpd_witness.specs.declared.report_text.ReportFault.TheVariants.{BadLine, NoWitness, SeveralWitnesses, NoSuchLeaf, NoDeadlock, Engine}
 use Rattle.mpd_witness.specs.WitnessText.{parts_at, cut_at, line_of, blocked_of, steps_of, witness_of}
-use Rattle.mpd_witness.specs.ReadBack.{second_number, number_behind, numbered, numbered_either, before_cut, is_indented, is_passed, kind_of, may_follow, leaf_number, wrong_line, is_witness, is_leaf, witness_from, unless_other, sole_from, sole_leaf, leaf_from, unwitnessed, witnessed, named_from, named_leaf, leaf_wanted, with_both, witness_at, witness_of_leaf, unless_wrong, is_filled, are_two, are_alone, as_two, witness_of_report, ReadsReport}
+use Rattle.mpd_witness.specs.ReadBack.{second_number, number_behind, numbered, number_and, numbered_either, first_in, group_first, leaf_of, before_cut, is_indented, is_passed, kind_of, may_follow, leaf_number, wrong_line, is_witness, is_leaf, witness_from, unless_other, sole_from, sole_leaf, leaf_from, unwitnessed, witnessed, named_from, named_leaf, leaf_wanted, with_both, witness_at, witness_of_leaf, unless_wrong, is_filled, are_two, are_alone, as_two, witness_of_report, ReadsReport}
 
 -- ---- a number behind a word
 
-pub no_piece : (word l : List ℕ) (ps : List (List ℕ)) → ps ≡ parts_at 32 l → ps ≡ [] → None ≡ numbered word l
-no_piece word l ps e n = ap (number_behind word) (sym n ∙ e)
+pub no_piece : (word : List ℕ) (ps : List (List ℕ)) → ps ≡ [] → None ≡ number_behind word ps
+no_piece word ps n = sym (ap (number_behind word) n)
 
-pub other_word : (word l z : List ℕ) (ps qs : List (List ℕ)) → ps ≡ parts_at 32 l → ps ≡ z ∷ qs → bytes_eq z word ≡ false → None ≡ numbered word l
-other_word word l z ps qs e n o = sym (ap (number_behind word) (sym e ∙ n) ∙ ap (λ (v : Bool). if v then second_number qs else None) o)
+pub other_word : (word z : List ℕ) (ps qs : List (List ℕ)) → ps ≡ z ∷ qs → bytes_eq z word ≡ false → None ≡ number_behind word ps
+other_word word z ps qs n o = sym (ap (number_behind word) n ∙ ap (λ (v : Bool). if v then second_number qs else None) o)
 
-pub word_alone : (word l z : List ℕ) (ps qs : List (List ℕ)) → ps ≡ parts_at 32 l → ps ≡ z ∷ qs → bytes_eq z word ≡ true → qs ≡ [] → None ≡ numbered word l
-word_alone word l z ps qs e n o s = sym (ap (number_behind word) (sym e ∙ n) ∙ ap (λ (v : Bool). if v then second_number qs else None) o ∙ ap second_number s)
+pub word_alone : (word z : List ℕ) (ps qs : List (List ℕ)) → ps ≡ z ∷ qs → bytes_eq z word ≡ true → qs ≡ [] → None ≡ number_behind word ps
+word_alone word z ps qs n o s = sym (ap (number_behind word) n ∙ ap (λ (v : Bool). if v then second_number qs else None) o ∙ ap second_number s)
 
-pub word_behind : (word l z y : List ℕ) (ps qs rs : List (List ℕ)) (r : Option ℕ) → ps ≡ parts_at 32 l → ps ≡ z ∷ qs → bytes_eq z word ≡ true → qs ≡ y ∷ rs → r ≡ number_of y → r ≡ numbered word l
-word_behind word l z y ps qs rs r e n o s h = h ∙ sym (ap (number_behind word) (sym e ∙ n) ∙ ap (λ (v : Bool). if v then second_number qs else None) o ∙ ap second_number s)
+pub word_behind : (word z y : List ℕ) (ps qs rs : List (List ℕ)) (r : Option ℕ) → ps ≡ z ∷ qs → bytes_eq z word ≡ true → qs ≡ y ∷ rs → r ≡ number_of y → r ≡ number_behind word ps
+word_behind word z y ps qs rs r n o s h = h ∙ sym (ap (number_behind word) n ∙ ap (λ (v : Bool). if v then second_number qs else None) o ∙ ap second_number s)
 
-pub ruleset numbering = (no_piece, other_word, word_alone, word_behind)
+pub two_passed : (z y : List ℕ) (ps qs rs : List (List ℕ)) → ps ≡ z ∷ qs → qs ≡ y ∷ rs → rs ≡ drop 2 ps
+two_passed z y ps qs rs n s = sym (ap (λ ks. drop 2 ks) (n ∙ ap (λ ks. z ∷ ks) s))
+
+pub ruleset numbering = (no_piece, other_word, word_alone, word_behind, two_passed)
+
+-- ---- the first of some leaves
+
+drop_twice : (ps : List (List ℕ)) → drop 2 (drop 2 ps) ≡ drop 4 ps
+drop_twice [] = refl
+drop_twice (a ∷ []) = refl
+drop_twice (a ∷ b ∷ []) = refl
+drop_twice (a ∷ b ∷ c ∷ []) = refl
+drop_twice (a ∷ b ∷ c ∷ d ∷ ps) = refl
+
+by_end : (l : List ℕ) (ps : List (List ℕ)) (o : Option ℕ) → ps ≡ parts_at 32 l → o ≡ number_behind (codes "end") ps → number_and o (number_and (number_behind (codes "leaves") (drop 2 ps)) (number_behind (codes "first") (drop 4 ps))) ≡ group_first l
+by_end l ps o e h = ap (λ x. number_and x (number_and (number_behind (codes "leaves") (drop 2 ps)) (number_behind (codes "first") (drop 4 ps)))) h ∙ ap first_in e
+
+pub no_end : (l : List ℕ) (ps : List (List ℕ)) → ps ≡ parts_at 32 l → None ≡ number_behind (codes "end") ps → None ≡ group_first l
+no_end l ps e h = by_end l ps None e h
+
+pub no_count : (l : List ℕ) (ps qs : List (List ℕ)) (n : ℕ) → ps ≡ parts_at 32 l → Some n ≡ number_behind (codes "end") ps → qs ≡ drop 2 ps → None ≡ number_behind (codes "leaves") qs → None ≡ group_first l
+no_count l ps qs n e h s k = ap (λ o. number_and o (number_behind (codes "first") (drop 4 ps))) (k ∙ ap (number_behind (codes "leaves")) s) ∙ by_end l ps (Some n) e h
+
+pub first_there : (l : List ℕ) (ps qs rs : List (List ℕ)) (n m : ℕ) (r : Option ℕ) → ps ≡ parts_at 32 l → Some n ≡ number_behind (codes "end") ps → qs ≡ drop 2 ps → Some m ≡ number_behind (codes "leaves") qs → rs ≡ drop 2 qs → r ≡ number_behind (codes "first") rs
+    → r ≡ group_first l
+first_there l ps qs rs n m r e h s k t f =
+    f ∙ ap (number_behind (codes "first")) (t ∙ ap (λ ks. drop 2 ks) s ∙ drop_twice ps)
+    ∙ ap (λ o. number_and o (number_behind (codes "first") (drop 4 ps))) (k ∙ ap (number_behind (codes "leaves")) s)
+    ∙ by_end l ps (Some n) e h
+
+pub ruleset grouping = (no_end, no_count, first_there)
 
 -- ---- the label, and what is passed over
 
@@ -53,13 +83,13 @@ two_bytes l behind more b c e h = sym (ap is_indented (e ∙ ap (λ z. b ∷ z) 
 
 pub ruleset indenting = (too_short, one_byte, two_bytes)
 
-pub is_of_witness : (l : List ℕ) (n : ℕ) → is_passed l ≡ false → numbered_either (codes "leaf") (codes "outcome") l ≡ None → numbered (codes "witness") (before_cut (cut_at 58 l)) ≡ Some n → OfWitness n ≡ kind_of l
+pub is_of_witness : (l : List ℕ) (n : ℕ) → is_passed l ≡ false → leaf_of l ≡ None → numbered (codes "witness") (before_cut (cut_at 58 l)) ≡ Some n → OfWitness n ≡ kind_of l
 is_of_witness l n p f w = sym (rw (p, f, w) refl)
 
-pub is_of_leaf : (l : List ℕ) (n : ℕ) → is_passed l ≡ false → numbered_either (codes "leaf") (codes "outcome") l ≡ Some n → OfLeaf n ≡ kind_of l
+pub is_of_leaf : (l : List ℕ) (n : ℕ) → is_passed l ≡ false → leaf_of l ≡ Some n → OfLeaf n ≡ kind_of l
 is_of_leaf l n p f = sym (rw (p, f) refl)
 
-pub is_wrong : (l : List ℕ) → is_passed l ≡ false → numbered_either (codes "leaf") (codes "outcome") l ≡ None → numbered (codes "witness") (before_cut (cut_at 58 l)) ≡ None → Wrong ≡ kind_of l
+pub is_wrong : (l : List ℕ) → is_passed l ≡ false → leaf_of l ≡ None → numbered (codes "witness") (before_cut (cut_at 58 l)) ≡ None → Wrong ≡ kind_of l
 is_wrong l p f w = sym (rw (p, f, w) refl)
 
 pub ruleset knowing = (is_of_witness, is_of_leaf, is_wrong)

@@ -27,7 +27,7 @@ use Rattle.mpd_witness.specs.declared.report_lines.LineKind.TheVariants.{Passed,
 use Rattle.mpd_witness.specs.declared.report_text.ReportFault.{ReportFault}
 use Rattle.mpd_witness.specs.WitnessText.{parts_at, cut_at, line_of, blocked_of, steps_of}
 use Rattle.mpd_witness.specs.WitnessLaws.{IsShortCall, IsShortStep, IsShort, IsShortEnding, AreShortSteps, IsShortLeaf, witness_at_leaf}
-use Rattle.mpd_witness.specs.ReadBack.{number_behind, numbered, before_cut, is_indented, kind_of, may_follow, leaf_number, wrong_line, is_witness, is_leaf, leaf_from, unwitnessed, witnessed, named_from, named_leaf, with_both, witness_at, witness_of_leaf, unless_wrong, witness_of_report}
+use Rattle.mpd_witness.specs.ReadBack.{number_behind, numbered, first_in, group_first, before_cut, is_indented, kind_of, may_follow, leaf_number, wrong_line, is_witness, is_leaf, leaf_from, unwitnessed, witnessed, named_from, named_leaf, with_both, witness_at, witness_of_leaf, unless_wrong, witness_of_report}
 use Rattle.mpd_witness.proofs.ClearTexts.{is_clear, clear_join, parts_next, parts_last, cut_next, line_clear, decimal_clear, number_read, same_byte}
 use Rattle.mpd_witness.proofs.ReportRead.{grouped}
 use Rattle.mpd_witness.proofs.RoundTrip.{IsNoLine, feed_apart, return_apart, wide, call_clear, each_so, listed_clear, choices_clear, Fits, second_clear, second_read_back, first_text, first_read_back}
@@ -37,8 +37,8 @@ use Rattle.mpd_witness.proofs.RoundTrip.{IsNoLine, feed_apart, return_apart, wid
 is_leaf_by : (n : ℕ) (l : List ℕ) → is_none l ≡ false → is_indented l ≡ false → numbered (codes "leaves") l ≡ None → numbered (codes "outcomes") l ≡ None → numbered (codes "leaf") l ≡ Some n → kind_of l ≡ OfLeaf n
 is_leaf_by n l a b c d e = rw (a, b, c, d, e) refl
 
-is_witness_by : (n : ℕ) (l : List ℕ) → is_none l ≡ false → is_indented l ≡ false → numbered (codes "leaves") l ≡ None → numbered (codes "outcomes") l ≡ None → numbered (codes "leaf") l ≡ None → numbered (codes "outcome") l ≡ None → numbered (codes "witness") (before_cut (cut_at 58 l)) ≡ Some n → kind_of l ≡ OfWitness n
-is_witness_by n l a b c d e f g = rw (a, b, c, d, e, f, g) refl
+is_witness_by : (n : ℕ) (l : List ℕ) → is_none l ≡ false → is_indented l ≡ false → numbered (codes "leaves") l ≡ None → numbered (codes "outcomes") l ≡ None → numbered (codes "leaf") l ≡ None → numbered (codes "outcome") l ≡ None → group_first l ≡ None → numbered (codes "witness") (before_cut (cut_at 58 l)) ≡ Some n → kind_of l ≡ OfWitness n
+is_witness_by n l a b c d e f g h = rw (a, b, c, d, e, f, g, h) refl
 
 is_total_by : (n : ℕ) (l : List ℕ) → is_none l ≡ false → is_indented l ≡ false → numbered (codes "leaves") l ≡ Some n → kind_of l ≡ Passed
 is_total_by n l a b c = rw (a, b, c) refl
@@ -70,7 +70,7 @@ label_number n h =
 
 witness_is : (n : ℕ) (z : List ℕ) → n < 1000000000 → kind_of (witness_words n z) ≡ OfWitness n
 witness_is n z h =
-    is_witness_by n (witness_words n z) refl refl (ap (number_behind (codes "leaves")) (witness_pieces n z)) (ap (number_behind (codes "outcomes")) (witness_pieces n z)) (ap (number_behind (codes "leaf")) (witness_pieces n z)) (ap (number_behind (codes "outcome")) (witness_pieces n z))
+    is_witness_by n (witness_words n z) refl refl (ap (number_behind (codes "leaves")) (witness_pieces n z)) (ap (number_behind (codes "outcomes")) (witness_pieces n z)) (ap (number_behind (codes "leaf")) (witness_pieces n z)) (ap (number_behind (codes "outcome")) (witness_pieces n z)) (ap first_in (witness_pieces n z))
     (ap (λ q. numbered (codes "witness") (before_cut q)) (cut_next 58 (codes "witness " ++ decimal n) z (clear_join 58 (codes "witness ") (decimal n) refl (decimal_clear 58 n refl (wide n h)))) ∙ label_number n h)
 
 -- the last line

@@ -34,6 +34,22 @@ number_or (Some n) other = Some n
 abbrev pub numbered_either : List ℕ → List ℕ → List ℕ → Option ℕ
 numbered_either word other l = number_or (numbered word l) (numbered other l)
 
+-- the second, where the first is a number
+abbrev pub number_and : Option ℕ → Option ℕ → Option ℕ
+number_and None other = None
+number_and (Some n) other = other
+
+-- the number of the first leaf of those that end in one way, `end 0 leaves 3 first 5 ..`: behind three words each with a number, the last
+abbrev pub first_in : List (List ℕ) → Option ℕ
+first_in ps = number_and (number_behind (codes "end") ps) (number_and (number_behind (codes "leaves") (drop 2 ps)) (number_behind (codes "first") (drop 4 ps)))
+
+abbrev pub group_first : List ℕ → Option ℕ
+group_first l = first_in (parts_at 32 l)
+
+-- the leaf whose line it is, or that its line names first
+abbrev pub leaf_of : List ℕ → Option ℕ
+leaf_of l = number_or (numbered_either (codes "leaf") (codes "outcome") l) (group_first l)
+
 -- what stands before the first colon, where there is one
 abbrev pub before_cut : Option (List ℕ × List ℕ) → List ℕ
 before_cut None = []
@@ -57,10 +73,10 @@ abbrev pub as_leaf : Option ℕ → List ℕ → LineKind
 as_leaf None l = as_witness (numbered (codes "witness") (before_cut (cut_at 58 l)))
 as_leaf (Some n) l = OfLeaf n
 
--- `leaf 3 [0 1] deadlock 0.1` or `outcome 3 runs 5 first [0 1] deadlock 0.1`, `witness 3: local 0`, what is passed over, or nothing that a
--- report has
+-- `leaf 3 [0 1] deadlock 0.1`, `outcome 3 runs 5 first [0 1] deadlock 0.1` or `end 1 leaves 5 first 3 deadlock 0.1`, `witness 3: local 0`,
+-- what is passed over, or nothing that a report has
 abbrev pub kind_of : List ℕ → LineKind
-kind_of l = if is_passed l then Passed else as_leaf (numbered_either (codes "leaf") (codes "outcome") l) l
+kind_of l = if is_passed l then Passed else as_leaf (leaf_of l) l
 
 -- ---- the first line that is wrong
 

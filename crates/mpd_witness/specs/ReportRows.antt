@@ -27,8 +27,12 @@ row_passed = refl
 pub row_named : map kind_of (codes "leaf 0 [] done" ∷ codes "leaf 12 [0 2] deadlock 0.1" ∷ codes "witness 12: local 0, local 1" ∷ codes "witness 0:" ∷ codes "leaf 7" ∷ codes "outcome 5 runs at least 18446744073709551615 first [0 2] deadlock 0.1" ∷ codes "outcome 8" ∷ []) ≡ OfLeaf 0 ∷ OfLeaf 12 ∷ OfWitness 12 ∷ OfWitness 0 ∷ OfLeaf 7 ∷ OfLeaf 5 ∷ OfLeaf 8 ∷ []
 row_named = refl
 
-pub row_wrong : map kind_of (codes " " ∷ codes " leaf 0 [] done" ∷ codes "leaf" ∷ codes "leaf  0 [] done" ∷ codes "leaf x [] done" ∷ codes "leaf 0123456789 [] done" ∷ codes "witness 3" ∷ codes "witness: local 0" ∷ codes "deadlock 0.1" ∷ codes "local 0" ∷ codes "leaves" ∷ codes "outcome" ∷ codes "outcome x runs 1 first [] done" ∷ codes "outcomes" ∷ codes "outcomes more no" ∷ codes "end 0 leaves 1 first 0 done" ∷ [])
-    ≡ Wrong ∷ Wrong ∷ Wrong ∷ Wrong ∷ Wrong ∷ Wrong ∷ Wrong ∷ Wrong ∷ Wrong ∷ Wrong ∷ Wrong ∷ Wrong ∷ Wrong ∷ Wrong ∷ Wrong ∷ Wrong ∷ []
+-- of those that end in one way the first leaf is meant, whatever stands behind its number
+pub row_grouped : map kind_of (codes "end 0 leaves 1 first 0 done" ∷ codes "end 1 leaves 65536 first 3 deadlock 0.1 2.0" ∷ codes "end 5 leaves 4 first 3" ∷ codes "end 007 leaves 012 first 08 cut" ∷ []) ≡ OfLeaf 0 ∷ OfLeaf 3 ∷ OfLeaf 3 ∷ OfLeaf 8 ∷ []
+row_grouped = refl
+
+pub row_wrong : map kind_of (codes " " ∷ codes " leaf 0 [] done" ∷ codes "leaf" ∷ codes "leaf  0 [] done" ∷ codes "leaf x [] done" ∷ codes "leaf 0123456789 [] done" ∷ codes "witness 3" ∷ codes "witness: local 0" ∷ codes "deadlock 0.1" ∷ codes "local 0" ∷ codes "leaves" ∷ codes "outcome" ∷ codes "outcome x runs 1 first [] done" ∷ codes "outcomes" ∷ codes "outcomes more no" ∷ codes "end" ∷ codes "end 4" ∷ codes "end 0 leaves 1" ∷ codes "end 0 leaves 1 first" ∷ codes "end 0 leaves 1 first x done" ∷ codes "end 0 leaves x first 1 done" ∷ codes "end x leaves 1 first 1 done" ∷ codes "end 0 first 1 done" ∷ codes "end 0 leaves 1 3 first 1 done" ∷ codes "end 0 leaves 1  first 1 done" ∷ codes "ends 0 leaves 1 first 0 done" ∷ codes "first 1 done" ∷ [])
+    ≡ Wrong ∷ Wrong ∷ Wrong ∷ Wrong ∷ Wrong ∷ Wrong ∷ Wrong ∷ Wrong ∷ Wrong ∷ Wrong ∷ Wrong ∷ Wrong ∷ Wrong ∷ Wrong ∷ Wrong ∷ Wrong ∷ Wrong ∷ Wrong ∷ Wrong ∷ Wrong ∷ Wrong ∷ Wrong ∷ Wrong ∷ Wrong ∷ Wrong ∷ Wrong ∷ Wrong ∷ []
 row_wrong = refl
 
 -- ---- two lines alone, as ever
@@ -68,6 +72,22 @@ ways = codes "outcome 0 runs 3 first [0] done\noutcome 1 runs 1 first [1] deadlo
 pub row_ways : map (λ leaf. witness_of_report leaf ways) (None ∷ Some 1 ∷ Some 0 ∷ Some 2 ∷ [])
     ≡ read (Local 0 ∷ Wake 1 ∷ []) (call_id 0 1 ∷ call_id 1 0 ∷ []) ∷ read (Local 0 ∷ Wake 1 ∷ []) (call_id 0 1 ∷ call_id 1 0 ∷ []) ∷ refused NoDeadlock ∷ refused NoSuchLeaf ∷ []
 row_ways = refl
+
+-- those that end in one way in the place of leaves: three leaves are done, two are one deadlock, and the first of these is leaf 3
+abbrev groups : List ℕ
+groups = codes "end 0 leaves 3 first 0 done\nend 1 leaves 2 first 3 deadlock 0.1 1.0\nwitness 3: local 0, wake 1\n  rank 0, line 2: waits\nend 2 leaves 1 first 5 cut\nleaves 6 more no\n"
+
+pub row_groups : map (λ leaf. witness_of_report leaf groups) (None ∷ Some 3 ∷ Some 1 ∷ Some 0 ∷ Some 5 ∷ Some 4 ∷ Some 2 ∷ [])
+    ≡ read (Local 0 ∷ Wake 1 ∷ []) (call_id 0 1 ∷ call_id 1 0 ∷ []) ∷ read (Local 0 ∷ Wake 1 ∷ []) (call_id 0 1 ∷ call_id 1 0 ∷ []) ∷ refused NoSuchLeaf ∷ refused NoDeadlock ∷ refused NoDeadlock ∷ refused NoSuchLeaf ∷ refused NoSuchLeaf ∷ []
+row_groups = refl
+
+-- a witness by the number of the end, and not of its first leaf; no witness; and none behind a deadlock that is asked for
+pub row_groups_wrong : map alone (
+    codes "end 0 leaves 3 first 1 deadlock 0.1\nwitness 0: local 0\nleaves 3 more no\n"
+    ∷ codes "end 0 leaves 3 first 1 deadlock 0.1\nend 1 leaves 1 first 3 done\nleaves 4 more no\n"
+    ∷ [])
+    ≡ wrong 2 ∷ refused NoWitness ∷ []
+row_groups_wrong = refl
 
 pub row_one : map (λ leaf. witness_of_report leaf one) (None ∷ Some 1 ∷ Some 0 ∷ Some 2 ∷ Some 3 ∷ [])
     ≡ read (Local 0 ∷ Wake 1 ∷ []) (call_id 0 1 ∷ call_id 1 0 ∷ []) ∷ read (Local 0 ∷ Wake 1 ∷ []) (call_id 0 1 ∷ call_id 1 0 ∷ []) ∷ refused NoDeadlock ∷ refused NoDeadlock ∷ refused NoSuchLeaf ∷ []

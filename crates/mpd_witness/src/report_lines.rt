@@ -1,8 +1,8 @@
 //! The lines of a report, as they are read back (docs/FORMATS.md, "Witnesses").
 
-ghost use Rattle.std.specs.Prelude.{◌≡◌, ◌≤◌, ◌<◌, ◌+◌, ◌^◌, ◌∷◌, Some, None, is_some, codes, if◌then◌else◌, length, filter, MatchOption};
+ghost use Rattle.std.specs.Prelude.{◌≡◌, ◌≤◌, ◌<◌, ◌+◌, ◌^◌, ◌∷◌, Some, None, is_some, codes, if◌then◌else◌, length, drop, filter, MatchOption};
 ghost use Rattle.mpd_witness.specs.WitnessText.{parts_at, cut_at, line_of};
-ghost use Rattle.mpd_witness.specs.ReadBack.{number_behind, numbered, numbered_either, before_cut, is_indented, is_passed, kind_of, may_follow, leaf_number, wrong_line, is_witness, is_leaf, leaf_from, is_filled, are_two, FindsWitness};
+ghost use Rattle.mpd_witness.specs.ReadBack.{number_behind, numbered, numbered_either, group_first, leaf_of, before_cut, is_indented, is_passed, kind_of, may_follow, leaf_number, wrong_line, is_witness, is_leaf, leaf_from, is_filled, are_two, FindsWitness};
 
 use crate::pieces::{Pieces, cut};
 use mpd_model::{number_of, without_return};
@@ -12,7 +12,7 @@ use mpd_model::{number_of, without_return};
 pub(crate) enum LineKind {
     /// It is empty, or of an explanation, or says how many leaves, or ways to end, there are.
     Passed,
-    /// It is the line of the leaf of this number, or of the way to end.
+    /// It is the line of the leaf of this number, or of the way to end, or of the leaves of which this is the first.
     OfLeaf(usize),
     /// It is the line of a witness of this number.
     OfWitness(usize),
@@ -20,12 +20,12 @@ pub(crate) enum LineKind {
     Wrong,
 }
 
-/// The number that stands behind a word, where the line begins with that word, a space, and that number.
+/// The number that stands behind a word, where the next piece is that word, and the one behind it that number.
 #[tactic(auto, using(crate::proofs::ReportLemmas::numbering))]
-fn numbered(line: &[u8], word: &[u8]) -> Option<usize>
-    ensures { result ≡ numbered word.now line.now }
+fn next_number(pieces: &mut Pieces<'_>, word: &[u8]) -> Option<usize>
+    ensures number { result ≡ number_behind word.now pieces.old }
+    ensures behind { MatchOption result (Unit {0}) (λ number. pieces.new ≡ drop 2 pieces.old) }
 {
-    let mut pieces = Pieces::new(line, b' ');
     let Some(first) = pieces.next() else {
         return None;
     };
@@ -38,6 +38,25 @@ fn numbered(line: &[u8], word: &[u8]) -> Option<usize>
     number_of(second)
 }
 
+/// The number that stands behind a word, where the line begins with that word, a space, and that number.
+fn numbered(line: &[u8], word: &[u8]) -> Option<usize>
+    ensures { result ≡ numbered word.now line.now }
+{
+    let mut pieces = Pieces::new(line, b' ');
+    next_number(&mut pieces, word)
+}
+
+/// The number of the first leaf of those that end in one way, where the line is theirs.
+#[tactic(auto, using(crate::proofs::ReportLemmas::grouping))]
+fn group_first(line: &[u8]) -> Option<usize>
+    ensures { result ≡ group_first line.now }
+{
+    let mut pieces = Pieces::new(line, b' ');
+    next_number(&mut pieces, b"end")?;
+    next_number(&mut pieces, b"leaves")?;
+    next_number(&mut pieces, b"first")
+}
+
 /// The number that stands behind one word, or else behind another, where the line begins so.
 fn numbered_either(line: &[u8], word: &[u8], other: &[u8]) -> Option<usize>
     ensures { result ≡ numbered_either word.now other.now line.now }
@@ -45,6 +64,16 @@ fn numbered_either(line: &[u8], word: &[u8], other: &[u8]) -> Option<usize>
     match numbered(line, word) {
         Some(number) => Some(number),
         None => numbered(line, other),
+    }
+}
+
+/// The number of the leaf whose line it is, or that its line names first.
+fn leaf_of(line: &[u8]) -> Option<usize>
+    ensures { result ≡ leaf_of line.now }
+{
+    match numbered_either(line, b"leaf", b"outcome") {
+        Some(number) => Some(number),
+        None => group_first(line),
     }
 }
 
@@ -91,7 +120,7 @@ fn kind_of(line: &[u8]) -> LineKind
     if is_passed(line) {
         return LineKind::Passed;
     }
-    if let Some(number) = numbered_either(line, b"leaf", b"outcome") {
+    if let Some(number) = leaf_of(line) {
         return LineKind::OfLeaf(number);
     }
     match numbered(before_colon(line), b"witness") {

@@ -16,8 +16,5 @@ returns-clause-text g c =
 pub put_back-requires : goal.put_back-requires
 put_back-requires g c = omega (arith, c.depth-base.ensures.value, beyond_depth (standing_of c.args.debugger.now) (standing_of c.retell-text.new.debugger) c.state_is_reached.ensures.reached c.retell-text.ensures.beyond)
 
-pub returns-clause-trail : goal.returns-clause-trail
-returns-clause-trail g c = (c.put_back.ensures.found (standing_of c.args.debugger.now) c.state_is_reached.ensures.reached c.requires.clean c.depth-base.ensures.value c.retell-text.ensures.beyond).trail
-
-pub returns-clause-world : goal.returns-clause-world
-returns-clause-world g c = (c.put_back.ensures.found (standing_of c.args.debugger.now) c.state_is_reached.ensures.reached c.requires.clean c.depth-base.ensures.value c.retell-text.ensures.beyond).world
+pub returns-clause-as_found : goal.returns-clause-as_found
+returns-clause-as_found g c = c.put_back.ensures.found (standing_of c.args.debugger.now) c.state_is_reached.ensures.reached c.requires.clean c.depth-base.ensures.value c.retell-text.ensures.beyond

@@ -1,9 +1,11 @@
-use Rattle.std.proofs.Common.{◌≡◌, ◌++◌, drop, map, string_bytes}
-use Rattle.mpd_explain.specs.Told.{group_lines}
+use Rattle.std.proofs.Common.{◌≡◌, ◌++◌, length, map, string_bytes}
+use Rattle.std.specs.Slice.Iter.{iter_rest}
+use Rattle.std.specs.Iterator.Adapters.{zip_first, zip_second}
+use Rattle.mpd_explain.specs.Told.{ends_with}
 use Rattle.mpd_explain.proofs.print.push_ends.Given as goal
 
 abbrev pub invariant-loop-number : goal.invariant-loop-number
 invariant-loop-number l = record {
-  place : l.place ≡ l.number-index;
-  text : string_bytes l.out ++ group_lines (map string_bytes l.witnesses) (map string_bytes l.texts) (map string_bytes l.ends) l.number-index (drop l.number-index l.numbers) ≡ string_bytes l.fn.out ++ group_lines (map string_bytes l.witnesses) (map string_bytes l.texts) (map string_bytes l.ends) 0 l.numbers;
+  place : l.place ≡ length l.yielded;
+  text : string_bytes l.out ++ ends_with (map string_bytes l.ends) l.place (iter_rest (zip_first l.number-iterator)) (map string_bytes (iter_rest (zip_second l.number-iterator))) ≡ string_bytes l.fn.out ++ ends_with (map string_bytes l.ends) 0 l.numbers (map string_bytes l.texts);
 }

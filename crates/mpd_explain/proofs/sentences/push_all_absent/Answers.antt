@@ -5,4 +5,4 @@ use Rattle.mpd_explain.proofs.sentences.push_all_absent.Goals as goal
 
 pub loop-rank-preserved : goal.loop-rank-preserved
 loop-rank-preserved c =
-    given_more (absent_line c.args.core.now.world) c.loop-rank.rank c.rank_count-count.result (string_bytes c.loop-rank.out) _ _ c.loop-rank-test.true c.loop-rank.invariant c.in_ok-push_absent.ensures
+    given_more (absent_line c.args.core.now.program c.args.core.now.world) c.loop-rank.rank c.rank_count-count.result (string_bytes c.loop-rank.out) _ _ c.loop-rank-test.true c.loop-rank.invariant c.in_ok-push_absent.ensures
