@@ -1,28 +1,30 @@
 -- What is told of a sample is what is answered; and a part with nothing beside its leaves is the text of a report.
-use Rattle.std.proofs.Common.{◌≡◌, ℕ, Bool, List, [], Result, Ok, Err, refl, ap, ◌∙◌}
+use Rattle.std.proofs.Common.{◌≡◌, ℕ, Bool, List, [], Result, Ok, Err, refl, ap, ap₂, ◌∙◌}
 use Rattle.mpd_model.specs.declared.call.Mode.{Mode}
 use Rattle.mpd_model.specs.script.Program.{Program}
 use Rattle.mpd_device.specs.Seen.{SinkSeen}
 use Rattle.mpd_explore.specs.declared.report.Limits.{Limits}
-use Rattle.mpd_model.specs.steps.World.{start}
-use Rattle.mpd_model.specs.runs.Trail.{first_standing}
+use Rattle.mpd_model.specs.steps.World.{World, start}
+use Rattle.mpd_model.specs.runs.Trail.{Standing, first_standing}
 use Rattle.mpd_explore.specs.declared.report.Leaf.{Leaf}
 use Rattle.mpd_explore.specs.Sleeping.{decides_by}
 use Rattle.mpd_explore.specs.ReportText.{report_text}
 use Rattle.mpd_explore.specs.Printed.{told_text}
 use Rattle.mpd_explore.specs.WitnessTexts.{witness_texts}
 use Rattle.mpd_explore.proofs.PrintLemmas.{told_reports}
+use Rattle.mpd_explain.specs.Explanations.{explained_at}
 use Rattle.mpd_explain.proofs.PrintLemmas.{plain_told}
+use Rattle.mpd_pieces.specs.Pieces.{split_report, split_more}
 use Rattle.mpd_pool.specs.declared.pool.CheckPlan.{CheckPlan}
 use Rattle.mpd_lines.specs.declared.engine.EngineFault.{EngineFault}
 use Rattle.mpd_lines.specs.declared.engine.EngineFault.TheVariants.{ReadFailed, WriteFailed, TooManyTurns, Memory}
 use Rattle.mpd_check.specs.declared.counts.Tally.{Tally}
 use Rattle.mpd_check.specs.Tally.{tally_of}
-use Rattle.mpd_check.specs.Checked.{leaves_at, more_at, PartAnswered}
+use Rattle.mpd_check.specs.Checked.{leaves_of, more_of, leaves_at, more_at, PartAnswered}
 use Rattle.mpd_check.specs.declared.fault.CheckFault.{CheckFault}
 use Rattle.mpd_check.specs.declared.fault.CheckFault.TheVariants.{BadWorkers, TooManyPieces, NoSuchPiece, Engine}
 use Rattle.mpd_check.specs.declared.listing.Telling.{Telling}
-use Rattle.mpd_check.specs.Listing.{explained_at, report_listing, part_text, plain_part, IsPlain, sample_leaves, sample_more, PutSample, SampledBy}
+use Rattle.mpd_check.specs.Listing.{listing_at, report_listing, part_text, plain_part, IsPlain, sample_leaves, sample_more, PutSample, SampledBy}
 
 pub put_sampled : (want : List ℕ) (s : Program) (mode : Mode) (seed : ℕ) (l : Limits) (old new : SinkSeen) (text : List ℕ) (told : Tally) (r : Result Tally EngineFault) → text ≡ want → told ≡ tally_of (sample_leaves s mode seed l) (sample_more s mode seed l)
     → PutSample text told old new r → SampledBy want s mode seed l old new r
@@ -52,3 +54,22 @@ plain_answered t s mode plan number old new (Err (Engine Memory)) h plain = h
 plain_answered t s mode plan number old new (Err BadWorkers) h plain = h
 plain_answered t s mode plan number old new (Err TooManyPieces) h plain = h
 plain_answered t s mode plan number old new (Err (NoSuchPiece n m)) h plain = h
+
+-- ---- whether a report has the texts of witnesses changes nothing of what it lists
+
+module _ (s : Program) (mode : Mode) (plan : CheckPlan) (l : Limits) (b : Bool) (w : World) (same : l ≡ record plan.limits { witnesses = b }) (at : w ≡ start s mode) where
+  leaves_same : (leaves : List Leaf) → leaves ≡ split_report plan.split l w → leaves ≡ leaves_of s mode plan
+  leaves_same leaves is = is ∙ ap₂ (λ (m : Limits) (v : World). split_report plan.split m v) same at
+
+  more_same : (more : Bool) → more ≡ split_more plan.split l w → more ≡ more_of s mode plan
+  more_same more is = is ∙ ap₂ (λ (m : Limits) (v : World). split_more plan.split m v) same at
+
+  pub tally_same : (leaves : List Leaf) (more : Bool) (told : Tally) → leaves ≡ split_report plan.split l w → more ≡ split_more plan.split l w → told ≡ tally_of leaves more → told ≡ tally_of (leaves_of s mode plan) (more_of s mode plan)
+  tally_same leaves more told is rest tells = tells ∙ ap₂ tally_of (leaves_same leaves is) (more_same more rest)
+
+  pub listing_same : (t : Telling) (d : Standing) (leaves : List Leaf) (more : Bool) (text : List ℕ) → d ≡ first_standing s mode → leaves ≡ split_report plan.split l w → more ≡ split_more plan.split l w
+      → text ≡ listing_at (decides_by plan.limits.ends) t plan.limits d leaves more → text ≡ report_listing t s mode plan.limits (leaves_of s mode plan) (more_of s mode plan)
+  listing_same t d leaves more text stands is rest tells =
+      let ls = leaves_same leaves is in
+      let ms = more_same more rest in
+      tells ∙ (λ i. listing_at (decides_by plan.limits.ends) t plan.limits (stands i) (ls i) (ms i))

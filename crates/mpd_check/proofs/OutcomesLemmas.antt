@@ -1,28 +1,32 @@
 -- What is told of the ways to end is all of it, and what is answered.
-use Rattle.std.proofs.Common.{◌≡◌, ℕ, Bool, List, [], ◌∷◌, ◌++◌, ◌⊎◌, inl, inr, Result, Ok, Err, refl, ap, ap₂, sym, ◌∙◌, append-nil}
+use Rattle.std.proofs.Common.{◌≡◌, ℕ, List, [], ◌∷◌, ◌++◌, ◌⊎◌, inl, inr, Result, Ok, Err, IfOk, refl, ap, ap₂, sym, ◌∙◌, append-nil, string_bytes}
+use Rattle.std.specs.declared.alloc.AllocError.{AllocError}
 use Rattle.mpd_model.specs.declared.call.Mode.{Mode}
 use Rattle.mpd_model.specs.script.Program.{Program}
-use Rattle.mpd_model.specs.steps.World.{World}
-use Rattle.mpd_model.specs.runs.Trail.{Trail, Standing, first_standing}
+use Rattle.mpd_model.specs.steps.World.{World, start}
+use Rattle.mpd_model.specs.runs.Trail.{Trail, Standing}
 use Rattle.mpd_trail.specs.Views.{DebuggerView, standing_of}
 use Rattle.mpd_device.specs.Seen.{SinkSeen}
 use Rattle.mpd_explore.specs.declared.report.Leaf.{Leaf}
 use Rattle.mpd_outcomes.specs.declared.report.Count.{Count}
+use Rattle.mpd_outcomes.specs.declared.report.Outcomes.{Outcomes}
+use Rattle.mpd_outcomes.specs.declared.report.StateLimits.{StateLimits}
 use Rattle.mpd_lines.specs.declared.engine.EngineFault.{EngineFault}
 use Rattle.mpd_lines.specs.declared.engine.EngineFault.TheVariants.{ReadFailed, WriteFailed, TooManyTurns, Memory}
 use Rattle.mpd_check.specs.declared.outcomes.OutcomesFound.{OutcomesFound}
-use Rattle.mpd_check.specs.OutcomesText.{outcome_lines, AreTold, OutcomesAnswered, PutOutcomes}
+use Rattle.mpd_check.specs.declared.outcomes.ToldOutcomes.{ToldOutcomes}
+use Rattle.mpd_check.specs.OutcomesText.{outcome_lines, IsTextOf, OutcomesAnsweredBy, PutOutcomes}
 
 -- ---- the lines
 
-no_lines : (witnesses texts : List (List ℕ)) (n : ℕ) (leaves : List Leaf) (counts : List Count) → (leaves ≡ []) ⊎ (counts ≡ []) → outcome_lines witnesses texts n leaves counts ≡ []
-no_lines witnesses texts n leaves counts (inl e) = ap (λ (ls : List Leaf). outcome_lines witnesses texts n ls counts) e
-no_lines witnesses texts n [] counts (inr e) = refl
-no_lines witnesses texts n (l ∷ leaves) counts (inr e) = ap (outcome_lines witnesses texts n (l ∷ leaves)) e
+no_lines : (witnesses texts lines : List (List ℕ)) (n : ℕ) (leaves : List Leaf) (counts : List Count) → (leaves ≡ []) ⊎ (counts ≡ []) → outcome_lines witnesses texts lines n leaves counts ≡ []
+no_lines witnesses texts lines n leaves counts (inl e) = ap (λ (ls : List Leaf). outcome_lines witnesses texts lines n ls counts) e
+no_lines witnesses texts lines n [] counts (inr e) = refl
+no_lines witnesses texts lines n (l ∷ leaves) counts (inr e) = ap (outcome_lines witnesses texts lines n (l ∷ leaves)) e
 
 -- where either list has come to its end, all lines were told
-pub all_told : (witnesses texts : List (List ℕ)) (n : ℕ) (leaves : List Leaf) (counts : List Count) (so_far all : List ℕ) → (leaves ≡ []) ⊎ (counts ≡ []) → so_far ++ outcome_lines witnesses texts n leaves counts ≡ all → so_far ≡ all
-all_told witnesses texts n leaves counts so_far all none told = sym (append-nil so_far) ∙ ap (λ (z : List ℕ). so_far ++ z) (sym (no_lines witnesses texts n leaves counts none)) ∙ told
+pub all_told : (witnesses texts lines : List (List ℕ)) (n : ℕ) (leaves : List Leaf) (counts : List Count) (so_far all : List ℕ) → (leaves ≡ []) ⊎ (counts ≡ []) → so_far ++ outcome_lines witnesses texts lines n leaves counts ≡ all → so_far ≡ all
+all_told witnesses texts lines n leaves counts so_far all none told = sym (append-nil so_far) ∙ ap (λ (z : List ℕ). so_far ++ z) (sym (no_lines witnesses texts lines n leaves counts none)) ∙ told
 
 -- ---- where a debugger stands
 
@@ -31,10 +35,15 @@ same_standing d e trail world = ap₂ (λ (t : Trail) (w : World). let s : Stand
 
 -- ---- what is answered
 
-pub put_answered : (explain witnesses : Bool) (fuel : ℕ) (s : Program) (mode : Mode) (old new : SinkSeen) (text : List ℕ) (told : OutcomesFound) (r : Result OutcomesFound EngineFault)
-    → AreTold explain witnesses fuel (first_standing s mode) text told.tally → PutOutcomes text told old new r → OutcomesAnswered explain witnesses fuel s mode old new r
-put_answered explain witnesses fuel s mode old new text told (Ok found) tells h = (tells.0, tells.1, rw tells.2 at h.0, ap (λ (f : OutcomesFound). f.tally) h.1 ∙ tells.3)
-put_answered explain witnesses fuel s mode old new text told (Err WriteFailed) tells h = (tells.0, tells.1, rw tells.2 at h)
-put_answered explain witnesses fuel s mode old new text told (Err ReadFailed) tells h = h
-put_answered explain witnesses fuel s mode old new text told (Err TooManyTurns) tells h = h
-put_answered explain witnesses fuel s mode old new text told (Err Memory) tells h = absurd h
+pub put_answered : (text : Outcomes → List ℕ → Type 0) (limits : StateLimits) (s : Program) (mode : Mode) (old new : SinkSeen) (told : Result ToldOutcomes AllocError) (r : Result OutcomesFound EngineFault)
+    → IfOk told (IsTextOf text limits (start s mode)) → PutOutcomes told old new r → OutcomesAnsweredBy text limits s mode old new r
+put_answered text limits s mode old new (Ok told) (Ok found) tells h = (tells.0, tells.1, string_bytes told.text, tells.2, h.0, h.1 ∙ tells.3)
+put_answered text limits s mode old new (Ok told) (Err WriteFailed) tells h = (tells.0, tells.1, string_bytes told.text, tells.2, h)
+put_answered text limits s mode old new (Ok told) (Err ReadFailed) tells h = h
+put_answered text limits s mode old new (Ok told) (Err TooManyTurns) tells h = h
+put_answered text limits s mode old new (Ok told) (Err Memory) tells h = absurd h
+put_answered text limits s mode old new (Err refused) (Ok found) tells h = absurd h
+put_answered text limits s mode old new (Err refused) (Err WriteFailed) tells h = absurd h
+put_answered text limits s mode old new (Err refused) (Err ReadFailed) tells h = h
+put_answered text limits s mode old new (Err refused) (Err TooManyTurns) tells h = h
+put_answered text limits s mode old new (Err refused) (Err Memory) tells h = h

@@ -19,6 +19,7 @@ use Rattle.mpd_lines.specs.Telling.{AppendsPart}
 use Rattle.mpd_check.specs.declared.fault.CheckFault.{CheckFault}
 use Rattle.mpd_check.specs.declared.fault.CheckFault.TheVariants.{BadWorkers, TooManyPieces, NoSuchPiece, Engine}
 use Rattle.mpd_check.specs.declared.counts.Tally.{Tally}
+use Rattle.mpd_check.specs.declared.modes.Listed.TheVariants as listed
 use Rattle.mpd_check.specs.declared.Told.{Told}
 use Rattle.mpd_check.specs.Tally.{tally_of}
 use Rattle.mpd_check.specs.ModeText.{mode_line, least_line}
@@ -97,7 +98,7 @@ Answered s mode plan workers old new result = AnsweredBy (text_of s mode plan (l
 
 -- one line of what it tells
 abbrev pub ModeAnswered : Program → Mode → CheckPlan → ℕ → SinkSeen → SinkSeen → Result Tally CheckFault → Type 0
-ModeAnswered s mode plan workers old new result = AnsweredBy (mode_line mode (tally_of (leaves_of s mode plan) (more_of s mode plan))) s mode plan workers old new result
+ModeAnswered s mode plan workers old new result = AnsweredBy (mode_line listed.Leaves mode (tally_of (leaves_of s mode plan) (more_of s mode plan))) s mode plan workers old new result
 
 -- The part of the report that the piece of a number has is told; or there are too many pieces, or so few.
 abbrev pub PartTold : (List ℕ → List ℕ) → Program → Mode → CheckPlan → ℕ → Result Told CheckFault → Type 0

@@ -1,5 +1,6 @@
 pub mod Tally
 pub mod Refused
+pub mod ModeRows
 pub mod ModeText
 pub mod OutcomesText
 pub mod OutcomesRows

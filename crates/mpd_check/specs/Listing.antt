@@ -1,5 +1,5 @@
 -- A report that is explained, or whose leaves are grouped by how they end; and what is written of a sample.
-use Rattle.std.specs.Prelude.{◌≡◌, ℕ, Bool, true, false, nat_lt, List, [], length, map, Result, Ok, Err}
+use Rattle.std.specs.Prelude.{◌≡◌, ℕ, Bool, false, nat_lt, List, length, map, Result, Ok, Err}
 use Rattle.mpd_model.specs.declared.call.Mode.{Mode}
 use Rattle.mpd_model.specs.script.Program.{Program}
 use Rattle.mpd_model.specs.declared.decision.Decision.{Decision}
@@ -13,7 +13,7 @@ use Rattle.mpd_walk.specs.Walk.{wide_walk}
 use Rattle.mpd_explore.specs.Sleeping.{decides_by}
 use Rattle.mpd_explore.specs.Report.{shown}
 use Rattle.mpd_explore.specs.WitnessTexts.{witness_texts}
-use Rattle.mpd_explain.specs.Explanations.{explanations}
+use Rattle.mpd_explain.specs.Explanations.{explained_at}
 use Rattle.mpd_explain.specs.Told.{explained_text}
 use Rattle.mpd_sample.specs.Drawn.{seeded, draws, sampled}
 use Rattle.mpd_pool.specs.declared.pool.CheckPlan.{CheckPlan}
@@ -24,11 +24,6 @@ use Rattle.mpd_check.specs.declared.counts.Tally.{Tally}
 use Rattle.mpd_check.specs.declared.listing.Telling.{Telling}
 use Rattle.mpd_check.specs.Tally.{tally_of}
 use Rattle.mpd_check.specs.Checked.{leaves_of, more_of, leaves_at, more_at, text_of, Wrote, WrotePart, AnsweredBy}
-
--- the explanations of leaves from where a debugger stands, where they are asked for; what comes next along their runs is told by a function
-abbrev pub explained_at : (World → Decision) → Bool → ℕ → Standing → List Leaf → List (List ℕ)
-explained_at decide false fuel d leaves = []
-explained_at decide true fuel d leaves = explanations decide d.trail.program d.trail.mode (done_steps d.trail) fuel d.world leaves
 
 -- the text of a report of these leaves, made where a debugger stands
 abbrev pub listing_at : (World → Decision) → Telling → Limits → Standing → List Leaf → Bool → List ℕ

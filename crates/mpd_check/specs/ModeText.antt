@@ -5,19 +5,30 @@ use Rattle.mpd_model.specs.declared.call.Mode.{Mode}
 use Rattle.mpd_model.specs.texts.Modes.{mode_word}
 use Rattle.mpd_model.specs.texts.Texts.{line}
 use Rattle.mpd_check.specs.declared.counts.Tally.{Tally}
+use Rattle.mpd_check.specs.declared.modes.Listed.{Listed}
+use Rattle.mpd_check.specs.declared.modes.Listed.TheVariants.{Leaves, Outcomes}
 use Rattle.mpd_check.specs.declared.modes.Tried.{Tried}
 use Rattle.mpd_check.specs.Tally.{is_bad, is_whole}
 
 abbrev pub yes_or_no : Bool → List ℕ
 yes_or_no b = if b then codes "yes" else codes "no"
 
--- how many leaves a report lists, and how many of them are deadlocks, traps and cut
-abbrev pub counts_text : Tally → List ℕ
-counts_text t = codes " leaves " ++ decimal t.runs ++ codes " deadlocks " ++ decimal t.deadlocks ++ codes " traps " ++ decimal t.traps ++ codes " cut " ++ decimal t.cut
+-- what a report lists
+abbrev pub listed_word : Listed → List ℕ
+listed_word Leaves = codes "leaves"
+listed_word Outcomes = codes "outcomes"
 
--- what the report of a mode tells: `slots:2 leaves 12 deadlocks 3 traps 0 cut 0 more no`
-abbrev pub mode_line : Mode → Tally → List ℕ
-mode_line mode t = line (mode_word mode ++ counts_text t ++ codes " more " ++ yes_or_no t.more)
+-- how many of these a report lists, and how many of them are deadlocks and traps
+abbrev pub counts_text : Listed → Tally → List ℕ
+counts_text listed t = codes " " ++ listed_word listed ++ codes " " ++ decimal t.runs ++ codes " deadlocks " ++ decimal t.deadlocks ++ codes " traps " ++ decimal t.traps
+
+-- how many leave messages over, and how many are cut
+abbrev pub left_text : Tally → List ℕ
+left_text t = codes " leftovers " ++ decimal t.leftovers ++ codes " cut " ++ decimal t.cut
+
+-- what the report of a mode tells: `slots:2 leaves 12 deadlocks 3 traps 0 leftovers 1 cut 0 more no`
+abbrev pub mode_line : Listed → Mode → Tally → List ℕ
+mode_line listed mode t = line (mode_word mode ++ counts_text listed t ++ left_text t ++ codes " more " ++ yes_or_no t.more)
 
 -- the first mode that was tried in which no deadlock and no trap is listed
 abbrev pub least_line : Option Mode → List ℕ

@@ -24,18 +24,18 @@ firsts = done ∷ deadlock ∷ cut ∷ []
 abbrev counts : List Count
 counts = Exactly 3 ∷ Exactly 18446744073709551615 ∷ More ∷ []
 
-pub row_plain : outcome_lines [] [] 0 firsts counts
+pub row_plain : outcome_lines [] [] [] 0 firsts counts
     ≡ codes "outcome 0 runs 3 first [0 10] done\noutcome 1 runs 18446744073709551615 first [1] deadlock 0.1 2.0\noutcome 2 runs at least 18446744073709551615 first [] cut\n"
 unfolding digits
 row_plain = refl
 
--- a deadlock is the second, and so are the texts of its witness and of its explanation
-pub row_behind : outcome_lines ([] ∷ codes ": local 0, wake 1\n" ∷ [] ∷ []) ([] ∷ codes "  rank 0 waits\n  rank 2 waits\n" ∷ [] ∷ []) 0 firsts counts
-    ≡ codes "outcome 0 runs 3 first [0 10] done\noutcome 1 runs 18446744073709551615 first [1] deadlock 0.1 2.0\nwitness 1: local 0, wake 1\n  rank 0 waits\n  rank 2 waits\noutcome 2 runs at least 18446744073709551615 first [] cut\n"
+-- a deadlock is the second, and so are the texts of its witness and of its explanation, and the line of the step that decided
+pub row_behind : outcome_lines ([] ∷ codes ": local 0, wake 1\n" ∷ [] ∷ []) ([] ∷ codes "  rank 0 waits\n  rank 2 waits\n" ∷ [] ∷ []) ([] ∷ codes "  decided from the start: no run ends well\n" ∷ [] ∷ []) 0 firsts counts
+    ≡ codes "outcome 0 runs 3 first [0 10] done\noutcome 1 runs 18446744073709551615 first [1] deadlock 0.1 2.0\nwitness 1: local 0, wake 1\n  rank 0 waits\n  rank 2 waits\n  decided from the start: no run ends well\noutcome 2 runs at least 18446744073709551615 first [] cut\n"
 unfolding digits
 row_behind = refl
 
-pub row_none : outcome_lines [] [] 0 [] [] ≡ []
+pub row_none : outcome_lines [] [] [] 0 [] [] ≡ []
 row_none = refl
 
 pub row_total : outcomes_line 2 (Exactly 4) false ≡ codes "outcomes 2 runs 4 more no\n"

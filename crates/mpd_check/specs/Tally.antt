@@ -12,10 +12,11 @@ use Rattle.mpd_explore.specs.declared.report.Leaf.{Leaf}
 use Rattle.mpd_lines.specs.declared.verdict.Verdict.{Verdict}
 use Rattle.mpd_lines.specs.declared.verdict.Verdict.TheVariants.{Good, Bad, NotWhole}
 use Rattle.mpd_check.specs.declared.counts.Kind.{Kind}
-use Rattle.mpd_check.specs.declared.counts.Kind.TheVariants.{Deadlock, Trap, Cut}
+use Rattle.mpd_check.specs.declared.counts.Kind.TheVariants.{Leftovers, Deadlock, Trap, Cut}
 use Rattle.mpd_check.specs.declared.counts.Tally.{Tally}
 
 abbrev pub ends_so : Kind → Ending → Bool
+ends_so Leftovers (Ended (outcome.Leftovers calls)) = true
 ends_so Deadlock (Ended (outcome.Deadlock calls)) = true
 ends_so Trap (Ended (outcome.Trap ranks)) = true
 ends_so Cut ends.Cut = true
@@ -27,6 +28,7 @@ is_of kind l = ends_so kind l.ending
 abbrev pub tally_of : List Leaf → Bool → Tally
 tally_of leaves more = record {
   runs = length leaves;
+  leftovers = count_by (is_of Leftovers) leaves;
   deadlocks = count_by (is_of Deadlock) leaves;
   traps = count_by (is_of Trap) leaves;
   cut = count_by (is_of Cut) leaves;

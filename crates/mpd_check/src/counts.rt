@@ -12,6 +12,7 @@ use mpd_model::{Mode, Outcome};
 /// How a run ends, as far as it is counted.
 #[derive(Clone, Copy)]
 enum Kind {
+    Leftovers,
     Deadlock,
     Trap,
     Cut,
@@ -22,6 +23,8 @@ enum Kind {
 pub struct Tally {
     /// How many runs it lists.
     pub runs: usize,
+    /// How many of them end done but for messages that are left over.
+    pub leftovers: usize,
     /// How many of them end in a deadlock.
     pub deadlocks: usize,
     /// How many end with a trap.
@@ -89,9 +92,10 @@ fn is_of(kind: Kind, leaf: &Leaf) -> bool
     ensures { result ≡ is_of kind leaf.now }
 {
     match &leaf.ending {
+        Ending::Ended(Outcome::Leftovers(_)) => matches!(kind, Kind::Leftovers),
         Ending::Ended(Outcome::Deadlock(_)) => matches!(kind, Kind::Deadlock),
         Ending::Ended(Outcome::Trap(_)) => matches!(kind, Kind::Trap),
-        Ending::Ended(Outcome::Done | Outcome::Leftovers(_)) => false,
+        Ending::Ended(Outcome::Done) => false,
         Ending::Cut => matches!(kind, Kind::Cut),
     }
 }
@@ -115,6 +119,7 @@ pub(crate) fn tally_of(report: &Report) -> Tally
 {
     Tally {
         runs: report.leaves.len(),
+        leftovers: count(Kind::Leftovers, &report.leaves),
         deadlocks: count(Kind::Deadlock, &report.leaves),
         traps: count(Kind::Trap, &report.leaves),
         cut: count(Kind::Cut, &report.leaves),

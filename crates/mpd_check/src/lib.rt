@@ -25,7 +25,7 @@ use mpd_model::STEPS_MAX;
 use mpd_pieces::PIECES_MAX;
 use mpd_pool::{CheckPlan, Crew, Gate, PoolFault, WORKERS_MAX, print_report};
 use mpd_trail::Debugger;
-pub use outcomes::{OutcomesFound, OutcomesPlan, check_outcomes};
+pub use outcomes::{OutcomesFound, OutcomesPlan, check_mode_outcomes, check_outcomes};
 pub use part::{check_piece, count_pieces};
 use std::alloc::Global;
 use std::marker::Sync;

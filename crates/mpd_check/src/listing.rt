@@ -1,15 +1,16 @@
 //! A report that is explained, or whose leaves are grouped by how they end; and a sample of a script's runs (docs/FORMATS.md, "Reports").
 
-ghost use Rattle.std.specs.Prelude.{◌≡◌, ◌≤◌, ◌<◌, ◌+◌, ◌⊎◌, IfOk, OnOk, IsErrOf, length, map, string_bytes};
+ghost use Rattle.std.specs.Prelude.{◌≡◌, ◌≤◌, ◌<◌, ◌+◌, ◌⊎◌, ◌&&◌, false, not, IfOk, OnOk, IsErrOf, length, map, string_bytes};
 ghost use Rattle.std.specs.List.{AllByRecursion};
 ghost use Rattle.mpd_model.specs.runs.Trail.{done_steps, IsReached};
 ghost use Rattle.mpd_trail.specs.Views.{standing_of};
 ghost use Rattle.mpd_policy.specs.Wide.{wide_decision};
 ghost use Rattle.mpd_explore.specs.Sleeping.{decides_by};
 ghost use Rattle.mpd_explore.specs.Witness.{HasWitness};
-ghost use Rattle.mpd_explain.specs.Told.{explained_text};
+ghost use Rattle.mpd_explore.specs.WitnessTexts.{witness_texts};
+ghost use Rattle.mpd_explain.specs.Explanations.{explained_at};
 ghost use Rattle.mpd_check.specs.Checked.{pieces_of, leaves_of, more_of, AreFew};
-ghost use Rattle.mpd_check.specs.Listing.{explained_at, listing_text, report_listing, sample_leaves, sample_more, ListingAnswered, PutSample, SampleAnswered};
+ghost use Rattle.mpd_check.specs.Listing.{listing_at, listing_text, report_listing, sample_leaves, sample_more, ListingAnswered, PutSample, SampleAnswered};
 ghost use Rattle.mpd_check.specs.Tally.{tally_of};
 
 use crate::counts::{Tally, tally_of};
@@ -17,7 +18,7 @@ use crate::fault::CheckFault;
 use crate::{Told, is_crew, put, refused};
 use mpd_code::Subject;
 use mpd_device::Sink;
-use mpd_explain::{explain_all, print_explained};
+use mpd_explain::{Beside, explain_all, print_explained, print_grouped};
 use mpd_explore::{Limits, Report, Watch};
 use mpd_lines::{EngineFault, write_all};
 use mpd_model::STEPS_MAX;
@@ -77,28 +78,68 @@ pub(crate) fn explanations_of<S: Schedule>(
     explain_all(alloc, schedule, debugger, report, fuel)
 }
 
+/// The limits by which a report is made: where it is grouped, no texts of witnesses, since those of the first leaves are made afterwards.
+pub(crate) fn limits_for(limits: Limits, telling: Telling) -> Limits
+    ensures { result ≡ record limits { witnesses = limits.witnesses && not telling.group } }
+{
+    Limits {
+        witnesses: limits.witnesses && !telling.group,
+        ..limits
+    }
+}
+
+/// The text of a report whose leaves were listed along a schedule. Where it is grouped, the first leaf of each group alone is explained,
+/// and has a witness.
+fn text_of<S: Schedule>(
+    alloc: Global,
+    schedule: &S,
+    debugger: &mut Debugger<'_>,
+    report: &Report,
+    limits: Limits,
+    telling: Telling,
+) -> Result<String, AllocError>
+    requires clean { length debugger.old.trail.steps ≡ debugger.old.trail.depth }
+    requires fits { debugger.old.trail.depth + limits.fuel ≤ STEPS_MAX }
+    requires listed { AllByRecursion (HasWitness S.decides debugger.old.trail.program debugger.old.trail.mode (done_steps debugger.old.trail) limits.fuel debugger.old.world) report.now.leaves.items }
+    requires texts { telling.group ≡ false → map string_bytes report.now.witnesses.items ≡ witness_texts S.decides limits.witnesses (done_steps debugger.old.trail) limits.fuel debugger.old.world report.now.leaves.items }
+    ensures text { IfOk result (λ t. string_bytes t ≡ listing_at S.decides telling limits (standing_of debugger.old) report.now.leaves.items report.now.more) }
+{
+    let fuel = limits.fuel;
+    let explain = telling.explain;
+    if telling.group {
+        let beside = Beside {
+            fuel,
+            witnesses: limits.witnesses,
+            explain,
+        };
+        return print_grouped(alloc, schedule, debugger, report, beside);
+    }
+    let texts = explanations_of(alloc, schedule, debugger, report, fuel, explain)?;
+    print_explained(alloc, report, &texts)
+}
+
 /// The text of a report whose leaves were listed along a schedule, and what it tells.
 fn told_of<S: Schedule>(
     alloc: Global,
     schedule: &S,
     debugger: &mut Debugger<'_>,
     report: &Report,
-    fuel: usize,
+    limits: Limits,
     telling: Telling,
 ) -> Result<Told, AllocError>
     requires clean { length debugger.old.trail.steps ≡ debugger.old.trail.depth }
-    requires fits { debugger.old.trail.depth + fuel ≤ STEPS_MAX }
-    requires listed { AllByRecursion (HasWitness S.decides debugger.old.trail.program debugger.old.trail.mode (done_steps debugger.old.trail) fuel debugger.old.world) report.now.leaves.items }
-    ensures text { IfOk result (λ told. string_bytes told.text ≡ explained_text telling.group (map string_bytes report.now.witnesses.items) (explained_at S.decides telling.explain fuel (standing_of debugger.old) report.now.leaves.items) report.now.leaves.items report.now.more) }
+    requires fits { debugger.old.trail.depth + limits.fuel ≤ STEPS_MAX }
+    requires listed { AllByRecursion (HasWitness S.decides debugger.old.trail.program debugger.old.trail.mode (done_steps debugger.old.trail) limits.fuel debugger.old.world) report.now.leaves.items }
+    requires texts { telling.group ≡ false → map string_bytes report.now.witnesses.items ≡ witness_texts S.decides limits.witnesses (done_steps debugger.old.trail) limits.fuel debugger.old.world report.now.leaves.items }
+    ensures text { IfOk result (λ told. string_bytes told.text ≡ listing_at S.decides telling limits (standing_of debugger.old) report.now.leaves.items report.now.more) }
     ensures tally { IfOk result (λ told. told.tally ≡ tally_of report.now.leaves.items report.now.more) }
 {
-    let texts = explanations_of(alloc, schedule, debugger, report, fuel, telling.explain)?;
-    let text = print_explained(alloc, report, &texts, telling.group)?;
+    let text = text_of(alloc, schedule, debugger, report, limits, telling)?;
     let tally = tally_of(report);
     Ok(Told { text, tally })
 }
 
-/// The text of a report that was made with these limits, and what it tells.
+/// The text of a report that was made with these limits, and what it tells. Where it is grouped, it may be without the texts of witnesses.
 pub(crate) fn told_by(
     alloc: Global,
     debugger: &mut Debugger<'_>,
@@ -109,13 +150,14 @@ pub(crate) fn told_by(
     requires clean { length debugger.old.trail.steps ≡ debugger.old.trail.depth }
     requires fits { debugger.old.trail.depth + limits.fuel ≤ STEPS_MAX }
     requires listed { AllByRecursion (HasWitness (decides_by limits.ends) debugger.old.trail.program debugger.old.trail.mode (done_steps debugger.old.trail) limits.fuel debugger.old.world) report.now.leaves.items }
-    ensures text { IfOk result (λ told. string_bytes told.text ≡ explained_text telling.group (map string_bytes report.now.witnesses.items) (explained_at (decides_by limits.ends) telling.explain limits.fuel (standing_of debugger.old) report.now.leaves.items) report.now.leaves.items report.now.more) }
+    requires texts { telling.group ≡ false → map string_bytes report.now.witnesses.items ≡ witness_texts (decides_by limits.ends) limits.witnesses (done_steps debugger.old.trail) limits.fuel debugger.old.world report.now.leaves.items }
+    ensures text { IfOk result (λ told. string_bytes told.text ≡ listing_at (decides_by limits.ends) telling limits (standing_of debugger.old) report.now.leaves.items report.now.more) }
     ensures tally { IfOk result (λ told. told.tally ≡ tally_of report.now.leaves.items report.now.more) }
 {
     if limits.ends {
-        return told_of(alloc, &Wide, debugger, report, limits.fuel, telling);
+        return told_of(alloc, &Wide, debugger, report, limits, telling);
     }
-    told_of(alloc, &Plain, debugger, report, limits.fuel, telling)
+    told_of(alloc, &Plain, debugger, report, limits, telling)
 }
 
 /// Explores a script from its start by so many workers, and makes the text of the report.
@@ -136,7 +178,11 @@ fn tell_listing<G: Gate, R: Threads + Sync>(
     let Ok(mut debugger) = Debugger::start(alloc, subject.code, subject.mode) else {
         return Err(PoolFault::Memory);
     };
-    let report = match mpd_pool::check(crew, alloc, &mut debugger, wanted.plan, gate) {
+    let plan = CheckPlan {
+        limits: limits_for(wanted.plan.limits, wanted.telling),
+        ..wanted.plan
+    };
+    let report = match mpd_pool::check(crew, alloc, &mut debugger, plan, gate) {
         Ok(report) => report,
         Err(fault) => {
             drop(debugger);
@@ -195,9 +241,9 @@ fn tell_sample<P: Watch>(
     ensures tally { IfOk result (λ told. told.tally ≡ tally_of (sample_leaves subject.entry.code.now.program subject.entry.mode plan.seed plan.limits) (sample_more subject.entry.code.now.program subject.entry.mode plan.seed plan.limits)) }
 {
     let mut debugger = Debugger::start(alloc, subject.code, subject.mode)?;
-    let report = sample(alloc, &mut debugger, plan.seed, plan.limits, watch)?;
-    let fuel = plan.limits.fuel;
-    let told = told_of(alloc, &Wide, &mut debugger, &report, fuel, telling);
+    let limits = limits_for(plan.limits, telling);
+    let report = sample(alloc, &mut debugger, plan.seed, limits, watch)?;
+    let told = told_of(alloc, &Wide, &mut debugger, &report, plan.limits, telling);
     drop(report);
     drop(debugger);
     told

@@ -2,7 +2,7 @@
 
 ghost use Rattle.std.specs.Prelude.{◌≡◌, ◌++◌, ◌<◌, ◌≤◌, ◌⊎◌, IfOk, OnOk, IsErrOf, Some, None, true, false, length, string_bytes};
 ghost use Rattle.mpd_check.specs.Checked.{pieces_of, leaves_of, more_of, AreFew, ModeAnswered, PutCount, LeastPut};
-ghost use Rattle.mpd_check.specs.ModeText.{yes_or_no, counts_text, mode_line, least_line, tried_more};
+ghost use Rattle.mpd_check.specs.ModeText.{yes_or_no, listed_word, counts_text, left_text, mode_line, least_line, tried_more};
 ghost use Rattle.mpd_check.specs.Tally.{judged, tally_of};
 
 use crate::counts::{Tally, tally_of};
@@ -74,6 +74,27 @@ impl Tried {
     }
 }
 
+/// What the report of a mode lists.
+#[derive(Clone, Copy)]
+pub(crate) enum Listed {
+    /// Runs.
+    Leaves,
+    /// Ways to end.
+    Outcomes,
+}
+
+impl Listed {
+    /// Its word.
+    fn word(self) -> &'static str
+        ensures { result.now ≡ listed_word self }
+    {
+        match self {
+            Listed::Leaves => "leaves",
+            Listed::Outcomes => "outcomes",
+        }
+    }
+}
+
 /// Yes or no.
 fn yes_or_no(is_so: bool) -> &'static str
     ensures { result.now ≡ yes_or_no is_so }
@@ -81,24 +102,41 @@ fn yes_or_no(is_so: bool) -> &'static str
     if is_so { "yes" } else { "no" }
 }
 
-/// Adds how many leaves a report lists, and how many of them are deadlocks, traps and cut.
-fn push_counts(out: &mut String, tally: Tally) -> Result<(), AllocError>
-    ensures { OnOk result (string_bytes out.new ≡ string_bytes out.old ++ counts_text tally) }
+/// Adds how many of these a report lists, and how many of them are deadlocks and traps.
+fn push_counts(out: &mut String, listed: Listed, tally: Tally) -> Result<(), AllocError>
+    ensures { OnOk result (string_bytes out.new ≡ string_bytes out.old ++ counts_text listed tally) }
 {
     write!(
         out,
-        " leaves {} deadlocks {} traps {} cut {}",
-        tally.runs, tally.deadlocks, tally.traps, tally.cut
+        " {} {} deadlocks {} traps {}",
+        listed.word(),
+        tally.runs,
+        tally.deadlocks,
+        tally.traps
     )
 }
 
+/// Adds how many leave messages over, and how many are cut.
+fn push_left(out: &mut String, tally: Tally) -> Result<(), AllocError>
+    ensures { OnOk result (string_bytes out.new ≡ string_bytes out.old ++ left_text tally) }
+{
+    let Tally { leftovers, cut, .. } = tally;
+    write!(out, " leftovers {leftovers} cut {cut}")
+}
+
 /// What the report of a mode tells, as a line.
-fn line_of(alloc: Global, mode: Mode, tally: Tally) -> Result<String, AllocError>
-    ensures { IfOk result (λ t. string_bytes t ≡ mode_line mode tally) }
+pub(crate) fn line_of(
+    alloc: Global,
+    listed: Listed,
+    mode: Mode,
+    tally: Tally,
+) -> Result<String, AllocError>
+    ensures { IfOk result (λ t. string_bytes t ≡ mode_line listed mode tally) }
 {
     let mut out = String::new(alloc);
     write!(out, "{mode}")?;
-    push_counts(&mut out, tally)?;
+    push_counts(&mut out, listed, tally)?;
+    push_left(&mut out, tally)?;
     out.push_str(" more ")?;
     out.push_str(yes_or_no(tally.more))?;
     out.push_str("\n")?;
@@ -155,7 +193,7 @@ pub fn check_mode<W: Sink, G: Gate, R: Threads + Sync>(
     let told = tally_in(crew, alloc, subject, plan, gate);
     gate.done();
     match told {
-        Ok(tally) => match line_of(alloc, subject.mode, tally) {
+        Ok(tally) => match line_of(alloc, Listed::Leaves, subject.mode, tally) {
             Ok(text) => put(Told { text, tally }, sink),
             Err(_) => Err(CheckFault::Engine(EngineFault::Memory)),
         },

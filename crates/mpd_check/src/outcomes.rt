@@ -2,20 +2,27 @@
 
 ghost use Rattle.std.specs.Prelude.{◌≡◌, ◌≤◌, ◌+◌, ◌++◌, IfOk, OnOk, length, map, string_bytes};
 ghost use Rattle.mpd_model.specs.steps.World.{start};
-ghost use Rattle.mpd_model.specs.runs.Trail.{first_standing};
-ghost use Rattle.mpd_trail.specs.Views.{standing_of};
+ghost use Rattle.std.specs.List.{AllByRecursion};
+ghost use Rattle.mpd_model.specs.runs.Trail.{done_steps, first_standing};
+ghost use Rattle.mpd_policy.specs.Wide.{wide_decision};
+ghost use Rattle.mpd_explore.specs.Witness.{HasWitness};
+ghost use Rattle.mpd_trail.specs.Views.{AsFound, standing_of};
 ghost use Rattle.mpd_explain.specs.Told.{behind_leaf};
-ghost use Rattle.mpd_check.specs.OutcomesText.{count_text, outcome_line, outcome_lines, outcomes_line, outcomes_text, AreTold, OutcomesAnswered, PutOutcomes};
+ghost use Rattle.mpd_outcomes.specs.Goals.{AreTold};
+ghost use Rattle.mpd_check.specs.OutcomesText.{found_in, outcome_line, outcome_lines, outcomes_line, outcomes_text, AreDecided, IsModeLine, IsOutcomesText, IsTextOf, ModeOutcomesAnswered, OutcomesAnswered, PutOutcomes};
 
 use crate::counts::{Tally, tally_of};
 use crate::listing::explanations_of;
+use crate::modes::{Listed, line_of};
+use mpd_blame::blame_lines;
 use mpd_code::Subject;
 use mpd_device::Sink;
-use mpd_explain::push_behind;
+use mpd_explain::{push_behind, text_at};
 use mpd_explore::{Leaf, push_leaf_text};
 use mpd_lines::{EngineFault, write_all};
 use mpd_model::STEPS_MAX;
-use mpd_outcomes::{Count, Outcomes, StateLimits, explore_outcomes};
+use mpd_outcomes::{Count, Outcomes, StateLimits, explore_outcomes, push_count};
+use mpd_runs::{WayCounts, counts_told};
 use mpd_trail::Debugger;
 use mpd_walk::Wide;
 use std::alloc::{AllocError, Global};
@@ -34,6 +41,8 @@ pub struct OutcomesPlan {
 pub struct OutcomesFound {
     /// What the report of the first run of each way tells.
     pub tally: Tally,
+    /// How many of all runs end in each way.
+    pub counts: WayCounts,
     /// How many states were come to. It says nothing of the runs.
     pub states: usize,
 }
@@ -43,16 +52,6 @@ pub struct OutcomesFound {
 struct ToldOutcomes {
     text: String,
     found: OutcomesFound,
-}
-
-/// Adds how many runs there are.
-fn push_count(out: &mut String, count: Count) -> Result<(), AllocError>
-    ensures { OnOk result (string_bytes out.new ≡ string_bytes out.old ++ count_text count) }
-{
-    match count {
-        Count::Exactly(runs) => write!(out, "{runs}"),
-        Count::More => out.push_str("at least 18446744073709551615"),
-    }
 }
 
 /// Adds the line of the way to end of this number, by its first run and how many runs end so.
@@ -72,19 +71,21 @@ fn push_outcome(
     out.push('\n')
 }
 
-/// Adds the lines of all ways to end, with these explanations of their first runs.
+/// Adds the lines of all ways to end, with these explanations of their first runs, and the lines of the steps that decided how they end.
 fn push_outcomes(
     alloc: Global,
     out: &mut String,
     outcomes: &Outcomes,
     texts: &[String],
+    lines: &[String],
 ) -> Result<(), AllocError>
-    ensures { OnOk result (string_bytes out.new ≡ string_bytes out.old ++ outcome_lines (map string_bytes outcomes.now.firsts.witnesses.items) (map string_bytes texts.now) 0 outcomes.now.firsts.leaves.items outcomes.now.counts.items) }
+    ensures { OnOk result (string_bytes out.new ≡ string_bytes out.old ++ outcome_lines (map string_bytes outcomes.now.firsts.witnesses.items) (map string_bytes texts.now) (map string_bytes lines.now) 0 outcomes.now.firsts.leaves.items outcomes.now.counts.items) }
 {
     let mut number = 0;
     for (first, count) in outcomes.firsts.leaves.iter().zip(outcomes.counts.iter()) {
         push_outcome(alloc, out, number, first, *count)?;
         push_behind(out, number, &outcomes.firsts.witnesses, texts)?;
+        out.push_str(text_at(lines, number))?;
         number += 1;
     }
     Ok(())
@@ -101,18 +102,52 @@ fn push_all(out: &mut String, outcomes: &Outcomes) -> Result<(), AllocError>
     write!(out, " more {more}\n")
 }
 
-/// The ways to end as text, with these explanations of their first runs.
+/// The ways to end as text, with these explanations of their first runs, and these lines.
 fn print_outcomes(
     alloc: Global,
     outcomes: &Outcomes,
     texts: &[String],
+    lines: &[String],
 ) -> Result<String, AllocError>
-    ensures { IfOk result (λ t. string_bytes t ≡ outcomes_text (map string_bytes outcomes.now.firsts.witnesses.items) (map string_bytes texts.now) outcomes.now) }
+    ensures { IfOk result (λ t. string_bytes t ≡ outcomes_text (map string_bytes outcomes.now.firsts.witnesses.items) (map string_bytes texts.now) (map string_bytes lines.now) outcomes.now) }
 {
     let mut out = String::new(alloc);
-    push_outcomes(alloc, &mut out, outcomes, texts)?;
+    push_outcomes(alloc, &mut out, outcomes, texts, lines)?;
     push_all(&mut out, outcomes)?;
     Ok(out)
+}
+
+/// What was found of these ways to end.
+fn found_in(outcomes: &Outcomes) -> OutcomesFound
+    ensures { result ≡ found_in outcomes.now }
+{
+    let tally = tally_of(&outcomes.firsts);
+    OutcomesFound {
+        tally,
+        counts: counts_told(outcomes),
+        states: outcomes.visited,
+    }
+}
+
+/// The lines of the steps that decided how the first runs end, where these are explained. The debugger is left as found.
+fn lines_of(
+    alloc: Global,
+    debugger: &mut Debugger<'_>,
+    plan: OutcomesPlan,
+    leaves: &[Leaf],
+) -> Result<Vec<String>, AllocError>
+    requires clean { length debugger.old.trail.steps ≡ debugger.old.trail.depth }
+    requires at_start { debugger.old.trail.depth ≡ 0 }
+    requires few { plan.limits.fuel ≤ STEPS_MAX }
+    requires listed { AllByRecursion (HasWitness wide_decision debugger.old.trail.program debugger.old.trail.mode (done_steps debugger.old.trail) plan.limits.fuel debugger.old.world) leaves.now }
+    ensures lines { IfOk result (λ lines. AreDecided plan.explain plan.limits (standing_of debugger.old) leaves.now (map string_bytes lines.items)) }
+    ensures as_found { AsFound (standing_of debugger.old) (standing_of debugger.new) }
+{
+    debugger.state_is_reached();
+    if !plan.explain {
+        return Ok(Vec::new(alloc));
+    }
+    blame_lines(alloc, debugger, plan.limits, leaves)
 }
 
 /// Looks for the ways to end from a script's start, and makes their text.
@@ -122,19 +157,17 @@ fn tell_outcomes(
     plan: OutcomesPlan,
 ) -> Result<ToldOutcomes, AllocError>
     requires clean { length debugger.old.trail.steps ≡ debugger.old.trail.depth }
-    requires fits { debugger.old.trail.depth + plan.limits.fuel ≤ STEPS_MAX }
-    ensures { IfOk result (λ told. AreTold plan.explain plan.limits.witnesses plan.limits.fuel (standing_of debugger.old) (string_bytes told.text) told.found.tally) }
+    requires at_start { debugger.old.trail.depth ≡ 0 }
+    requires few { plan.limits.fuel ≤ STEPS_MAX }
+    ensures { IfOk result (IsTextOf (IsOutcomesText plan.explain plan.limits (standing_of debugger.old)) plan.limits debugger.old.world) }
 {
     let outcomes = explore_outcomes(alloc, debugger, plan.limits)?;
     let fuel = plan.limits.fuel;
+    let lines = lines_of(alloc, debugger, plan, &outcomes.firsts.leaves)?;
     let texts = explanations_of(alloc, &Wide, debugger, &outcomes.firsts, fuel, plan.explain)?;
-    let text = print_outcomes(alloc, &outcomes, &texts)?;
-    let tally = tally_of(&outcomes.firsts);
-    let states = outcomes.visited;
-    Ok(ToldOutcomes {
-        text,
-        found: OutcomesFound { tally, states },
-    })
+    let text = print_outcomes(alloc, &outcomes, &texts, &lines)?;
+    let found = found_in(&outcomes);
+    Ok(ToldOutcomes { text, found })
 }
 
 /// Looks for the ways to end from a script's start, and makes their text.
@@ -144,7 +177,7 @@ fn tell_from_start(
     plan: OutcomesPlan,
 ) -> Result<ToldOutcomes, AllocError>
     requires { plan.limits.fuel ≤ STEPS_MAX }
-    ensures { IfOk result (λ told. AreTold plan.explain plan.limits.witnesses plan.limits.fuel (first_standing subject.entry.code.now.program subject.entry.mode) (string_bytes told.text) told.found.tally) }
+    ensures { IfOk result (IsTextOf (IsOutcomesText plan.explain plan.limits (first_standing subject.entry.code.now.program subject.entry.mode)) plan.limits (start subject.entry.code.now.program subject.entry.mode)) }
 {
     let mut debugger = Debugger::start(alloc, subject.code, subject.mode)?;
     let told = tell_outcomes(alloc, &mut debugger, plan);
@@ -152,10 +185,47 @@ fn tell_from_start(
     told
 }
 
-/// Writes the text, and answers what was found.
-fn put_outcomes<W: Sink>(told: ToldOutcomes, sink: &mut W) -> Result<OutcomesFound, EngineFault>
-    ensures { PutOutcomes (string_bytes told.text) told.found (W.seen sink.old) (W.seen sink.new) result }
+/// Looks for the ways to end from a script's start in a mode.
+fn outcomes_in(
+    alloc: Global,
+    subject: Subject<'_>,
+    limits: StateLimits,
+) -> Result<Outcomes, AllocError>
+    requires { limits.fuel ≤ STEPS_MAX }
+    ensures { IfOk result (AreTold limits (start subject.entry.code.now.program subject.entry.mode)) }
 {
+    let mut at_start = Debugger::start(alloc, subject.code, subject.mode)?;
+    let outcomes = explore_outcomes(alloc, &mut at_start, limits);
+    drop(at_start);
+    outcomes
+}
+
+/// Looks for the ways to end from a script's start in a mode, and makes the line of what they tell.
+fn tell_mode(
+    alloc: Global,
+    subject: Subject<'_>,
+    limits: StateLimits,
+) -> Result<ToldOutcomes, AllocError>
+    requires { limits.fuel ≤ STEPS_MAX }
+    ensures { IfOk result (IsTextOf (IsModeLine subject.entry.mode) limits (start subject.entry.code.now.program subject.entry.mode)) }
+{
+    let outcomes = outcomes_in(alloc, subject, limits)?;
+    let found = found_in(&outcomes);
+    drop(outcomes);
+    let text = line_of(alloc, Listed::Outcomes, subject.mode, found.tally)?;
+    Ok(ToldOutcomes { text, found })
+}
+
+/// Writes the text, where it was told, and answers what was found.
+fn put_outcomes<W: Sink>(
+    told: Result<ToldOutcomes, AllocError>,
+    sink: &mut W,
+) -> Result<OutcomesFound, EngineFault>
+    ensures { PutOutcomes told (W.seen sink.old) (W.seen sink.new) result }
+{
+    let Ok(told) = told else {
+        return Err(EngineFault::Memory);
+    };
     if write_all(sink, told.text.as_bytes()).is_err() {
         return Err(EngineFault::WriteFailed);
     }
@@ -164,8 +234,9 @@ fn put_outcomes<W: Sink>(told: ToldOutcomes, sink: &mut W) -> Result<OutcomesFou
 
 /// Looks for the ways that the runs of the wide walk of a script end, from its start in a mode, and writes a line for each, with how many
 /// runs end so and the first of them, and with what is asked for behind it; and at last how many runs there are (docs/FORMATS.md,
-/// "Outcomes"). It answers what the first runs tell, as a report of them does, and how many states were come to. `WriteFailed` (46) comes
-/// only where a write failed, and `Memory` only before anything is written. The fuel is at most 1,000,000 steps.
+/// "Outcomes"). Where the limits name an end, it is told of the runs up to the first that ends so. It answers what the first runs tell, as
+/// a report of them does, how many of all runs end in each way, and how many states were come to. `WriteFailed` (46) comes only where a write failed, and `Memory` only before
+/// anything is written. The fuel is at most 1,000,000 steps.
 pub fn check_outcomes<W: Sink>(
     alloc: Global,
     subject: Subject<'_>,
@@ -173,10 +244,22 @@ pub fn check_outcomes<W: Sink>(
     sink: &mut W,
 ) -> Result<OutcomesFound, EngineFault>
     requires { plan.limits.fuel ≤ STEPS_MAX }
-    ensures { OutcomesAnswered plan.explain plan.limits.witnesses plan.limits.fuel subject.entry.code.now.program subject.entry.mode (W.seen sink.old) (W.seen sink.new) result }
+    ensures { OutcomesAnswered plan.explain plan.limits subject.entry.code.now.program subject.entry.mode (W.seen sink.old) (W.seen sink.new) result }
 {
-    match tell_from_start(alloc, subject, plan) {
-        Ok(told) => put_outcomes(told, sink),
-        Err(_) => Err(EngineFault::Memory),
-    }
+    put_outcomes(tell_from_start(alloc, subject, plan), sink)
+}
+
+/// Looks for the same ways, and writes one line of what they tell (docs/FORMATS.md, "Modes tried in turn"): how many there are, how many of
+/// them are deadlocks, traps, such as leave messages over, and cut, and whether there are runs that were not come to. It answers what `check_outcomes` does, and is
+/// refused as that is.
+pub fn check_mode_outcomes<W: Sink>(
+    alloc: Global,
+    subject: Subject<'_>,
+    limits: StateLimits,
+    sink: &mut W,
+) -> Result<OutcomesFound, EngineFault>
+    requires { limits.fuel ≤ STEPS_MAX }
+    ensures { ModeOutcomesAnswered limits subject.entry.code.now.program subject.entry.mode (W.seen sink.old) (W.seen sink.new) result }
+{
+    put_outcomes(tell_mode(alloc, subject, limits), sink)
 }

@@ -12,7 +12,7 @@ ghost use Rattle.mpd_check.specs.Tally.{tally_of};
 
 use crate::counts::Tally;
 use crate::fault::CheckFault;
-use crate::listing::{Wanted, told_by};
+use crate::listing::{Wanted, limits_for, told_by};
 use crate::modes::put_text;
 use crate::{Told, put};
 use mpd_code::Subject;
@@ -110,7 +110,8 @@ fn tell_at<P: Watch>(
     ensures tally { IfOk result (λ told. told.tally ≡ tally_of (leaves_at debugger.old.trail.program debugger.old.trail.mode wanted.plan piece.now.choices) (more_at debugger.old.trail.program debugger.old.trail.mode wanted.plan piece.now.choices)) }
 {
     let limits = wanted.plan.limits;
-    let report = explore_at(alloc, debugger, &piece.choices.items, limits, watch)?;
+    let asked = limits_for(limits, wanted.telling);
+    let report = explore_at(alloc, debugger, &piece.choices.items, asked, watch)?;
     let told = told_by(alloc, debugger, &report, limits, wanted.telling);
     drop(report);
     told

@@ -1,5 +1,6 @@
 use Rattle.std.proofs.Common.{ap, ◌∙◌}
 use Rattle.mpd_check.specs.Checked.{leaves_of, more_of}
+use Rattle.mpd_check.specs.declared.modes.Listed.TheVariants.{Leaves}
 use Rattle.mpd_check.specs.ModeText.{mode_line}
 use Rattle.mpd_check.specs.Tally.{tally_of}
 use Rattle.mpd_check.proofs.CheckLemmas.{put_answered}
@@ -7,6 +8,6 @@ use Rattle.mpd_check.proofs.modes.check_mode.Goals as goal
 
 pub returns-in-Ok-line_of : goal.returns-in-Ok-line_of
 returns-in-Ok-line_of g c =
-    put_answered (mode_line c.args.subject.mode (tally_of (leaves_of c.args.subject.code.now.program c.args.subject.mode c.args.plan) (more_of c.args.subject.code.now.program c.args.subject.mode c.args.plan)))
+    put_answered (mode_line Leaves c.args.subject.mode (tally_of (leaves_of c.args.subject.code.now.program c.args.subject.mode c.args.plan) (more_of c.args.subject.code.now.program c.args.subject.mode c.args.plan)))
     c.args.subject.code.now.program c.args.subject.mode c.args.plan c.args.crew.workers (g.W.Sink.seen c.args.sink.now) (g.W.Sink.seen c.put.new.sink) _ _ c.put.result
-    (c.in-Ok-line_of.ensures ∙ ap (mode_line c.args.subject.mode) c.in-Ok.ensures.tally) c.in-Ok.ensures.tally (c.is_crew.ensures.0 c.if-not-is_crew.false) c.in-Ok.ensures.few c.put.ensures
+    (c.in-Ok-line_of.ensures ∙ ap (mode_line Leaves c.args.subject.mode) c.in-Ok.ensures.tally) c.in-Ok.ensures.tally (c.is_crew.ensures.0 c.if-not-is_crew.false) c.in-Ok.ensures.few c.put.ensures
