@@ -1,1 +1,3 @@
 pub mod SaidLemmas
+pub mod BlamedLemmas
+pub mod OpeningLemmas

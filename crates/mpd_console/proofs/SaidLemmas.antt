@@ -6,7 +6,6 @@ use Rattle.mpd_model.specs.declared.breakpoint.Break.{Break}
 use Rattle.mpd_model.specs.steps.World.{World}
 use Rattle.mpd_model.specs.runs.Trail.{Trail, IsReached, IsRun, done_steps, world_of}
 use Rattle.mpd_trail.specs.Views.{DebuggerView, standing_of}
-use Rattle.mpd_explore.specs.declared.report.Leaf.{Leaf}
 use Rattle.mpd_walk.specs.declared.ending.Ending.{Ending}
 use Rattle.mpd_wire.specs.declared.request.Command.{Command}
 use Rattle.mpd_wire.specs.declared.request.Command.TheVariants as command
@@ -15,7 +14,7 @@ use Rattle.mpd_view.specs.Standing.{standing_text}
 use Rattle.mpd_session.specs.Held.{Held}
 use Rattle.mpd_session.specs.Respond.{respond, laid}
 use Rattle.mpd_moves.specs.declared.moves.Doing.{Doing}
-use Rattle.mpd_moves.specs.declared.moves.Doing.TheVariants.{Asks, Undoes, Seeks, Follows, Looks}
+use Rattle.mpd_moves.specs.declared.moves.Doing.TheVariants.{Asks, Undoes, Seeks, Follows, Blames, Looks}
 use Rattle.mpd_vocabulary.specs.declared.word.Word.{Word}
 use Rattle.mpd_vocabulary.specs.declared.word.WordFault.{WordFault}
 use Rattle.mpd_vocabulary.specs.declared.read.Line.{Line}
@@ -25,12 +24,18 @@ use Rattle.mpd_moves.specs.News.{Known, known_for}
 use Rattle.mpd_moves.specs.Moves.{doing_of, lead_text, reply_text}
 use Rattle.mpd_console.specs.Looks.{look_text}
 use Rattle.mpd_vocabulary.specs.Reading.{line_of}
+use Rattle.mpd_runs.specs.declared.counts.WayCounts.{WayCounts}
+use Rattle.mpd_runs.specs.declared.search.Search.{Search}
+use Rattle.mpd_runs.specs.declared.search.Scope.{Scope}
+use Rattle.mpd_runs.specs.declared.search.Scope.TheVariants.{WideWalk}
+use Rattle.mpd_runs.specs.declared.search.Sought.{Sought}
+use Rattle.mpd_runs.specs.declared.search.Sought.TheVariants.{Found, Nothing}
 use Rattle.mpd_runs.specs.declared.search.WholeRun.{WholeRun}
 use Rattle.mpd_runs.specs.declared.way.Way.{Way}
-use Rattle.mpd_runs.specs.Runs.{none_line}
-use Rattle.mpd_runs.specs.Seek.{found_run, numbered_run, nothing_line, LiesAhead, ahead_line, no_run_line}
+use Rattle.mpd_runs.specs.Runs.{fuel_at, none_line}
+use Rattle.mpd_runs.specs.Seek.{found_run, numbered_run, nothing_line, LiesAhead, FoundLies, IsSought, IsSearch, TooMany, ahead_line, no_run_line}
 use Rattle.mpd_runs.specs.LastChoice.{last_choice, no_choice_line}
-use Rattle.mpd_console.specs.Says.{memory_line, unprinted_line, too_long_line, at_world, prompt, said, lead_said, known_at, known_in, reply_said, laid_out, look_said, laid_said, not_found_said, none_said, prompts_behind, fault_said, Told, Looked, asking, Carried, UndoneBy, LaidBy, found_from, numbered_from, SoughtBy, FollowedBy, doing_at, doing_in, AnsweredBy, Answered, Console, again, WordSays, RepeatSays, LineSays, SaysBy, ConsoleSays, Adds, OrElse}
+use Rattle.mpd_console.specs.Says.{memory_line, unprinted_line, too_long_line, at_world, prompt, said, lead_said, known_at, known_in, reply_said, laid_out, look_said, laid_said, not_found_said, prompts_behind, fault_said, Told, Looked, asking, Carried, UndoneBy, LaidBy, found_from, numbered_from, FoundAs, IsFoundFrom, SoughtBy, SoughtFrom, FollowedBy, doing_at, doing_in, AnsweredBy, Answered, Console, again, WordSays, RepeatSays, LineSays, SaysBy, ConsoleSays, Adds, OrElse, BlamedBy}
 
 -- ---- texts on the world of a trail
 
@@ -147,38 +152,54 @@ lies_begins t r h = h.begins
 pub lies_runs : (t : Trail) (r : WholeRun) → LiesAhead t r → IsRun t.program t.mode r.steps
 lies_runs t r h = h.run
 
-pub found_at : (s : Held) (d : DebuggerView) (x : Way) (o : Option WholeRun) → IsReached (standing_of d) → d.trail ≡ s.trail → o ≡ found_run x d.trail d.world → o ≡ found_from s x
-found_at s d x o r e h = h ∙ ap (λ t. found_run x t d.world) e ∙ sym (ap (λ (w : Option World). option_and_then (λ v. found_run x s.trail v) w) (world_at s d r e))
+found_at : (k : Scope) (s : Held) (d : DebuggerView) (x : Way) → IsReached (standing_of d) → d.trail ≡ s.trail → found_from k s x ≡ found_run k x d.trail d.world
+found_at k s d x r e = ap (λ (w : Option World). option_and_then (λ v. found_run k x s.trail v) w) (world_at s d r e) ∙ sym (ap (λ t. found_run k x t d.world) e)
 
 pub numbered_at : (s : Held) (d : DebuggerView) (n : ℕ) (o : Option WholeRun) → IsReached (standing_of d) → d.trail ≡ s.trail → o ≡ numbered_run n d.trail d.world → o ≡ numbered_from s n
 numbered_at s d n o r e h = h ∙ ap (λ t. numbered_run n t d.world) e ∙ sym (ap (λ (w : Option World). option_and_then (λ v. numbered_run n s.trail v) w) (world_at s d r e))
 
-pub none_at_is : (p : Bool) (s : Held) (d : DebuggerView) (x : Way) (leaves : List Leaf) (more : Bool) → IsReached (standing_of d) → d.trail ≡ s.trail
-    → none_line x leaves more ≡ nothing_line x d.trail d.world → not_found_said p s x leaves more ≡ none_said p s x
-none_at_is p s d x leaves more r e h = ap (said p s) (h ∙ told_at (nothing_line x) s d r e)
+is_found : (k : Scope) (s : Held) (d : DebuggerView) (x : Way) (q : Sought) → IsReached (standing_of d) → d.trail ≡ s.trail → IsSought k x d.trail d.world q → FoundAs k s x q
+is_found k s d x (Found run) r e h = found_at k s d x r e ∙ h
+is_found k s d x (Nothing counts) r e h = (found_at k s d x r e ∙ h.0, λ p. ap (said p s) (ap (none_line x) h.1 ∙ told_at (nothing_line k x) s d r e))
+
+pub sought_at : (s : Held) (d : DebuggerView) (x : Way) (q : Search) → IsReached (standing_of d) → d.trail ≡ s.trail → IsSearch x d.trail d.world q → IsFoundFrom q.scope s x q.sought
+sought_at s d x q r e h = (
+  λ listed. subst (λ o. IfSome o (TooMany x (fuel_at s.trail.depth))) (sym (world_at s d r e)) (subst (λ t. TooMany x (fuel_at t.depth) d.world) e (h.1 listed).1),
+  is_found q.scope s d x q.sought r e h.0,
+)
+
+pub found_lies_at : (s : Held) (d : DebuggerView) (q : Sought) → d.trail ≡ s.trail → FoundLies d.trail q → FoundLies s.trail q
+found_lies_at s d q e h = subst (λ t. FoundLies t q) e h
 
 pub lies_at : (s : Held) (d : DebuggerView) (o : Option WholeRun) → d.trail ≡ s.trail → IfSome o (LiesAhead d.trail) → IfSome o (LiesAhead s.trail)
 lies_at s d o e h = subst (λ t. IfSome o (LiesAhead t)) e h
 
-pub ruleset seeking = (found_at, numbered_at, none_at_is, lies_at)
+pub ruleset seeking = (sought_at, found_lies_at, numbered_at, lies_at)
 
 laid_by : (p : Bool) (script : List ℕ) (s t : Held) (number : Option ℕ) (r : WholeRun) (text : List ℕ) → LiesAhead s.trail r → t ≡ laid s r.steps → Told (laid_said p script t number r.ending (length r.steps - s.trail.depth)) text → LaidBy p script s number r t text
 laid_by p script s t number r text lies e told = inl (lies, e, told)
 
-pub sought_told : (p : Bool) (script : List ℕ) (s t : Held) (x : Way) (r : WholeRun) (before after : List ℕ) → Some r ≡ found_from s x → LiesAhead s.trail r → t ≡ laid s r.steps
-    → Adds (Told (laid_said p script t None r.ending (length r.steps - s.trail.depth))) before after → Adds (SoughtBy p script s x (found_from s x) t) before after
-sought_told p script s t x r before after is lies e (z, h, told) = (z, h, subst (λ o. SoughtBy p script s x o t z) is (laid_by p script s t None r z lies e told))
+pub found_lies : (s : Held) (q : Sought) (r : WholeRun) → q ≡ Found r → FoundLies s.trail q → LiesAhead s.trail r
+found_lies s q r is h = subst (FoundLies s.trail) is h
 
-pub none_told : (p : Bool) (script : List ℕ) (s t : Held) (x : Way) (leaves : List Leaf) (more : Bool) (before after : List ℕ) → None ≡ found_from s x → t ≡ s → not_found_said p s x leaves more ≡ none_said p s x
-    → Adds (Looked (not_found_said p s x leaves more)) before after → Adds (SoughtBy p script s x (found_from s x) t) before after
-none_told p script s t x leaves more before after is e same (z, h, told) = (z, h, subst (λ o. SoughtBy p script s x o t z) is (e, subst (λ y. Looked y z) same told))
+pub sought_told : (k : Scope) (p : Bool) (script : List ℕ) (s t : Held) (x : Way) (q : Sought) (r : WholeRun) (before after : List ℕ) → IsFoundFrom k s x q → q ≡ Found r → LiesAhead s.trail r → t ≡ laid s r.steps
+    → Adds (Told (laid_said p script t None r.ending (length r.steps - s.trail.depth))) before after → Adds (SoughtFrom p script s x t) before after
+sought_told k p script s t x q r before after found is lies e (z, h, told) =
+    let at : found_from k s x ≡ Some r = subst (FoundAs k s x) is found.1 in
+    (z, h, (k, found.0, subst (λ o. SoughtBy k p script s x o t z) (sym at) (laid_by p script s t None r z lies e told)))
 
-not_laid : (p : Bool) (script : List ℕ) (s t : Held) (x : Way) (o : Option WholeRun) → t ≡ s → SoughtBy p script s x o t memory_line
-not_laid p script s t x None e = (e, inr refl)
-not_laid p script s t x (Some r) e = inr (e, refl)
+pub none_told : (k : Scope) (p : Bool) (script : List ℕ) (s t : Held) (x : Way) (q : Sought) (counts : WayCounts) (before after : List ℕ) → IsFoundFrom k s x q → q ≡ Nothing counts → t ≡ s
+    → Adds (Looked (not_found_said p s x counts)) before after → Adds (SoughtFrom p script s x t) before after
+none_told k p script s t x q counts before after found is e (z, h, told) =
+    let at : FoundAs k s x (Nothing counts) = subst (FoundAs k s x) is found.1 in
+    (z, h, (k, found.0, subst (λ o. SoughtBy k p script s x o t z) (sym at.0) (e, subst (λ y. Looked y z) (at.1 p) told)))
 
-pub not_sought : (p : Bool) (script : List ℕ) (s t : Held) (x : Way) (before after : List ℕ) → t ≡ s → after ≡ before ++ memory_line → Adds (SoughtBy p script s x (found_from s x) t) before after
-not_sought p script s t x before after e h = (memory_line, h, not_laid p script s t x (found_from s x) e)
+not_laid : (k : Scope) (p : Bool) (script : List ℕ) (s t : Held) (x : Way) (o : Option WholeRun) → t ≡ s → SoughtBy k p script s x o t memory_line
+not_laid k p script s t x None e = (e, inr refl)
+not_laid k p script s t x (Some r) e = inr (e, refl)
+
+pub not_sought : (p : Bool) (script : List ℕ) (s t : Held) (x : Way) (before after : List ℕ) → t ≡ s → after ≡ before ++ memory_line → Adds (SoughtFrom p script s x t) before after
+not_sought p script s t x before after e h = (memory_line, h, (WideWalk, (λ listed. absurd cc), not_laid WideWalk p script s t x (found_from WideWalk s x) e))
 
 pub followed_told : (p : Bool) (script : List ℕ) (s t : Held) (n : ℕ) (r : WholeRun) (before after : List ℕ) → Some r ≡ numbered_from s n → LiesAhead s.trail r → t ≡ laid s r.steps
     → Adds (Told (laid_said p script t (Some n) r.ending (length r.steps - s.trail.depth))) before after → Adds (FollowedBy p script s n (numbered_from s n) t) before after
@@ -194,7 +215,7 @@ not_numbered p script s t n (Some r) e = inr (e, refl)
 pub not_followed : (p : Bool) (script : List ℕ) (s t : Held) (n : ℕ) (before after : List ℕ) → t ≡ s → after ≡ before ++ memory_line → Adds (FollowedBy p script s n (numbered_from s n) t) before after
 not_followed p script s t n before after e h = (memory_line, h, not_numbered p script s t n (numbered_from s n) e)
 
-pub ruleset laying = (lies_begins, lies_runs, sought_told, none_told, not_sought, followed_told, no_run_told, not_followed)
+pub ruleset laying = (lies_begins, lies_runs, found_lies, sought_told, none_told, not_sought, followed_told, no_run_told, not_followed)
 
 -- ---- the last choice
 
@@ -224,11 +245,14 @@ answered_asks p script s t x c before after is h = subst (λ d. Adds (AnsweredBy
 pub answered_undoes : (p : Bool) (script : List ℕ) (s t : Held) (x : Word) (before after : List ℕ) → Undoes ≡ doing_in s x → Adds (UndoneBy p script s x (last_choice s.trail) t) before after → Adds (Answered p script s x t) before after
 answered_undoes p script s t x before after is h = subst (λ d. Adds (AnsweredBy p script s x d t) before after) is h
 
-pub answered_seeks : (p : Bool) (script : List ℕ) (s t : Held) (x : Word) (way : Way) (before after : List ℕ) → Seeks way ≡ doing_in s x → Adds (SoughtBy p script s way (found_from s way) t) before after → Adds (Answered p script s x t) before after
+pub answered_seeks : (p : Bool) (script : List ℕ) (s t : Held) (x : Word) (way : Way) (before after : List ℕ) → Seeks way ≡ doing_in s x → Adds (SoughtFrom p script s way t) before after → Adds (Answered p script s x t) before after
 answered_seeks p script s t x way before after is h = subst (λ d. Adds (AnsweredBy p script s x d t) before after) is h
 
 pub answered_follows : (p : Bool) (script : List ℕ) (s t : Held) (x : Word) (n : ℕ) (before after : List ℕ) → Follows n ≡ doing_in s x → Adds (FollowedBy p script s n (numbered_from s n) t) before after → Adds (Answered p script s x t) before after
 answered_follows p script s t x n before after is h = subst (λ d. Adds (AnsweredBy p script s x d t) before after) is h
+
+pub answered_blames : (p : Bool) (script : List ℕ) (s t : Held) (x : Word) (before after : List ℕ) → Blames ≡ doing_in s x → Adds (BlamedBy p script s t) before after → Adds (Answered p script s x t) before after
+answered_blames p script s t x before after is h = subst (λ d. Adds (AnsweredBy p script s x d t) before after) is h
 
 looks_alone : (p : Bool) (script : List ℕ) (s t : Held) (x : Word) (before after : List ℕ) → t ≡ s → Adds (Looked (look_said p script s x)) before after → Adds (AnsweredBy p script s x Looks t) before after
 looks_alone p script s t x before after e (z, h, told) = (z, h, (e, told))
@@ -239,14 +263,15 @@ answered_looks p script s t x before after is e h = subst (λ d. Adds (AnsweredB
 not_done : (p : Bool) (script : List ℕ) (s t : Held) (x : Word) (d : Doing) → t ≡ s → AnsweredBy p script s x d t memory_line
 not_done p script s t x (Asks c) e = inr (e, refl)
 not_done p script s t x Undoes e = not_gone p script s t x (last_choice s.trail) e
-not_done p script s t x (Seeks way) e = not_laid p script s t way (found_from s way) e
+not_done p script s t x (Seeks way) e = (WideWalk, (λ listed. absurd cc), not_laid WideWalk p script s t way (found_from WideWalk s way) e)
 not_done p script s t x (Follows n) e = not_numbered p script s t n (numbered_from s n) e
+not_done p script s t x Blames e = inr (e, refl)
 not_done p script s t x Looks e = (e, inr refl)
 
 pub not_answered : (p : Bool) (script : List ℕ) (s t : Held) (x : Word) (before after : List ℕ) → t ≡ s → after ≡ before ++ memory_line → Adds (Answered p script s x t) before after
 not_answered p script s t x before after e h = (memory_line, h, not_done p script s t x (doing_in s x) e)
 
-pub ruleset answering = (answered_asks, answered_undoes, answered_seeks, answered_follows, answered_looks, not_answered)
+pub ruleset answering = (answered_asks, answered_undoes, answered_seeks, answered_follows, answered_blames, answered_looks, not_answered)
 
 -- ---- lines
 

@@ -1,3 +1,4 @@
 pub mod Looks
+pub mod Blamed
 pub mod Says
 pub mod Quitting

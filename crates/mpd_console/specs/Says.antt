@@ -1,12 +1,14 @@
 -- What a line of the console is answered, and where that leaves the session.
-use Rattle.std.specs.Prelude.{◌≡◌, ℕ, ◌-◌, ◌⊎◌, Bool, true, false, nat_lt, List, [], ◌++◌, length, Option, Some, None, option_and_then, codes, refl}
+use Rattle.std.specs.Prelude.{◌≡◌, ℕ, ◌-◌, ◌⊎◌, Bool, true, false, nat_lt, List, [], ◌++◌, length, Option, Some, None, option_and_then, IfSome, codes, refl}
 use Rattle.std.specs.Coded.{Coded, code_by, coded×, coded_ℕ, coded_bool, coded_list, coded_option}
 use Rattle.std.specs.Fmt.{decimal}
 use Rattle.mpd_model.specs.declared.limits.TheConstants.{LINE_MAX}
-use Rattle.mpd_model.specs.steps.World.{World}
+use Rattle.mpd_model.specs.declared.step.Step.{Step}
+use Rattle.mpd_model.specs.declared.call.Mode.{Mode}
+use Rattle.mpd_model.specs.script.Program.{Program}
+use Rattle.mpd_model.specs.steps.World.{World, start}
 use Rattle.mpd_model.specs.runs.Trail.{Trail, world_of}
 use Rattle.mpd_model.specs.texts.Texts.{line}
-use Rattle.mpd_explore.specs.declared.report.Leaf.{Leaf}
 use Rattle.mpd_walk.specs.declared.ending.Ending.{Ending}
 use Rattle.mpd_wire.specs.declared.request.Command.{Command}
 use Rattle.mpd_wire.specs.declared.request.Command.TheVariants as command
@@ -14,7 +16,7 @@ use Rattle.mpd_wire.specs.declared.request.Request.{Request}
 use Rattle.mpd_wire.specs.declared.reply.Reply.{Reply}
 use Rattle.mpd_vocabulary.specs.contracts.word.Word as word_row
 use Rattle.mpd_view.specs.Standing.{standing_text}
-use Rattle.mpd_session.specs.Held.{Held, held_code}
+use Rattle.mpd_session.specs.Held.{Held, held_code, opened}
 use Rattle.mpd_session.specs.Respond.{respond, laid}
 use Rattle.mpd_vocabulary.specs.declared.word.Word.{Word}
 use Rattle.mpd_vocabulary.specs.declared.word.Word.TheVariants as word
@@ -23,14 +25,22 @@ use Rattle.mpd_vocabulary.specs.declared.read.Line.{Line}
 use Rattle.mpd_vocabulary.specs.declared.read.Line.TheVariants.{Blank, Comment, Says, Wrong}
 use Rattle.mpd_vocabulary.specs.Reading.{line_of}
 use Rattle.mpd_moves.specs.declared.moves.Doing.{Doing}
-use Rattle.mpd_moves.specs.declared.moves.Doing.TheVariants.{Asks, Undoes, Seeks, Follows, Looks}
+use Rattle.mpd_moves.specs.declared.moves.Doing.TheVariants.{Asks, Undoes, Seeks, Follows, Blames, Looks}
 use Rattle.mpd_moves.specs.News.{Known, told, known_for}
-use Rattle.mpd_moves.specs.Moves.{doing_of, lead_text, reply_text}
+use Rattle.mpd_moves.specs.Moves.{doing_of, goto_command, lead_text, reply_text}
+use Rattle.mpd_blame.specs.declared.back.Blame.{Blame}
+use Rattle.mpd_blame.specs.declared.back.Blame.TheVariants as blame_is
+use Rattle.mpd_console.specs.Blamed.{TellsBlame}
 use Rattle.mpd_console.specs.Looks.{look_text}
+use Rattle.mpd_runs.specs.declared.counts.WayCounts.{WayCounts}
+use Rattle.mpd_runs.specs.declared.search.Scope.{Scope}
+use Rattle.mpd_runs.specs.declared.search.Scope.TheVariants.{Listed}
+use Rattle.mpd_runs.specs.declared.search.Sought.{Sought}
+use Rattle.mpd_runs.specs.declared.search.Sought.TheVariants.{Found, Nothing}
 use Rattle.mpd_runs.specs.declared.search.WholeRun.{WholeRun}
 use Rattle.mpd_runs.specs.declared.way.Way.{Way}
-use Rattle.mpd_runs.specs.Runs.{none_line}
-use Rattle.mpd_runs.specs.Seek.{found_run, numbered_run, nothing_line, LiesAhead, ahead_line, no_run_line}
+use Rattle.mpd_runs.specs.Runs.{fuel_at, none_line}
+use Rattle.mpd_runs.specs.Seek.{found_run, numbered_run, nothing_line, LeadsTo, LiesAhead, TooMany, ahead_line, no_run_line}
 use Rattle.mpd_runs.specs.LastChoice.{last_choice, no_choice_line}
 use Rattle.mpd_vocabulary.specs.Faults.{fault_text}
 use Rattle.mpd_fold.specs.Folding.{folded}
@@ -94,14 +104,18 @@ look_said p script s x = laid_out x (at_world (λ w. look_text s.trail w s.break
 abbrev pub laid_said : Bool → List ℕ → Held → Option ℕ → Ending → ℕ → List ℕ
 laid_said p script s number e ahead = said p s (ahead_line number e ahead ++ at_world (λ w. standing_text script s.trail w) (world_of s.trail))
 
-abbrev pub not_found_said : Bool → Held → Way → List Leaf → Bool → List ℕ
-not_found_said p s x leaves more = said p s (none_line x leaves more)
+-- of steps that lie ahead from the start of a script: how the run ends that they make
+abbrev pub AlongSaid : Program → Mode → Bool → List ℕ → List Step → List ℕ → Type 0
+AlongSaid s mode p script steps text = (e : Ending) × LeadsTo (start s mode) steps e × (text ≡ laid_said p script (laid (opened s mode) steps) None e (length steps))
+
+abbrev pub not_found_said : Bool → Held → Way → WayCounts → List ℕ
+not_found_said p s x counts = said p s (none_line x counts)
 
 abbrev pub fault_said : Bool → Held → List ℕ → WordFault → List ℕ
 fault_said p s z f = said p s (fault_text z f)
 
-abbrev pub none_said : Bool → Held → Way → List ℕ
-none_said p s x = said p s (at_world (λ w. nothing_line x s.trail w) (world_of s.trail))
+abbrev pub none_said : Scope → Bool → Held → Way → List ℕ
+none_said k p s x = said p s (at_world (λ w. nothing_line k x s.trail w) (world_of s.trail))
 
 -- ---- what a word does to the session
 
@@ -137,26 +151,57 @@ abbrev pub LaidBy : Bool → List ℕ → Held → Option ℕ → WholeRun → H
 LaidBy p script s number r t text =
     (LiesAhead s.trail r × (t ≡ laid s r.steps) × Told (laid_said p script t number r.ending (length r.steps - s.trail.depth)) text) ⊎ ((t ≡ s) × (text ≡ memory_line))
 
--- the first run from where a session stands that ends so, and the run of a number
-abbrev pub found_from : Held → Way → Option WholeRun
-found_from s x = option_and_then (λ w. found_run x s.trail w) (world_of s.trail)
+-- the first run from where a session stands that ends so, of those that are looked at, and the run of a number
+abbrev pub found_from : Scope → Held → Way → Option WholeRun
+found_from k s x = option_and_then (λ w. found_run k x s.trail w) (world_of s.trail)
 
 abbrev pub numbered_from : Held → ℕ → Option WholeRun
 numbered_from s n = option_and_then (λ w. numbered_run n s.trail w) (world_of s.trail)
 
-abbrev pub SoughtBy : Bool → List ℕ → Held → Way → Option WholeRun → Held → List ℕ → Type 0
-SoughtBy p script s x None t text = (t ≡ s) × Looked (none_said p s x) text
-SoughtBy p script s x (Some r) t text = LaidBy p script s None r t text
+-- those that are listed are looked at only where as many states as may be come to stand along the first of all runs, and none of these ends so
+abbrev pub WhyListed : Scope → Held → Way → Type 0
+WhyListed k s x = k ≡ Listed → IfSome (world_of s.trail) (TooMany x (fuel_at s.trail.depth))
+
+-- what a search from a session has found, in the words of that session
+abbrev pub FoundAs : Scope → Held → Way → Sought → Type 0
+FoundAs k s x (Found r) = found_from k s x ≡ Some r
+FoundAs k s x (Nothing counts) = (found_from k s x ≡ None) × ((p : Bool) → not_found_said p s x counts ≡ none_said k p s x)
+
+abbrev pub IsFoundFrom : Scope → Held → Way → Sought → Type 0
+IsFoundFrom k s x q = WhyListed k s x × FoundAs k s x q
+
+abbrev pub SoughtBy : Scope → Bool → List ℕ → Held → Way → Option WholeRun → Held → List ℕ → Type 0
+SoughtBy k p script s x None t text = (t ≡ s) × Looked (none_said k p s x) text
+SoughtBy k p script s x (Some r) t text = LaidBy p script s None r t text
+
+-- All runs of the wide walk are looked at, or those that are listed.
+abbrev pub SoughtFrom : Bool → List ℕ → Held → Way → Held → List ℕ → Type 0
+SoughtFrom p script s x t text = (k : Scope) × WhyListed k s x × SoughtBy k p script s x (found_from k s x) t text
 
 abbrev pub FollowedBy : Bool → List ℕ → Held → ℕ → Option WholeRun → Held → List ℕ → Type 0
 FollowedBy p script s n None t text = Refused p s no_run_line t text
 FollowedBy p script s n (Some r) t text = LaidBy p script s (Some n) r t text
 
+-- a line is told, or memory for it was refused; and what `goto` answers of a depth
+abbrev pub IsGone : Bool → List ℕ → Held → ℕ → List ℕ → Held → List ℕ → Type 0
+IsGone p script s depth told t text =
+    ((rest : List ℕ) × (text ≡ folded told ++ rest) × Carried p script s (word.Goto depth) (goto_command s.trail depth) t rest) ⊎ ((t ≡ s) × (text ≡ memory_line))
+
+-- The step that decided is told, and it is gone to, as `goto` goes there; or where it isn't known which, that is told.
+abbrev pub BlamedAs : Bool → List ℕ → Held → Blame → List ℕ → Held → List ℕ → Type 0
+BlamedAs p script s (blame_is.At d) told t text = IsGone p script s d.depth told t text
+BlamedAs p script s b told t text = (t ≡ s) × Looked (said p s told) text
+
+-- It is told of the run that is kept; or memory was refused, and the session is as before.
+abbrev pub BlamedBy : Bool → List ℕ → Held → Held → List ℕ → Type 0
+BlamedBy p script s t text = ((b : Blame) × (told : List ℕ) × TellsBlame s.trail b told × BlamedAs p script s b told t text) ⊎ ((t ≡ s) × (text ≡ memory_line))
+
 abbrev pub AnsweredBy : Bool → List ℕ → Held → Word → Doing → Held → List ℕ → Type 0
 AnsweredBy p script s x (Asks c) t text = Carried p script s x c t text
 AnsweredBy p script s x Undoes t text = UndoneBy p script s x (last_choice s.trail) t text
-AnsweredBy p script s x (Seeks way) t text = SoughtBy p script s way (found_from s way) t text
+AnsweredBy p script s x (Seeks way) t text = SoughtFrom p script s way t text
 AnsweredBy p script s x (Follows n) t text = FollowedBy p script s n (numbered_from s n) t text
+AnsweredBy p script s x Blames t text = BlamedBy p script s t text
 AnsweredBy p script s x Looks t text = (t ≡ s) × Looked (look_said p script s x) text
 
 -- what a word does with a session; no session holds a trail that leads nowhere

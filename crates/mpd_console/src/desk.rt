@@ -2,24 +2,25 @@
 
 ghost use Rattle.std.specs.Prelude.{◌≡◌, ◌+◌, ◌-◌, ◌≤◌, ◌++◌, ℕ, Bool, List, None, IfOk, IfSome, OnOk, length, string_bytes, vec_len, vec_capacity};
 ghost use Rattle.mpd_session.specs.Respond.{laid};
-ghost use Rattle.mpd_runs.specs.Seek.{LiesAhead, no_run_line};
+ghost use Rattle.mpd_runs.specs.Seek.{LiesAhead, FoundLies, no_run_line};
 ghost use Rattle.mpd_runs.specs.LastChoice.{last_choice as last_choice_of, no_choice_line};
 ghost use Rattle.mpd_vocabulary.specs.Reading.{line_of};
 ghost use Rattle.mpd_moves.specs.News.{told};
 ghost use Rattle.mpd_console.specs.Says as spec;
-ghost use Rattle.mpd_console.specs.Says.{Adds, OrElse, Told, Carried, UndoneBy, SoughtBy, FollowedBy, Answered, Looked, RepeatSays};
+ghost use Rattle.mpd_console.specs.Says.{Adds, OrElse, Told, Carried, UndoneBy, SoughtFrom, FollowedBy, Answered, Looked, RepeatSays};
 
+use crate::blamed::tell_blame;
 use crate::looks::push_look;
 use crate::prompts::{idle_text, push_idle, said};
 use itoa::Buffer;
-use mpd_explore::{Ending, Report};
+use mpd_explore::Ending;
 use mpd_fold::push_folded;
 use mpd_lines::{LineDesk, ROOM, push_all};
 use mpd_model::LINE_MAX;
 use mpd_moves::{Doing, Lead, Scene, doing_of, lead_of, push_reply};
 use mpd_runs::{
-    Search, Way, WholeRun, last_choice, numbered_run, push_ahead, push_no_choice, push_no_run,
-    push_none, seek as seek_run,
+    Search, Sought, Way, WayCounts, WholeRun, last_choice, numbered_run, push_ahead,
+    push_no_choice, push_no_run, push_none, seek as seek_run,
 };
 use mpd_session::Session;
 use mpd_view::push_standing;
@@ -29,7 +30,7 @@ use std::alloc::{AllocError, Global};
 use std::marker::Model;
 
 /// What stands in the place of an answer where memory is refused before anything was done.
-const MEMORY: &[u8] = b"refused: memory\n";
+pub(crate) const MEMORY: &[u8] = b"refused: memory\n";
 
 /// What stands in the place of an answer whose text is refused memory: what the word does is done.
 const UNPRINTED: &[u8] = b"done, but memory for the answer was refused\n";
@@ -59,7 +60,7 @@ pub(crate) struct RunAhead<'r> {
 
 /// Adds a text, or the line that stands in its place where that is refused memory.
 #[tactic(auto, using(crate::proofs::SaidLemmas::adding))]
-fn add(text: &[u8], otherwise: &[u8], out: &mut Vec<u8>)
+pub(crate) fn add(text: &[u8], otherwise: &[u8], out: &mut Vec<u8>)
     requires short { length otherwise.now ≤ ROOM }
     requires room { vec_len out.old + ROOM ≤ vec_capacity out.old }
     ensures added { Adds (OrElse text.now otherwise.now) out.old.items out.new.items }
@@ -128,7 +129,7 @@ fn lead_in(alloc: Global, session: &Session<'_>, word: Word) -> Result<Lead, All
 
 /// Asks the session, and adds what is told of its reply.
 #[tactic(auto, using(crate::proofs::SaidLemmas::carrying))]
-fn carry_out(
+pub(crate) fn carry_out(
     alloc: Global,
     session: &mut Session<'_>,
     screen: Screen<'_>,
@@ -227,12 +228,12 @@ fn not_found_text(
     session: &Session<'_>,
     is_prompting: bool,
     way: Way,
-    report: &Report,
+    counts: WayCounts,
 ) -> Result<Vec<u8>, AllocError>
-    ensures { IfOk result (λ t. t.items ≡ spec.not_found_said is_prompting session.now way report.now.leaves.items report.now.more) }
+    ensures { IfOk result (λ t. t.items ≡ spec.not_found_said is_prompting session.now way counts) }
 {
     let mut told = String::new(alloc);
-    push_none(&mut told, way, report)?;
+    push_none(&mut told, way, counts)?;
     said(alloc, session, is_prompting, &told)
 }
 
@@ -290,14 +291,14 @@ fn tell_none(
     session: &Session<'_>,
     is_prompting: bool,
     way: Way,
-    report: &Report,
+    counts: WayCounts,
     out: &mut Vec<u8>,
 )
     requires room { vec_len out.old + ROOM ≤ vec_capacity out.old }
-    ensures told { Adds (Looked (spec.not_found_said is_prompting session.now way report.now.leaves.items report.now.more)) out.old.items out.new.items }
+    ensures told { Adds (Looked (spec.not_found_said is_prompting session.now way counts)) out.old.items out.new.items }
     ensures capacity { vec_capacity out.old ≤ vec_capacity out.new }
 {
-    let Ok(text) = not_found_text(alloc, session, is_prompting, way, report) else {
+    let Ok(text) = not_found_text(alloc, session, is_prompting, way, counts) else {
         return push_all(out, MEMORY);
     };
     add(&text, MEMORY, out)
@@ -306,9 +307,8 @@ fn tell_none(
 /// The search from where a session stands.
 #[tactic(auto, using(crate::proofs::SaidLemmas::seeking))]
 fn sought_from(alloc: Global, session: &Session<'_>, way: Way) -> Result<Search, AllocError>
-    ensures found { IfOk result (λ s. s.found ≡ spec.found_from session.now way) }
-    ensures none { (p : Bool) → IfOk result (λ s. s.found ≡ None → spec.not_found_said p session.now way s.report.leaves.items s.report.more ≡ spec.none_said p session.now way) }
-    ensures lies { IfOk result (λ s. IfSome s.found (LiesAhead session.now.trail)) }
+    ensures found { IfOk result (λ s. spec.IsFoundFrom s.scope session.now way s.sought) }
+    ensures lies { IfOk result (λ s. FoundLies session.now.trail s.sought) }
 {
     let debugger = session.debugger();
     debugger.state_is_reached();
@@ -319,16 +319,22 @@ fn sought_from(alloc: Global, session: &Session<'_>, way: Way) -> Result<Search,
 #[tactic(auto, using(crate::proofs::SaidLemmas::laying))]
 fn seek(alloc: Global, session: &mut Session<'_>, screen: Screen<'_>, way: Way, out: &mut Vec<u8>)
     requires room { vec_len out.old + ROOM ≤ vec_capacity out.old }
-    ensures sought { Adds (SoughtBy screen.entry.is_prompting screen.entry.script.now session.old way (spec.found_from session.old way) session.new) out.old.items out.new.items }
+    ensures sought { Adds (SoughtFrom screen.entry.is_prompting screen.entry.script.now session.old way session.new) out.old.items out.new.items }
     ensures capacity { vec_capacity out.old ≤ vec_capacity out.new }
 {
-    let Ok(sought) = sought_from(alloc, session, way) else {
+    let Ok(search) = sought_from(alloc, session, way) else {
         return push_all(out, MEMORY);
     };
-    let Search { report, found } = sought;
-    match found {
-        Some(run) => lay(alloc, session, screen, None, run, out),
-        None => tell_none(alloc, session, screen.is_prompting, way, &report, out),
+    let Search {
+        scope: _,
+        states: _,
+        sought,
+    } = search;
+    match sought {
+        Sought::Found(run) => lay(alloc, session, screen, None, run, out),
+        Sought::Nothing(counts) => {
+            tell_none(alloc, session, screen.is_prompting, way, counts, out)
+        }
     }
 }
 
@@ -500,6 +506,7 @@ fn answer_word(
         Doing::Undoes => undo_choice(alloc, session, screen, word, out),
         Doing::Seeks(way) => seek(alloc, session, screen, way, out),
         Doing::Follows(number) => follow(alloc, session, screen, number, out),
+        Doing::Blames => tell_blame(alloc, session, screen, out),
         Doing::Looks => look(alloc, session, screen, word, out),
     }
 }

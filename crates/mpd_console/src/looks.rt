@@ -236,6 +236,7 @@ pub(crate) fn push_look(
         | Word::Delete(_)
         | Word::Follow(_)
         | Word::Deadlock
+        | Word::Blame
         | Word::Trap
         | Word::Quit => Ok(()),
     }

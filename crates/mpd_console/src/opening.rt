@@ -1,21 +1,26 @@
-//! Opens a console: at the start of a script, or with a deadlock ahead.
+//! Opens a console: at the start of a script, or with steps ahead, of a witness or of any run.
 
-ghost use Rattle.std.specs.Prelude.{◌≡◌, ◌≤◌, IfOk, None, length};
+ghost use Rattle.std.specs.Prelude.{◌≡◌, ◌≤◌, ℕ, IfOk, IsErrOf, None, length};
+ghost use Rattle.mpd_model.specs.steps.World.{start};
 ghost use Rattle.mpd_model.specs.runs.Trail.{IsRun};
 ghost use Rattle.mpd_explore.specs.Witness.{IsWitness};
 ghost use Rattle.mpd_session.specs.Held.{opened};
 ghost use Rattle.mpd_session.specs.Respond.{laid};
 ghost use Rattle.mpd_model.specs.declared.outcome.Outcome.TheVariants.{Deadlock};
 ghost use Rattle.mpd_walk.specs.declared.ending.Ending.TheVariants.{Ended};
-ghost use Rattle.mpd_console.specs.Says.{prompt, laid_said};
+ghost use Rattle.mpd_runs.specs.Given.{StopsAt};
+ghost use Rattle.mpd_runs.specs.Seek.{EndsAs, LeadsTo};
+ghost use Rattle.mpd_console.specs.Says.{prompt, laid_said, AlongSaid};
 
 use crate::desk::{ConsoleDesk, RunAhead, Screen, laid_text};
 use crate::prompts::idle_bytes;
 use mpd_code::Subject;
 use mpd_explore::{Ending, Witness, WitnessFault, verify};
-use mpd_model::{Outcome, STEPS_MAX};
+use mpd_model::{Outcome, STEPS_MAX, Step, StepList};
+use mpd_runs::{StepsFault, take_steps};
 use mpd_session::Session;
-use std::alloc::Global;
+use mpd_trail::Debugger;
+use std::alloc::{AllocError, Global};
 
 /// Why no console is opened.
 #[derive(Clone, Copy)]
@@ -69,13 +74,13 @@ fn check_witness(alloc: Global, subject: Subject<'_>, witness: &Witness) -> Resu
     }
 }
 
-/// A console on a session whose steps lie ahead. It says how the run ends that they make, and where it stands.
+/// A console on a session whose steps lie ahead. It says how the run ends that they make, and where it stands. An `Err` is want of memory.
 fn console_before<'c, 't>(
     alloc: Global,
     session: Session<'c>,
     screen: Screen<'t>,
     run: RunAhead<'_>,
-) -> Result<Opened<'c, 't>, OpenFault>
+) -> Result<Opened<'c, 't>, AllocError>
     ensures desk { IfOk result (λ o. o.desk ≡ record { session = session.entry; script = screen.entry.script.now; last = None; prompts = screen.entry.is_prompting }) }
     ensures said { IfOk result (λ o. o.said.items ≡ laid_said screen.entry.is_prompting screen.entry.script.now session.entry run.entry.number run.entry.ending.now run.entry.steps) }
 {
@@ -84,11 +89,35 @@ fn console_before<'c, 't>(
             let desk = ConsoleDesk::new(session, screen);
             Ok(Opened { desk, said })
         }
-        Err(_) => {
+        Err(error) => {
             drop(session);
-            Err(OpenFault::Memory)
+            Err(error)
         }
     }
+}
+
+/// A console at the start of a script, with steps ahead that can be taken from there, given how the run ends that they make. An `Err` is
+/// want of memory.
+fn console_along<'c, 't>(
+    alloc: Global,
+    subject: Subject<'c>,
+    screen: Screen<'t>,
+    steps: StepList,
+    ending: &Ending,
+) -> Result<Opened<'c, 't>, AllocError>
+    requires { IsRun subject.code.now.program subject.mode steps }
+    ensures desk { IfOk result (λ o. o.desk ≡ record { session = laid (opened subject.entry.code.now.program subject.entry.mode) steps; script = screen.entry.script.now; last = None; prompts = screen.entry.is_prompting }) }
+    ensures said { IfOk result (λ o. o.said.items ≡ laid_said screen.entry.is_prompting screen.entry.script.now (laid (opened subject.entry.code.now.program subject.entry.mode) steps) None ending.now (length steps)) }
+{
+    let mut session = Session::start(alloc, subject.code, subject.mode)?;
+    let count = steps.items.len();
+    session.lay(steps.items);
+    let run = RunAhead {
+        number: None,
+        ending,
+        steps: count,
+    };
+    console_before(alloc, session, screen, run)
 }
 
 /// A console at the start of a script, with the steps of a witness ahead, which it is checked for first (docs/DEFINITIONS.md,
@@ -104,16 +133,76 @@ pub fn open_with<'c, 't>(
     ensures said { IfOk result (λ o. o.said.items ≡ laid_said screen.entry.is_prompting screen.entry.script.now (laid (opened subject.entry.code.now.program subject.entry.mode) witness.steps) None (Ended (Deadlock witness.blocked)) (length witness.steps)) }
 {
     check_witness(alloc, subject, &witness)?;
-    let Ok(mut session) = Session::start(alloc, subject.code, subject.mode) else {
-        return Err(OpenFault::Memory);
-    };
-    let steps = witness.steps.items.len();
     let ending = Ending::Ended(Outcome::Deadlock(witness.blocked));
-    session.lay(witness.steps.items);
-    let run = RunAhead {
-        number: None,
-        ending: &ending,
-        steps,
+    match console_along(alloc, subject, screen, witness.steps, &ending) {
+        Ok(opened) => Ok(opened),
+        Err(_) => Err(OpenFault::Memory),
+    }
+}
+
+/// How the run ends that a debugger has made: in the outcome of its state, or it is cut, where a step is still enabled. An `Err` is want of
+/// memory.
+fn ending_there(alloc: Global, debugger: &Debugger<'_>) -> Result<Ending, AllocError>
+    ensures { IfOk result (EndsAs debugger.now.world) }
+{
+    match debugger.core().outcome(alloc)? {
+        Some(outcome) => Ok(Ending::Ended(outcome)),
+        None => Ok(Ending::Cut),
+    }
+}
+
+/// Takes steps one after another, and tells how the run ends that they make.
+#[tactic(auto, using(crate::proofs::OpeningLemmas::opening))]
+fn ending_behind(
+    alloc: Global,
+    debugger: &mut Debugger<'_>,
+    steps: &[Step],
+) -> Result<Ending, StepsFault>
+    ensures few { IfOk result (λ _. length steps.now ≤ STEPS_MAX) }
+    ensures ends { IfOk result (LeadsTo debugger.old.world steps.now) }
+    ensures not_enabled { (place : ℕ) → IsErrOf result (StepsFault.NotEnabled place) → StopsAt debugger.old.world steps.now place }
+{
+    take_steps(debugger, steps)?;
+    debugger.state_is_reached();
+    match ending_there(alloc, debugger) {
+        Ok(ending) => Ok(ending),
+        Err(_) => Err(StepsFault::Memory),
+    }
+}
+
+/// How the run ends that some steps make from the start of a script.
+#[tactic(auto, using(crate::proofs::OpeningLemmas::opening))]
+fn ending_along(alloc: Global, subject: Subject<'_>, steps: &[Step]) -> Result<Ending, StepsFault>
+    ensures run { IfOk result (λ _. IsRun subject.entry.code.now.program subject.entry.mode steps.now) }
+    ensures ends { IfOk result (LeadsTo (start subject.entry.code.now.program subject.entry.mode) steps.now) }
+    ensures not_enabled { (place : ℕ) → IsErrOf result (StepsFault.NotEnabled place) → StopsAt (start subject.entry.code.now.program subject.entry.mode) steps.now place }
+{
+    let Ok(mut debugger) = Debugger::start(alloc, subject.code, subject.mode) else {
+        return Err(StepsFault::Memory);
     };
-    console_before(alloc, session, screen, run)
+    let ending = ending_behind(alloc, &mut debugger, steps);
+    drop(debugger);
+    ending
+}
+
+/// A console at the start of a script, with steps ahead, which are taken once to see that they can be. It says how the run ends that they
+/// make, and where it stands: at the start. `NotEnabled` tells the first step that isn't enabled where it stands, `Full` that there are
+/// more than 1,000,000.
+#[tactic(auto, using(crate::proofs::OpeningLemmas::opening))]
+pub fn open_along<'c, 't>(
+    alloc: Global,
+    subject: Subject<'c>,
+    screen: Screen<'t>,
+    steps: StepList,
+) -> Result<Opened<'c, 't>, StepsFault>
+    ensures run { IfOk result (λ _. IsRun subject.entry.code.now.program subject.entry.mode steps) }
+    ensures desk { IfOk result (λ o. o.desk ≡ record { session = laid (opened subject.entry.code.now.program subject.entry.mode) steps; script = screen.entry.script.now; last = None; prompts = screen.entry.is_prompting }) }
+    ensures said { IfOk result (λ o. AlongSaid subject.entry.code.now.program subject.entry.mode screen.entry.is_prompting screen.entry.script.now steps o.said.items) }
+    ensures not_enabled { (place : ℕ) → IsErrOf result (StepsFault.NotEnabled place) → StopsAt (start subject.entry.code.now.program subject.entry.mode) steps place }
+{
+    let ending = ending_along(alloc, subject, &steps.items)?;
+    match console_along(alloc, subject, screen, steps, &ending) {
+        Ok(opened) => Ok(opened),
+        Err(_) => Err(StepsFault::Memory),
+    }
 }

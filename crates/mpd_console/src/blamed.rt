@@ -1,0 +1,162 @@
+//! The word `blame`: the step that decided how the run ends that is kept (docs/CONSOLE.md, "The step that decides").
+
+ghost use Rattle.std.specs.Prelude.{◌≡◌, ◌+◌, ◌≤◌, ◌++◌, IfOk, OnOk, OnErr, length, string_bytes, vec_len, vec_capacity};
+ghost use Rattle.mpd_fold.specs.Folding.{folded};
+ghost use Rattle.mpd_console.specs.Blamed.{kept_limit, IsWhole, TellsBlame};
+ghost use Rattle.mpd_console.specs.Says as spec;
+ghost use Rattle.mpd_console.specs.Says.{Adds, Looked, IsGone, BlamedBy};
+
+use crate::desk::{MEMORY, Screen, add, carry_out};
+use crate::prompts::said;
+use mpd_blame::{Blame, blame_run, push_blame};
+use mpd_fold::push_folded;
+use mpd_lines::{ROOM, push_all};
+use mpd_model::STEPS_MAX;
+use mpd_moves::goto_command;
+use mpd_outcomes::StateLimits;
+use mpd_runs::{FUEL, STATES_KEPT, STATES_VISITED};
+use mpd_session::Session;
+use mpd_trail::Debugger;
+use mpd_vocabulary::Word;
+use std::alloc::{AllocError, Global};
+
+/// Where it was decided how the kept run ends, and that as a line.
+#[derive(Drop)]
+struct BlameLine {
+    blame: Blame,
+    line: String,
+}
+
+/// How many steps a run has at most, from the start, where so many are kept.
+fn limit_of(kept: usize) -> usize
+    requires { kept ≤ STEPS_MAX }
+    ensures value { result ≡ kept_limit kept }
+    ensures within { kept ≤ result }
+    ensures few { result ≤ STEPS_MAX }
+{
+    if STEPS_MAX - kept < FUEL {
+        STEPS_MAX
+    } else {
+        kept + FUEL
+    }
+}
+
+/// A debugger of its own, which has taken all steps that are kept.
+fn whole_copy<'c>(alloc: Global, debugger: &Debugger<'c>) -> Result<Debugger<'c>, AllocError>
+    ensures { IfOk result (λ d. IsWhole debugger.now.trail d.trail) }
+{
+    debugger.state_is_reached();
+    let steps = Vec::from_slice(alloc, debugger.steps())?;
+    let ahead = steps.len() - debugger.depth();
+    let mut copy = debugger.copy()?;
+    copy.put_steps(steps);
+    for _taken in 0..ahead {
+        let Ok(()) = copy.redo() else {
+            return Err(AllocError);
+        };
+    }
+    Ok(copy)
+}
+
+/// Where it was decided how the run of a debugger ends, and that as a line. The debugger is left on the way back along its run.
+fn line_of(alloc: Global, whole: &mut Debugger<'_>) -> Result<BlameLine, AllocError>
+    requires clean { length whole.old.trail.steps ≡ whole.old.trail.depth }
+    ensures { IfOk result (λ b. TellsBlame whole.old.trail b.blame (string_bytes b.line)) }
+{
+    whole.state_is_reached();
+    let limits = StateLimits {
+        fuel: limit_of(whole.depth()),
+        kept: STATES_KEPT,
+        visited: STATES_VISITED,
+        witnesses: false,
+        until: None,
+    };
+    let blame = blame_run(alloc, whole, limits)?;
+    let mut line = String::new(alloc);
+    push_blame(whole.core(), &mut line, blame)?;
+    line.push('\n')?;
+    Ok(BlameLine { blame, line })
+}
+
+/// The same of the run that a session keeps.
+fn blame_in(alloc: Global, session: &Session<'_>) -> Result<BlameLine, AllocError>
+    ensures { IfOk result (λ b. TellsBlame session.now.trail b.blame (string_bytes b.line)) }
+{
+    let mut whole = whole_copy(alloc, session.debugger())?;
+    let told = line_of(alloc, &mut whole);
+    drop(whole);
+    told
+}
+
+/// Adds a line, and keeps room for a short answer after it.
+fn push_line(line: &str, out: &mut Vec<u8>) -> Result<(), AllocError>
+    ensures text { OnOk result (out.new.items ≡ out.old.items ++ folded line.now) }
+    ensures room { OnOk result (vec_len out.new + ROOM ≤ vec_capacity out.new) }
+    ensures err { OnErr result (out.new.items ≡ out.old.items) }
+    ensures len { OnErr result (vec_len out.new ≡ vec_len out.old) }
+    ensures capacity { vec_capacity out.old ≤ vec_capacity out.new }
+{
+    let mut text = Vec::new(*out.allocator());
+    push_folded(&mut text, line.as_bytes())?;
+    out.reserve(text.len() + ROOM)?;
+    push_all(out, &text);
+    Ok(())
+}
+
+/// Tells the step that decided, and goes to where it was taken.
+#[tactic(auto, using(crate::proofs::BlamedLemmas::going))]
+fn go_there(
+    alloc: Global,
+    session: &mut Session<'_>,
+    screen: Screen<'_>,
+    depth: usize,
+    line: &str,
+    out: &mut Vec<u8>,
+)
+    requires room { vec_len out.old + ROOM ≤ vec_capacity out.old }
+    ensures gone { Adds (IsGone screen.entry.is_prompting screen.entry.script.now session.old depth line.now session.new) out.old.items out.new.items }
+    ensures capacity { vec_capacity out.old ≤ vec_capacity out.new }
+{
+    let Ok(()) = push_line(line, out) else {
+        return push_all(out, MEMORY);
+    };
+    let command = goto_command(session.debugger(), depth);
+    carry_out(alloc, session, screen, Word::Goto(depth), command, out)
+}
+
+/// Tells that it is not known by which step it was decided, or that it isn't decided.
+#[tactic(auto, using(crate::proofs::SaidLemmas::telling))]
+fn stay(alloc: Global, session: &Session<'_>, is_prompting: bool, line: &str, out: &mut Vec<u8>)
+    requires room { vec_len out.old + ROOM ≤ vec_capacity out.old }
+    ensures told { Adds (Looked (spec.said is_prompting session.now line.now)) out.old.items out.new.items }
+    ensures capacity { vec_capacity out.old ≤ vec_capacity out.new }
+{
+    let Ok(text) = said(alloc, session, is_prompting, line) else {
+        return push_all(out, MEMORY);
+    };
+    add(&text, MEMORY, out)
+}
+
+/// Tells where it was decided how the run ends that is kept, and goes there.
+#[tactic(auto, using(crate::proofs::BlamedLemmas::blaming))]
+pub(crate) fn tell_blame(
+    alloc: Global,
+    session: &mut Session<'_>,
+    screen: Screen<'_>,
+    out: &mut Vec<u8>,
+)
+    requires room { vec_len out.old + ROOM ≤ vec_capacity out.old }
+    ensures blamed { Adds (BlamedBy screen.entry.is_prompting screen.entry.script.now session.old session.new) out.old.items out.new.items }
+    ensures capacity { vec_capacity out.old ≤ vec_capacity out.new }
+{
+    let Ok(told) = blame_in(alloc, session) else {
+        return push_all(out, MEMORY);
+    };
+    let line = told.line.as_str();
+    match told.blame {
+        Blame::At(decided) => go_there(alloc, session, screen, decided.depth, line, out),
+        Blame::FromStart | Blame::OrEarlier(_) | Blame::Open | Blame::Unknown => {
+            stay(alloc, session, screen.is_prompting, line, out)
+        }
+    }
+}
