@@ -1,0 +1,6 @@
+use Rattle.std.proofs.Common.{◌≡◌, drop}
+use Rattle.mpd_diagnose.specs.Groups.{shortest}
+use Rattle.mpd_diagnose.proofs.groups.shortest.Given as goal
+
+abbrev pub invariant-loop-other : goal.invariant-loop-other
+invariant-loop-other l = shortest l.steps l.shown (drop l.other-index l.others) ≡ shortest l.steps l.number l.others

@@ -1,0 +1,59 @@
+-- Worked rows of what a diagnosis tells. What is wanted was worked out by hand.
+use Rattle.std.specs.Prelude.{◌≡◌, true, false, [], ◌∷◌, ◌++◌, Some, None, codes, refl}
+use Rattle.std.specs.Fmt.{digits}
+use Rattle.mpd_lines.specs.declared.verdict.Verdict.TheVariants.{Good, Bad, NotWhole}
+use Rattle.mpd_outcomes.specs.declared.report.Count.TheVariants.{Exactly, More}
+use Rattle.mpd_runs.specs.declared.counts.WayCounts.{WayCounts}
+use Rattle.mpd_diagnose.specs.Headings.{with_numbers, lines_text}
+use Rattle.mpd_diagnose.specs.Groups.{groups, shortest}
+use Rattle.mpd_diagnose.specs.Told.{draws, share}
+use Rattle.mpd_diagnose.specs.Verdicts.{verdict_of}
+
+-- each line once, the least first
+pub row_lines : with_numbers [] (15 ∷ 11 ∷ 15 ∷ 9 ∷ 11 ∷ []) ≡ 9 ∷ 11 ∷ 15 ∷ []
+row_lines = refl
+
+pub row_one_line : lines_text (9 ∷ []) ≡ codes " line 9"
+unfolding digits
+row_one_line = refl
+
+pub row_lines_text : lines_text (9 ∷ 11 ∷ 15 ∷ []) ≡ codes " lines 9, 11, 15"
+unfolding digits
+row_lines_text = refl
+
+-- of runs of 7, 5, 5 and 6 steps the first of those of 5
+pub row_shortest : shortest (7 ∷ 5 ∷ 5 ∷ 6 ∷ []) 0 (0 ∷ 1 ∷ 2 ∷ 3 ∷ []) ≡ 1
+row_shortest = refl
+
+-- ends a, none, b, a: those called a are told together, of 3 + 4 runs, and the last has the fewest steps
+pub row_groups : groups (codes "a" ∷ [] ∷ codes "b" ∷ codes "a" ∷ []) (Exactly 3 ∷ Exactly 2 ∷ Exactly 1 ∷ Exactly 4 ∷ []) (8 ∷ 1 ∷ 6 ∷ 7 ∷ [])
+    ≡ record { first = 0; count = Exactly 7; shown = 3 } ∷ record { first = 2; count = Exactly 1; shown = 2 } ∷ []
+row_groups = refl
+
+pub row_share : share (Exactly 1) (Exactly 1) ++ share More (Exactly 24) ≡ codes "1 of 1 runat least 18446744073709551615 of 24 runs"
+unfolding digits
+row_share = refl
+
+-- three runs each: all are done; one leaves messages over; one traps; one is cut; and there are more
+abbrev tidy : WayCounts
+tidy = record { done = Exactly 3; leftovers = Exactly 0; deadlock = Exactly 0; trap = Exactly 0; cut = Exactly 0; total = Exactly 3; more = false }
+
+abbrev untidy : WayCounts
+untidy = record { done = Exactly 2; leftovers = Exactly 1; deadlock = Exactly 0; trap = Exactly 0; cut = Exactly 0; total = Exactly 3; more = false }
+
+abbrev trapped : WayCounts
+trapped = record { done = Exactly 2; leftovers = Exactly 0; deadlock = Exactly 0; trap = Exactly 1; cut = Exactly 0; total = Exactly 3; more = false }
+
+abbrev cut_short : WayCounts
+cut_short = record { done = Exactly 2; leftovers = Exactly 0; deadlock = Exactly 0; trap = Exactly 0; cut = Exactly 1; total = Exactly 3; more = false }
+
+abbrev stopped : WayCounts
+stopped = record { done = Exactly 3; leftovers = Exactly 0; deadlock = Exactly 0; trap = Exactly 0; cut = Exactly 0; total = Exactly 3; more = true }
+
+pub row_verdicts : verdict_of true tidy None ∷ verdict_of false untidy None ∷ verdict_of true untidy None ∷ verdict_of false trapped None ∷ verdict_of false cut_short None ∷ verdict_of false stopped (Some tidy) ∷ verdict_of false stopped (Some trapped) ∷ []
+    ≡ Good ∷ Good ∷ Bad ∷ Bad ∷ NotWhole ∷ NotWhole ∷ Bad ∷ []
+row_verdicts = refl
+
+-- runs are drawn only where there are more, and none of these hangs or traps
+pub row_draws : draws tidy ∷ draws trapped ∷ draws cut_short ∷ draws stopped ∷ [] ≡ false ∷ false ∷ false ∷ true ∷ []
+row_draws = refl

@@ -1,0 +1,94 @@
+//! What is told of one end of those that are told together: its explanation, and the step that decided it.
+
+ghost use Rattle.std.specs.Prelude.{◌≡◌, ◌≤◌, ◌++◌, ◌∷◌, [], true, IfOk, OnOk, length, map, slice_get, string_bytes};
+ghost use Rattle.std.specs.List.{AllByRecursion};
+ghost use Rattle.mpd_model.specs.runs.Trail.{done_steps};
+ghost use Rattle.mpd_trail.specs.Views.{AsFound, standing_of};
+ghost use Rattle.mpd_policy.specs.Wide.{wide_decision};
+ghost use Rattle.mpd_explore.specs.Witness.{HasWitness};
+ghost use Rattle.mpd_diagnose.specs.Details.{LineAt, IsDetailed, AreDetailed};
+
+use crate::groups::Group;
+use mpd_blame::line_of_leaf;
+use mpd_explain::{Beside, explanation_at};
+use mpd_explore::{Leaf, Report};
+use mpd_model::STEPS_MAX;
+use mpd_outcomes::StateLimits;
+use mpd_trail::Debugger;
+use mpd_walk::Wide;
+use std::alloc::{AllocError, Global};
+
+/// The line of the step that decided how the run of the leaf of a number ends, where there is such a leaf, and it is a deadlock or a trap.
+/// The debugger is left as found.
+fn line_at(
+    alloc: Global,
+    debugger: &mut Debugger<'_>,
+    limits: StateLimits,
+    leaves: &[Leaf],
+    number: usize,
+) -> Result<String, AllocError>
+    requires clean { length debugger.old.trail.steps ≡ debugger.old.trail.depth }
+    requires at_start { debugger.old.trail.depth ≡ 0 }
+    requires few { limits.fuel ≤ STEPS_MAX }
+    requires listed { AllByRecursion (HasWitness wide_decision debugger.old.trail.program debugger.old.trail.mode (done_steps debugger.old.trail) limits.fuel debugger.old.world) leaves.now }
+    ensures line { IfOk result (λ t. LineAt limits (standing_of debugger.old) (slice_get leaves.now number) (string_bytes t)) }
+    ensures as_found { AsFound (standing_of debugger.old) (standing_of debugger.new) }
+{
+    debugger.state_is_reached();
+    if number >= leaves.len() {
+        return Ok(String::new(alloc));
+    }
+    line_of_leaf(alloc, debugger, limits, &leaves[number])
+}
+
+/// What is told of the leaf that is shown of a group. The debugger is left as found.
+fn details_at(
+    alloc: Global,
+    debugger: &mut Debugger<'_>,
+    limits: StateLimits,
+    report: &Report,
+    group: &Group,
+) -> Result<String, AllocError>
+    requires clean { length debugger.old.trail.steps ≡ debugger.old.trail.depth }
+    requires at_start { debugger.old.trail.depth ≡ 0 }
+    requires few { limits.fuel ≤ STEPS_MAX }
+    requires listed { AllByRecursion (HasWitness wide_decision debugger.old.trail.program debugger.old.trail.mode (done_steps debugger.old.trail) limits.fuel debugger.old.world) report.now.leaves.items }
+    ensures details { IfOk result (λ t. IsDetailed limits (standing_of debugger.old) report.now.leaves.items group.now.shown (string_bytes t)) }
+    ensures as_found { AsFound (standing_of debugger.old) (standing_of debugger.new) }
+{
+    debugger.state_is_reached();
+    let beside = Beside {
+        fuel: limits.fuel,
+        witnesses: false,
+        explain: true,
+    };
+    let number = group.shown;
+    let mut text = explanation_at(alloc, &Wide, debugger, report, number, beside)?;
+    let line = line_at(alloc, debugger, limits, &report.leaves, number)?;
+    text.push_str(&line)?;
+    Ok(text)
+}
+
+/// What is told of the ends that are shown of some groups. The debugger is left as found.
+pub(crate) fn details_of(
+    alloc: Global,
+    debugger: &mut Debugger<'_>,
+    limits: StateLimits,
+    report: &Report,
+    groups: &[Group],
+) -> Result<Vec<String>, AllocError>
+    requires clean { length debugger.old.trail.steps ≡ debugger.old.trail.depth }
+    requires at_start { debugger.old.trail.depth ≡ 0 }
+    requires few { limits.fuel ≤ STEPS_MAX }
+    requires listed { AllByRecursion (HasWitness wide_decision debugger.old.trail.program debugger.old.trail.mode (done_steps debugger.old.trail) limits.fuel debugger.old.world) report.now.leaves.items }
+    ensures details { IfOk result (λ texts. AreDetailed limits (standing_of debugger.old) report.now.leaves.items groups.now (map string_bytes texts.items)) }
+    ensures as_found { AsFound (standing_of debugger.old) (standing_of debugger.new) }
+{
+    debugger.state_is_reached();
+    let mut texts = Vec::new(alloc);
+    for group in groups {
+        let text = details_at(alloc, debugger, limits, report, group)?;
+        texts.push(text)?;
+    }
+    Ok(texts)
+}

@@ -1,0 +1,145 @@
+//! Ends that are told together, since they are of the same kind and stand at the same lines.
+
+ghost use Rattle.std.specs.Prelude.{◌≡◌, ◌++◌, ◌∷◌, [], if◌then◌else◌, IfOk, OnOk, map, string_bytes};
+ghost use Rattle.std.specs.List.{filter};
+ghost use Rattle.mpd_outcomes.specs.declared.report.Count.TheVariants as count_is;
+ghost use Rattle.mpd_explain.specs.Told.{same_at};
+ghost use Rattle.mpd_diagnose.specs.Groups as spec;
+
+use mpd_explain::{firsts, text_at};
+use mpd_outcomes::Count;
+use std::alloc::{AllocError, Global};
+
+/// Ends that are told together.
+#[derive(Clone, Copy)]
+pub(crate) struct Group {
+    /// The number of the first of them.
+    pub(crate) first: usize,
+    /// How many runs end so.
+    pub(crate) count: Count,
+    /// The number of the one that is explained.
+    pub(crate) shown: usize,
+}
+
+/// Whether the end of a number is called so.
+fn is_called(headings: &[String], text: &str, number: usize) -> bool
+    ensures { result ≡ same_at (map string_bytes headings.now) text.now number }
+{
+    text == text_at(headings, number)
+}
+
+/// Adds a number, where it is chosen.
+fn push_if(numbers: &mut Vec<usize>, number: usize, is_chosen: bool) -> Result<(), AllocError>
+    ensures { OnOk result (numbers.new.items ≡ numbers.old.items ++ (if is_chosen then number ∷ [] else [])) }
+{
+    if is_chosen {
+        numbers.push(number)?;
+    }
+    Ok(())
+}
+
+/// The numbers of the ends that are called so.
+fn members(alloc: Global, headings: &[String], text: &str) -> Result<Vec<usize>, AllocError>
+    ensures { IfOk result (λ ns. ns.items ≡ spec.members (map string_bytes headings.now) text.now) }
+{
+    let mut numbers = Vec::new(alloc);
+    let count = headings.len();
+    for number in 0..count {
+        push_if(&mut numbers, number, is_called(headings, text, number))?;
+    }
+    Ok(numbers)
+}
+
+/// How many runs end in the ways of some numbers.
+fn count_of(counts: &[Count], numbers: &[usize]) -> Count
+    ensures { result ≡ spec.with_counts counts.now (count_is.Exactly 0) numbers.now }
+{
+    let mut sum = Count::Exactly(0);
+    for number in numbers {
+        let count = counts.get(*number).copied().unwrap_or(Count::Exactly(0));
+        sum = sum.plus(count);
+    }
+    sum
+}
+
+/// The second of two numbers where its run has fewer steps, else the first.
+fn shorter(steps: &[usize], one: usize, other: usize) -> usize
+    ensures { result ≡ spec.shorter steps.now one other }
+{
+    let has = steps.get(one).copied().unwrap_or(0);
+    let other_has = steps.get(other).copied().unwrap_or(0);
+    if other_has < has { other } else { one }
+}
+
+/// Of a number and others the one whose run has the fewest steps, and of several such the first.
+fn shortest(steps: &[usize], number: usize, others: &[usize]) -> usize
+    ensures { result ≡ spec.shortest steps.now number others.now }
+{
+    let mut shown = number;
+    for other in others {
+        shown = shorter(steps, shown, *other);
+    }
+    shown
+}
+
+/// What is told together with the end of this number.
+fn group_of(
+    alloc: Global,
+    headings: &[String],
+    counts: &[Count],
+    steps: &[usize],
+    number: usize,
+) -> Result<Group, AllocError>
+    ensures { IfOk result (λ g. g ≡ spec.group_of (map string_bytes headings.now) counts.now steps.now number) }
+{
+    let numbers = members(alloc, headings, text_at(headings, number))?;
+    Ok(Group {
+        first: number,
+        count: count_of(counts, &numbers),
+        shown: shortest(steps, number, &numbers),
+    })
+}
+
+/// Of some numbers those whose ends are called anything.
+fn told(alloc: Global, headings: &[String], numbers: &[usize]) -> Result<Vec<usize>, AllocError>
+    ensures { IfOk result (λ ns. ns.items ≡ filter (spec.is_told (map string_bytes headings.now)) numbers.now) }
+{
+    let mut chosen = Vec::new(alloc);
+    for number in numbers {
+        push_if(&mut chosen, *number, !text_at(headings, *number).is_empty())?;
+    }
+    Ok(chosen)
+}
+
+/// What is told together with the ends of these numbers, each the first of its kind.
+fn groups_by(
+    alloc: Global,
+    headings: &[String],
+    counts: &[Count],
+    steps: &[usize],
+    numbers: &[usize],
+) -> Result<Vec<Group>, AllocError>
+    ensures { IfOk result (λ gs. gs.items ≡ map (spec.group_of (map string_bytes headings.now) counts.now steps.now) numbers.now) }
+{
+    let mut groups = Vec::new(alloc);
+    for number in numbers {
+        let group = group_of(alloc, headings, counts, steps, *number)?;
+        groups.push(group)?;
+    }
+    Ok(groups)
+}
+
+/// The ends of runs, by what they are called, how many runs end so, and how many steps the first run of each has: those that are called the
+/// same together, in the order of the first of each kind. What is called nothing is left out.
+pub(crate) fn groups_of(
+    alloc: Global,
+    headings: &[String],
+    counts: &[Count],
+    steps: &[usize],
+) -> Result<Vec<Group>, AllocError>
+    ensures { IfOk result (λ gs. gs.items ≡ spec.groups (map string_bytes headings.now) counts.now steps.now) }
+{
+    let kinds = firsts(alloc, headings)?;
+    let numbers = told(alloc, headings, &kinds)?;
+    groups_by(alloc, headings, counts, steps, &numbers)
+}

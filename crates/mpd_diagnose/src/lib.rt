@@ -1,0 +1,13 @@
+//! Whether the runs of a script can hang or trap, how, and where that was decided (docs/FORMATS.md, "Diagnosis").
+#![tactic(auto)]
+
+mod along;
+mod details;
+mod diagnosis;
+mod groups;
+mod heading;
+mod told;
+mod verdict;
+
+pub use diagnosis::{Diagnosis, DiagnosisPlan, diagnose};
+pub use verdict::verdict_of;
