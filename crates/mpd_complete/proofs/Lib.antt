@@ -21,3 +21,4 @@ mod Reports
 mod Fuel
 mod ToldLemmas
 mod OutcomesLemmas
+mod DiagnosisLemmas

@@ -69,7 +69,7 @@ firsts_have ls u have steps w f none =
     let y = first_of ls k.0 k.1 in
     (y.0, y.1, y.2 ∙ k.2)
 
-are_firsts : (fuel : ℕ) (u : World) (o : Outcomes) → TellsRuns fuel u o → o.firsts.more ≡ false → o.firsts.leaves.items ≡ firsts (leaves_from fuel u)
+pub are_firsts : (fuel : ℕ) (u : World) (o : Outcomes) → TellsRuns fuel u o → o.firsts.more ≡ false → o.firsts.leaves.items ≡ firsts (leaves_from fuel u)
 are_firsts fuel u o t none =
     t.firsts_are ∙ ap firsts (take_all t.runs (leaves_from fuel u) (subst (λ (n : ℕ). n ≤ t.runs) (sym (length-map (wide_walk fuel u) shown)) (not_less t.runs (length (wide_walk fuel u)) (sym t.more_is ∙ none))))
 

@@ -1,5 +1,6 @@
 -- What commands answer that tells all runs lists the leaves of a walk that has every end.
-use Rattle.std.proofs.Common.{◌≡◌, ◌⊎◌, ◌+◌, ℕ, Bool, true, false, ◌||◌, ◌==◌, not, cond, List, [], ◌∷◌, length, map, inl, inr, refl, sym, ap, ◌∙◌, arith}
+use Rattle.std.proofs.Common.{◌≡◌, ◌⊎◌, ◌+◌, ℕ, Bool, true, false, ◌||◌, nat_lt, not, cond, List, [], ◌∷◌, length, map, inl, inr, refl, sym, ap, ◌∙◌, arith}
+use Rattle.std.specs.Prelude.{◌^◌}
 use Rattle.std.specs.List.{list_any, AllByRecursion}
 use Rattle.std.proofs.lemmas.Bool.{eqb-true}
 use Rattle.std.proofs.lemmas.List.{take_all}
@@ -19,12 +20,18 @@ use Rattle.mpd_explore.specs.Sleeping.{walk_by, walk_of}
 use Rattle.mpd_explore.specs.Report.{shown}
 use Rattle.mpd_explore.proofs.ListedLemmas.{both_true, not_less}
 use Rattle.mpd_pieces.proofs.PieceLemmas.{no_more}
+use Rattle.mpd_outcomes.specs.declared.report.Count.TheVariants.{Exactly, More}
+use Rattle.mpd_outcomes.specs.Outcomes.{counted, leaves_from}
 use Rattle.mpd_pool.specs.declared.pool.CheckPlan.{CheckPlan}
 use Rattle.mpd_sample.specs.Drawn.{seeded, draws}
 use Rattle.mpd_sample.proofs.SampleLemmas.{sample_all}
 use Rattle.mpd_runs.specs.declared.way.Way.TheVariants as way
 use Rattle.mpd_runs.specs.Ways.{way_of, same_way, ends_in, count_in}
+use Rattle.mpd_runs.specs.declared.search.Scope.{Scope}
+use Rattle.mpd_runs.specs.declared.search.Scope.TheVariants.{WideWalk, Listed}
+use Rattle.mpd_runs.specs.Counts.{counts_of, is_count}
 use Rattle.mpd_runs.specs.Runs.{fuel_at, all_runs, first_runs, are_more, sees_all}
+use Rattle.mpd_runs.specs.Seek.{runs_in, counts_in}
 use Rattle.mpd_check.specs.Tally.{tally_of, LeavesOutNone, TellsAll}
 use Rattle.mpd_check.specs.Checked.{leaves_of, more_of}
 use Rattle.mpd_check.proofs.WholeLemmas.{IsEnd, whole_tells}
@@ -45,7 +52,7 @@ all_end [] h = refl
 all_end (l ∷ leaves) h = ap (λ (b : Bool). b || list_any (λ (x : Leaf). was_cut x.ending) leaves) (end_is l.ending h.0) ∙ all_end leaves h.1
 
 -- what the console counts
-count_more : (l : Leaf) (leaves : List Leaf) → count_in way.Cut (l ∷ leaves) ≡ cond (ends_in way.Cut l) 1 0 + count_in way.Cut leaves
+pub count_more : (l : Leaf) (leaves : List Leaf) → count_in way.Cut (l ∷ leaves) ≡ cond (ends_in way.Cut l) 1 0 + count_in way.Cut leaves
 count_more l leaves = sum_by-cons (λ x. cond (ends_in way.Cut x) 1 0) l leaves
 
 first_ends : (e : Ending) (n : ℕ) → cond (same_way way.Cut (way_of e)) 1 0 + n ≡ 0 → (was_cut e ≡ false) × (n ≡ 0)
@@ -65,10 +72,17 @@ is_no : (b : Bool) → not b ≡ true → b ≡ false
 is_no true e = cc
 is_no false e = refl
 
-sees_whole : (leaves : List Leaf) (more : Bool) → sees_all leaves more ≡ true → (more ≡ false) × NoneIsCut leaves
+pub is_none : (n : ℕ) → is_count 0 (counted n) ≡ true → n ≡ 0
+is_none n e = by (nat_lt n (2 ^ 64)) e
+  where
+    by : (b : Bool) → is_count 0 (cond b (Exactly n) More) ≡ true → n ≡ 0
+    by true f = eqb-true n 0 f
+    by false f = absurd cc
+
+pub sees_whole : (leaves : List Leaf) (more : Bool) → sees_all (counts_of leaves more) ≡ true → (more ≡ false) × NoneIsCut leaves
 sees_whole leaves more whole =
-    let both = both_true (not more) (count_in way.Cut leaves == 0) whole in
-    (is_no more both.0, none_cut leaves (eqb-true (count_in way.Cut leaves) 0 both.1))
+    let both = both_true (not more) (is_count 0 (counted (count_in way.Cut leaves))) whole in
+    (is_no more both.0, none_cut leaves (is_none (count_in way.Cut leaves) both.1))
 
 -- ---- what is answered
 
@@ -97,9 +111,15 @@ samples_tell s mode seed l h =
     let said = complete s mode [] u refl l.fuel in
     (have_outcomes l.fuel u (wide_walk l.fuel u) said (sample_leaves s mode seed l) are ends, bound_runs l.fuel u (wide_walk l.fuel u) said (sample_leaves s mode seed l) are ends)
 
-pub consoles_see : (d : Standing) → IsReached d → sees_all (first_runs RUNS_MAX (fuel_at d.trail.depth) d.world) (are_more RUNS_MAX (fuel_at d.trail.depth) d.world) ≡ true
-    → HaveAllOutcomes (first_runs RUNS_MAX (fuel_at d.trail.depth) d.world) d.world × BoundsAllRuns (fuel_at d.trail.depth) d.world
-consoles_see d reached h =
+pub consoles_see : (k : Scope) (d : Standing) → IsReached d → sees_all (counts_in k (fuel_at d.trail.depth) d.world) ≡ true
+    → HaveAllOutcomes (runs_in k (fuel_at d.trail.depth) d.world) d.world × BoundsAllRuns (fuel_at d.trail.depth) d.world
+consoles_see WideWalk d reached h =
+    let fuel : ℕ = fuel_at d.trail.depth in
+    let leaves : List Leaf = leaves_from fuel d.world in
+    let whole = sees_whole leaves false h in
+    let said = complete d.trail.program d.trail.mode (done_steps d.trail) d.world reached.world fuel in
+    (have_outcomes fuel d.world (wide_walk fuel d.world) said leaves refl whole.1, bound_runs fuel d.world (wide_walk fuel d.world) said leaves refl whole.1)
+consoles_see Listed d reached h =
     let fuel : ℕ = fuel_at d.trail.depth in
     let leaves : List Leaf = first_runs RUNS_MAX fuel d.world in
     let whole = sees_whole leaves (are_more RUNS_MAX fuel d.world) h in

@@ -1,13 +1,25 @@
 -- What commands say of all runs of a script, in the words of what they answer: `check`, a sample, and the console's search.
-use Rattle.std.specs.Prelude.{◌≡◌, ℕ, true}
+use Rattle.std.specs.Prelude.{◌≡◌, ℕ, Bool, true, List, [], Some}
 use Rattle.mpd_model.specs.declared.call.Mode.{Mode}
 use Rattle.mpd_model.specs.script.Program.{Program}
-use Rattle.mpd_model.specs.steps.World.{start}
-use Rattle.mpd_model.specs.runs.Trail.{Standing, IsReached}
-use Rattle.mpd_model.specs.declared.limits.TheConstants.{RUNS_MAX}
+use Rattle.mpd_model.specs.steps.World.{World, start}
+use Rattle.mpd_model.specs.runs.Trail.{Standing, IsReached, first_standing}
+use Rattle.mpd_model.specs.declared.step.Step.{Step}
+use Rattle.mpd_model.specs.steps.Next.{fold, enabled}
+use Rattle.mpd_model.specs.steps.Outcomes.{ending}
+use Rattle.mpd_walk.specs.declared.ending.Ending.TheVariants.{Ended}
+use Rattle.mpd_lines.specs.declared.verdict.Verdict.TheVariants.{Good}
+use Rattle.mpd_runs.specs.declared.way.Way.TheVariants.{Deadlock, Trap}
+use Rattle.mpd_runs.specs.Ways.{way_of}
+use Rattle.mpd_outcomes.specs.declared.report.StateLimits.{StateLimits}
+use Rattle.mpd_diagnose.specs.declared.diagnosis.Diagnosis.{Diagnosis}
+use Rattle.mpd_diagnose.specs.Diagnosed.{IsDiagnosis}
+use Rattle.mpd_diagnose.specs.Verdicts.{verdict_of}
 use Rattle.mpd_explore.specs.declared.report.Limits.{Limits}
 use Rattle.mpd_pool.specs.declared.pool.CheckPlan.{CheckPlan}
-use Rattle.mpd_runs.specs.Runs.{fuel_at, first_runs, are_more, sees_all}
+use Rattle.mpd_runs.specs.declared.search.Scope.{Scope}
+use Rattle.mpd_runs.specs.Runs.{fuel_at, sees_all}
+use Rattle.mpd_runs.specs.Seek.{runs_in, counts_in}
 use Rattle.mpd_outcomes.specs.declared.report.Outcomes.{Outcomes}
 use Rattle.mpd_outcomes.specs.Outcomes.{TellsRuns}
 use Rattle.mpd_check.specs.Tally.{tally_of, TellsAll}
@@ -34,8 +46,21 @@ OutcomesTellAllEnds =
     (s : Program) (mode : Mode) (fuel : ℕ) (o : Outcomes) → TellsRuns fuel (start s mode) o → TellsAll true s mode (tally_of o.firsts.leaves.items o.firsts.more)
     → HaveAllOutcomes o.firsts.leaves.items (start s mode) × BoundsAllRuns fuel (start s mode)
 
--- And of the runs that the console looks at from where it stands, where it says that there is no deadlock or trap from there.
+-- no run from there that can't go on ends in a deadlock or with a trap
+abbrev pub NoneEndsBadly : World → Type 0
+NoneEndsBadly u =
+    (steps : List Step) (w : World) → fold u steps ≡ Some w → enabled w ≡ []
+    → (way_of (Ended (ending w)) ≡ Deadlock → ⊥) × (way_of (Ended (ending w)) ≡ Trap → ⊥)
+
+-- Where the verdict on a diagnosis is good, that holds of all runs of the script.
+abbrev pub GoodDiagnosesAreOfAllRuns : Type 0
+GoodDiagnosesAreOfAllRuns =
+    (file : List ℕ) (limits : StateLimits) (most runs : ℕ) (s : Program) (mode : Mode) (told : Diagnosis) (strict : Bool) → IsDiagnosis file limits most runs (first_standing s mode) told
+    → verdict_of strict told.counts told.drawn ≡ Good → NoneEndsBadly (start s mode) × BoundsAllRuns limits.fuel (start s mode)
+
+-- And of the runs that the console looks at from where it stands, where it says that there is no deadlock or trap from there: by states, or
+-- one by one.
 abbrev pub ConsolesSeeAllEnds : Type 0
 ConsolesSeeAllEnds =
-    (d : Standing) → IsReached d → sees_all (first_runs RUNS_MAX (fuel_at d.trail.depth) d.world) (are_more RUNS_MAX (fuel_at d.trail.depth) d.world) ≡ true
-    → HaveAllOutcomes (first_runs RUNS_MAX (fuel_at d.trail.depth) d.world) d.world × BoundsAllRuns (fuel_at d.trail.depth) d.world
+    (k : Scope) (d : Standing) → IsReached d → sees_all (counts_in k (fuel_at d.trail.depth) d.world) ≡ true
+    → HaveAllOutcomes (runs_in k (fuel_at d.trail.depth) d.world) d.world × BoundsAllRuns (fuel_at d.trail.depth) d.world

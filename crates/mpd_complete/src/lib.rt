@@ -147,6 +147,12 @@ pub fn outcomes_tell_all_ends()
     ensures { told.OutcomesTellAllEnds }
 {}
 
+/// Where the verdict on a diagnosis of a script is good, no run of the script ends in a deadlock or with a trap, whatever its steps and their
+/// order; each has at most as many steps as there was fuel, and can be continued until no step is enabled.
+pub fn good_diagnoses_are_of_all_runs()
+    ensures { told.GoodDiagnosesAreOfAllRuns }
+{}
+
 /// Where the console says that there is no deadlock or no trap from where it stands, the runs that it looked at have the end of each run
 /// from there.
 pub fn consoles_see_all_ends()

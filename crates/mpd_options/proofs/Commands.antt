@@ -11,7 +11,7 @@ use Rattle.clap.specs.Faults.{fault_of, walk_fault, settle_fault, turn_fault, st
 use Rattle.clap.specs.Simple.{names_of, subcommand_of, entered}
 use Rattle.clap.specs.Walk.{Held, Walk, Names, idle, Step, value, trailing, Outcome, plain, nothing_held, finished, settled, walk_from, walked, arg_by_long, arg_by_short, long_or_other, short_or_plain, after_flag, after_step, subcommand_or_other, bundle, bundle_met, subcommand_met}
 use Rattle.clap.proofs.OnLiterals.{clap_on_literals}
-use Rattle.mpd_options.specs.Asked.{Asked, Tool, behind, checker, debugger, found_of_command, meant, among_options, painter, runner, server, teller, tracer, translator, verifier, wanted}
+use Rattle.mpd_options.specs.Asked.{Asked, Tool, behind, checker, debugger, diagnoser, found_of_command, meant, among_options, painter, runner, server, teller, tracer, translator, verifier, wanted}
 use Rattle.mpd_options.specs.Program.{Lies, mpdbg_app, only_deadlock}
 use Rattle.mpd_options.proofs.Ends.{Agrees, fails_first, fails_then}
 use Rattle.mpd_options.proofs.Items.{NamesNone, by_name, called, some_fault, tools}
@@ -77,6 +77,7 @@ behind_command verifier words = stays words [] start (codes "verify")
 behind_command teller words = stays words [] start (codes "words")
 behind_command translator words = stays words [] start (codes "c")
 behind_command painter words = stays words [] start (codes "picture")
+behind_command diagnoser words = stays words [] start (codes "diagnose")
 
 command_walk : (t : Tool) (words : List Text) → walk_fault shape names start (called t ∷ words) ≡ []
 unfolding clap_on_literals
@@ -89,6 +90,7 @@ command_walk verifier words = no_fault words [] start (codes "verify")
 command_walk teller words = no_fault words [] start (codes "words")
 command_walk translator words = no_fault words [] start (codes "c")
 command_walk painter words = no_fault words [] start (codes "picture")
+command_walk diagnoser words = no_fault words [] start (codes "diagnose")
 
 and_nothing : (ks : Kinds) → or_else ks [] ≡ ks
 and_nothing [] = refl
@@ -108,6 +110,7 @@ whole_command lie verifier words = and_nothing (faults lie verifier (walk_at at_
 whole_command lie teller words = and_nothing (faults lie teller (walk_at at_first) words)
 whole_command lie translator words = and_nothing (faults lie translator (walk_at at_first) words)
 whole_command lie painter words = and_nothing (faults lie painter (walk_at at_first) words)
+whole_command lie diagnoser words = and_nothing (faults lie diagnoser (walk_at at_first) words)
 
 command_fault : (lie : Lies) (t : Tool) (words : List Text) → fault_of (mpdbg_app (only_deadlock lie)) (called t ∷ words) ≡ faults lie t (walk_at at_first) words
 command_fault lie t words =
@@ -123,6 +126,7 @@ entered_at lie verifier words = refl
 entered_at lie teller words = refl
 entered_at lie translator words = refl
 entered_at lie painter words = refl
+entered_at lie diagnoser words = refl
 
 command_found : (lie : Lies) (t : Tool) (words : List Text) → subcommand_of (mpdbg_app (only_deadlock lie)) (called t ∷ words) ≡ Some (called t, rows_at lie t (walk_at at_first) words)
 command_found lie t words = ap (λ (w : Walk). entered (top lie) w.stopped) (behind_command t words) ∙ entered_at lie t words
@@ -138,6 +142,7 @@ lift verifier (Some x) ks rows h = h
 lift teller (Some x) ks rows h = h
 lift translator (Some x) ks rows h = h
 lift painter (Some x) ks rows h = h
+lift diagnoser (Some x) ks rows h = h
 
 command_law : (lie : Lies) (t : Tool) (words : List Text) → AgreesAll (wanted t words among_options []) (fault_of (mpdbg_app (only_deadlock lie)) (called t ∷ words)) (subcommand_of (mpdbg_app (only_deadlock lie)) (called t ∷ words))
 command_law lie t words =
@@ -209,7 +214,8 @@ top_letters (y ∷ ys) x xs e = rw e (top_letter x (drop (length (encode_utf8 x)
 abbrev IsOther : Text → Type 0
 IsOther word =
     (bytes_eq (codes "trace") word ≡ false) × (bytes_eq (codes "debug") word ≡ false) × (bytes_eq (codes "run") word ≡ false) × (bytes_eq (codes "serve") word ≡ false) × (bytes_eq (codes "check") word ≡ false)
-    × (bytes_eq (codes "verify") word ≡ false) × (bytes_eq (codes "words") word ≡ false) × (bytes_eq (codes "c") word ≡ false) × (bytes_eq (codes "picture") word ≡ false) × (bytes_eq (codes "help") word ≡ false)
+    × (bytes_eq (codes "verify") word ≡ false) × (bytes_eq (codes "words") word ≡ false) × (bytes_eq (codes "c") word ≡ false) × (bytes_eq (codes "picture") word ≡ false) × (bytes_eq (codes "diagnose") word ≡ false)
+    × (bytes_eq (codes "help") word ≡ false)
 
 -- the turn of a first word, by the command that it names
 abbrev met_turn : Option Text → Text → Kinds
@@ -218,7 +224,7 @@ met_turn met word =
     or_else (other_fault shape met word nothing_held) (step_fault shape 1 step.0 step.1)
 
 unmet : (word : Text) → IsOther word → subcommand_met names idle word ≡ None
-unmet word other = rw (other.0, other.1, other.2, other.3, other.4, other.5, other.6, other.7, other.8, other.9) refl
+unmet word other = rw (other.0, other.1, other.2, other.3, other.4, other.5, other.6, other.7, other.8, other.9, other.10) refl
 
 top_turns : (word : Text) → IsOther word → turn_fault shape names start word ≡ met_turn None word
 top_turns word other = ap (λ m. met_turn m word) (unmet word other)
@@ -321,6 +327,7 @@ other_word lie word words n = elim (bytes_eq (codes "help") word) as (λ b. byte
     turned_about (codes "words") word n.1.1.1.1.1.1.0,
     turned_about (codes "c") word n.1.1.1.1.1.1.1.0,
     turned_about (codes "picture") word n.1.1.1.1.1.1.1.1.0,
+    turned_about (codes "diagnose") word n.1.1.1.1.1.1.1.1.1.0,
     e,
   )
 ] refl

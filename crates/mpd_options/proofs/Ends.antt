@@ -14,7 +14,7 @@ use Rattle.clap.specs.declared.builder.value_parser.Reading.{Reading}
 use Rattle.clap.specs.declared.error.kind.ErrorKind.TheVariants as kind
 use Rattle.clap.specs.declared.parser.matches.ValueSource.TheVariants.{DefaultValue}
 use Rattle.clap.proofs.OnLiterals.{clap_on_literals}
-use Rattle.mpd_options.specs.Asked.{Asked, Item, Said, Tool, checker, debug, debugger, default_of, fits, found, found_check, found_in, found_of_file, found_options, found_picture, found_serve, found_verify, found_words, most_clients, most_fuel, most_leaf, most_modes, most_piece, most_port, most_runs, most_sample, most_seed, most_split, most_states, most_workers, name_of, number_if_given, or_default, painter, said_of, text_in, text_of, the_choices, the_clients, the_complete, the_ends, the_explain, the_file, the_fuel, the_group, the_laid_witness, the_leaf, the_mode, the_modes, the_outcomes, the_piece, the_pieces, the_port, the_runs, the_sample, the_seed, the_split, the_states, the_until, the_witness, the_witness_file, the_words, the_workers, run, runner, server, teller, trace, tracer, translate, translator, until_bad_in, verifier}
+use Rattle.mpd_options.specs.Asked.{Asked, Item, Said, Tool, checker, debugger, default_of, diagnoser, fits, found, found_check, found_debug, found_diagnose, found_in, found_of_file, found_options, found_picture, found_serve, found_verify, found_words, most_clients, most_fuel, most_leaf, most_modes, most_piece, most_port, most_runs, most_sample, most_seed, most_split, most_states, most_workers, name_of, number_if_given, or_default, painter, said_of, text_in, text_of, the_choices, the_clients, the_complete, the_ends, the_explain, the_file, the_fuel, the_group, the_laid_witness, the_leaf, the_mode, the_modes, the_outcomes, the_piece, the_pieces, the_port, the_runs, the_sample, the_seed, the_split, the_states, the_strict, the_until, the_witness, the_witness_file, the_words, the_workers, run, runner, server, teller, trace, tracer, translate, translator, until_bad_in, verifier}
 use Rattle.mpd_options.specs.Numbers.{flag_in, number_in}
 use Rattle.mpd_options.specs.declared.options.CheckOptions.{CheckOptions}
 use Rattle.mpd_options.specs.Program.{Lies}
@@ -88,9 +88,17 @@ debugger_mode : (lie : Lies) → rules_row (name_of the_mode) (rules lie debugge
 unfolding clap_on_literals
 debugger_mode lie = refl
 
+debugger_choices : (lie : Lies) → rules_row (name_of the_choices) (rules lie debugger) ≡ default_row the_choices
+unfolding clap_on_literals
+debugger_choices lie = refl
+
 debugger_witness : (lie : Lies) → rules_row (name_of the_laid_witness) (rules lie debugger) ≡ default_row the_laid_witness
 unfolding clap_on_literals
 debugger_witness lie = refl
+
+debugger_ends : (lie : Lies) → rules_row (name_of the_ends) (rules lie debugger) ≡ default_row the_ends
+unfolding clap_on_literals
+debugger_ends lie = refl
 
 runner_file : (lie : Lies) → rules_row (name_of the_file) (rules lie runner) ≡ default_row the_file
 unfolding clap_on_literals
@@ -116,7 +124,12 @@ server_clients : (lie : Lies) → rules_row (name_of the_clients) (rules lie ser
 unfolding clap_on_literals
 server_clients lie = refl
 
-checker_row : (lie : Lies) (i : Item) → rules_row (name_of i) (rules lie checker) ≡ default_row i
+-- the flag of `diagnose` has a default, and no row in a look for deadlocks
+abbrev IsCheckRow : Lies → Item → Type 0
+IsCheckRow lie the_strict = Unit {0}
+IsCheckRow lie i = rules_row (name_of i) (rules lie checker) ≡ default_row i
+
+checker_row : (lie : Lies) (i : Item) → IsCheckRow lie i
 unfolding clap_on_literals
 checker_row lie the_file = refl
 checker_row lie the_witness_file = refl
@@ -144,6 +157,7 @@ checker_row lie the_leaf = refl
 checker_row lie the_choices = refl
 checker_row lie the_laid_witness = refl
 checker_row lie the_words = refl
+checker_row lie the_strict = tt
 
 verifier_file : (lie : Lies) → rules_row (name_of the_file) (rules lie verifier) ≡ default_row the_file
 unfolding clap_on_literals
@@ -213,6 +227,18 @@ painter_ends : (lie : Lies) → rules_row (name_of the_ends) (rules lie painter)
 unfolding clap_on_literals
 painter_ends lie = refl
 
+diagnoser_file : (lie : Lies) → rules_row (name_of the_file) (rules lie diagnoser) ≡ default_row the_file
+unfolding clap_on_literals
+diagnoser_file lie = refl
+
+diagnoser_mode : (lie : Lies) → rules_row (name_of the_mode) (rules lie diagnoser) ≡ default_row the_mode
+unfolding clap_on_literals
+diagnoser_mode lie = refl
+
+diagnoser_strict : (lie : Lies) → rules_row (name_of the_strict) (rules lie diagnoser) ≡ default_row the_strict
+unfolding clap_on_literals
+diagnoser_strict lie = refl
+
 -- ---- what is found at last
 
 abbrev ended : Lies → Tool → Said → List Row
@@ -244,8 +270,13 @@ four_same : (f f' m m' p p' c c' : Option Text) → f ≡ f' → m ≡ m' → p 
     → found_serve f m (option_and_then (number_in 1 most_port) p) (option_and_then (number_in 1 most_clients) c) ≡ found_serve f' m' (option_and_then (number_in 1 most_port) p') (option_and_then (number_in 1 most_clients) c')
 four_same f f' m m' p p' c c' a b d e = rw (a, b, d, e) refl
 
--- each item has a row of its own in a look for deadlocks, or none
-text_ended : (lie : Lies) (i : Item) (said : Said) → Valid said → text_in (ended lie checker said) i ≡ text_of said i
+-- what a look for deadlocks has texts of: no item but the flag of `diagnose`
+abbrev checked : (Item → Option Text) → Item → Option Text
+checked text the_strict = None
+checked text i = text i
+
+-- each item has a row of its own there, or none
+text_ended : (lie : Lies) (i : Item) (said : Said) → Valid said → checked (text_in (ended lie checker said)) i ≡ checked (text_of said) i
 text_ended lie the_file said h = first_ended lie checker the_file said (checker_row lie the_file) h
 text_ended lie the_witness_file said h = first_ended lie checker the_witness_file said (checker_row lie the_witness_file) h
 text_ended lie the_mode said h = first_ended lie checker the_mode said (checker_row lie the_mode) h
@@ -272,6 +303,7 @@ text_ended lie the_leaf said h = one_ended lie checker the_leaf said (checker_ro
 text_ended lie the_choices said h = first_ended lie checker the_choices said (checker_row lie the_choices) h
 text_ended lie the_laid_witness said h = first_ended lie checker the_laid_witness said (checker_row lie the_laid_witness) h
 text_ended lie the_words said h = first_ended lie checker the_words said (checker_row lie the_words) h
+text_ended lie the_strict said h = refl
 
 verify_same : (f f' w w' m m' l l' : Option Text) → f ≡ f' → w ≡ w' → m ≡ m' → l ≡ l' → found_verify f w m (number_if_given 0 most_leaf l) ≡ found_verify f' w' m' (number_if_given 0 most_leaf l')
 verify_same f f' w w' m m' l l' a b c d = rw (a, b, c, d) refl
@@ -280,21 +312,25 @@ words_same : (f f' c c' m m' n n' s s' : Option Text) → f ≡ f' → c ≡ c' 
     → found_words f c m (option_and_then (number_in 1 most_fuel) n) (option_and_then flag_in s) ≡ found_words f' c' m' (option_and_then (number_in 1 most_fuel) n') (option_and_then flag_in s')
 words_same f f' c c' m m' n n' s s' a b d e g = rw (a, b, d, e, g) refl
 
-debug_same : (f f' m m' w w' : Option Text) → f ≡ f' → m ≡ m' → w ≡ w' → found_of_file (λ file mode. debug file mode w) f m ≡ found_of_file (λ file mode. debug file mode w') f' m'
-debug_same f f' m m' w w' a b c = rw (a, b, c) refl
+debug_same : (f f' m m' s s' c c' w w' : Option Text) → f ≡ f' → m ≡ m' → s ≡ s' → c ≡ c' → w ≡ w' → found_debug f m (option_and_then flag_in s) c w ≡ found_debug f' m' (option_and_then flag_in s') c' w'
+debug_same f f' m m' s s' c c' w w' a b d e g = rw (a, b, d, e, g) refl
 
 picture_same : (f f' m m' n n' s s' c c' w w' x x' : Option Text) → f ≡ f' → m ≡ m' → n ≡ n' → s ≡ s' → c ≡ c' → w ≡ w' → x ≡ x'
     → found_picture f m (option_and_then (number_in 1 most_fuel) n) (option_and_then flag_in s) c w x ≡ found_picture f' m' (option_and_then (number_in 1 most_fuel) n') (option_and_then flag_in s') c' w' x'
 picture_same f f' m m' n n' s s' c c' w w' x x' a b d e g h i = rw (a, b, d, e, g, h, i) refl
 
+diagnose_same : (f f' m m' s s' : Option Text) → f ≡ f' → m ≡ m' → s ≡ s' → found_diagnose f m (option_and_then flag_in s) ≡ found_diagnose f' m' (option_and_then flag_in s')
+diagnose_same f f' m m' s s' a b c = rw (a, b, c) refl
+
 pub found_ended : (lie : Lies) (t : Tool) (said : Said) → Valid said → found_in t (ended lie t said) ≡ found t (text_of said)
 found_ended lie tracer said h = ap₂ (found_of_file trace) (first_ended lie tracer the_file said (tracer_file lie) h) (first_ended lie tracer the_mode said (tracer_mode lie) h)
 found_ended lie debugger said h =
-    debug_same _ _ _ _ _ _ (first_ended lie debugger the_file said (debugger_file lie) h) (first_ended lie debugger the_mode said (debugger_mode lie) h) (first_ended lie debugger the_laid_witness said (debugger_witness lie) h)
+    debug_same _ _ _ _ _ _ _ _ _ _ (first_ended lie debugger the_file said (debugger_file lie) h) (first_ended lie debugger the_mode said (debugger_mode lie) h) (one_ended lie debugger the_ends said (debugger_ends lie) h)
+    (first_ended lie debugger the_choices said (debugger_choices lie) h) (first_ended lie debugger the_laid_witness said (debugger_witness lie) h)
 found_ended lie runner said h = ap₂ (found_of_file run) (first_ended lie runner the_file said (runner_file lie) h) (first_ended lie runner the_mode said (runner_mode lie) h)
 found_ended lie server said h =
     four_same _ _ _ _ _ _ _ _ (first_ended lie server the_file said (server_file lie) h) (first_ended lie server the_mode said (server_mode lie) h) (one_ended lie server the_port said (server_port lie) h) (one_ended lie server the_clients said (server_clients lie) h)
-found_ended lie checker said h = let texts : text_in (ended lie checker said) ≡ text_of said = λ j i. text_ended lie i said h j in ap (found checker) texts
+found_ended lie checker said h = let texts : checked (text_in (ended lie checker said)) ≡ checked (text_of said) = λ j i. text_ended lie i said h j in ap (found checker) texts
 found_ended lie verifier said h =
     verify_same _ _ _ _ _ _ _ _ (first_ended lie verifier the_file said (verifier_file lie) h) (first_ended lie verifier the_witness_file said (verifier_witness lie) h) (first_ended lie verifier the_mode said (verifier_mode lie) h)
     (one_ended lie verifier the_leaf said (verifier_leaf lie) h)
@@ -305,6 +341,8 @@ found_ended lie translator said h = ap (option_map translate) (first_ended lie t
 found_ended lie painter said h =
     picture_same _ _ _ _ _ _ _ _ _ _ _ _ _ _ (first_ended lie painter the_file said (painter_file lie) h) (first_ended lie painter the_mode said (painter_mode lie) h) (one_ended lie painter the_fuel said (painter_fuel lie) h)
     (one_ended lie painter the_ends said (painter_ends lie) h) (first_ended lie painter the_choices said (painter_choices lie) h) (first_ended lie painter the_laid_witness said (painter_witness lie) h) (first_ended lie painter the_words said (painter_words lie) h)
+found_ended lie diagnoser said h =
+    diagnose_same _ _ _ _ _ _ (first_ended lie diagnoser the_file said (diagnoser_file lie) h) (first_ended lie diagnoser the_mode said (diagnoser_mode lie) h) (one_ended lie diagnoser the_strict said (diagnoser_strict lie) h)
 
 -- ---- something is asked for where all was said that must be
 
@@ -334,7 +372,7 @@ item_named name =
     else (if bytes_eq name (codes "pieces") then Some the_pieces
     else (if bytes_eq name (codes "leaf") then Some the_leaf
     else (if bytes_eq name (codes "choices") then Some the_choices
-    else (if bytes_eq name (codes "laid_witness") then Some the_laid_witness else (if bytes_eq name (codes "words") then Some the_words else None)))))))))))))))))))))))))
+    else (if bytes_eq name (codes "laid_witness") then Some the_laid_witness else (if bytes_eq name (codes "words") then Some the_words else (if bytes_eq name (codes "strict") then Some the_strict else None))))))))))))))))))))))))))
 
 named_is : (i : Item) → item_named (name_of i) ≡ Some i
 named_is the_file = refl
@@ -363,6 +401,7 @@ named_is the_leaf = refl
 named_is the_choices = refl
 named_is the_laid_witness = refl
 named_is the_words = refl
+named_is the_strict = refl
 
 same_item : (i j : Item) → bytes_eq (name_of i) (name_of j) ≡ true → i ≡ j
 same_item i j e = (let same : Some i ≡ Some j = sym (named_is i) ∙ ap item_named ((bytes_eq-Decides (name_of i) (name_of j)).0 e) ∙ named_is j in cc)
@@ -466,6 +505,18 @@ is_picture (Some f) (Some m) d (Some n) (Some s) c w x e g = refl
 is_picture (Some f) m d (Some n) None c w x e g = cc
 is_picture (Some f) m d None s c w x e g = cc
 
+is_debug : (f m : Option Text) (d : Text) (s : Option Bool) (c w : Option Text) → is_some s ≡ true → is_some (found_debug (or_default f None) (or_default m (Some d)) s c w) ≡ is_some f
+is_debug None m d s c w e = refl
+is_debug (Some f) None d (Some s) c w e = refl
+is_debug (Some f) (Some m) d (Some s) c w e = refl
+is_debug (Some f) m d None c w e = cc
+
+is_diagnose : (f m : Option Text) (d : Text) (s : Option Bool) → is_some s ≡ true → is_some (found_diagnose (or_default f None) (or_default m (Some d)) s) ≡ is_some f
+is_diagnose None m d s e = refl
+is_diagnose (Some f) None d (Some s) e = refl
+is_diagnose (Some f) (Some m) d (Some s) e = refl
+is_diagnose (Some f) m d None e = cc
+
 -- each item is there that must be: the files, and the options that have no default, where the command wants them
 abbrev has_needed : Tool → (Item → Bool) → Bool
 has_needed tracer has = has the_file
@@ -477,6 +528,7 @@ has_needed verifier has = has the_file && has the_witness_file
 has_needed teller has = has the_file && has the_choices
 has_needed translator has = has the_file
 has_needed painter has = has the_file
+has_needed diagnoser has = has the_file
 
 -- whether something was said of an item
 abbrev is_said : Said → Item → Bool
@@ -484,7 +536,9 @@ is_said said i = is_some (said_of i said)
 
 asks_if_needed : (t : Tool) (said : Said) → Valid said → is_some (found t (text_of said)) ≡ has_needed t (is_said said)
 asks_if_needed tracer said h = is_of_file trace (said_of the_file said) (said_of the_mode said) (codes "rendezvous")
-asks_if_needed debugger said h = is_of_file (λ file mode. debug file mode (text_of said the_laid_witness)) (said_of the_file said) (said_of the_mode said) (codes "rendezvous")
+asks_if_needed debugger said h =
+    is_debug (said_of the_file said) (said_of the_mode said) (codes "rendezvous") (option_and_then flag_in (text_of said the_ends)) (text_of said the_choices) (text_of said the_laid_witness)
+    (read_said flag_in (codes "false") (said_of the_ends said) refl (λ v e. said_fits the_ends v said h e))
 asks_if_needed runner said h = is_of_file run (said_of the_file said) (said_of the_mode said) (codes "rendezvous")
 asks_if_needed server said h =
     is_serve (said_of the_file said) (said_of the_mode said) (codes "rendezvous") (option_and_then (number_in 1 most_port) (text_of said the_port)) (option_and_then (number_in 1 most_clients) (text_of said the_clients))
@@ -503,6 +557,9 @@ asks_if_needed painter said h =
     is_picture (said_of the_file said) (said_of the_mode said) (codes "rendezvous") (option_and_then (number_in 1 most_fuel) (text_of said the_fuel)) (option_and_then flag_in (text_of said the_ends)) (text_of said the_choices) (text_of said the_laid_witness) (text_of said the_words)
     (read_said (number_in 1 most_fuel) (codes "100000") (said_of the_fuel said) refl (λ v e. said_fits the_fuel v said h e))
     (read_said flag_in (codes "false") (said_of the_ends said) refl (λ v e. said_fits the_ends v said h e))
+asks_if_needed diagnoser said h =
+    is_diagnose (said_of the_file said) (said_of the_mode said) (codes "rendezvous") (option_and_then flag_in (text_of said the_strict))
+    (read_said flag_in (codes "false") (said_of the_strict said) refl (λ v e. said_fits the_strict v said h e))
 
 -- ---- faults at the end
 
@@ -530,6 +587,7 @@ needed_given lie verifier said h = ap₂ (λ a b. a && b) (given_said lie verifi
 needed_given lie teller said h = ap₂ (λ a b. a && b) (given_said lie teller the_file said (teller_file lie) refl h) (given_said lie teller the_choices said (teller_choices lie) refl h)
 needed_given lie translator said h = given_said lie translator the_file said (translator_file lie) refl h
 needed_given lie painter said h = given_said lie painter the_file said (painter_file lie) refl h
+needed_given lie diagnoser said h = given_said lie diagnoser the_file said (diagnoser_file lie) refl h
 
 -- the fault of what is left out, by whether nothing is
 abbrev missing_by : Bool → Kinds
@@ -561,6 +619,7 @@ check_is lie verifier rows = not_both (is_given (codes "FILE") rows) (is_given (
 check_is lie teller rows = not_both (is_given (codes "FILE") rows) (is_given (codes "choices") rows)
 check_is lie translator rows = not_one (is_given (codes "FILE") rows)
 check_is lie painter rows = not_one (is_given (codes "FILE") rows)
+check_is lie diagnoser rows = not_one (is_given (codes "FILE") rows)
 
 with_needed : (lie : Lies) (t : Tool) (rows : List Row) → has_needed t (is_given_in rows) ≡ true → check_fault (sub lie t) rows false ≡ []
 with_needed lie t rows e = check_is lie t rows ∙ ap missing_by e
@@ -586,7 +645,7 @@ no_defaults_fault (a ∷ rest) rows h = ap (λ ks. or_else ks (defaults_fault (w
 pub takes_defaults : (lie : Lies) (t : Tool) → Takes (rules lie t)
 unfolding clap_on_literals
 takes_defaults lie tracer = (refl, (refl, (refl, tt)))
-takes_defaults lie debugger = (refl, (refl, (refl, (refl, tt))))
+takes_defaults lie debugger = (refl, (refl, (refl, (refl, (refl, (refl, tt))))))
 takes_defaults lie runner = (refl, (refl, (refl, tt)))
 takes_defaults lie server = (refl, (refl, (refl, (refl, (refl, tt)))))
 takes_defaults lie checker = (refl, (refl, (refl, (refl, (refl, (refl, (refl, (refl, (refl, (refl, (refl, (refl, (refl, (refl, (refl, (refl, (refl, (refl, (refl, (refl, tt))))))))))))))))))))
@@ -594,6 +653,7 @@ takes_defaults lie verifier = (refl, (refl, (refl, (refl, (refl, tt)))))
 takes_defaults lie teller = (refl, (refl, (refl, (refl, (refl, (refl, tt))))))
 takes_defaults lie translator = (refl, (refl, tt))
 takes_defaults lie painter = (refl, (refl, (refl, (refl, (refl, (refl, (refl, (refl, tt))))))))
+takes_defaults lie diagnoser = (refl, (refl, (refl, (refl, tt))))
 
 -- ---- what is held is settled
 

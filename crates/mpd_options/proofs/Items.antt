@@ -16,7 +16,7 @@ use Rattle.clap.specs.declared.error.kind.ErrorKind.TheVariants as kind
 use Rattle.clap.specs.declared.parser.matches.ValueSource.{ValueSource}
 use Rattle.clap.specs.declared.parser.matches.ValueSource.TheVariants.{CommandLine}
 use Rattle.clap.proofs.OnLiterals.{clap_on_literals}
-use Rattle.mpd_options.specs.Asked.{Item, Said, Tool, checker, debugger, fits, most_clients, most_fuel, most_leaf, most_modes, most_piece, most_port, most_runs, most_sample, most_seed, most_split, most_states, most_workers, name_of, painter, said_named, said_of, spelling_of, the_choices, the_clients, the_complete, the_ends, the_explain, the_file, the_fuel, the_group, the_laid_witness, the_leaf, the_mode, the_modes, the_outcomes, the_piece, the_pieces, the_port, the_runs, the_sample, the_seed, the_split, the_states, the_until, the_witness, the_witness_file, the_words, the_workers, runner, server, teller, tracer, translator, verifier}
+use Rattle.mpd_options.specs.Asked.{Item, Said, Tool, checker, debugger, diagnoser, fits, most_clients, most_fuel, most_leaf, most_modes, most_piece, most_port, most_runs, most_sample, most_seed, most_split, most_states, most_workers, name_of, painter, said_named, said_of, spelling_of, the_choices, the_clients, the_complete, the_ends, the_explain, the_file, the_fuel, the_group, the_laid_witness, the_leaf, the_mode, the_modes, the_outcomes, the_piece, the_pieces, the_port, the_runs, the_sample, the_seed, the_split, the_states, the_strict, the_until, the_witness, the_witness_file, the_words, the_workers, runner, server, teller, tracer, translator, verifier}
 use Rattle.mpd_options.specs.Program.{Lies, mpdbg_app, only_deadlock}
 use Rattle.mpd_options.proofs.NumberReads.{accepts_number}
 
@@ -30,6 +30,7 @@ called verifier = codes "verify"
 called teller = codes "words"
 called translator = codes "c"
 called painter = codes "picture"
+called diagnoser = codes "diagnose"
 
 -- the first of these commands that a word names
 abbrev pub named_among : List Tool → Text → Option Tool
@@ -37,7 +38,7 @@ named_among [] word = None
 named_among (t ∷ tools) word = if bytes_eq word (called t) then Some t else named_among tools word
 
 abbrev pub tools : List Tool
-tools = tracer ∷ debugger ∷ runner ∷ server ∷ checker ∷ verifier ∷ teller ∷ translator ∷ painter ∷ []
+tools = tracer ∷ debugger ∷ runner ∷ server ∷ checker ∷ verifier ∷ teller ∷ translator ∷ painter ∷ diagnoser ∷ []
 
 -- the word names none of these commands
 abbrev pub NamesNone : Text → List Tool → Type 0
@@ -62,6 +63,7 @@ sub lie verifier = option_map_or (λ s. s) (find (λ s. answers_to (codes "verif
 sub lie teller = option_map_or (λ s. s) (find (λ s. answers_to (codes "words") (label_of s)) (built (mpdbg_app (only_deadlock lie))).subs) (new_shape [])
 sub lie translator = option_map_or (λ s. s) (find (λ s. answers_to (codes "c") (label_of s)) (built (mpdbg_app (only_deadlock lie))).subs) (new_shape [])
 sub lie painter = option_map_or (λ s. s) (find (λ s. answers_to (codes "picture") (label_of s)) (built (mpdbg_app (only_deadlock lie))).subs) (new_shape [])
+sub lie diagnoser = option_map_or (λ s. s) (find (λ s. answers_to (codes "diagnose") (label_of s)) (built (mpdbg_app (only_deadlock lie))).subs) (new_shape [])
 
 abbrev pub rules : Lies → Tool → List Rule
 rules lie t = (sub lie t).rules
@@ -82,6 +84,7 @@ is_mode _ = false
 abbrev pub asks : Tool → Item → Bool
 asks tracer i = is_mode i
 asks debugger the_mode = true
+asks debugger the_choices = true
 asks debugger the_laid_witness = true
 asks debugger _ = false
 asks runner i = is_mode i
@@ -115,6 +118,7 @@ asks painter the_laid_witness = true
 asks painter the_words = true
 asks painter the_fuel = true
 asks painter _ = false
+asks diagnoser i = is_mode i
 
 -- the witness has a word of its own
 abbrev pub reads_witness : Tool → Bool
@@ -127,6 +131,7 @@ reads_witness verifier = true
 reads_witness teller = false
 reads_witness translator = false
 reads_witness painter = false
+reads_witness diagnoser = false
 
 -- and the files
 abbrev pub keeps : Tool → Item → Bool
@@ -158,7 +163,7 @@ mode_alone Q m _ e = cc
 -- each option that wants a value
 abbrev pub EachAsks : (P : Tool → Item → Type 0) → Tool → Type 0
 EachAsks P tracer = P tracer the_mode
-EachAsks P debugger = P debugger the_mode × P debugger the_laid_witness
+EachAsks P debugger = P debugger the_mode × P debugger the_choices × P debugger the_laid_witness
 EachAsks P runner = P runner the_mode
 EachAsks P server = P server the_mode × P server the_port × P server the_clients
 EachAsks P checker = P checker the_mode × P checker the_modes × P checker the_runs × P checker the_fuel × P checker the_split × P checker the_workers × P checker the_states × P checker the_sample × P checker the_seed × P checker the_until × P checker the_piece
@@ -166,107 +171,114 @@ EachAsks P verifier = P verifier the_mode × P verifier the_leaf
 EachAsks P teller = P teller the_mode × P teller the_choices × P teller the_fuel
 EachAsks P translator = Unit {0}
 EachAsks P painter = P painter the_mode × P painter the_choices × P painter the_laid_witness × P painter the_words × P painter the_fuel
+EachAsks P diagnoser = P diagnoser the_mode
 
-pub each_asks : (P : Tool → Item → Type 0) → EachAsks P tracer → EachAsks P debugger → EachAsks P runner → EachAsks P server → EachAsks P checker → EachAsks P verifier → EachAsks P teller → EachAsks P painter → (t : Tool) (i : Item) → asks t i ≡ true → P t i
-each_asks P a d r s c v w q tracer i e = mode_alone (P tracer) a i e
-each_asks P a d r s c v w q debugger the_mode e = d.0
-each_asks P a d r s c v w q debugger the_laid_witness e = d.1
-each_asks P a d r s c v w q debugger _ e = cc
-each_asks P a d r s c v w q runner i e = mode_alone (P runner) r i e
-each_asks P a d r s c v w q server the_mode e = s.0
-each_asks P a d r s c v w q server the_port e = s.1
-each_asks P a d r s c v w q server the_clients e = s.2
-each_asks P a d r s c v w q server _ e = cc
-each_asks P a d r s c v w q checker the_mode e = c.0
-each_asks P a d r s c v w q checker the_modes e = c.1
-each_asks P a d r s c v w q checker the_runs e = c.2
-each_asks P a d r s c v w q checker the_fuel e = c.3
-each_asks P a d r s c v w q checker the_split e = c.4
-each_asks P a d r s c v w q checker the_workers e = c.5
-each_asks P a d r s c v w q checker the_states e = c.6
-each_asks P a d r s c v w q checker the_sample e = c.7
-each_asks P a d r s c v w q checker the_seed e = c.8
-each_asks P a d r s c v w q checker the_until e = c.9
-each_asks P a d r s c v w q checker the_piece e = c.10
-each_asks P a d r s c v w q checker _ e = cc
-each_asks P a d r s c v w q verifier the_mode e = v.0
-each_asks P a d r s c v w q verifier the_leaf e = v.1
-each_asks P a d r s c v w q verifier _ e = cc
-each_asks P a d r s c v w q teller the_mode e = w.0
-each_asks P a d r s c v w q teller the_choices e = w.1
-each_asks P a d r s c v w q teller the_fuel e = w.2
-each_asks P a d r s c v w q teller _ e = cc
-each_asks P a d r s c v w q translator i e = cc
-each_asks P a d r s c v w q painter the_mode e = q.0
-each_asks P a d r s c v w q painter the_choices e = q.1
-each_asks P a d r s c v w q painter the_laid_witness e = q.2
-each_asks P a d r s c v w q painter the_words e = q.3
-each_asks P a d r s c v w q painter the_fuel e = q.4
-each_asks P a d r s c v w q painter _ e = cc
+pub each_asks : (P : Tool → Item → Type 0) → EachAsks P tracer → EachAsks P debugger → EachAsks P runner → EachAsks P server → EachAsks P checker → EachAsks P verifier → EachAsks P teller → EachAsks P painter → EachAsks P diagnoser → (t : Tool) (i : Item) → asks t i ≡ true → P t i
+each_asks P a d r s c v w q g tracer i e = mode_alone (P tracer) a i e
+each_asks P a d r s c v w q g debugger the_mode e = d.0
+each_asks P a d r s c v w q g debugger the_choices e = d.1
+each_asks P a d r s c v w q g debugger the_laid_witness e = d.2
+each_asks P a d r s c v w q g debugger _ e = cc
+each_asks P a d r s c v w q g runner i e = mode_alone (P runner) r i e
+each_asks P a d r s c v w q g server the_mode e = s.0
+each_asks P a d r s c v w q g server the_port e = s.1
+each_asks P a d r s c v w q g server the_clients e = s.2
+each_asks P a d r s c v w q g server _ e = cc
+each_asks P a d r s c v w q g checker the_mode e = c.0
+each_asks P a d r s c v w q g checker the_modes e = c.1
+each_asks P a d r s c v w q g checker the_runs e = c.2
+each_asks P a d r s c v w q g checker the_fuel e = c.3
+each_asks P a d r s c v w q g checker the_split e = c.4
+each_asks P a d r s c v w q g checker the_workers e = c.5
+each_asks P a d r s c v w q g checker the_states e = c.6
+each_asks P a d r s c v w q g checker the_sample e = c.7
+each_asks P a d r s c v w q g checker the_seed e = c.8
+each_asks P a d r s c v w q g checker the_until e = c.9
+each_asks P a d r s c v w q g checker the_piece e = c.10
+each_asks P a d r s c v w q g checker _ e = cc
+each_asks P a d r s c v w q g verifier the_mode e = v.0
+each_asks P a d r s c v w q g verifier the_leaf e = v.1
+each_asks P a d r s c v w q g verifier _ e = cc
+each_asks P a d r s c v w q g teller the_mode e = w.0
+each_asks P a d r s c v w q g teller the_choices e = w.1
+each_asks P a d r s c v w q g teller the_fuel e = w.2
+each_asks P a d r s c v w q g teller _ e = cc
+each_asks P a d r s c v w q g translator i e = cc
+each_asks P a d r s c v w q g painter the_mode e = q.0
+each_asks P a d r s c v w q g painter the_choices e = q.1
+each_asks P a d r s c v w q g painter the_laid_witness e = q.2
+each_asks P a d r s c v w q g painter the_words e = q.3
+each_asks P a d r s c v w q g painter the_fuel e = q.4
+each_asks P a d r s c v w q g painter _ e = cc
+each_asks P a d r s c v w q g diagnoser i e = mode_alone (P diagnoser) g i e
 
 -- each file
 abbrev pub EachFile : (P : Tool → Item → Type 0) → Type 0
-EachFile P = P tracer the_file × P debugger the_file × P runner the_file × P server the_file × P checker the_file × P verifier the_file × P verifier the_witness_file × P teller the_file × P translator the_file × P painter the_file
+EachFile P = P tracer the_file × P debugger the_file × P runner the_file × P server the_file × P checker the_file × P verifier the_file × P verifier the_witness_file × P teller the_file × P translator the_file × P painter the_file × P diagnoser the_file
 
-pub each_keeps : (P : Tool → Item → Type 0) → EachFile P → EachAsks P tracer → EachAsks P debugger → EachAsks P runner → EachAsks P server → EachAsks P checker → EachAsks P verifier → EachAsks P teller → EachAsks P painter → (t : Tool) (i : Item) → keeps t i ≡ true → P t i
-each_keeps P f a d r s c v w q tracer the_file e = f.0
-each_keeps P f a d r s c v w q tracer the_mode e = a
-each_keeps P f a d r s c v w q tracer _ e = cc
-each_keeps P f a d r s c v w q debugger the_file e = f.1
-each_keeps P f a d r s c v w q debugger the_mode e = d.0
-each_keeps P f a d r s c v w q debugger the_laid_witness e = d.1
-each_keeps P f a d r s c v w q debugger _ e = cc
-each_keeps P f a d r s c v w q runner the_file e = f.2
-each_keeps P f a d r s c v w q runner the_mode e = r
-each_keeps P f a d r s c v w q runner _ e = cc
-each_keeps P f a d r s c v w q server the_file e = f.3
-each_keeps P f a d r s c v w q server the_mode e = s.0
-each_keeps P f a d r s c v w q server the_port e = s.1
-each_keeps P f a d r s c v w q server the_clients e = s.2
-each_keeps P f a d r s c v w q server _ e = cc
-each_keeps P f a d r s c v w q checker the_file e = f.4
-each_keeps P f a d r s c v w q checker the_mode e = c.0
-each_keeps P f a d r s c v w q checker the_modes e = c.1
-each_keeps P f a d r s c v w q checker the_runs e = c.2
-each_keeps P f a d r s c v w q checker the_fuel e = c.3
-each_keeps P f a d r s c v w q checker the_split e = c.4
-each_keeps P f a d r s c v w q checker the_workers e = c.5
-each_keeps P f a d r s c v w q checker the_states e = c.6
-each_keeps P f a d r s c v w q checker the_sample e = c.7
-each_keeps P f a d r s c v w q checker the_seed e = c.8
-each_keeps P f a d r s c v w q checker the_until e = c.9
-each_keeps P f a d r s c v w q checker the_piece e = c.10
-each_keeps P f a d r s c v w q checker _ e = cc
-each_keeps P f a d r s c v w q verifier the_file e = f.5
-each_keeps P f a d r s c v w q verifier the_witness_file e = f.6
-each_keeps P f a d r s c v w q verifier the_mode e = v.0
-each_keeps P f a d r s c v w q verifier the_leaf e = v.1
-each_keeps P f a d r s c v w q verifier _ e = cc
-each_keeps P f a d r s c v w q teller the_file e = f.7
-each_keeps P f a d r s c v w q teller the_mode e = w.0
-each_keeps P f a d r s c v w q teller the_choices e = w.1
-each_keeps P f a d r s c v w q teller the_fuel e = w.2
-each_keeps P f a d r s c v w q teller _ e = cc
-each_keeps P f a d r s c v w q translator the_file e = f.8
-each_keeps P f a d r s c v w q translator _ e = cc
-each_keeps P f a d r s c v w q painter the_file e = f.9
-each_keeps P f a d r s c v w q painter the_mode e = q.0
-each_keeps P f a d r s c v w q painter the_choices e = q.1
-each_keeps P f a d r s c v w q painter the_laid_witness e = q.2
-each_keeps P f a d r s c v w q painter the_words e = q.3
-each_keeps P f a d r s c v w q painter the_fuel e = q.4
-each_keeps P f a d r s c v w q painter _ e = cc
+pub each_keeps : (P : Tool → Item → Type 0) → EachFile P → EachAsks P tracer → EachAsks P debugger → EachAsks P runner → EachAsks P server → EachAsks P checker → EachAsks P verifier → EachAsks P teller → EachAsks P painter → EachAsks P diagnoser → (t : Tool) (i : Item) → keeps t i ≡ true → P t i
+each_keeps P f a d r s c v w q g tracer the_file e = f.0
+each_keeps P f a d r s c v w q g tracer the_mode e = a
+each_keeps P f a d r s c v w q g tracer _ e = cc
+each_keeps P f a d r s c v w q g debugger the_file e = f.1
+each_keeps P f a d r s c v w q g debugger the_mode e = d.0
+each_keeps P f a d r s c v w q g debugger the_choices e = d.1
+each_keeps P f a d r s c v w q g debugger the_laid_witness e = d.2
+each_keeps P f a d r s c v w q g debugger _ e = cc
+each_keeps P f a d r s c v w q g runner the_file e = f.2
+each_keeps P f a d r s c v w q g runner the_mode e = r
+each_keeps P f a d r s c v w q g runner _ e = cc
+each_keeps P f a d r s c v w q g server the_file e = f.3
+each_keeps P f a d r s c v w q g server the_mode e = s.0
+each_keeps P f a d r s c v w q g server the_port e = s.1
+each_keeps P f a d r s c v w q g server the_clients e = s.2
+each_keeps P f a d r s c v w q g server _ e = cc
+each_keeps P f a d r s c v w q g checker the_file e = f.4
+each_keeps P f a d r s c v w q g checker the_mode e = c.0
+each_keeps P f a d r s c v w q g checker the_modes e = c.1
+each_keeps P f a d r s c v w q g checker the_runs e = c.2
+each_keeps P f a d r s c v w q g checker the_fuel e = c.3
+each_keeps P f a d r s c v w q g checker the_split e = c.4
+each_keeps P f a d r s c v w q g checker the_workers e = c.5
+each_keeps P f a d r s c v w q g checker the_states e = c.6
+each_keeps P f a d r s c v w q g checker the_sample e = c.7
+each_keeps P f a d r s c v w q g checker the_seed e = c.8
+each_keeps P f a d r s c v w q g checker the_until e = c.9
+each_keeps P f a d r s c v w q g checker the_piece e = c.10
+each_keeps P f a d r s c v w q g checker _ e = cc
+each_keeps P f a d r s c v w q g verifier the_file e = f.5
+each_keeps P f a d r s c v w q g verifier the_witness_file e = f.6
+each_keeps P f a d r s c v w q g verifier the_mode e = v.0
+each_keeps P f a d r s c v w q g verifier the_leaf e = v.1
+each_keeps P f a d r s c v w q g verifier _ e = cc
+each_keeps P f a d r s c v w q g teller the_file e = f.7
+each_keeps P f a d r s c v w q g teller the_mode e = w.0
+each_keeps P f a d r s c v w q g teller the_choices e = w.1
+each_keeps P f a d r s c v w q g teller the_fuel e = w.2
+each_keeps P f a d r s c v w q g teller _ e = cc
+each_keeps P f a d r s c v w q g translator the_file e = f.8
+each_keeps P f a d r s c v w q g translator _ e = cc
+each_keeps P f a d r s c v w q g painter the_file e = f.9
+each_keeps P f a d r s c v w q g painter the_mode e = q.0
+each_keeps P f a d r s c v w q g painter the_choices e = q.1
+each_keeps P f a d r s c v w q g painter the_laid_witness e = q.2
+each_keeps P f a d r s c v w q g painter the_words e = q.3
+each_keeps P f a d r s c v w q g painter the_fuel e = q.4
+each_keeps P f a d r s c v w q g painter _ e = cc
+each_keeps P f a d r s c v w q g diagnoser the_file e = f.10
+each_keeps P f a d r s c v w q g diagnoser the_mode e = g
+each_keeps P f a d r s c v w q g diagnoser _ e = cc
 
 pub asks_keeps : (t : Tool) (i : Item) → asks t i ≡ true → keeps t i ≡ true
-asks_keeps = each_asks (λ t i. keeps t i ≡ true) refl (refl, refl) refl (refl, refl, refl) (refl, refl, refl, refl, refl, refl, refl, refl, refl, refl, refl) (refl, refl) (refl, refl, refl) (refl, refl, refl, refl, refl)
+asks_keeps = each_asks (λ t i. keeps t i ≡ true) refl (refl, refl, refl) refl (refl, refl, refl) (refl, refl, refl, refl, refl, refl, refl, refl, refl, refl, refl) (refl, refl) (refl, refl, refl) (refl, refl, refl, refl, refl) refl
 
 pub by_id : (lie : Lies) (t : Tool) (i : Item) → keeps t i ≡ true → arg_by_id (rules lie t) (name_of i) ≡ Some (arg lie t i)
 unfolding clap_on_literals
-by_id lie = each_keeps (λ t i. arg_by_id (rules lie t) (name_of i) ≡ Some (arg lie t i)) (refl, refl, refl, refl, refl, refl, refl, refl, refl, refl) refl (refl, refl) refl (refl, refl, refl) (refl, refl, refl, refl, refl, refl, refl, refl, refl, refl, refl) (refl, refl) (refl, refl, refl) (refl, refl, refl, refl, refl)
+by_id lie = each_keeps (λ t i. arg_by_id (rules lie t) (name_of i) ≡ Some (arg lie t i)) (refl, refl, refl, refl, refl, refl, refl, refl, refl, refl, refl) refl (refl, refl, refl) refl (refl, refl, refl) (refl, refl, refl, refl, refl, refl, refl, refl, refl, refl, refl) (refl, refl) (refl, refl, refl) (refl, refl, refl, refl, refl) refl
 
 pub by_long : (lie : Lies) (t : Tool) (i : Item) → asks t i ≡ true → arg_by_long (rules lie t) (spelling_of i) ≡ Some (arg lie t i)
 unfolding clap_on_literals
-by_long lie = each_asks (λ t i. arg_by_long (rules lie t) (spelling_of i) ≡ Some (arg lie t i)) refl (refl, refl) refl (refl, refl, refl) (refl, refl, refl, refl, refl, refl, refl, refl, refl, refl, refl) (refl, refl) (refl, refl, refl) (refl, refl, refl, refl, refl)
+by_long lie = each_asks (λ t i. arg_by_long (rules lie t) (spelling_of i) ≡ Some (arg lie t i)) refl (refl, refl, refl) refl (refl, refl, refl) (refl, refl, refl, refl, refl, refl, refl, refl, refl, refl, refl) (refl, refl) (refl, refl, refl) (refl, refl, refl, refl, refl) refl
 
 -- the flags, which have no value
 abbrev pub flags : Tool → Item → Bool
@@ -279,31 +291,36 @@ flags checker the_complete = true
 flags checker the_pieces = true
 flags teller the_ends = true
 flags painter the_ends = true
+flags diagnoser the_strict = true
+flags debugger the_ends = true
 flags _ _ = false
 
-pub each_flag : (P : Tool → Item → Type 0) → P checker the_ends × P checker the_outcomes × P checker the_explain × P checker the_group × P checker the_witness × P checker the_complete × P checker the_pieces → P teller the_ends → P painter the_ends → (t : Tool) (i : Item) → flags t i ≡ true → P t i
-each_flag P c w q checker the_ends e = c.0
-each_flag P c w q checker the_outcomes e = c.1
-each_flag P c w q checker the_explain e = c.2
-each_flag P c w q checker the_group e = c.3
-each_flag P c w q checker the_witness e = c.4
-each_flag P c w q checker the_complete e = c.5
-each_flag P c w q checker the_pieces e = c.6
-each_flag P c w q checker _ e = cc
-each_flag P c w q teller the_ends e = w
-each_flag P c w q teller _ e = cc
-each_flag P c w q painter the_ends e = q
-each_flag P c w q painter _ e = cc
-each_flag P c w q tracer i e = cc
-each_flag P c w q debugger i e = cc
-each_flag P c w q runner i e = cc
-each_flag P c w q server i e = cc
-each_flag P c w q verifier i e = cc
-each_flag P c w q translator i e = cc
+pub each_flag : (P : Tool → Item → Type 0) → P checker the_ends × P checker the_outcomes × P checker the_explain × P checker the_group × P checker the_witness × P checker the_complete × P checker the_pieces → P teller the_ends → P painter the_ends → P diagnoser the_strict → P debugger the_ends → (t : Tool) (i : Item) → flags t i ≡ true → P t i
+each_flag P c w q g d checker the_ends e = c.0
+each_flag P c w q g d checker the_outcomes e = c.1
+each_flag P c w q g d checker the_explain e = c.2
+each_flag P c w q g d checker the_group e = c.3
+each_flag P c w q g d checker the_witness e = c.4
+each_flag P c w q g d checker the_complete e = c.5
+each_flag P c w q g d checker the_pieces e = c.6
+each_flag P c w q g d checker _ e = cc
+each_flag P c w q g d teller the_ends e = w
+each_flag P c w q g d teller _ e = cc
+each_flag P c w q g d painter the_ends e = q
+each_flag P c w q g d painter _ e = cc
+each_flag P c w q g d diagnoser the_strict e = g
+each_flag P c w q g d diagnoser _ e = cc
+each_flag P c w q g d debugger the_ends e = d
+each_flag P c w q g d debugger _ e = cc
+each_flag P c w q g d tracer i e = cc
+each_flag P c w q g d runner i e = cc
+each_flag P c w q g d server i e = cc
+each_flag P c w q g d verifier i e = cc
+each_flag P c w q g d translator i e = cc
 
 pub flag_by_long : (lie : Lies) (t : Tool) (i : Item) → flags t i ≡ true → arg_by_long (rules lie t) (spelling_of i) ≡ Some (arg lie t i)
 unfolding clap_on_literals
-flag_by_long lie = each_flag (λ t i. arg_by_long (rules lie t) (spelling_of i) ≡ Some (arg lie t i)) (refl, refl, refl, refl, refl, refl, refl) refl refl
+flag_by_long lie = each_flag (λ t i. arg_by_long (rules lie t) (spelling_of i) ≡ Some (arg lie t i)) (refl, refl, refl, refl, refl, refl, refl) refl refl refl refl
 
 -- ---- a use of an item
 
@@ -341,7 +358,7 @@ or_nothing false = refl
 
 accepted_fits : (t : Tool) (i : Item) (v : Text) → keeps t i ≡ true → accepted i v ≡ fits i v
 accepted_fits t i v k =
-    each_keeps (λ t i. accepted i v ≡ fits i v) (refl, refl, refl, refl, refl, refl, refl, refl, refl, refl) refl (refl, refl) refl (refl, accepts_number 1 most_port v (omega arith), accepts_number 1 most_clients v (omega arith)) (
+    each_keeps (λ t i. accepted i v ≡ fits i v) (refl, refl, refl, refl, refl, refl, refl, refl, refl, refl, refl) refl (refl, refl, refl) refl (refl, accepts_number 1 most_port v (omega arith), accepts_number 1 most_clients v (omega arith)) (
       refl,
       accepts_number 0 most_modes v (omega arith),
       accepts_number 1 most_runs v (omega arith),
@@ -353,7 +370,7 @@ accepted_fits t i v k =
       accepts_number 0 most_seed v (omega arith),
       or_nothing (bytes_eq (codes "deadlock") v) ∙ same_either_way (codes "deadlock") v,
       accepts_number 0 most_piece v (omega arith),
-    ) (refl, accepts_number 0 most_leaf v (omega arith)) (refl, refl, accepts_number 1 most_fuel v (omega arith)) (refl, refl, refl, refl, accepts_number 1 most_fuel v (omega arith)) t i k
+    ) (refl, accepts_number 0 most_leaf v (omega arith)) (refl, refl, accepts_number 1 most_fuel v (omega arith)) (refl, refl, refl, refl, accepts_number 1 most_fuel v (omega arith)) refl t i k
 
 -- the fault of a value, by whether it is taken
 abbrev value_fault : ErrorKind → Bool → Kinds
@@ -371,11 +388,11 @@ again_fault again = if again && not false then kind.ArgumentConflict ∷ [] else
 use_is : (lie : Lies) (v : Text) (rows : List Row) (t : Tool) (i : Item) → keeps t i ≡ true
     → use_fault false (arg lie t i) (v ∷ []) rows ≡ or_else (again_fault (has_row (name_of i) rows)) (value_fault (refused_as i) (accepted i v))
 unfolding clap_on_literals
-use_is lie v rows = each_keeps (λ t i. use_fault false (arg lie t i) (v ∷ []) rows ≡ or_else (again_fault (has_row (name_of i) rows)) (value_fault (refused_as i) (accepted i v))) (refl, refl, refl, refl, refl, refl, refl, refl, refl, refl) refl (refl, refl) refl (refl, refl, refl) (refl, refl, refl, refl, refl, refl, refl, refl, refl, refl, refl) (refl, refl) (refl, refl, refl) (refl, refl, refl, refl, refl)
+use_is lie v rows = each_keeps (λ t i. use_fault false (arg lie t i) (v ∷ []) rows ≡ or_else (again_fault (has_row (name_of i) rows)) (value_fault (refused_as i) (accepted i v))) (refl, refl, refl, refl, refl, refl, refl, refl, refl, refl, refl) refl (refl, refl, refl) refl (refl, refl, refl) (refl, refl, refl, refl, refl, refl, refl, refl, refl, refl, refl) (refl, refl) (refl, refl, refl) (refl, refl, refl, refl, refl) refl
 
 flag_use_is : (lie : Lies) (rows : List Row) (t : Tool) (i : Item) → flags t i ≡ true → use_fault false (arg lie t i) [] rows ≡ or_else (again_fault (has_row (name_of i) rows)) []
 unfolding clap_on_literals
-flag_use_is lie rows = each_flag (λ t i. use_fault false (arg lie t i) [] rows ≡ or_else (again_fault (has_row (name_of i) rows)) []) (refl, refl, refl, refl, refl, refl, refl) refl refl
+flag_use_is lie rows = each_flag (λ t i. use_fault false (arg lie t i) [] rows ≡ or_else (again_fault (has_row (name_of i) rows)) []) (refl, refl, refl, refl, refl, refl, refl) refl refl refl refl
 
 abbrev fault_by : ErrorKind → Bool → Bool → Kinds
 fault_by k again taken = or_else (again_fault again) (value_fault k taken)
@@ -424,7 +441,7 @@ some_fault (k ∷ ks) e = λ z. cc
 -- an option that waits for its value still
 pub no_value : (lie : Lies) (rows : List Row) (t : Tool) (i : Item) → asks t i ≡ true → use_fault false (arg lie t i) [] rows ≢ []
 unfolding clap_on_literals
-no_value lie rows = each_asks (λ t i. use_fault false (arg lie t i) [] rows ≢ []) (some_fault _ refl) (some_fault _ refl, some_fault _ refl) (some_fault _ refl) (some_fault _ refl, some_fault _ refl, some_fault _ refl) (some_fault _ refl, some_fault _ refl, some_fault _ refl, some_fault _ refl, some_fault _ refl, some_fault _ refl, some_fault _ refl, some_fault _ refl, some_fault _ refl, some_fault _ refl, some_fault _ refl) (some_fault _ refl, some_fault _ refl) (some_fault _ refl, some_fault _ refl, some_fault _ refl) (some_fault _ refl, some_fault _ refl, some_fault _ refl, some_fault _ refl, some_fault _ refl)
+no_value lie rows = each_asks (λ t i. use_fault false (arg lie t i) [] rows ≢ []) (some_fault _ refl) (some_fault _ refl, some_fault _ refl, some_fault _ refl) (some_fault _ refl) (some_fault _ refl, some_fault _ refl, some_fault _ refl) (some_fault _ refl, some_fault _ refl, some_fault _ refl, some_fault _ refl, some_fault _ refl, some_fault _ refl, some_fault _ refl, some_fault _ refl, some_fault _ refl, some_fault _ refl, some_fault _ refl) (some_fault _ refl, some_fault _ refl) (some_fault _ refl, some_fault _ refl, some_fault _ refl) (some_fault _ refl, some_fault _ refl, some_fault _ refl, some_fault _ refl, some_fault _ refl) (some_fault _ refl)
 
 -- ---- rows
 
@@ -455,7 +472,7 @@ values_at_end id how source values (r ∷ rs) h =
 
 used_is : (lie : Lies) (v : Text) (rows : List Row) (t : Tool) (i : Item) → keeps t i ≡ true → used (arg lie t i) (v ∷ []) rows ≡ with_values (name_of i) AsWritten CommandLine (v ∷ []) (without (name_of i) rows)
 unfolding clap_on_literals
-used_is lie v rows = each_keeps (λ t i. used (arg lie t i) (v ∷ []) rows ≡ with_values (name_of i) AsWritten CommandLine (v ∷ []) (without (name_of i) rows)) (refl, refl, refl, refl, refl, refl, refl, refl, refl, refl) refl (refl, refl) refl (refl, refl, refl) (refl, refl, refl, refl, refl, refl, refl, refl, refl, refl, refl) (refl, refl) (refl, refl, refl) (refl, refl, refl, refl, refl)
+used_is lie v rows = each_keeps (λ t i. used (arg lie t i) (v ∷ []) rows ≡ with_values (name_of i) AsWritten CommandLine (v ∷ []) (without (name_of i) rows)) (refl, refl, refl, refl, refl, refl, refl, refl, refl, refl, refl) refl (refl, refl, refl) refl (refl, refl, refl) (refl, refl, refl, refl, refl, refl, refl, refl, refl, refl, refl) (refl, refl) (refl, refl, refl) (refl, refl, refl, refl, refl) refl
 
 at_end_of : (i : Item) (v : Text) (rows : List Row) → has_row (name_of i) rows ≡ false → with_values (name_of i) AsWritten CommandLine (v ∷ []) (without (name_of i) rows) ≡ rows ++ row_for i v CommandLine ∷ []
 at_end_of i v rows h = ap (λ rs. with_values (name_of i) AsWritten CommandLine (v ∷ []) rs) (without_none (name_of i) rows h) ∙ values_at_end (name_of i) AsWritten CommandLine (v ∷ []) rows h
@@ -465,7 +482,7 @@ used_once lie t i v rows k h = used_is lie v rows t i k ∙ at_end_of i v rows h
 
 flag_used_is : (lie : Lies) (rows : List Row) (t : Tool) (i : Item) → flags t i ≡ true → used (arg lie t i) [] rows ≡ with_values (name_of i) AsWritten CommandLine (codes "true" ∷ []) (without (name_of i) rows)
 unfolding clap_on_literals
-flag_used_is lie rows = each_flag (λ t i. used (arg lie t i) [] rows ≡ with_values (name_of i) AsWritten CommandLine (codes "true" ∷ []) (without (name_of i) rows)) (refl, refl, refl, refl, refl, refl, refl) refl refl
+flag_used_is lie rows = each_flag (λ t i. used (arg lie t i) [] rows ≡ with_values (name_of i) AsWritten CommandLine (codes "true" ∷ []) (without (name_of i) rows)) (refl, refl, refl, refl, refl, refl, refl) refl refl refl refl
 
 pub flag_used_once : (lie : Lies) (t : Tool) (i : Item) (rows : List Row) → flags t i ≡ true → has_row (name_of i) rows ≡ false → used (arg lie t i) [] rows ≡ rows ++ row_for i (codes "true") CommandLine ∷ []
 flag_used_once lie t i rows flag h = flag_used_is lie rows t i flag ∙ at_end_of i (codes "true") rows h

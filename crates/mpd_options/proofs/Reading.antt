@@ -15,11 +15,11 @@ use Rattle.clap.specs.declared.parser.matches.ArgMatches.TheViews.{out-ArgMatche
 use Rattle.clap.specs.declared.parser.matches.Found.{Found}
 use Rattle.clap.proofs.OnLiterals.{clap_on_literals}
 use Rattle.clap.proofs.WalkLemmas.{first_value-rows, one_text-rows}
-use Rattle.mpd_options.specs.Asked.{Asked, IsFound, IsInRange, AreInRange, Item, Tool, asked, check, checker, debug, debugger, found, found_by, found_check, found_in, found_of_command, found_of_file, found_options, found_picture, found_serve, found_verify, found_words, given_word, meant, most_clients, most_fuel, most_leaf, most_modes, most_piece, most_port, most_runs, most_sample, most_seed, most_split, most_states, most_workers, number_if_given, paint, painter, text_in, the_choices, the_clients, the_ends, the_file, the_fuel, the_laid_witness, the_leaf, the_mode, the_modes, the_piece, the_port, the_runs, the_sample, the_seed, the_split, the_states, the_witness_file, the_words, the_workers, tell, teller, tool_named, run, runner, serve, server, trace, tracer, translate, translator, until_bad_in, verifier, verify}
+use Rattle.mpd_options.specs.Asked.{Asked, IsFound, IsInRange, AreInRange, Item, Tool, asked, check, checker, debug, debugger, diagnose, diagnoser, found, found_by, found_check, found_debug, found_diagnose, found_in, found_of_command, found_of_file, found_options, found_picture, found_serve, found_verify, found_words, given_word, meant, most_clients, most_fuel, most_leaf, most_modes, most_piece, most_port, most_runs, most_sample, most_seed, most_split, most_states, most_workers, number_if_given, paint, painter, text_in, the_choices, the_clients, the_ends, the_file, the_fuel, the_laid_witness, the_leaf, the_mode, the_modes, the_piece, the_port, the_runs, the_sample, the_seed, the_split, the_states, the_strict, the_witness_file, the_words, the_workers, tell, teller, tool_named, run, runner, serve, server, trace, tracer, translate, translator, until_bad_in, verifier, verify}
 use Rattle.mpd_options.specs.Numbers.{flag_in, most_usize, number_in}
 use Rattle.mpd_options.specs.declared.options.CheckOptions.{CheckOptions}
 use Rattle.mpd_options.specs.declared.options.Options.{Options}
-use Rattle.mpd_options.specs.declared.options.Options.TheVariants.{Plain, Trace, Debug, Run, Serve, Check, Verify, Words, Translate, Picture}
+use Rattle.mpd_options.specs.declared.options.Options.TheVariants.{Plain, Diagnose, Trace, Debug, Run, Serve, Check, Verify, Words, Translate, Picture}
 use Rattle.mpd_options.specs.Program.{Choices, Lies, mpdbg_app, only_deadlock}
 use Rattle.mpd_options.specs.Refused.{IsRefused, is_memory, usage_of}
 use Rattle.mpd_options.specs.declared.options.UsageFault.TheVariants.{Usage, Memory}
@@ -126,6 +126,7 @@ named_tool verifier rows = refl
 named_tool teller rows = refl
 named_tool translator rows = refl
 named_tool painter rows = refl
+named_tool diagnoser rows = refl
 
 pub command_is : (t : Tool) (m : ArgMatches) (rows : List Row) → subcommand_name_of m ≡ Some (called t) → option_map (λ (p : Text × List Row). p.1) (subcommand_rows_of m) ≡ Some rows
     → found_of_command (subcommand_rows_of m) ≡ found_in t rows
@@ -211,9 +212,31 @@ some_picture (Some f) (Some m) None s c w x e = cc
 some_picture (Some f) (Some m) (Some n) None c w x e = cc
 some_picture (Some f) (Some m) (Some n) (Some s) c w x e = record { file = refl; mode = refl; fuel = refl; ends = refl }
 
+pub record HasDebug (f m : Option Text) (s : Option Bool) : Type 0 where
+  pub file : is_some f ≡ true
+  pub mode : is_some m ≡ true
+  pub ends : is_some s ≡ true
+
+some_debug : (f m : Option Text) (s : Option Bool) (c w : Option Text) → is_some (found_debug f m s c w) ≡ true → HasDebug f m s
+some_debug None m s c w e = cc
+some_debug (Some f) None s c w e = cc
+some_debug (Some f) (Some m) None c w e = cc
+some_debug (Some f) (Some m) (Some s) c w e = record { file = refl; mode = refl; ends = refl }
+
+pub record HasDiagnosed (f m : Option Text) (s : Option Bool) : Type 0 where
+  pub file : is_some f ≡ true
+  pub mode : is_some m ≡ true
+  pub strict : is_some s ≡ true
+
+some_diagnosed : (f m : Option Text) (s : Option Bool) → is_some (found_diagnose f m s) ≡ true → HasDiagnosed f m s
+some_diagnosed None m s e = cc
+some_diagnosed (Some f) None s e = cc
+some_diagnosed (Some f) (Some m) None e = cc
+some_diagnosed (Some f) (Some m) (Some s) e = record { file = refl; mode = refl; strict = refl }
+
 pub has_file : (t : Tool) (rows : List Row) → is_some (found_in t rows) ≡ true → is_some (first_of (codes "FILE") rows) ≡ true
 has_file tracer rows e = (some_both trace _ _ e).0
-has_file debugger rows e = (some_both (λ file mode. debug file mode (text_in rows the_laid_witness)) _ _ e).0
+has_file debugger rows e = (some_debug _ _ _ _ _ e).file
 has_file runner rows e = (some_both run _ _ e).0
 has_file server rows e = (some_served _ _ _ _ e).file
 has_file checker rows e = (some_check _ _ _ e).0
@@ -221,10 +244,11 @@ has_file verifier rows e = (some_verified _ _ _ _ e).file
 has_file teller rows e = (some_words_found _ _ _ _ _ e).file
 has_file translator rows e = some_translated _ e
 has_file painter rows e = (some_picture _ _ _ _ _ _ _ e).file
+has_file diagnoser rows e = (some_diagnosed _ _ _ e).file
 
 pub has_mode : (t : Tool) (rows : List Row) → asks t the_mode ≡ true → is_some (found_in t rows) ≡ true → is_some (first_of (codes "mode") rows) ≡ true
 has_mode tracer rows has e = (some_both trace _ _ e).1
-has_mode debugger rows has e = (some_both (λ file mode. debug file mode (text_in rows the_laid_witness)) _ _ e).1
+has_mode debugger rows has e = (some_debug _ _ _ _ _ e).mode
 has_mode runner rows has e = (some_both run _ _ e).1
 has_mode server rows has e = (some_served _ _ _ _ e).mode
 has_mode checker rows has e = (some_check _ _ _ e).1
@@ -232,6 +256,7 @@ has_mode verifier rows has e = (some_verified _ _ _ _ e).mode
 has_mode teller rows has e = (some_words_found _ _ _ _ _ e).mode
 has_mode translator rows has e = cc
 has_mode painter rows has e = (some_picture _ _ _ _ _ _ _ e).mode
+has_mode diagnoser rows has e = (some_diagnosed _ _ _ e).mode
 
 not_found : (r : Option (Bor Text)) (o : Option Text) → o ≡ text_at r → r ≡ None → is_some o ≡ true → ⊥
 not_found r o e none some = (let bad : false ≡ true = sym (ap is_some (e ∙ ap text_at none)) ∙ some in cc)
@@ -251,12 +276,15 @@ text_is f r id text e is = value_is f r id e ∙ ap text_at is
 pub both_found : {f m : Option Text} (asks : Text → Text → Asked) (file mode : Text) → f ≡ Some file → m ≡ Some mode → Some (asks file mode) ≡ found_of_file asks f m
 both_found asks file mode e h = sym (ap₂ (found_of_file asks) e h)
 
--- with the word of a witness's file, where there is one
-pub debug_found : (f : Found) (file mode : Text) (r : Option (Bor Text)) → first_of (codes "FILE") (rows_of f) ≡ Some file → first_of (codes "mode") (rows_of f) ≡ Some mode
-    → text_at r ≡ first_value f (codes "laid_witness") → Some (debug file mode (text_at r)) ≡ found_in debugger (rows_of f)
-debug_found f file mode r e h w =
-    let there : Option Text = first_of (codes "laid_witness") (rows_of f) in
-    ap (λ o. Some (debug file mode o)) (sym (value_is f r (codes "laid_witness") w)) ∙ both_found (λ file mode. debug file mode there) file mode e h
+debug_of : {f m : Option Text} {s : Option Bool} {c w : Option Text} (file mode : Text) (ends : Bool) (choices witness : Option Text) → f ≡ Some file → m ≡ Some mode → s ≡ Some ends → c ≡ choices → w ≡ witness
+    → Some (debug file mode choices witness ends) ≡ found_debug f m s c w
+debug_of file mode ends choices witness a b d e g = rw (a, b, d, e, g) refl
+
+-- with the words of choices and a witness's file, where there are such
+pub debug_found : (f : Found) (file mode : Text) (ends : Bool) (c w : Option (Bor Text)) → first_of (codes "FILE") (rows_of f) ≡ Some file → first_of (codes "mode") (rows_of f) ≡ Some mode
+    → option_and_then flag_in (one_of (codes "ends") (rows_of f)) ≡ Some ends → text_at c ≡ first_value f (codes "choices") → text_at w ≡ first_value f (codes "laid_witness")
+    → Some (debug file mode (text_at c) (text_at w) ends) ≡ found_in debugger (rows_of f)
+debug_found f file mode ends c w a b d e g = debug_of file mode ends (text_at c) (text_at w) a b d (value_is f c (codes "choices") e) (value_is f w (codes "laid_witness") g)
 
 pub verify_found : {f w m : Option Text} {l : Option (Option ℕ)} (file witness mode : Text) (leaf : Option ℕ) → f ≡ Some file → w ≡ Some witness → m ≡ Some mode → l ≡ Some leaf
     → Some (verify file witness mode leaf) ≡ found_verify f w m l
@@ -268,6 +296,9 @@ words_found file choices mode fuel ends a b c d e = rw (a, b, c, d, e) refl
 
 pub translate_found : {f : Option Text} (file : Text) → f ≡ Some file → Some (translate file) ≡ option_map translate f
 translate_found file a = rw a refl
+
+pub diagnose_found : {f m : Option Text} {s : Option Bool} (file mode : Text) (strict : Bool) → f ≡ Some file → m ≡ Some mode → s ≡ Some strict → Some (diagnose file mode strict) ≡ found_diagnose f m s
+diagnose_found file mode strict a b c = rw (a, b, c) refl
 
 picture_of : {f m : Option Text} {n : Option ℕ} {s : Option Bool} {c w x : Option Text} (file mode : Text) (fuel : ℕ) (ends : Bool) (choices witness words : Option Text)
     → f ≡ Some file → m ≡ Some mode → n ≡ Some fuel → s ≡ Some ends → c ≡ choices → w ≡ witness → x ≡ words
@@ -386,8 +417,14 @@ has_picture_fuel f e = (some_picture _ _ _ _ _ _ _ e).fuel
 pub has_words_ends : (f : Found) → is_some (found_in teller (rows_of f)) ≡ true → is_some (flag_at (codes "ends") f) ≡ true
 has_words_ends f e = (some_words_found _ _ _ _ _ e).ends
 
+pub has_debug_ends : (f : Found) → is_some (found_in debugger (rows_of f)) ≡ true → is_some (flag_at (codes "ends") f) ≡ true
+has_debug_ends f e = (some_debug _ _ _ _ _ e).ends
+
 pub has_picture_ends : (f : Found) → is_some (found_in painter (rows_of f)) ≡ true → is_some (flag_at (codes "ends") f) ≡ true
 has_picture_ends f e = (some_picture _ _ _ _ _ _ _ e).ends
+
+pub has_strict : (f : Found) → is_some (found_in diagnoser (rows_of f)) ≡ true → is_some (flag_at (codes "strict") f) ≡ true
+has_strict f e = (some_diagnosed _ _ _ e).strict
 
 pub has_options : (f : Found) → is_some (found_in checker (rows_of f)) ≡ true → is_some (found_options (text_in (rows_of f))) ≡ true
 has_options f e = (some_check _ _ _ e).2
@@ -457,8 +494,9 @@ HasRange _ = Unit {0}
 
 range_asked : (options : Options) → HasRange (asked options) → IsInRange options
 range_asked Plain h = tt
+range_asked (Diagnose file mode strict) h = tt
 range_asked (Trace file mode) h = tt
-range_asked (Debug file mode witness) h = tt
+range_asked (Debug file mode choices witness ends) h = tt
 range_asked (Run file mode) h = tt
 range_asked (Serve file mode port clients) h = h
 range_asked (Check file mode options) h = h
@@ -520,9 +558,21 @@ picture_range (Some f) (Some m) None s c w x a = tt
 picture_range (Some f) (Some m) (Some n) None c w x a = tt
 picture_range (Some f) (Some m) (Some n) (Some s) c w x a = a
 
+debug_range : (f m : Option Text) (s : Option Bool) (c w : Option Text) → RangeOf (found_debug f m s c w)
+debug_range None m s c w = tt
+debug_range (Some f) None s c w = tt
+debug_range (Some f) (Some m) None c w = tt
+debug_range (Some f) (Some m) (Some s) c w = tt
+
+diagnose_range : (f m : Option Text) (s : Option Bool) → RangeOf (found_diagnose f m s)
+diagnose_range None m s = tt
+diagnose_range (Some f) None s = tt
+diagnose_range (Some f) (Some m) None = tt
+diagnose_range (Some f) (Some m) (Some s) = tt
+
 found_range : (t : Tool) (text : Item → Option Text) → RangeOf (found t text)
 found_range tracer text = file_range trace (text the_file) (text the_mode) (λ f m. tt)
-found_range debugger text = file_range (λ file mode. debug file mode (text the_laid_witness)) (text the_file) (text the_mode) (λ f m. tt)
+found_range debugger text = debug_range (text the_file) (text the_mode) (option_and_then flag_in (text the_ends)) (text the_choices) (text the_laid_witness)
 found_range runner text = file_range run (text the_file) (text the_mode) (λ f m. tt)
 found_range server text =
     serve_range (text the_file) (text the_mode) (option_and_then (number_in 1 most_port) (text the_port)) (option_and_then (number_in 1 most_clients) (text the_clients)) (read_within 1 most_port (text the_port)) (read_within 1 most_clients (text the_clients))
@@ -533,6 +583,7 @@ found_range teller text =
 found_range translator text = translate_range (text the_file)
 found_range painter text =
     picture_range (text the_file) (text the_mode) (option_and_then (number_in 1 most_fuel) (text the_fuel)) (option_and_then flag_in (text the_ends)) (text the_choices) (text the_laid_witness) (text the_words) (read_within 1 most_fuel (text the_fuel))
+found_range diagnoser text = diagnose_range (text the_file) (text the_mode) (option_and_then flag_in (text the_strict))
 
 range_by : (o : Option Tool) (rows : List Row) → RangeOf (found_by o rows)
 range_by None rows = tt

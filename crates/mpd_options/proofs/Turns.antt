@@ -11,7 +11,7 @@ use Rattle.clap.specs.Kinds.{Kinds, or_else}
 use Rattle.clap.specs.Faults.{settle_fault, turn_fault, step_fault, long_fault, bundle_fault, flags_fault, short_fault, flag_word_fault}
 use Rattle.clap.specs.Walk.{Held, Walk, Waiting, idle, option, Step, trailing, value, Outcome, plain, walked, settled, arg_by_long, arg_by_short, arg_by_index, is_pending, long_met, long_or_other, short_or_plain, plain_word, pushed, after_flag, after_step, to_positional, bundle, bundle_met}
 use Rattle.clap.proofs.OnLiterals.{clap_on_literals}
-use Rattle.mpd_options.specs.Asked.{Item, Place, Said, Tool, among_options, behind_dashes, behind_option, by_letters, checker, dashes, debugger, fits, long_or_short, name_of, named_so, no_option, files_of, option_among, options_of, other_option, painter, said_of, short_option, spelling_of, the_file, the_witness_file, runner, server, teller, tracer, translator, unsaid, verifier, word_of}
+use Rattle.mpd_options.specs.Asked.{Item, Place, Said, Tool, among_options, behind_dashes, behind_option, by_letters, checker, dashes, debugger, diagnoser, fits, long_or_short, name_of, named_so, no_option, files_of, option_among, options_of, other_option, painter, said_of, short_option, spelling_of, the_file, the_witness_file, runner, server, teller, tracer, translator, unsaid, verifier, word_of}
 use Rattle.mpd_options.specs.Program.{Lies}
 use Rattle.mpd_options.proofs.Ends.{IsLast, fails_first, fails_then, held, held_for, settles, with_last}
 use Rattle.mpd_options.proofs.Items.{EachFile, Valid, arg, asks, by_long, flags, flag_by_long, help_arg, keeps, reads_witness, rows_for, rules, some_fault, sub}
@@ -38,6 +38,8 @@ help_fails lie translator None h = fails_then (settle_fault (rules lie translato
 help_fails lie translator (Some x) h = some_fault _ refl
 help_fails lie painter None h = fails_then (settle_fault (rules lie painter) false h) _ (some_fault _ refl)
 help_fails lie painter (Some x) h = some_fault _ refl
+help_fails lie diagnoser None h = fails_then (settle_fault (rules lie diagnoser) false h) _ (some_fault _ refl)
+help_fails lie diagnoser (Some x) h = some_fault _ refl
 
 -- none of these has the name
 abbrev pub NoneNamed : List Item → Text → Type 0
@@ -51,7 +53,7 @@ Unnamed t name = NoneNamed (options_of t) name
 find_help : (lie : Lies) (t : Tool) (name : Text) → Unnamed t name → bytes_eq (codes "help") name ≡ true → arg_by_long (rules lie t) name ≡ Some (help_arg lie t)
 unfolding clap_on_literals
 find_help lie tracer name u h = rw (u.0, h) refl
-find_help lie debugger name u h = rw (u.0, u.1.0, h) refl
+find_help lie debugger name u h = rw (u.0, u.1.0, u.1.1.0, u.1.1.1.0, h) refl
 find_help lie runner name u h = rw (u.0, h) refl
 find_help lie server name u h = rw (u.0, u.1.0, u.1.1.0, h) refl
 find_help lie checker name u h = rw (u.0, u.1.0, u.1.1.0, u.1.1.1.0, u.1.1.1.1.0, u.1.1.1.1.1.0, u.1.1.1.1.1.1.0, u.1.1.1.1.1.1.1.0, u.1.1.1.1.1.1.1.1.0, u.1.1.1.1.1.1.1.1.1.0, u.1.1.1.1.1.1.1.1.1.1.0, u.1.1.1.1.1.1.1.1.1.1.1.0, u.1.1.1.1.1.1.1.1.1.1.1.1.0, u.1.1.1.1.1.1.1.1.1.1.1.1.1.0, u.1.1.1.1.1.1.1.1.1.1.1.1.1.1.0, u.1.1.1.1.1.1.1.1.1.1.1.1.1.1.1.0, u.1.1.1.1.1.1.1.1.1.1.1.1.1.1.1.1.0, u.1.1.1.1.1.1.1.1.1.1.1.1.1.1.1.1.1.0, h) refl
@@ -59,11 +61,12 @@ find_help lie verifier name u h = rw (u.0, u.1.0, h) refl
 find_help lie teller name u h = rw (u.0, u.1.0, u.1.1.0, u.1.1.1.0, h) refl
 find_help lie translator name u h = rw h refl
 find_help lie painter name u h = rw (u.0, u.1.0, u.1.1.0, u.1.1.1.0, u.1.1.1.1.0, u.1.1.1.1.1.0, h) refl
+find_help lie diagnoser name u h = rw (u.0, u.1.0, h) refl
 
 find_none : (lie : Lies) (t : Tool) (name : Text) → Unnamed t name → bytes_eq (codes "help") name ≡ false → arg_by_long (rules lie t) name ≡ None
 unfolding clap_on_literals
 find_none lie tracer name u h = rw (u.0, h) refl
-find_none lie debugger name u h = rw (u.0, u.1.0, h) refl
+find_none lie debugger name u h = rw (u.0, u.1.0, u.1.1.0, u.1.1.1.0, h) refl
 find_none lie runner name u h = rw (u.0, h) refl
 find_none lie server name u h = rw (u.0, u.1.0, u.1.1.0, h) refl
 find_none lie checker name u h = rw (u.0, u.1.0, u.1.1.0, u.1.1.1.0, u.1.1.1.1.0, u.1.1.1.1.1.0, u.1.1.1.1.1.1.0, u.1.1.1.1.1.1.1.0, u.1.1.1.1.1.1.1.1.0, u.1.1.1.1.1.1.1.1.1.0, u.1.1.1.1.1.1.1.1.1.1.0, u.1.1.1.1.1.1.1.1.1.1.1.0, u.1.1.1.1.1.1.1.1.1.1.1.1.0, u.1.1.1.1.1.1.1.1.1.1.1.1.1.0, u.1.1.1.1.1.1.1.1.1.1.1.1.1.1.0, u.1.1.1.1.1.1.1.1.1.1.1.1.1.1.1.0, u.1.1.1.1.1.1.1.1.1.1.1.1.1.1.1.1.0, u.1.1.1.1.1.1.1.1.1.1.1.1.1.1.1.1.1.0, h) refl
@@ -71,6 +74,7 @@ find_none lie verifier name u h = rw (u.0, u.1.0, h) refl
 find_none lie teller name u h = rw (u.0, u.1.0, u.1.1.0, u.1.1.1.0, h) refl
 find_none lie translator name u h = rw h refl
 find_none lie painter name u h = rw (u.0, u.1.0, u.1.1.0, u.1.1.1.0, u.1.1.1.1.0, u.1.1.1.1.1.0, h) refl
+find_none lie diagnoser name u h = rw (u.0, u.1.0, h) refl
 
 pub dead_long : (lie : Lies) (t : Tool) (name : Text) (v : Option Text) (h : Held) → Unnamed t name → long_fault (rules lie t) false (arg_by_long (rules lie t) name) v h ≢ []
 dead_long lie t name v h u =
@@ -96,7 +100,7 @@ AreOptions t (i ∷ items) = ((asks t i ≡ true) ⊎ (flags t i ≡ true)) × A
 
 own_options : (t : Tool) → AreOptions t (options_of t)
 own_options tracer = (inl refl, tt)
-own_options debugger = (inl refl, (inl refl, tt))
+own_options debugger = (inl refl, (inl refl, (inl refl, (inr refl, tt))))
 own_options runner = (inl refl, tt)
 own_options server = (inl refl, (inl refl, (inl refl, tt)))
 own_options checker = (inl refl, (inl refl, (inl refl, (inl refl, (inl refl, (inl refl, (inr refl, (inr refl, (inl refl, (inl refl, (inl refl, (inr refl, (inr refl, (inl refl, (inr refl, (inr refl, (inl refl, (inr refl, tt))))))))))))))))))
@@ -104,6 +108,7 @@ own_options verifier = (inl refl, (inl refl, tt))
 own_options teller = (inl refl, (inl refl, (inl refl, (inr refl, tt))))
 own_options translator = tt
 own_options painter = (inl refl, (inl refl, (inl refl, (inl refl, (inl refl, (inr refl, tt))))))
+own_options diagnoser = (inl refl, (inr refl, tt))
 
 -- the first of these that has the name, or that none has it
 data Sought (t : Tool) (items : List Item) (name : Text) : Type 0 where
@@ -171,6 +176,10 @@ letter_fails lie translator x rest h next = elim (104 == x) as (λ b. (104 == x)
 ] refl
 letter_fails lie painter x rest h next = elim (104 == x) as (λ b. (104 == x) ≡ b → short_fault (rules lie painter) false (arg_by_short (rules lie painter) x) rest h next ≢ []) [
   | true ↦ λ e. rw e (fails_first _ _ (fails_then (settle_fault (rules lie painter) false h) _ (some_fault _ refl)))
+  | false ↦ λ e. rw e (some_fault _ refl)
+] refl
+letter_fails lie diagnoser x rest h next = elim (104 == x) as (λ b. (104 == x) ≡ b → short_fault (rules lie diagnoser) false (arg_by_short (rules lie diagnoser) x) rest h next ≢ []) [
+  | true ↦ λ e. rw e (fails_first _ _ (fails_then (settle_fault (rules lie diagnoser) false h) _ (some_fault _ refl)))
   | false ↦ λ e. rw e (some_fault _ refl)
 ] refl
 
@@ -334,6 +343,8 @@ turns lie translator None position word h = refl
 turns lie translator (Some id) position word h = refl
 turns lie painter None position word h = refl
 turns lie painter (Some id) position word h = refl
+turns lie diagnoser None position word h = refl
+turns lie diagnoser (Some id) position word h = refl
 
 turns_so : (lie : Lies) (t : Tool) (o : Option Text) (position : ℕ) (word : Text) (h : Held) (d : Bool) (l : Option (Text × Option Text)) → bytes_eq word dd ≡ d → long_of word ≡ l
     → turn lie t (waiting_for o) position word h ≡ turned lie t (waiting_for o) position word h d l
@@ -422,12 +433,14 @@ each_file P f translator the_file e = f.8
 each_file P f translator _ e = cc
 each_file P f painter the_file e = f.9
 each_file P f painter _ e = cc
+each_file P f diagnoser the_file e = f.10
+each_file P f diagnoser _ e = cc
 
 pub file_keeps : (t : Tool) (i : Item) → is_file t i ≡ true → keeps t i ≡ true
-file_keeps = each_file (λ t i. keeps t i ≡ true) (refl, refl, refl, refl, refl, refl, refl, refl, refl, refl)
+file_keeps = each_file (λ t i. keeps t i ≡ true) (refl, refl, refl, refl, refl, refl, refl, refl, refl, refl, refl)
 
 pub file_fits : (word : Text) (t : Tool) (i : Item) → is_file t i ≡ true → fits i word ≡ true
-file_fits word = each_file (λ t i. fits i word ≡ true) (refl, refl, refl, refl, refl, refl, refl, refl, refl, refl)
+file_fits word = each_file (λ t i. fits i word ≡ true) (refl, refl, refl, refl, refl, refl, refl, refl, refl, refl, refl)
 
 file_step_by : (b : Bool) (ks : Kinds) → (if b && false then [] else ks) ≡ ks
 file_step_by true ks = refl
@@ -451,6 +464,7 @@ file_step lie h =
       file_step_by (is_pending (arg lie teller the_file) h.pending) (settle_fault (rules lie teller) false h),
       file_step_by (is_pending (arg lie translator the_file) h.pending) (settle_fault (rules lie translator) false h),
       file_step_by (is_pending (arg lie painter the_file) h.pending) (settle_fault (rules lie painter) false h),
+      file_step_by (is_pending (arg lie diagnoser the_file) h.pending) (settle_fault (rules lie diagnoser) false h),
     )
 
 -- the walk behind such a word
@@ -472,6 +486,7 @@ file_walk lie waiting word h true =
       ap (λ g. walk_with (pushed (name_of the_file) word g) idle (suc (seat the_file)) true) (file_held_by (is_pending (arg lie teller the_file) h.pending) h (settled (rules lie teller) h)),
       ap (λ g. walk_with (pushed (name_of the_file) word g) idle (suc (seat the_file)) true) (file_held_by (is_pending (arg lie translator the_file) h.pending) h (settled (rules lie translator) h)),
       ap (λ g. walk_with (pushed (name_of the_file) word g) idle (suc (seat the_file)) true) (file_held_by (is_pending (arg lie painter the_file) h.pending) h (settled (rules lie painter) h)),
+      ap (λ g. walk_with (pushed (name_of the_file) word g) idle (suc (seat the_file)) true) (file_held_by (is_pending (arg lie diagnoser the_file) h.pending) h (settled (rules lie diagnoser) h)),
     )
 file_walk lie waiting word h false =
     each_file (FileWalk lie waiting word h false) (
@@ -485,6 +500,7 @@ file_walk lie waiting word h false =
       ap (λ g. walk_with (pushed (name_of the_file) word g) idle (suc (seat the_file)) false) (file_held_by (is_pending (arg lie teller the_file) h.pending) h (settled (rules lie teller) h)),
       ap (λ g. walk_with (pushed (name_of the_file) word g) idle (suc (seat the_file)) false) (file_held_by (is_pending (arg lie translator the_file) h.pending) h (settled (rules lie translator) h)),
       ap (λ g. walk_with (pushed (name_of the_file) word g) idle (suc (seat the_file)) false) (file_held_by (is_pending (arg lie painter the_file) h.pending) h (settled (rules lie painter) h)),
+      ap (λ g. walk_with (pushed (name_of the_file) word g) idle (suc (seat the_file)) false) (file_held_by (is_pending (arg lie diagnoser the_file) h.pending) h (settled (rules lie diagnoser) h)),
     )
 
 -- no word more is taken
@@ -498,6 +514,7 @@ no_second lie checker h e = some_fault _ refl
 no_second lie teller h e = some_fault _ refl
 no_second lie translator h e = some_fault _ refl
 no_second lie painter h e = some_fault _ refl
+no_second lie diagnoser h e = some_fault _ refl
 no_second lie verifier h e = absurd (true≢false e)
 
 pub no_third : (lie : Lies) (t : Tool) (h : Held) → step_fault (sub lie t) 3 h value ≢ []
@@ -511,6 +528,7 @@ no_third lie verifier h = some_fault _ refl
 no_third lie teller h = some_fault _ refl
 no_third lie translator h = some_fault _ refl
 no_third lie painter h = some_fault _ refl
+no_third lie diagnoser h = some_fault _ refl
 
 abbrev pub pair : Kinds → Walk → Turn
 pair ks w = (ks, w)
@@ -536,6 +554,7 @@ first_unsaid verifier said e = rw e refl
 first_unsaid teller said e = rw e refl
 first_unsaid translator said e = rw e refl
 first_unsaid painter said e = rw e refl
+first_unsaid diagnoser said e = rw e refl
 
 one_said : (t : Tool) (said : Said) (f : Text) → reads_witness t ≡ false → said_of the_file said ≡ Some f → unsaid (files_of t) said ≡ None
 one_said tracer said f only e = rw e refl
@@ -546,6 +565,7 @@ one_said checker said f only e = rw e refl
 one_said teller said f only e = rw e refl
 one_said translator said f only e = rw e refl
 one_said painter said f only e = rw e refl
+one_said diagnoser said f only e = rw e refl
 one_said verifier said f only e = cc
 
 -- behind the file's word
@@ -558,6 +578,7 @@ free_second lie checker said f e both w = cc
 free_second lie teller said f e both w = cc
 free_second lie translator said f e both w = cc
 free_second lie painter said f e both w = cc
+free_second lie diagnoser said f e both w = cc
 free_second lie verifier said f e both w =
     free the_witness_file refl (rw (e, w) refl) w (ap₂ next_place e w) (λ word. ap (λ o. next_place o (Some word)) e) (λ word new. (let bad : Some f ≡ None = sym e ∙ new in cc))
 
@@ -578,6 +599,7 @@ full_third lie checker said f x e both w = cc
 full_third lie teller said f x e both w = cc
 full_third lie translator said f x e both w = cc
 full_third lie painter said f x e both w = cc
+full_third lie diagnoser said f x e both w = cc
 full_third lie verifier said f x e both w = full (rw (e, w) refl) (subst (Ends lie verifier) (sym (ap₂ next_place e w)) (λ h. no_third lie verifier h))
 
 pub frees : (lie : Lies) (t : Tool) (said : Said) → InOrder said → Free lie t said

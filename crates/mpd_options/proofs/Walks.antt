@@ -9,7 +9,7 @@ use Rattle.clap.specs.Walk.{Held, Walk, Waiting, idle, option, value, walked, fi
 use Rattle.clap.specs.declared.parser.matches.ValueSource.TheVariants.{CommandLine}
 use Rattle.clap.proofs.OnLiterals.{clap_on_literals}
 use Rattle.mpd_options.specs.Asked as a
-use Rattle.mpd_options.specs.Asked.{Asked, Item, Place, Said, Tool, Word, alone, among_options, behind_dashes, behind_option, by_letters, checker, dashes, debugger, fits, if_fits, if_new, is_flag, joined, long_option, long_or_short, name_of, named, named_so, no_option, once, files_of, for_file, option_among, options_of, other_option, painter, said_named, said_of, short_option, the_file, the_fuel, the_mode, the_runs, the_witness, the_complete, the_witness_file, runner, server, teller, tracer, translator, unsaid, verifier, wanted, with_option, with_word, word_of}
+use Rattle.mpd_options.specs.Asked.{Asked, Item, Place, Said, Tool, Word, alone, among_options, behind_dashes, behind_option, by_letters, checker, dashes, debugger, diagnoser, fits, if_fits, if_new, is_flag, joined, long_option, long_or_short, name_of, named, named_so, no_option, once, files_of, for_file, option_among, options_of, other_option, painter, said_named, said_of, short_option, the_file, the_fuel, the_mode, the_runs, the_witness, the_complete, the_witness_file, runner, server, teller, tracer, translator, unsaid, verifier, wanted, with_option, with_word, word_of}
 use Rattle.mpd_options.specs.Program.{Lies}
 use Rattle.mpd_options.proofs.Ends.{Agrees, at_end, end_fault, fails_first, held, held_for, pending_for, settles, settles_by, with_last}
 use Rattle.mpd_options.proofs.Items.{Valid, arg, asks, asks_keeps, each_asks, row_for, each_flag, flags, flag_used_again, flag_used_once, flag_used_well, has_said, no_value, rows_for, rules, some_fault, sub, used_again, used_badly, used_once, used_well}
@@ -99,6 +99,7 @@ stray lie checker h (Some f) None fails = no_second lie checker h refl
 stray lie teller h (Some f) None fails = no_second lie teller h refl
 stray lie translator h (Some f) None fails = no_second lie translator h refl
 stray lie painter h (Some f) None fails = no_second lie painter h refl
+stray lie diagnoser h (Some f) None fails = no_second lie diagnoser h refl
 stray lie verifier h (Some f) None fails = let P : Kinds → Type 0 = λ ks. ks ≢ [] in subst P (sym (file_step lie h verifier the_witness_file refl)) fails
 stray lie t h (Some f) (Some x) fails = no_third lie t h
 
@@ -130,6 +131,7 @@ trailing_turn lie verifier h waiting position word = refl
 trailing_turn lie teller h waiting position word = refl
 trailing_turn lie translator h waiting position word = refl
 trailing_turn lie painter h waiting position word = refl
+trailing_turn lie diagnoser h waiting position word = refl
 
 fails_trailing : (lie : Lies) (t : Tool) (words : List Text) (h : Held) (waiting : Waiting) (f x : Option Text) → settle_fault (rules lie t) false h ≢ [] → faults lie t (walk_with h waiting (next_place f x) true) words ≢ []
 unfolding walk_fault
@@ -138,15 +140,15 @@ fails_trailing lie t (word ∷ words) h waiting f x fails = fails_now lie t (wal
 
 option_unsettled : (lie : Lies) (v : Option Text) (h : Held) (t : Tool) (i : Item) → asks t i ≡ true → settle_fault (rules lie t) false h ≢ [] → long_fault (rules lie t) false (Some (arg lie t i)) v h ≢ []
 unfolding clap_on_literals
-option_unsettled lie None h = each_asks (λ t i. settle_fault (rules lie t) false h ≢ [] → long_fault (rules lie t) false (Some (arg lie t i)) None h ≢ []) (λ e. e) ((λ e. e), (λ e. e)) (λ e. e) ((λ e. e), (λ e. e), (λ e. e)) ((λ e. e), (λ e. e), (λ e. e), (λ e. e), (λ e. e), (λ e. e), (λ e. e), (λ e. e), (λ e. e), (λ e. e), (λ e. e)) ((λ e. e), (λ e. e)) ((λ e. e), (λ e. e), (λ e. e)) ((λ e. e), (λ e. e), (λ e. e), (λ e. e), (λ e. e))
+option_unsettled lie None h = each_asks (λ t i. settle_fault (rules lie t) false h ≢ [] → long_fault (rules lie t) false (Some (arg lie t i)) None h ≢ []) (λ e. e) ((λ e. e), (λ e. e), (λ e. e)) (λ e. e) ((λ e. e), (λ e. e), (λ e. e)) ((λ e. e), (λ e. e), (λ e. e), (λ e. e), (λ e. e), (λ e. e), (λ e. e), (λ e. e), (λ e. e), (λ e. e), (λ e. e)) ((λ e. e), (λ e. e)) ((λ e. e), (λ e. e), (λ e. e)) ((λ e. e), (λ e. e), (λ e. e), (λ e. e), (λ e. e)) (λ e. e)
 option_unsettled lie (Some v) h =
     each_asks (λ t i. settle_fault (rules lie t) false h ≢ [] → long_fault (rules lie t) false (Some (arg lie t i)) (Some v) h ≢ [])
-    (λ e. fails_first _ _ e) ((λ e. fails_first _ _ e), (λ e. fails_first _ _ e)) (λ e. fails_first _ _ e) ((λ e. fails_first _ _ e), (λ e. fails_first _ _ e), (λ e. fails_first _ _ e)) ((λ e. fails_first _ _ e), (λ e. fails_first _ _ e), (λ e. fails_first _ _ e), (λ e. fails_first _ _ e), (λ e. fails_first _ _ e), (λ e. fails_first _ _ e), (λ e. fails_first _ _ e), (λ e. fails_first _ _ e), (λ e. fails_first _ _ e), (λ e. fails_first _ _ e), (λ e. fails_first _ _ e)) ((λ e. fails_first _ _ e), (λ e. fails_first _ _ e)) ((λ e. fails_first _ _ e), (λ e. fails_first _ _ e), (λ e. fails_first _ _ e)) ((λ e. fails_first _ _ e), (λ e. fails_first _ _ e), (λ e. fails_first _ _ e), (λ e. fails_first _ _ e), (λ e. fails_first _ _ e))
+    (λ e. fails_first _ _ e) ((λ e. fails_first _ _ e), (λ e. fails_first _ _ e), (λ e. fails_first _ _ e)) (λ e. fails_first _ _ e) ((λ e. fails_first _ _ e), (λ e. fails_first _ _ e), (λ e. fails_first _ _ e)) ((λ e. fails_first _ _ e), (λ e. fails_first _ _ e), (λ e. fails_first _ _ e), (λ e. fails_first _ _ e), (λ e. fails_first _ _ e), (λ e. fails_first _ _ e), (λ e. fails_first _ _ e), (λ e. fails_first _ _ e), (λ e. fails_first _ _ e), (λ e. fails_first _ _ e), (λ e. fails_first _ _ e)) ((λ e. fails_first _ _ e), (λ e. fails_first _ _ e)) ((λ e. fails_first _ _ e), (λ e. fails_first _ _ e), (λ e. fails_first _ _ e)) ((λ e. fails_first _ _ e), (λ e. fails_first _ _ e), (λ e. fails_first _ _ e), (λ e. fails_first _ _ e), (λ e. fails_first _ _ e)) (λ e. fails_first _ _ e)
 
 flag_unsettled : (lie : Lies) (v : Option Text) (h : Held) (t : Tool) (i : Item) → flags t i ≡ true → settle_fault (rules lie t) false h ≢ [] → long_fault (rules lie t) false (Some (arg lie t i)) v h ≢ []
 unfolding clap_on_literals
-flag_unsettled lie None h = each_flag (λ t i. settle_fault (rules lie t) false h ≢ [] → long_fault (rules lie t) false (Some (arg lie t i)) None h ≢ []) ((λ e. fails_first _ _ e), (λ e. fails_first _ _ e), (λ e. fails_first _ _ e), (λ e. fails_first _ _ e), (λ e. fails_first _ _ e), (λ e. fails_first _ _ e), (λ e. fails_first _ _ e)) (λ e. fails_first _ _ e) (λ e. fails_first _ _ e)
-flag_unsettled lie (Some v) h = each_flag (λ t i. settle_fault (rules lie t) false h ≢ [] → long_fault (rules lie t) false (Some (arg lie t i)) (Some v) h ≢ []) ((λ e. some_fault _ refl), (λ e. some_fault _ refl), (λ e. some_fault _ refl), (λ e. some_fault _ refl), (λ e. some_fault _ refl), (λ e. some_fault _ refl), (λ e. some_fault _ refl)) (λ e. some_fault _ refl) (λ e. some_fault _ refl)
+flag_unsettled lie None h = each_flag (λ t i. settle_fault (rules lie t) false h ≢ [] → long_fault (rules lie t) false (Some (arg lie t i)) None h ≢ []) ((λ e. fails_first _ _ e), (λ e. fails_first _ _ e), (λ e. fails_first _ _ e), (λ e. fails_first _ _ e), (λ e. fails_first _ _ e), (λ e. fails_first _ _ e), (λ e. fails_first _ _ e)) (λ e. fails_first _ _ e) (λ e. fails_first _ _ e) (λ e. fails_first _ _ e) (λ e. fails_first _ _ e)
+flag_unsettled lie (Some v) h = each_flag (λ t i. settle_fault (rules lie t) false h ≢ [] → long_fault (rules lie t) false (Some (arg lie t i)) (Some v) h ≢ []) ((λ e. some_fault _ refl), (λ e. some_fault _ refl), (λ e. some_fault _ refl), (λ e. some_fault _ refl), (λ e. some_fault _ refl), (λ e. some_fault _ refl), (λ e. some_fault _ refl)) (λ e. some_fault _ refl) (λ e. some_fault _ refl) (λ e. some_fault _ refl) (λ e. some_fault _ refl)
 
 -- no option can follow
 long_unsettled : (lie : Lies) (t : Tool) (name : Text) (v : Option Text) (h : Held) → settle_fault (rules lie t) false h ≢ [] → long_fault (rules lie t) false (arg_by_long (rules lie t) name) v h ≢ []
@@ -182,7 +184,7 @@ given_at rows i v f x = walk_with (held rows (Some (name_of i, v ∷ []))) idle 
 takes_value : (lie : Lies) (rows : List Row) (position : ℕ) (word : Text) (t : Tool) (i : Item) → asks t i ≡ true
     → plain_turn lie t (option (name_of i)) position word (held rows (Some (name_of i, []))) ≡ pair [] (walk_with (held rows (Some (name_of i, word ∷ []))) idle position false)
 unfolding clap_on_literals
-takes_value lie rows position word = each_asks (λ t i. plain_turn lie t (option (name_of i)) position word (held rows (Some (name_of i, []))) ≡ pair [] (walk_with (held rows (Some (name_of i, word ∷ []))) idle position false)) refl (refl, refl) refl (refl, refl, refl) (refl, refl, refl, refl, refl, refl, refl, refl, refl, refl, refl) (refl, refl) (refl, refl, refl) (refl, refl, refl, refl, refl)
+takes_value lie rows position word = each_asks (λ t i. plain_turn lie t (option (name_of i)) position word (held rows (Some (name_of i, []))) ≡ pair [] (walk_with (held rows (Some (name_of i, word ∷ []))) idle position false)) refl (refl, refl, refl) refl (refl, refl, refl) (refl, refl, refl, refl, refl, refl, refl, refl, refl, refl, refl) (refl, refl) (refl, refl, refl) (refl, refl, refl, refl, refl) refl
 
 stuck_empty : (lie : Lies) (t : Tool) (rows : List Row) (i : Item) → asks t i ≡ true → Stuck lie t rows i []
 stuck_empty lie t rows i asking = let P : Kinds → Type 0 = λ ks. ks ≢ [] in subst P (sym (settles_by lie t rows i [] (asks_keeps t i asking))) (no_value lie rows t i asking)
@@ -253,10 +255,10 @@ asks_turn : (lie : Lies) (rows : List Row) (p : Option (Text × List Text)) (pos
     → long_turn lie t idle position word (held rows p) (Some (arg lie t i)) None ≡ pair (or_else (settle_fault (rules lie t) false (held rows p)) []) (pending_walk (settled (rules lie t) (held rows p)) i position)
 unfolding clap_on_literals
 asks_turn lie rows p position word =
-    each_asks (λ t i. long_turn lie t idle position word (held rows p) (Some (arg lie t i)) None ≡ pair (or_else (settle_fault (rules lie t) false (held rows p)) []) (pending_walk (settled (rules lie t) (held rows p)) i position)) refl (refl, refl) refl (refl, refl, refl) (refl, refl, refl, refl, refl, refl, refl, refl, refl, refl, refl) (refl, refl) (refl, refl, refl) (refl, refl, refl, refl, refl)
+    each_asks (λ t i. long_turn lie t idle position word (held rows p) (Some (arg lie t i)) None ≡ pair (or_else (settle_fault (rules lie t) false (held rows p)) []) (pending_walk (settled (rules lie t) (held rows p)) i position)) refl (refl, refl, refl) refl (refl, refl, refl) (refl, refl, refl, refl, refl, refl, refl, refl, refl, refl, refl) (refl, refl) (refl, refl, refl) (refl, refl, refl, refl, refl) refl
 
 not_flag : (t : Tool) (i : Item) → asks t i ≡ true → is_flag i ≡ false
-not_flag = each_asks (λ t i. is_flag i ≡ false) refl (refl, refl) refl (refl, refl, refl) (refl, refl, refl, refl, refl, refl, refl, refl, refl, refl, refl) (refl, refl) (refl, refl, refl) (refl, refl, refl, refl, refl)
+not_flag = each_asks (λ t i. is_flag i ≡ false) refl (refl, refl, refl) refl (refl, refl, refl) (refl, refl, refl, refl, refl, refl, refl, refl, refl, refl, refl) (refl, refl) (refl, refl, refl) (refl, refl, refl, refl, refl) refl
 
 asks_option : (lie : Lies) (t : Tool) (said : Said) (last : Option (Item × Text)) (i : Item) (word : Text) (words : List Text) → asks t i ≡ true → Sound t (ready said last false)
     → turn lie t idle (place_of (with_last said last)) word (held_for said last) ≡ long_turn lie t idle (place_of (with_last said last)) word (held_for said last) (Some (arg lie t i)) None
@@ -317,11 +319,11 @@ gives_turn : (lie : Lies) (rows : List Row) (p : Option (Text × List Text)) (po
     → long_turn lie t idle position word (held rows p) (Some (arg lie t i)) (Some v) ≡ given_turn lie t i (v ∷ []) (settle_fault (rules lie t) false (held rows p)) (settled (rules lie t) (held rows p)) position
 unfolding clap_on_literals
 gives_turn lie rows p position word v =
-    each_asks (λ t i. long_turn lie t idle position word (held rows p) (Some (arg lie t i)) (Some v) ≡ given_turn lie t i (v ∷ []) (settle_fault (rules lie t) false (held rows p)) (settled (rules lie t) (held rows p)) position) refl (refl, refl) refl (refl, refl, refl) (refl, refl, refl, refl, refl, refl, refl, refl, refl, refl, refl) (refl, refl) (refl, refl, refl) (refl, refl, refl, refl, refl)
+    each_asks (λ t i. long_turn lie t idle position word (held rows p) (Some (arg lie t i)) (Some v) ≡ given_turn lie t i (v ∷ []) (settle_fault (rules lie t) false (held rows p)) (settled (rules lie t) (held rows p)) position) refl (refl, refl, refl) refl (refl, refl, refl) (refl, refl, refl, refl, refl, refl, refl, refl, refl, refl, refl) (refl, refl) (refl, refl, refl) (refl, refl, refl, refl, refl) refl
 
 same_place : (v : Text) (said : Said) (t : Tool) (i : Item) → asks t i ≡ true → SamePlace i v said
 same_place v said =
-    each_asks (λ t i. SamePlace i v said) (refl, (λ o. o)) ((refl, (λ o. o)), (refl, (λ o. o))) (refl, (λ o. o)) ((refl, (λ o. o)), (refl, (λ o. o)), (refl, (λ o. o))) ((refl, (λ o. o)), (refl, (λ o. o)), (refl, (λ o. o)), (refl, (λ o. o)), (refl, (λ o. o)), (refl, (λ o. o)), (refl, (λ o. o)), (refl, (λ o. o)), (refl, (λ o. o)), (refl, (λ o. o)), (refl, (λ o. o))) ((refl, (λ o. o)), (refl, (λ o. o))) ((refl, (λ o. o)), (refl, (λ o. o)), (refl, (λ o. o))) ((refl, (λ o. o)), (refl, (λ o. o)), (refl, (λ o. o)), (refl, (λ o. o)), (refl, (λ o. o)))
+    each_asks (λ t i. SamePlace i v said) (refl, (λ o. o)) ((refl, (λ o. o)), (refl, (λ o. o)), (refl, (λ o. o))) (refl, (λ o. o)) ((refl, (λ o. o)), (refl, (λ o. o)), (refl, (λ o. o))) ((refl, (λ o. o)), (refl, (λ o. o)), (refl, (λ o. o)), (refl, (λ o. o)), (refl, (λ o. o)), (refl, (λ o. o)), (refl, (λ o. o)), (refl, (λ o. o)), (refl, (λ o. o)), (refl, (λ o. o)), (refl, (λ o. o))) ((refl, (λ o. o)), (refl, (λ o. o))) ((refl, (λ o. o)), (refl, (λ o. o)), (refl, (λ o. o))) ((refl, (λ o. o)), (refl, (λ o. o)), (refl, (λ o. o)), (refl, (λ o. o)), (refl, (λ o. o))) (refl, (λ o. o))
 
 gives_option : (lie : Lies) (t : Tool) (said : Said) (last : Option (Item × Text)) (i : Item) (v word : Text) (words : List Text) → asks t i ≡ true → Sound t (ready said last false)
     → turn lie t idle (place_of (with_last said last)) word (held_for said last) ≡ long_turn lie t idle (place_of (with_last said last)) word (held_for said last) (Some (arg lie t i)) (Some v)
@@ -338,20 +340,20 @@ flag_turn : (lie : Lies) (rows : List Row) (p : Option (Text × List Text)) (pos
     → long_turn lie t idle position word (held rows p) (Some (arg lie t i)) None ≡ given_turn lie t i [] (settle_fault (rules lie t) false (held rows p)) (settled (rules lie t) (held rows p)) position
 unfolding clap_on_literals
 flag_turn lie rows p position word =
-    each_flag (λ t i. long_turn lie t idle position word (held rows p) (Some (arg lie t i)) None ≡ given_turn lie t i [] (settle_fault (rules lie t) false (held rows p)) (settled (rules lie t) (held rows p)) position) (refl, refl, refl, refl, refl, refl, refl) refl refl
+    each_flag (λ t i. long_turn lie t idle position word (held rows p) (Some (arg lie t i)) None ≡ given_turn lie t i [] (settle_fault (rules lie t) false (held rows p)) (settled (rules lie t) (held rows p)) position) (refl, refl, refl, refl, refl, refl, refl) refl refl refl refl
 
 flag_with_value : (lie : Lies) (position : ℕ) (word v : Text) (h : Held) (t : Tool) (i : Item) → flags t i ≡ true → (long_turn lie t idle position word h (Some (arg lie t i)) (Some v)).0 ≢ []
 unfolding clap_on_literals
-flag_with_value lie position word v h = each_flag (λ t i. (long_turn lie t idle position word h (Some (arg lie t i)) (Some v)).0 ≢ []) (some_fault _ refl, some_fault _ refl, some_fault _ refl, some_fault _ refl, some_fault _ refl, some_fault _ refl, some_fault _ refl) (some_fault _ refl) (some_fault _ refl)
+flag_with_value lie position word v h = each_flag (λ t i. (long_turn lie t idle position word h (Some (arg lie t i)) (Some v)).0 ≢ []) (some_fault _ refl, some_fault _ refl, some_fault _ refl, some_fault _ refl, some_fault _ refl, some_fault _ refl, some_fault _ refl) (some_fault _ refl) (some_fault _ refl) (some_fault _ refl) (some_fault _ refl)
 
 is_a_flag : (t : Tool) (i : Item) → flags t i ≡ true → is_flag i ≡ true
-is_a_flag = each_flag (λ t i. is_flag i ≡ true) (refl, refl, refl, refl, refl, refl, refl) refl refl
+is_a_flag = each_flag (λ t i. is_flag i ≡ true) (refl, refl, refl, refl, refl, refl, refl) refl refl refl refl
 
 flag_fits : (t : Tool) (i : Item) → flags t i ≡ true → fits i (codes "true") ≡ true
-flag_fits = each_flag (λ t i. fits i (codes "true") ≡ true) (refl, refl, refl, refl, refl, refl, refl) refl refl
+flag_fits = each_flag (λ t i. fits i (codes "true") ≡ true) (refl, refl, refl, refl, refl, refl, refl) refl refl refl refl
 
 flag_place : (said : Said) (t : Tool) (i : Item) → flags t i ≡ true → SamePlace i (codes "true") said
-flag_place said = each_flag (λ t i. SamePlace i (codes "true") said) ((refl, (λ o. o)), (refl, (λ o. o)), (refl, (λ o. o)), (refl, (λ o. o)), (refl, (λ o. o)), (refl, (λ o. o)), (refl, (λ o. o))) (refl, (λ o. o)) (refl, (λ o. o))
+flag_place said = each_flag (λ t i. SamePlace i (codes "true") said) ((refl, (λ o. o)), (refl, (λ o. o)), (refl, (λ o. o)), (refl, (λ o. o)), (refl, (λ o. o)), (refl, (λ o. o)), (refl, (λ o. o))) (refl, (λ o. o)) (refl, (λ o. o)) (refl, (λ o. o)) (refl, (λ o. o))
 
 named_flag : (lie : Lies) (t : Tool) (i : Item) → flags t i ≡ true → (said : Said) (last : Option (Item × Text)) (v : Option Text) (word : Text) (words : List Text) → Sound t (ready said last false)
     → turn lie t idle (place_of (with_last said last)) word (held_for said last) ≡ long_turn lie t idle (place_of (with_last said last)) word (held_for said last) (Some (arg lie t i)) v

@@ -8,17 +8,18 @@ use Rattle.clap.specs.Words.{Row, first_of, one_of}
 use Rattle.mpd_options.specs.Numbers.{flag_in, number_in}
 use Rattle.mpd_options.specs.declared.options.CheckOptions.{CheckOptions}
 use Rattle.mpd_options.specs.declared.options.Options.{Options}
-use Rattle.mpd_options.specs.declared.options.Options.TheVariants.{Plain, Trace, Debug, Run, Serve, Check, Verify, Words, Translate, Picture}
+use Rattle.mpd_options.specs.declared.options.Options.TheVariants.{Plain, Diagnose, Trace, Debug, Run, Serve, Check, Verify, Words, Translate, Picture}
 
--- what is asked for: a script and its trace on standard input, the trace of a file, a console on one, with a witness or none, answers to
--- requests on one, of one or of several clients, a look for deadlocks in one, a check of a witness, the trace words of a run, a script in C,
--- or a picture of a run, by its choices, a witness, or trace words, each given or not; with the words of files, mode and choices, the port,
--- how many clients, how deadlocks are looked for, the number of a leaf, the fuel, and whether choices are those of a report of `--ends` or
--- `--sample`
+-- what is asked for: a script and its trace on standard input, a diagnosis of a file, the trace of one, a console on one, with the choices of a run or
+-- none and a witness or none, answers to requests on one, of one or of several clients, a look for deadlocks in one, a check of a witness, the trace words of a run,
+-- a script in C, or a picture of a run, by its choices, a witness, or trace words, each given or not; with the words of files, mode and
+-- choices, whether messages left over count, the port, how many clients, how deadlocks are looked for, the number of a leaf, the fuel, and
+-- whether choices are those of a report of `--ends` or `--sample`
 pub data Asked : Type 0 where
   plain : Asked
+  diagnose : List ℕ → List ℕ → Bool → Asked
   trace : List ℕ → List ℕ → Asked
-  debug : List ℕ → List ℕ → Option (List ℕ) → Asked
+  debug : List ℕ → List ℕ → Option (List ℕ) → Option (List ℕ) → Bool → Asked
   run : List ℕ → List ℕ → Asked
   serve : List ℕ → List ℕ → ℕ → ℕ → Asked
   check : List ℕ → List ℕ → CheckOptions → Asked
@@ -33,8 +34,9 @@ given_word = option_map (λ (text : Bor (List ℕ)). text.now)
 
 abbrev pub asked : Options → Asked
 asked Plain = plain
+asked (Diagnose file mode strict) = diagnose file.now mode.now strict
 asked (Trace file mode) = trace file.now mode.now
-asked (Debug file mode witness) = debug file.now mode.now (given_word witness)
+asked (Debug file mode choices witness ends) = debug file.now mode.now (given_word choices) (given_word witness) ends
 asked (Run file mode) = run file.now mode.now
 asked (Serve file mode port clients) = serve file.now mode.now port clients
 asked (Check file mode options) = check file.now mode.now options
@@ -96,8 +98,9 @@ AreInRange o =
 -- each number lies in its range
 abbrev pub IsInRange : Options → Type 0
 IsInRange Plain = ⊤
+IsInRange (Diagnose file mode strict) = ⊤
 IsInRange (Trace file mode) = ⊤
-IsInRange (Debug file mode witness) = ⊤
+IsInRange (Debug file mode choices witness ends) = ⊤
 IsInRange (Run file mode) = ⊤
 IsInRange (Serve file mode port clients) = (1 ≤ port) × (port ≤ most_port) × (1 ≤ clients) × (clients ≤ most_clients)
 IsInRange (Check file mode options) = AreInRange options
@@ -117,6 +120,7 @@ pub data Tool : Type 0 where
   teller : Tool
   translator : Tool
   painter : Tool
+  diagnoser : Tool
 
 -- the command that a word names
 abbrev pub tool_named : List ℕ → Option Tool
@@ -128,7 +132,8 @@ tool_named word =
     else (if bytes_eq word (codes "check") then Some checker
     else (if bytes_eq word (codes "verify") then Some verifier
     else (if bytes_eq word (codes "words") then Some teller
-    else (if bytes_eq word (codes "c") then Some translator else (if bytes_eq word (codes "picture") then Some painter else None))))))))
+    else (if bytes_eq word (codes "c") then Some translator
+    else (if bytes_eq word (codes "picture") then Some painter else (if bytes_eq word (codes "diagnose") then Some diagnoser else None)))))))))
 
 -- what words say something of: the words of files stand alone, and the others are options
 pub data Item : Type 0 where
@@ -158,6 +163,7 @@ pub data Item : Type 0 where
   the_choices : Item
   the_laid_witness : Item
   the_words : Item
+  the_strict : Item
 
 abbrev pub name_of : Item → List ℕ
 name_of the_file = codes "FILE"
@@ -186,6 +192,7 @@ name_of the_leaf = codes "leaf"
 name_of the_choices = codes "choices"
 name_of the_laid_witness = codes "laid_witness"
 name_of the_words = codes "words"
+name_of the_strict = codes "strict"
 
 -- how an option is spelled behind its hyphens: as it is named, but that of a witness's file is spelled as the flag of `check` is
 abbrev pub spelling_of : Item → List ℕ
@@ -194,7 +201,7 @@ spelling_of item = name_of item
 
 abbrev pub options_of : Tool → List Item
 options_of tracer = the_mode ∷ []
-options_of debugger = the_mode ∷ the_laid_witness ∷ []
+options_of debugger = the_mode ∷ the_choices ∷ the_laid_witness ∷ the_ends ∷ []
 options_of runner = the_mode ∷ []
 options_of server = the_mode ∷ the_port ∷ the_clients ∷ []
 options_of checker =
@@ -203,6 +210,7 @@ options_of verifier = the_mode ∷ the_leaf ∷ []
 options_of teller = the_mode ∷ the_choices ∷ the_fuel ∷ the_ends ∷ []
 options_of translator = []
 options_of painter = the_mode ∷ the_choices ∷ the_laid_witness ∷ the_words ∷ the_fuel ∷ the_ends ∷ []
+options_of diagnoser = the_mode ∷ the_strict ∷ []
 
 -- what the words that are no options name, in this order
 abbrev pub files_of : Tool → List Item
@@ -215,6 +223,7 @@ files_of verifier = the_file ∷ the_witness_file ∷ []
 files_of teller = the_file ∷ []
 files_of translator = the_file ∷ []
 files_of painter = the_file ∷ []
+files_of diagnoser = the_file ∷ []
 
 abbrev pub option_among : List Item → List ℕ → Option Item
 option_among items name = find (λ item. bytes_eq (spelling_of item) name) items
@@ -228,6 +237,7 @@ is_flag the_group = true
 is_flag the_witness = true
 is_flag the_complete = true
 is_flag the_pieces = true
+is_flag the_strict = true
 is_flag _ = false
 
 -- a text can be the value of an item
@@ -258,6 +268,7 @@ fits the_leaf text = is_some (number_in 0 most_leaf text)
 fits the_choices text = true
 fits the_laid_witness text = true
 fits the_words text = true
+fits the_strict text = is_some (flag_in text)
 
 -- the value of an item of which nothing is said; where it has none, something must be said of the files, the port, how many clients and the choices of `words`, and need not of the others
 abbrev pub default_of : Item → Option (List ℕ)
@@ -287,6 +298,7 @@ default_of the_leaf = None
 default_of the_choices = None
 default_of the_laid_witness = None
 default_of the_words = None
+default_of the_strict = Some (codes "false")
 
 -- what a word behind a command is: `--`, `--NAME` or `--NAME=V` of an option, another option, or none
 pub data Word : Type 0 where
@@ -450,10 +462,18 @@ abbrev pub found_picture : Option (List ℕ) → Option (List ℕ) → Option �
 found_picture (Some file) (Some mode) (Some fuel) (Some ends) choices witness words = Some (paint file mode choices witness words fuel ends)
 found_picture _ _ _ _ _ _ _ = None
 
+abbrev pub found_debug : Option (List ℕ) → Option (List ℕ) → Option Bool → Option (List ℕ) → Option (List ℕ) → Option Asked
+found_debug (Some file) (Some mode) (Some ends) choices witness = Some (debug file mode choices witness ends)
+found_debug _ _ _ _ _ = None
+
+abbrev pub found_diagnose : Option (List ℕ) → Option (List ℕ) → Option Bool → Option Asked
+found_diagnose (Some file) (Some mode) (Some strict) = Some (diagnose file mode strict)
+found_diagnose _ _ _ = None
+
 -- what a command asks for, by the text of each of its items: each must have one, but those that need not be there, and each number lies in its range
 abbrev pub found : Tool → (Item → Option (List ℕ)) → Option Asked
 found tracer text = found_of_file trace (text the_file) (text the_mode)
-found debugger text = found_of_file (λ file mode. debug file mode (text the_laid_witness)) (text the_file) (text the_mode)
+found debugger text = found_debug (text the_file) (text the_mode) (option_and_then flag_in (text the_ends)) (text the_choices) (text the_laid_witness)
 found runner text = found_of_file run (text the_file) (text the_mode)
 found server text = found_serve (text the_file) (text the_mode) (option_and_then (number_in 1 most_port) (text the_port)) (option_and_then (number_in 1 most_clients) (text the_clients))
 found checker text = found_check (text the_file) (text the_mode) (found_options text)
@@ -461,6 +481,7 @@ found verifier text = found_verify (text the_file) (text the_witness_file) (text
 found teller text = found_words (text the_file) (text the_choices) (text the_mode) (option_and_then (number_in 1 most_fuel) (text the_fuel)) (option_and_then flag_in (text the_ends))
 found translator text = option_map translate (text the_file)
 found painter text = found_picture (text the_file) (text the_mode) (option_and_then (number_in 1 most_fuel) (text the_fuel)) (option_and_then flag_in (text the_ends)) (text the_choices) (text the_laid_witness) (text the_words)
+found diagnoser text = found_diagnose (text the_file) (text the_mode) (option_and_then flag_in (text the_strict))
 
 abbrev pub or_default : Option (List ℕ) → Option (List ℕ) → Option (List ℕ)
 or_default None value = value
@@ -517,6 +538,7 @@ text_in rows the_leaf = one_of (name_of the_leaf) rows
 text_in rows the_choices = first_of (name_of the_choices) rows
 text_in rows the_laid_witness = first_of (name_of the_laid_witness) rows
 text_in rows the_words = first_of (name_of the_words) rows
+text_in rows the_strict = one_of (name_of the_strict) rows
 
 abbrev pub found_in : Tool → List Row → Option Asked
 found_in t rows = found t (text_in rows)

@@ -12,9 +12,13 @@ Row = List (List ℕ) × Option Asked
 abbrev names : List (List ℕ) → List ℕ → List ℕ → Row
 names words file mode = (codes "trace" ∷ words, Some (trace file mode))
 
--- words behind `debug`, and the file, the mode and the witness that they name
+-- words behind `debug`, and the file, the mode and the witness that they name, without choices
 abbrev debugs : List (List ℕ) → List ℕ → List ℕ → Option (List ℕ) → Row
-debugs words file mode witness = (codes "debug" ∷ words, Some (debug file mode witness))
+debugs words file mode witness = (codes "debug" ∷ words, Some (debug file mode None witness false))
+
+-- and with choices, and with `--ends` or without it, of the file `a`
+abbrev debugs_run : List (List ℕ) → List ℕ → Option (List ℕ) → Option (List ℕ) → Bool → Row
+debugs_run words mode choices witness ends = (codes "debug" ∷ words, Some (debug (codes "a") mode choices witness ends))
 
 -- words behind `debug a` that make them ask for nothing
 abbrev strays : List (List ℕ) → Row
@@ -504,9 +508,36 @@ rows =
     ∷ strays (codes "--runs" ∷ codes "5" ∷ [])
     ∷ strays (codes "--fuel=5" ∷ [])
     ∷ strays (codes "--leaf" ∷ codes "1" ∷ [])
-    ∷ strays (codes "--choices" ∷ codes "0" ∷ [])
+    ∷ debugs_run (codes "a" ∷ codes "--choices" ∷ codes "0" ∷ []) (codes "rendezvous") (Some (codes "0")) None false
+    ∷ debugs_run (codes "--choices=0 1" ∷ codes "a" ∷ []) (codes "rendezvous") (Some (codes "0 1")) None false
+    ∷ debugs_run (codes "a" ∷ codes "--choices" ∷ codes "" ∷ []) (codes "rendezvous") (Some []) None false
+    ∷ debugs_run (codes "--choices" ∷ codes "-" ∷ codes "a" ∷ []) (codes "rendezvous") (Some (codes "-")) None false
+    ∷ debugs_run (codes "--choices" ∷ codes "a" ∷ codes "a" ∷ []) (codes "rendezvous") (Some (codes "a")) None false
+    ∷ debugs_run (codes "a" ∷ codes "--ends" ∷ []) (codes "rendezvous") None None true
+    ∷ debugs_run (codes "--ends" ∷ codes "--mode=b" ∷ codes "a" ∷ []) (codes "b") None None true
+    ∷ debugs_run (codes "a" ∷ codes "--choices" ∷ codes "1" ∷ codes "--ends" ∷ []) (codes "rendezvous") (Some (codes "1")) None true
+    ∷ debugs_run (codes "--ends" ∷ codes "a" ∷ codes "--mode" ∷ codes "buffered" ∷ codes "--choices=0 0" ∷ []) (codes "buffered") (Some (codes "0 0")) None true
+    ∷ debugs_run (codes "--witness" ∷ codes "1" ∷ codes "--choices" ∷ codes "2" ∷ codes "--mode" ∷ codes "3" ∷ codes "--" ∷ codes "a" ∷ []) (codes "3") (Some (codes "2")) (Some (codes "1")) false
+    ∷ debugs_run (codes "--choices=1" ∷ codes "--ends" ∷ codes "--witness=2" ∷ codes "a" ∷ []) (codes "rendezvous") (Some (codes "1")) (Some (codes "2")) true
+    ∷ debugs_run (codes "--witness=w" ∷ codes "a" ∷ codes "--ends" ∷ []) (codes "rendezvous") None (Some (codes "w")) true
+    ∷ nothing (codes "debug" ∷ codes "--choices" ∷ codes "0" ∷ [])
+    ∷ nothing (codes "debug" ∷ codes "--ends" ∷ [])
+    ∷ nothing (codes "debug" ∷ codes "--choices" ∷ codes "--" ∷ codes "a" ∷ [])
+    ∷ nothing (codes "--choices" ∷ codes "0" ∷ codes "debug" ∷ codes "a" ∷ [])
+    ∷ strays (codes "--choices" ∷ [])
+    ∷ strays (codes "--choices" ∷ codes "--ends" ∷ [])
+    ∷ strays (codes "--choices" ∷ codes "-1" ∷ [])
+    ∷ strays (codes "--choices" ∷ codes "0" ∷ codes "--choices" ∷ codes "0" ∷ [])
+    ∷ strays (codes "--choices=0" ∷ codes "--choices=" ∷ [])
+    ∷ strays (codes "--choices" ∷ codes "0" ∷ codes "1" ∷ [])
+    ∷ strays (codes "--choice" ∷ codes "0" ∷ [])
+    ∷ strays (codes "-c" ∷ codes "0" ∷ [])
+    ∷ strays (codes "--ends" ∷ codes "--ends" ∷ [])
+    ∷ strays (codes "--ends=true" ∷ [])
+    ∷ strays (codes "--ends=" ∷ [])
+    ∷ strays (codes "--ends" ∷ codes "true" ∷ [])
+    ∷ strays (codes "--end" ∷ [])
     ∷ strays (codes "--complete" ∷ [])
-    ∷ strays (codes "--ends" ∷ [])
     ∷ strays (codes "--explain" ∷ [])
     ∷ strays (codes "--help" ∷ [])
     ∷ nothing (codes "debug" ∷ codes "-h" ∷ [])

@@ -49,6 +49,9 @@ rows =
     fit by_default
     ∷ fit outcomes
     ∷ fit (record outcomes { states = Some 1; fuel = 1; workers = 16; witness = true; explain = true; complete = true })
+    ∷ fit (record outcomes { modes = Some 0 })
+    ∷ fit (record outcomes { until_bad = true })
+    ∷ fit (record outcomes { modes = Some 1000; until_bad = true; states = Some 1; complete = true })
     ∷ (record outcomes { ends = true; runs_given = true }, Some (Both option.Outcomes option.Ends))
     ∷ (record outcomes { runs_given = true; split_given = true }, Some (Both option.Outcomes option.Runs))
     ∷ (record outcomes { split_given = true; piece = Some 0 }, Some (Both option.Outcomes option.Split))
@@ -57,8 +60,7 @@ rows =
     ∷ (record outcomes { sample = Some 5; seed = Some 0 }, Some (Both option.Outcomes option.Sample))
     ∷ (record outcomes { seed = Some 0; group = true }, Some (Both option.Outcomes option.Seed))
     ∷ (record outcomes { group = true; modes = Some 0 }, Some (Both option.Outcomes option.Group))
-    ∷ (record outcomes { modes = Some 0; until_bad = true }, Some (Both option.Outcomes option.Modes))
-    ∷ (record outcomes { until_bad = true }, Some (Both option.Outcomes option.Until))
+    ∷ (record outcomes { until_bad = true; group = true }, Some (Both option.Outcomes option.Group))
     ∷ (record by_default { states = Some 5 }, Some StatesAlone)
     ∷ (record sample { states = Some 5; ends = true }, Some StatesAlone)
     ∷ fit (record sample { seed = Some 0; explain = true; group = true; until_bad = true; witness = true; complete = true })

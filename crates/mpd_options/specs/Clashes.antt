@@ -2,7 +2,7 @@
 use Rattle.std.specs.Prelude.{ℕ, Bool, List, [], ◌∷◌, Option, Some, None, is_some, if◌then◌else◌, codes, option_map}
 use Rattle.mpd_options.specs.declared.options.CheckOptions.{CheckOptions}
 use Rattle.mpd_options.specs.declared.clash.CheckOption.{CheckOption}
-use Rattle.mpd_options.specs.declared.clash.CheckOption.TheVariants.{Complete, Ends, Group, Modes, Outcomes, Piece, Pieces, Runs, Sample, Seed, Split, Until}
+use Rattle.mpd_options.specs.declared.clash.CheckOption.TheVariants.{Complete, Ends, Group, Modes, Outcomes, Piece, Pieces, Runs, Sample, Seed, Split}
 use Rattle.mpd_options.specs.declared.clash.Clash.{Clash}
 use Rattle.mpd_options.specs.declared.clash.Clash.TheVariants.{Both, SeedAlone, StatesAlone}
 
@@ -18,7 +18,6 @@ option_word Runs = codes "--runs"
 option_word Sample = codes "--sample"
 option_word Seed = codes "--seed"
 option_word Split = codes "--split"
-option_word Until = codes "--until"
 
 -- the first of some options that was given
 abbrev pub first_given : List (Bool × CheckOption) → Option CheckOption
@@ -29,7 +28,7 @@ first_given (o ∷ more) = if o.0 then Some o.1 else first_given more
 -- whether it was given
 abbrev pub beside_outcomes : CheckOptions → List (Bool × CheckOption)
 beside_outcomes c =
-    (c.ends, Ends) ∷ (c.runs_given, Runs) ∷ (c.split_given, Split) ∷ (is_some c.piece, Piece) ∷ (c.count_pieces, Pieces) ∷ (is_some c.sample, Sample) ∷ (is_some c.seed, Seed) ∷ (c.group, Group) ∷ (is_some c.modes, Modes) ∷ (c.until_bad, Until) ∷ []
+    (c.ends, Ends) ∷ (c.runs_given, Runs) ∷ (c.split_given, Split) ∷ (is_some c.piece, Piece) ∷ (c.count_pieces, Pieces) ∷ (is_some c.sample, Sample) ∷ (is_some c.seed, Seed) ∷ (c.group, Group) ∷ []
 
 abbrev pub beside_sample : CheckOptions → List (Bool × CheckOption)
 beside_sample c = (c.ends, Ends) ∷ (c.runs_given, Runs) ∷ (c.split_given, Split) ∷ (is_some c.piece, Piece) ∷ (c.count_pieces, Pieces) ∷ (is_some c.modes, Modes) ∷ []

@@ -291,6 +291,19 @@ rows =
     ∷ wrong kind.ArgumentConflict (codes "debug" ∷ codes "a" ∷ codes "--witness" ∷ codes "w" ∷ codes "--witness" ∷ codes "w" ∷ [])
     ∷ wrong kind.ArgumentConflict (codes "debug" ∷ codes "a" ∷ codes "--witness=w" ∷ codes "--witness=" ∷ [])
     ∷ wrong kind.ArgumentConflict (codes "debug" ∷ codes "--witness=w" ∷ codes "a" ∷ codes "--mode=b" ∷ codes "--mode=b" ∷ [])
+    ∷ help (codes "debug" ∷ codes "a" ∷ codes "--choices" ∷ codes "0" ∷ codes "--ends" ∷ codes "--help" ∷ [])
+    ∷ wrong kind.UnknownArgument (codes "debug" ∷ codes "a" ∷ codes "--choices" ∷ codes "-1" ∷ [])
+    ∷ wrong kind.UnknownArgument (codes "debug" ∷ codes "a" ∷ codes "--choice" ∷ codes "0" ∷ [])
+    ∷ wrong kind.UnknownArgument (codes "debug" ∷ codes "a" ∷ codes "--choices" ∷ codes "0" ∷ codes "1" ∷ [])
+    ∷ wrong kind.UnknownArgument (codes "debug" ∷ codes "a" ∷ codes "--ends" ∷ codes "b" ∷ [])
+    ∷ wrong kind.UnknownArgument (codes "--ends" ∷ codes "debug" ∷ codes "a" ∷ [])
+    ∷ wrong kind.MissingRequiredArgument (codes "debug" ∷ codes "--choices" ∷ codes "0" ∷ [])
+    ∷ wrong kind.MissingRequiredArgument (codes "debug" ∷ codes "--ends" ∷ [])
+    ∷ wrong kind.InvalidValue (codes "debug" ∷ codes "a" ∷ codes "--choices" ∷ [])
+    ∷ wrong kind.InvalidValue (codes "debug" ∷ codes "a" ∷ codes "--choices" ∷ codes "--ends" ∷ [])
+    ∷ wrong kind.TooManyValues (codes "debug" ∷ codes "a" ∷ codes "--ends=true" ∷ [])
+    ∷ wrong kind.ArgumentConflict (codes "debug" ∷ codes "a" ∷ codes "--choices" ∷ codes "0" ∷ codes "--choices=1" ∷ [])
+    ∷ wrong kind.ArgumentConflict (codes "debug" ∷ codes "--ends" ∷ codes "a" ∷ codes "--ends" ∷ [])
     ∷ []
 
 abbrev kinds_and_status : Kinds → Kinds × List ℕ

@@ -72,6 +72,9 @@ explain_rule = flag_rule (codes "explain")
 abbrev pub group_rule : Rule
 group_rule = flag_rule (codes "group")
 
+abbrev pub strict_rule : Rule
+strict_rule = flag_rule (codes "strict")
+
 -- words that an option takes
 abbrev pub Choices : Type 0
 Choices = Bor (List (Bor (List ℕ)))
@@ -127,11 +130,14 @@ file_app name = with_rule (new_app name) (file_rule (codes "FILE"))
 abbrev pub script_app : List ℕ → App
 script_app name = with_rule (file_app name) mode_rule
 
+abbrev pub diagnose_app : App
+diagnose_app = with_rule (script_app (codes "diagnose")) strict_rule
+
 abbrev pub trace_app : App
 trace_app = script_app (codes "trace")
 
 abbrev pub debug_app : App
-debug_app = with_rule (script_app (codes "debug")) laid_witness_rule
+debug_app = with_rule (with_rule (with_rule (script_app (codes "debug")) (word_rule (codes "choices"))) laid_witness_rule) ends_rule
 
 abbrev pub run_app : App
 run_app = script_app (codes "run")
@@ -173,6 +179,7 @@ named_app = let app = new_app (codes "mpdbg") in record app { top = record app.t
 -- what help speaks of: the program, before it has its commands, or one of these, by the words that `--until` takes
 abbrev pub command_app : Topic → Choices → App
 command_app topic.Program words = named_app
+command_app topic.Diagnose words = diagnose_app
 command_app topic.Trace words = trace_app
 command_app topic.Debug words = debug_app
 command_app topic.Run words = run_app
@@ -186,7 +193,7 @@ command_app topic.Picture words = picture_app
 -- `mpdbg` and its commands, by the words that `--until` takes
 abbrev pub mpdbg_app : Choices → App
 mpdbg_app words =
-    with_subcommand (with_subcommand (with_subcommand (with_subcommand (with_subcommand (with_subcommand (with_subcommand (with_subcommand (with_subcommand named_app trace_app.top) debug_app.top) run_app.top) serve_app.top)
+    with_subcommand (with_subcommand (with_subcommand (with_subcommand (with_subcommand (with_subcommand (with_subcommand (with_subcommand (with_subcommand (with_subcommand named_app diagnose_app.top) trace_app.top) debug_app.top) run_app.top) serve_app.top)
     (check_app words).top)
     verify_app.top)
     words_app.top)

@@ -29,8 +29,6 @@ pub enum CheckOption {
     Seed,
     /// `--split`.
     Split,
-    /// `--until`.
-    Until,
 }
 
 impl CheckOption {
@@ -50,7 +48,6 @@ impl CheckOption {
             CheckOption::Sample => "--sample",
             CheckOption::Seed => "--seed",
             CheckOption::Split => "--split",
-            CheckOption::Until => "--until",
         }
     }
 }
@@ -94,12 +91,6 @@ impl CheckOptions {
         }
         if self.group {
             return Some(CheckOption::Group);
-        }
-        if self.modes.is_some() {
-            return Some(CheckOption::Modes);
-        }
-        if self.until_bad {
-            return Some(CheckOption::Until);
         }
         None
     }

@@ -5,13 +5,14 @@ ghost use Rattle.std.specs.Borrow.{Bor};
 ghost use Rattle.clap.specs.Words.{App, Rule, app_of, rule_of, with_rule, with_subcommand};
 ghost use Rattle.clap.specs.declared.builder.command.Command.TheViews.{out-Command as fields_of};
 ghost use Rattle.mpd_options.specs.Help.{example_of};
-ghost use Rattle.mpd_options.specs.declared.command.Topic.TheVariants.{Check, Debug, Picture, Program, Run, Serve, Trace, Translate, Verify, Words};
-ghost use Rattle.mpd_options.specs.Program.{check_app, choices_rule, chosen_app, clients_rule, command_app, complete_rule, debug_app, ends_rule, explain_rule, file_app, file_rule, flag_rule, fuel_rule, group_rule, laid_witness_rule, leaf_rule, mode_rule, modes_rule, mpdbg_app, named_app, number_rule, outcomes_rule, picture_app, piece_rule, pieces_rule, port_rule, required_number_rule, run_app, runs_rule, sample_rule, script_app, seed_rule, serve_app, split_rule, states_rule, told_app, trace_app, translate_app, until_rule, valued_rule, verify_app, witness_rule, word_rule, words_app, work_app, workers_rule};
+ghost use Rattle.mpd_options.specs.declared.command.Topic.TheVariants.{Check, Debug, Diagnose, Picture, Program, Run, Serve, Trace, Translate, Verify, Words};
+ghost use Rattle.mpd_options.specs.Program.{check_app, choices_rule, chosen_app, clients_rule, command_app, complete_rule, debug_app, diagnose_app, ends_rule, explain_rule, file_app, file_rule, flag_rule, fuel_rule, group_rule, laid_witness_rule, leaf_rule, mode_rule, modes_rule, mpdbg_app, named_app, number_rule, outcomes_rule, picture_app, piece_rule, pieces_rule, port_rule, required_number_rule, run_app, runs_rule, sample_rule, script_app, seed_rule, serve_app, split_rule, states_rule, strict_rule, told_app, trace_app, translate_app, until_rule, valued_rule, verify_app, witness_rule, word_rule, words_app, work_app, workers_rule};
 
 use crate::names::{
-    CHECK, CHOICES, CLIENTS, COMPLETE, DEBUG, ENDS, EXPLAIN, FILE, FUEL, GROUP, LAID_WITNESS, LEAF,
-    MODE, MODES, OUTCOMES, PICTURE, PIECE, PIECES, PORT, RUN, RUNS, SAMPLE, SEED, SERVE, SPLIT,
-    STATES, TRACE, TRANSLATE, UNTIL, VERIFY, WITNESS, WITNESS_FILE, WORDS, WORDS_FILE, WORKERS,
+    CHECK, CHOICES, CLIENTS, COMPLETE, DEBUG, DIAGNOSE, ENDS, EXPLAIN, FILE, FUEL, GROUP,
+    LAID_WITNESS, LEAF, MODE, MODES, OUTCOMES, PICTURE, PIECE, PIECES, PORT, RUN, RUNS, SAMPLE,
+    SEED, SERVE, SPLIT, STATES, STRICT, TRACE, TRANSLATE, UNTIL, VERIFY, WITNESS, WITNESS_FILE,
+    WORDS, WORDS_FILE, WORKERS,
 };
 use clap::builder::ValueParser;
 use clap::{Arg, ArgAction, Command};
@@ -53,6 +54,13 @@ Without words it reads a script from standard input, up to a line ---, and answe
 
 const EXAMPLE: &str = "Example:
   ./mpdbg < examples/first.trace";
+
+const DIAGNOSE_ABOUT: &str =
+    "Say whether the runs of the script of a file can hang or trap, how, and where that was decided";
+
+const DIAGNOSE_EXAMPLE: &str = "Examples:
+  ./mpdbg diagnose examples/race.mpd
+  ./mpdbg diagnose examples/exchange.mpd --mode buffered --strict";
 
 const TRACE_ABOUT: &str = "Trace the script of a file";
 
@@ -142,6 +150,8 @@ Example:
 pub enum Topic {
     /// The program.
     Program,
+    /// `mpdbg diagnose`.
+    Diagnose,
     /// `mpdbg trace`.
     Trace,
     /// `mpdbg debug`.
@@ -166,6 +176,7 @@ pub enum Topic {
 fn about<'a>(topic: Topic) -> &'a str {
     match topic {
         Topic::Program => ABOUT,
+        Topic::Diagnose => DIAGNOSE_ABOUT,
         Topic::Trace => TRACE_ABOUT,
         Topic::Debug => DEBUG_ABOUT,
         Topic::Run => RUN_ABOUT,
@@ -184,6 +195,7 @@ fn example<'a>(topic: Topic) -> &'a str
 {
     match topic {
         Topic::Program => EXAMPLE,
+        Topic::Diagnose => DIAGNOSE_EXAMPLE,
         Topic::Trace => TRACE_EXAMPLE,
         Topic::Debug => DEBUG_EXAMPLE,
         Topic::Run => RUN_EXAMPLE,
@@ -381,7 +393,7 @@ fn until_option<'a>(alloc: Global, words: &'a [&'a str]) -> Arg<'a>
     ensures rule { rule_of result ≡ until_rule words.entry }
     ensures own { result.global ≡ false }
 {
-    let help = "List the runs up to the first that ends in a deadlock or a trap";
+    let help = "Stop at the first run that ends in a deadlock or a trap";
     valued_option(alloc, UNTIL, "END", ValueParser::Names(words), help)
 }
 
@@ -406,7 +418,7 @@ fn ends_flag<'a>(alloc: Global) -> Arg<'a>
     flag(alloc, ENDS, help)
 }
 
-/// `--ends` of `words` and `picture`, which says whose choices are given.
+/// `--ends` of `debug`, `words` and `picture`, which says whose choices are given.
 fn chosen_ends_flag<'a>(alloc: Global) -> Arg<'a>
     ensures rule { rule_of result ≡ ends_rule }
     ensures own { result.global ≡ false }
@@ -415,12 +427,21 @@ fn chosen_ends_flag<'a>(alloc: Global) -> Arg<'a>
     flag(alloc, ENDS, help)
 }
 
+/// `--strict`.
+fn strict_flag<'a>(alloc: Global) -> Arg<'a>
+    ensures rule { rule_of result ≡ strict_rule }
+    ensures own { result.global ≡ false }
+{
+    let help = "End with status 1 also where messages can be left over";
+    flag(alloc, STRICT, help)
+}
+
 /// `--explain`.
 fn explain_flag<'a>(alloc: Global) -> Arg<'a>
     ensures rule { rule_of result ≡ explain_rule }
     ensures own { result.global ≡ false }
 {
-    let help = "Explain each deadlock and each trap: what waits, and for what";
+    let help = "Explain each deadlock and trap, and tell what is left over";
     flag(alloc, EXPLAIN, help)
 }
 
@@ -557,6 +578,16 @@ fn script_command<'a>(alloc: Global, name: &'a str) -> Made<'a>
     with_arg(file_command(alloc, name), mode_option(alloc))
 }
 
+/// `mpdbg diagnose FILE --mode M --strict`.
+fn diagnose_command<'a>(alloc: Global) -> Made<'a>
+    ensures app { IfOk result (λ c. app_of c ≡ diagnose_app) }
+    ensures own { IfOk result (λ c. (fields_of c).has_globals ≡ false) }
+    ensures example { IfOk result (λ c. option_map (λ (t : Bor (List ℕ)). t.now) (fields_of c).after_help ≡ Some (example_of Diagnose)) }
+{
+    let command = with_arg(script_command(alloc, DIAGNOSE), strict_flag(alloc));
+    with_help(command, Topic::Diagnose)
+}
+
 /// `mpdbg trace FILE --mode M`.
 fn trace_command<'a>(alloc: Global) -> Made<'a>
     ensures app { IfOk result (λ c. app_of c ≡ trace_app) }
@@ -566,15 +597,19 @@ fn trace_command<'a>(alloc: Global) -> Made<'a>
     with_help(script_command(alloc, TRACE), Topic::Trace)
 }
 
-/// `mpdbg debug FILE --mode M --witness WITNESS`.
+/// `mpdbg debug FILE --mode M --choices C --witness WITNESS --ends`.
 fn debug_command<'a>(alloc: Global) -> Made<'a>
     ensures app { IfOk result (λ c. app_of c ≡ debug_app) }
     ensures own { IfOk result (λ c. (fields_of c).has_globals ≡ false) }
     ensures example { IfOk result (λ c. option_map (λ (t : Bor (List ℕ)). t.now) (fields_of c).after_help ≡ Some (example_of Debug)) }
 {
-    let help = "A witness or a report, whose deadlock is laid ahead";
+    let choices =
+        "The choices of a run that is laid ahead, numbers from 0 with spaces between them";
+    let witness = "A witness or a report, whose deadlock is laid ahead";
     let command = script_command(alloc, DEBUG);
-    let command = with_arg(command, laid_witness_option(alloc, help));
+    let command = with_arg(command, word_option(alloc, CHOICES, "C", choices));
+    let command = with_arg(command, laid_witness_option(alloc, witness));
+    let command = with_arg(command, chosen_ends_flag(alloc));
     with_help(command, Topic::Debug)
 }
 
@@ -715,6 +750,7 @@ fn command_of<'a>(alloc: Global, topic: Topic, until: &'a [&'a str]) -> Made<'a>
 {
     match topic {
         Topic::Program => named_program(alloc),
+        Topic::Diagnose => diagnose_command(alloc),
         Topic::Trace => trace_command(alloc),
         Topic::Debug => debug_command(alloc),
         Topic::Run => run_command(alloc),
@@ -753,7 +789,8 @@ pub(crate) fn program<'a>(alloc: Global, until: &'a [&'a str]) -> Result<Command
     ensures app { IfOk result (λ c. app_of c ≡ mpdbg_app until.entry) }
     ensures example { IfOk result (λ c. option_map (λ (t : Bor (List ℕ)). t.now) (fields_of c).after_help ≡ Some (example_of Program)) }
 {
-    let program = with_command(alloc, named_program(alloc), Topic::Trace, until);
+    let program = with_command(alloc, named_program(alloc), Topic::Diagnose, until);
+    let program = with_command(alloc, program, Topic::Trace, until);
     let program = with_command(alloc, program, Topic::Debug, until);
     let program = with_command(alloc, program, Topic::Run, until);
     let program = with_command(alloc, program, Topic::Serve, until);

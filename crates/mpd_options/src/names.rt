@@ -69,11 +69,17 @@ pub(crate) const LEAF: &str = "leaf";
 /// The option of the choices of a run, without its hyphens.
 pub(crate) const CHOICES: &str = "choices";
 
+/// The flag that asks whether messages can be left over, without its hyphens.
+pub(crate) const STRICT: &str = "strict";
+
 /// The word of a witness's file.
 pub(crate) const WITNESS_FILE: &str = "WITNESS";
 
 /// What `clap` knows the option of a witness's file by, whose word is that of the flag.
 pub(crate) const LAID_WITNESS: &str = "laid_witness";
+
+/// The word of the command that says how a script can go wrong.
+pub(crate) const DIAGNOSE: &str = "diagnose";
 
 /// The word of the command that traces a script.
 pub(crate) const TRACE: &str = "trace";

@@ -1,15 +1,16 @@
 //! What the words of a command line ask for.
 ghost use Rattle.std.specs.Prelude.{◌≡◌, ◌<◌, IfOk, IfErr, Some, true, is_some, length, map, option_and_then};
 ghost use Rattle.clap.specs.Words.{first_of, found_of, one_of, rows_of, subcommand_rows_of};
-ghost use Rattle.mpd_options.specs.Asked.{IsFound, IsInRange, asked, checker, debugger, found_in, found_of_command, found_options, meant, most_seed, number_if_given, painter, runner, server, teller, text_in, tracer, translator, until_bad_in, verifier};
+ghost use Rattle.mpd_options.specs.Asked.{IsFound, IsInRange, asked, checker, debugger, diagnoser, found_in, found_of_command, found_options, meant, most_seed, number_if_given, painter, runner, server, teller, text_in, tracer, translator, until_bad_in, verifier};
 ghost use Rattle.mpd_options.specs.Numbers.{flag_in, most_usize, number_in};
 ghost use Rattle.mpd_options.specs.Refused.{IsRefused, is_answer, usage_of, usage_status, usage_text};
 
 use crate::command::{USUAL_RUNS, USUAL_SPLIT, only_deadlock, program};
 use crate::names::{
-    CHECK, CHOICES, CLIENTS, COMPLETE, DEBUG, ENDS, EXPLAIN, FILE, FUEL, GROUP, LAID_WITNESS, LEAF,
-    MODE, MODES, OUTCOMES, PICTURE, PIECE, PIECES, PORT, RUN, RUNS, SAMPLE, SEED, SERVE, SPLIT,
-    STATES, TRACE, TRANSLATE, UNTIL, VERIFY, WITNESS, WITNESS_FILE, WORDS, WORDS_FILE, WORKERS,
+    CHECK, CHOICES, CLIENTS, COMPLETE, DEBUG, DIAGNOSE, ENDS, EXPLAIN, FILE, FUEL, GROUP,
+    LAID_WITNESS, LEAF, MODE, MODES, OUTCOMES, PICTURE, PIECE, PIECES, PORT, RUN, RUNS, SAMPLE,
+    SEED, SERVE, SPLIT, STATES, STRICT, TRACE, TRANSLATE, UNTIL, VERIFY, WITNESS, WITNESS_FILE,
+    WORDS, WORDS_FILE, WORKERS,
 };
 use clap::ArgMatches;
 use clap::error::ErrorKind;
@@ -70,6 +71,15 @@ pub struct CheckOptions {
 pub enum Options<'a> {
     /// No word: a script and its trace are on standard input.
     Plain,
+    /// Say whether the runs of the script of a file can hang or trap, how, and where that was decided.
+    Diagnose {
+        /// The file's word.
+        file: &'a str,
+        /// The mode's word, whatever it is; `rendezvous` where there is none.
+        mode: &'a str,
+        /// Whether the status is to tell that messages can be left over.
+        strict: bool,
+    },
     /// Trace the script of a file, by trace words on standard input.
     Trace {
         /// The file's word.
@@ -83,8 +93,12 @@ pub enum Options<'a> {
         file: &'a str,
         /// The mode's word, whatever it is; `rendezvous` where there is none.
         mode: &'a str,
+        /// The word of the choices of a run that is laid ahead, whatever it is; there need be none.
+        choices: Option<&'a str>,
         /// The file of a witness or a report, whose deadlock is laid ahead; there need be none.
         witness: Option<&'a str>,
+        /// Whether the choices are those of a report of `--ends` or `--sample`.
+        ends: bool,
     },
     /// Answer requests on the script of a file, which stand on standard input.
     Run {
@@ -262,11 +276,30 @@ fn debug_in<'a>(debug: &ArgMatches<'a>) -> Options<'a>
 {
     let file = word_in(debug, FILE);
     let mode = word_in(debug, MODE);
-    let laid_witness = debug.get_str(LAID_WITNESS);
+    let choices_word = debug.get_str(CHOICES);
+    let witness_file = debug.get_str(LAID_WITNESS);
+    let ends = flag_of(debug, ENDS);
     Options::Debug {
         file,
         mode,
-        witness: laid_witness,
+        choices: choices_word,
+        witness: witness_file,
+        ends,
+    }
+}
+
+/// What the words behind `diagnose` ask for.
+fn diagnose_in<'a>(diagnose: &ArgMatches<'a>) -> Options<'a>
+    requires { is_some (found_in diagnoser (rows_of (found_of diagnose.now))) ≡ true }
+    ensures { Some (asked result) ≡ found_in diagnoser (rows_of (found_of diagnose.now)) }
+{
+    let file = word_in(diagnose, FILE);
+    let mode = word_in(diagnose, MODE);
+    let is_strict = flag_of(diagnose, STRICT);
+    Options::Diagnose {
+        file,
+        mode,
+        strict: is_strict,
     }
 }
 
@@ -500,6 +533,9 @@ fn options_in<'a>(matches: &ArgMatches<'a>) -> Options<'a>
     }
     if let Some(translate) = matches.subcommand_matches(TRANSLATE) {
         return translate_in(translate);
+    }
+    if let Some(diagnose) = matches.subcommand_matches(DIAGNOSE) {
+        return diagnose_in(diagnose);
     }
     let Some(picture) = matches.subcommand_matches(PICTURE) else {
         unreachable!()

@@ -3,11 +3,12 @@
 ghost use Rattle.std.specs.Prelude.{◌≡◌, ◌≤◌};
 
 use crate::progress::{OfPiece, Progress};
-use crate::summary::{Limit, Made, say_least, say_part, say_states, say_tally};
+use crate::summary::{Limit, Made, say_counts, say_least, say_part, say_states, say_tally};
 use crate::tell::Fault;
 use mpd_check::{
     CheckFault, OutcomesPlan, SamplePlan, Tally, Telling, Tried, Wanted, check, check_listing,
-    check_mode, check_outcomes, check_piece, check_sample, count_pieces, is_crew, put_least,
+    check_mode, check_mode_outcomes, check_outcomes, check_piece, check_sample, count_pieces,
+    is_crew, put_least,
 };
 use mpd_code::{Code, Subject};
 use mpd_device::Sink;
@@ -15,7 +16,7 @@ use mpd_explore::Limits;
 use mpd_lines::Verdict;
 use mpd_model::{Mode, RUNS_MAX, STEPS_MAX};
 use mpd_options::{CheckOptions, Clash};
-use mpd_outcomes::StateLimits;
+use mpd_outcomes::{Goal, StateLimits};
 use mpd_pool::{CheckPlan, Crew};
 use std::marker::Sync;
 use std::rt::Clock;
@@ -47,20 +48,22 @@ enum Part {
     Outcomes,
 }
 
-/// What is looked at, by the words: several modes are asked for before how many pieces there are, and that before one of them. What is
-/// drawn stands beside none of these, and nor do the ways to end.
+/// What is looked at, by the words: several modes are asked for before all else, and how many pieces there are before one of them. What
+/// is drawn stands beside none of these, and the ways to end stand beside several modes alone.
 fn part_of(options: CheckOptions) -> Part {
+    if let Some(most) = options.modes {
+        return Part::Modes(most);
+    }
     if options.outcomes {
         return Part::Outcomes;
     }
     if let Some(runs) = options.sample {
         return Part::Sample(runs);
     }
-    match (options.modes, options.count_pieces, options.piece) {
-        (Some(most), _, _) => Part::Modes(most),
-        (None, true, _) => Part::Count,
-        (None, false, Some(number)) => Part::Piece(number),
-        (None, false, None) => Part::Whole,
+    match (options.count_pieces, options.piece) {
+        (true, _) => Part::Count,
+        (false, Some(number)) => Part::Piece(number),
+        (false, None) => Part::Whole,
     }
 }
 
@@ -101,17 +104,33 @@ fn states_of(options: CheckOptions) -> usize {
     options.states.unwrap_or(USUAL_STATES)
 }
 
+/// The end that the search for ways to end stops at.
+fn goal_of(options: CheckOptions) -> Option<Goal> {
+    if options.until_bad {
+        return Some(Goal::Bad);
+    }
+    None
+}
+
+/// How far the search for ways to end goes, with the texts of witnesses or without.
+fn state_limits_of(options: CheckOptions, witnesses: bool) -> StateLimits
+    ensures { result.fuel ≡ options.fuel }
+{
+    StateLimits {
+        fuel: options.fuel,
+        kept: states_of(options),
+        visited: VISITED_MAX,
+        witnesses,
+        until: goal_of(options),
+    }
+}
+
 /// How the ways to end are looked for.
 fn outcomes_plan_of(options: CheckOptions) -> OutcomesPlan
     ensures { result.limits.fuel ≡ options.fuel }
 {
     OutcomesPlan {
-        limits: StateLimits {
-            fuel: options.fuel,
-            kept: states_of(options),
-            visited: VISITED_MAX,
-            witnesses: options.witness,
-        },
+        limits: state_limits_of(options, options.witness),
         explain: options.explain,
     }
 }
@@ -121,27 +140,19 @@ fn is_wide(options: CheckOptions) -> bool {
     options.ends || options.sample.is_some() || options.outcomes
 }
 
-/// How the ways to end are looked for, as far as what is said of them depends on that.
-fn made_by_states(options: CheckOptions) -> Made {
-    Made {
-        limit: Limit::States,
-        is_most: states_of(options) == STATES_MAX,
-        is_wide: is_wide(options),
-    }
-}
-
 /// How a report is made.
 fn made_by(options: CheckOptions) -> Made {
-    let limit = match (options.sample.is_some(), options.until_bad) {
-        (false, false) => Limit::Runs,
-        (false, true) => Limit::UntilBad,
-        (true, false) => Limit::Sample,
-        (true, true) => Limit::UntilBadSample,
+    let (limit, is_most) = match (options.outcomes, options.sample) {
+        (true, _) => (Limit::States, states_of(options) == STATES_MAX),
+        (false, Some(runs)) => (Limit::Sample, runs == RUNS_MAX),
+        (false, None) => (Limit::Runs, options.runs == RUNS_MAX),
     };
     Made {
         limit,
-        is_most: options.sample.unwrap_or(options.runs) == RUNS_MAX,
+        is_most,
+        until_bad: options.until_bad,
         is_wide: is_wide(options),
+        is_ends: options.ends,
     }
 }
 
@@ -253,7 +264,7 @@ fn check_ways<R: Eprint + AllocGlobal, W: Sink>(
         Err(fault) => return Err(CheckFault::Engine(fault)),
     };
     if is_terminal {
-        let _unwritten = say_tally(rt, subject, found.tally, made_by_states(options));
+        let _unwritten = say_counts(rt, subject, found.tally, found.counts, made_by(options));
         let _unwritten = say_states(rt, found.states);
     }
     Ok(found.tally)
@@ -300,7 +311,29 @@ fn check_one<R: Clock + Eprint + AllocGlobal, W: Sink>(
     Ok(tally)
 }
 
-/// Explores all pieces in one mode more, and writes what came of it.
+/// Explores all pieces in a mode, or looks for the ways to end in it, and writes what came of it.
+fn tally_in_mode<R: Clock + Eprint + Threads + Sync + AllocGlobal, W: Sink>(
+    rt: &R,
+    subject: Subject<'_>,
+    options: CheckOptions,
+    sink: &mut W,
+    is_terminal: bool,
+) -> Result<Tally, CheckFault>
+    requires { options.fuel ≤ STEPS_MAX }
+{
+    let alloc = rt.alloc();
+    if options.outcomes {
+        return match check_mode_outcomes(alloc, subject, state_limits_of(options, false), sink) {
+            Ok(found) => Ok(found.tally),
+            Err(fault) => Err(CheckFault::Engine(fault)),
+        };
+    }
+    let crew = crew_of(rt, options);
+    let progress = Progress::new(rt, is_terminal);
+    check_mode(crew, alloc, subject, plan_of(options), sink, &progress)
+}
+
+/// Does so in one mode more.
 fn check_one_mode<R: Clock + Eprint + Threads + Sync + AllocGlobal, W: Sink>(
     rt: &R,
     subject: Subject<'_>,
@@ -311,20 +344,11 @@ fn check_one_mode<R: Clock + Eprint + Threads + Sync + AllocGlobal, W: Sink>(
 ) -> Result<Tried, CheckFault>
     requires { options.fuel ≤ STEPS_MAX }
 {
-    let progress = Progress::new(rt, is_terminal);
-    let tally = check_mode(
-        crew_of(rt, options),
-        rt.alloc(),
-        subject,
-        plan_of(options),
-        sink,
-        &progress,
-    )?;
+    let tally = tally_in_mode(rt, subject, options, sink, is_terminal)?;
     Ok(tried.and(subject.mode, tally))
 }
 
-/// Explores all pieces in rendezvous, with 1 slot and more up to `most`, and buffered, and tells at a terminal which modes list a deadlock
-/// or a trap.
+/// Looks at rendezvous, at 1 slot and more up to `most`, and at buffered, and tells at a terminal which modes list a deadlock or a trap.
 fn check_modes<R: Clock + Eprint + Threads + Sync + AllocGlobal, W: Sink>(
     rt: &R,
     code: &Code,

@@ -1,16 +1,43 @@
 //! `mpdbg debug`: a console for a person, or for a file of words (docs/CONSOLE.md).
 
 use crate::outside::Outside;
+use crate::picture::{NamedChoices, steps_fault, steps_of_choices};
 use crate::tell::Fault;
 use mpd_code::Subject;
-use mpd_console::{OpenFault, Opened, Screen, UntilQuit, open, open_with, run_console};
+use mpd_console::{OpenFault, Opened, Screen, UntilQuit, open, open_along, open_with, run_console};
 use mpd_device::{Sink, Source};
 use mpd_explore::Witness;
 use mpd_lines::{EngineFault, write_all};
+use mpd_runs::FUEL;
 use std::alloc::Global;
 
+/// What lies ahead of a console from the start on.
+#[derive(Drop)]
+pub(crate) enum Ahead<'a> {
+    /// Nothing.
+    Nothing,
+    /// The steps of the run with the choices of a word.
+    Choices(NamedChoices<'a>),
+    /// Those of a witness, which is checked first.
+    Witness(Witness),
+}
+
+/// A console with the steps ahead of the run with the choices of a word.
+fn console_along<'c, 't, 'a>(
+    alloc: Global,
+    subject: Subject<'c>,
+    screen: Screen<'t>,
+    named: NamedChoices<'a>,
+) -> Result<Opened<'c, 't>, Fault<'a>> {
+    let steps = steps_of_choices(alloc, subject, named, FUEL)?;
+    match open_along(alloc, subject, screen, steps) {
+        Ok(opened) => Ok(opened),
+        Err(fault) => Err(steps_fault(fault)),
+    }
+}
+
 /// A console at the start of a script, with the steps of a witness ahead where there is one.
-fn console_of<'c, 't, 'a>(
+fn console_with<'c, 't, 'a>(
     alloc: Global,
     subject: Subject<'c>,
     screen: Screen<'t>,
@@ -25,6 +52,20 @@ fn console_of<'c, 't, 'a>(
         Err(OpenFault::Refused(fault)) => Err(Fault::Witness(fault)),
         Err(OpenFault::TooLong) => Err(Fault::LongWitness),
         Err(OpenFault::Memory) => Err(Fault::from(EngineFault::Memory)),
+    }
+}
+
+/// A console at the start of a script, with what is to lie ahead.
+fn console_of<'c, 't, 'a>(
+    alloc: Global,
+    subject: Subject<'c>,
+    screen: Screen<'t>,
+    ahead: Ahead<'a>,
+) -> Result<Opened<'c, 't>, Fault<'a>> {
+    match ahead {
+        Ahead::Nothing => console_with(alloc, subject, screen, None),
+        Ahead::Choices(named) => console_along(alloc, subject, screen, named),
+        Ahead::Witness(witness) => console_with(alloc, subject, screen, Some(witness)),
     }
 }
 
@@ -64,7 +105,7 @@ pub(crate) fn debug_script<'a, R: Eprint + AllocGlobal, S: Source, W: Sink>(
     rt: &R,
     subject: Subject<'_>,
     text: &[u8],
-    witness: Option<Witness>,
+    ahead: Ahead<'a>,
     outside: Outside<'_, S, W>,
 ) -> Result<(), Fault<'a>> {
     let Outside {
@@ -77,7 +118,7 @@ pub(crate) fn debug_script<'a, R: Eprint + AllocGlobal, S: Source, W: Sink>(
         script: text,
         is_prompting,
     };
-    let mut opened = console_of(rt.alloc(), subject, screen, witness)?;
+    let mut opened = console_of(rt.alloc(), subject, screen, ahead)?;
     if terminals.is_terminal {
         let _unwritten = eprintln!(rt;
             "help lists the words, an empty line repeats the last, quit ends; docs/CONSOLE.md"

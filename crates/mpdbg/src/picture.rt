@@ -47,7 +47,7 @@ fn started<'c, 'a>(alloc: Global, subject: Subject<'c>) -> Result<Debugger<'c>, 
 }
 
 /// The steps of the run with the choices of a word.
-fn steps_of_choices<'a>(
+pub(crate) fn steps_of_choices<'a>(
     alloc: Global,
     subject: Subject<'_>,
     named: NamedChoices<'a>,
@@ -77,13 +77,21 @@ fn steps_of_choices<'a>(
     }
 }
 
-/// Takes steps. Where one isn't enabled, its number from 1 is that of its line. Of words alone there can be too many.
+/// The fault of steps that aren't taken. Where one isn't enabled, its number from 1 is that of its line. Of words alone there can be too
+/// many.
+pub(crate) fn steps_fault<'a>(fault: StepsFault) -> Fault<'a> {
+    match fault {
+        StepsFault::NotEnabled(place) => Fault::Words(place.saturating_add(1)),
+        StepsFault::Full => Fault::ManyWords,
+        StepsFault::Memory => Fault::from(EngineFault::Memory),
+    }
+}
+
+/// Takes steps.
 fn take_all<'a>(debugger: &mut Debugger<'_>, steps: &[Step]) -> Result<(), Fault<'a>> {
     match take_steps(debugger, steps) {
         Ok(()) => Ok(()),
-        Err(StepsFault::NotEnabled(place)) => Err(Fault::Words(place.saturating_add(1))),
-        Err(StepsFault::Full) => Err(Fault::ManyWords),
-        Err(StepsFault::Memory) => Err(Fault::from(EngineFault::Memory)),
+        Err(fault) => Err(steps_fault(fault)),
     }
 }
 

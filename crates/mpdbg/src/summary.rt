@@ -3,19 +3,17 @@
 use mpd_check::{Tally, Tried};
 use mpd_code::Subject;
 use mpd_model::Mode;
+use mpd_outcomes::Count;
+use mpd_runs::WayCounts;
 use std::io;
 
-/// Which options leave runs out of a report.
+/// Which option leaves runs out of a report.
 #[derive(Clone, Copy)]
 pub(crate) enum Limit {
     /// How many runs of each piece are listed.
     Runs,
-    /// The same, and that the listing ends with the first deadlock or trap.
-    UntilBad,
     /// How many runs are drawn.
     Sample,
-    /// The same, and that the drawing ends with the first deadlock or trap.
-    UntilBadSample,
     /// How many states are kept.
     States,
 }
@@ -27,50 +25,144 @@ pub(crate) struct Made {
     pub(crate) limit: Limit,
     /// Whether as many runs, or states, were asked for as can be.
     pub(crate) is_most: bool,
+    /// Whether it ends with the first deadlock or trap.
+    pub(crate) until_bad: bool,
     /// Whether its runs are those of the wide walk.
     pub(crate) is_wide: bool,
+    /// Whether each end is listed, and not each run.
+    pub(crate) is_ends: bool,
 }
 
 impl Made {
+    /// What was done with the runs: the search by states counts them.
+    fn how(self) -> &'static str {
+        match self.limit {
+            Limit::States => "counted",
+            Limit::Runs | Limit::Sample => "tried",
+        }
+    }
+
     /// The options that list more runs.
     fn options(self, is_bad: bool) -> &'static str {
+        if self.until_bad && is_bad {
+            return "--until";
+        }
         match (self.limit, self.is_most, self.is_wide) {
-            (Limit::UntilBad | Limit::UntilBadSample, _, _) if is_bad => "--until",
-            (Limit::Sample | Limit::UntilBadSample, false, _) => "--sample",
-            (Limit::Sample | Limit::UntilBadSample, true, _) => "--ends",
-            (Limit::Runs | Limit::UntilBad, false, false) => "--ends, --runs",
-            (Limit::Runs | Limit::UntilBad, true, false) => "--ends",
-            (Limit::Runs | Limit::UntilBad, false, true) => "--runs, --sample",
-            (Limit::Runs | Limit::UntilBad, true, true) => "--sample",
+            (Limit::Runs, false, false) => "--ends, --runs",
+            (Limit::Runs, true, false) => "--ends",
+            (Limit::Runs, false, true) => "--runs, --sample",
+            (Limit::Runs, true, true) => "--sample",
+            (Limit::Sample, false, _) => "--sample",
+            (Limit::Sample, true, _) => "--ends",
             (Limit::States, false, _) => "--states",
             (Limit::States, true, _) => "--sample",
         }
     }
 }
 
-/// Says how many of something there are, and what it is.
-fn say_many<R: Eprint>(rt: &R, count: usize, what: &str) -> io::Result<()> {
-    if count == 0 {
-        return Ok(());
+/// How many of the runs that a report lists end in each way.
+fn ways_of(tally: Tally) -> WayCounts {
+    let done = tally
+        .runs
+        .saturating_sub(tally.leftovers)
+        .saturating_sub(tally.deadlocks)
+        .saturating_sub(tally.traps)
+        .saturating_sub(tally.cut);
+    WayCounts {
+        done: Count::Exactly(done as u64),
+        leftovers: Count::Exactly(tally.leftovers as u64),
+        deadlock: Count::Exactly(tally.deadlocks as u64),
+        trap: Count::Exactly(tally.traps as u64),
+        cut: Count::Exactly(tally.cut as u64),
+        total: Count::Exactly(tally.runs as u64),
+        more: tally.more,
     }
-    if count == 1 {
-        return eprint!(rt; ", 1 of them {what}");
-    }
-    eprint!(rt; ", {count} of them {what}")
 }
 
-/// Says how a script can end, where all its runs are listed, each to its end.
-fn say_whole<R: Eprint>(rt: &R, tally: Tally) -> io::Result<()> {
-    eprint!(rt; "every way it can end is listed: it always ends, ")?;
-    if !tally.is_bad() {
-        return eprintln!(rt; "and never in a deadlock or trap");
+/// What becomes of a run, in the words of one and of several.
+#[derive(Clone, Copy)]
+enum Deed {
+    Finishes,
+    Leaves,
+    Hangs,
+    Traps,
+}
+
+impl Deed {
+    /// What one does.
+    fn of_one(self) -> &'static str {
+        match self {
+            Deed::Finishes => "finishes",
+            Deed::Leaves => "leaves messages that nobody receives",
+            Deed::Hangs => "hangs",
+            Deed::Traps => "traps",
+        }
     }
-    let runs = tally.runs;
-    let ways = if runs == 1 { "way" } else { "ways" };
-    eprint!(rt; "in {runs} {ways}")?;
-    say_many(rt, tally.deadlocks, "a deadlock")?;
-    say_many(rt, tally.traps, "a trap")?;
+
+    /// What several do.
+    fn of_several(self) -> &'static str {
+        match self {
+            Deed::Finishes => "finish",
+            Deed::Leaves => "leave messages that nobody receives",
+            Deed::Hangs => "hang",
+            Deed::Traps => "trap",
+        }
+    }
+}
+
+/// Says how many runs do so, where some do; whether some were told before, by other deeds, is answered again.
+fn say_deed<R: Eprint>(rt: &R, begun: bool, count: Count, deed: Deed) -> io::Result<bool> {
+    let between = if begun { ", " } else { ": " };
+    match count {
+        Count::Exactly(0) => return Ok(begun),
+        Count::Exactly(1) => {
+            let does = deed.of_one();
+            eprint!(rt; "{between}1 {does}")?;
+        }
+        Count::Exactly(runs) => {
+            let they_do = deed.of_several();
+            eprint!(rt; "{between}{runs} {they_do}")?;
+        }
+        Count::More => {
+            let they_do = deed.of_several();
+            eprint!(rt; "{between}at least 18446744073709551615 {they_do}")?;
+        }
+    }
+    Ok(true)
+}
+
+/// Says what becomes of runs, each of which comes to its end.
+fn say_deeds<R: Eprint>(rt: &R, counts: WayCounts) -> io::Result<()> {
+    let begun = say_deed(rt, false, counts.done, Deed::Finishes)?;
+    let begun = say_deed(rt, begun, counts.leftovers, Deed::Leaves)?;
+    let begun = say_deed(rt, begun, counts.deadlock, Deed::Hangs)?;
+    let _begun = say_deed(rt, begun, counts.trap, Deed::Traps)?;
     eprintln!(rt; "")
+}
+
+/// What becomes of the only run.
+fn only_deed(counts: WayCounts) -> Deed {
+    match (counts.leftovers, counts.deadlock, counts.trap) {
+        (Count::Exactly(1), _, _) => Deed::Leaves,
+        (_, Count::Exactly(1), _) => Deed::Hangs,
+        (_, _, Count::Exactly(1)) => Deed::Traps,
+        _ => Deed::Finishes,
+    }
+}
+
+/// Says that all runs were tried, each to its end, or counted, how many these are, and what becomes of them.
+fn say_whole<R: Eprint>(rt: &R, counts: WayCounts, made: Made) -> io::Result<()> {
+    let what = if made.is_ends { "ends" } else { "runs" };
+    let how = made.how();
+    match counts.total {
+        Count::Exactly(1) => {
+            let does = only_deed(counts).of_one();
+            return eprintln!(rt; "its one run was {how}: it {does}");
+        }
+        Count::Exactly(runs) => eprint!(rt; "all {runs} {what} were {how}")?,
+        Count::More => eprint!(rt; "all {what} were {how}, at least 18446744073709551615")?,
+    }
+    say_deeds(rt, counts)
 }
 
 /// Says that there are more runs than are listed, or counted, and how these are too.
@@ -164,16 +256,27 @@ pub(crate) fn say_part<R: Eprint>(
     say_choices(rt, subject, made)
 }
 
-/// Says in one line what a report tells of all runs: that every way is listed in which the script can end, or what wasn't tried.
-/// Where a listing ends with the first deadlock or trap, that is why there are more.
+/// Says in one line what a report of runs tells of all of them (`say_counts`).
 pub(crate) fn say_tally<R: Eprint>(
     rt: &R,
     subject: Subject<'_>,
     tally: Tally,
     made: Made,
 ) -> io::Result<()> {
+    say_counts(rt, subject, tally, ways_of(tally), made)
+}
+
+/// Says in one line what a report tells of all runs: what becomes of them, where it tells every way in which the script can end, or else
+/// what wasn't tried. Where a listing ends with the first deadlock or trap, that is why there are more.
+pub(crate) fn say_counts<R: Eprint>(
+    rt: &R,
+    subject: Subject<'_>,
+    tally: Tally,
+    counts: WayCounts,
+    made: Made,
+) -> io::Result<()> {
     if tally.tells_all(subject, made.is_wide) {
-        say_whole(rt, tally)?;
+        say_whole(rt, counts, made)?;
     } else {
         say_untried(rt, subject, tally, made)?;
     }

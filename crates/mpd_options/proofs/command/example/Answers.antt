@@ -6,6 +6,10 @@ pub returns-in-Program : goal.returns-in-Program
 unfolding example_of
 returns-in-Program c = sym (ap example_of c.in-Program.is)
 
+pub returns-in-Diagnose : goal.returns-in-Diagnose
+unfolding example_of
+returns-in-Diagnose c = sym (ap example_of c.in-Diagnose.is)
+
 pub returns-in-Trace : goal.returns-in-Trace
 unfolding example_of
 returns-in-Trace c = sym (ap example_of c.in-Trace.is)

@@ -1,6 +1,6 @@
 use Rattle.std.proofs.Common.{ap, is_some, refl, sym, ◌∙◌}
 use Rattle.clap.specs.Words.{found_of, rows_of}
-use Rattle.mpd_options.specs.Asked.{checker, debugger, painter, runner, server, teller, tracer, translator, verifier}
+use Rattle.mpd_options.specs.Asked.{checker, debugger, diagnoser, painter, runner, server, teller, tracer, translator, verifier}
 use Rattle.mpd_options.proofs.Reading.{command_is}
 use Rattle.mpd_options.proofs.options.options_in.Goals as goal
 
@@ -52,8 +52,14 @@ translate_in-requires c = let found = c.in-Some-subcommand_matches-7.ensures in 
 pub returns-in-Some-subcommand_matches-7 : goal.returns-in-Some-subcommand_matches-7
 returns-in-Some-subcommand_matches-7 c = let found = c.in-Some-subcommand_matches-7.ensures in c.translate_in.ensures ∙ sym (command_is translator c.args.matches.now (rows_of (found_of c.in-Some-subcommand_matches-7.translate.now)) (found.found.0 refl) found.rows)
 
+pub diagnose_in-requires : goal.diagnose_in-requires
+diagnose_in-requires c = let found = c.in-Some-subcommand_matches-8.ensures in sym (ap is_some (command_is diagnoser c.args.matches.now (rows_of (found_of c.in-Some-subcommand_matches-8.diagnose.now)) (found.found.0 refl) found.rows)) ∙ c.requires
+
+pub returns-in-Some-subcommand_matches-8 : goal.returns-in-Some-subcommand_matches-8
+returns-in-Some-subcommand_matches-8 c = let found = c.in-Some-subcommand_matches-8.ensures in c.diagnose_in.ensures ∙ sym (command_is diagnoser c.args.matches.now (rows_of (found_of c.in-Some-subcommand_matches-8.diagnose.now)) (found.found.0 refl) found.rows)
+
 pub picture_in-requires : goal.picture_in-requires
-picture_in-requires c = let found = c.in-Some-subcommand_matches-8.ensures in sym (ap is_some (command_is painter c.args.matches.now (rows_of (found_of c.in-Some-subcommand_matches-8.picture.now)) (found.found.0 refl) found.rows)) ∙ c.requires
+picture_in-requires c = let found = c.in-Some-subcommand_matches-9.ensures in sym (ap is_some (command_is painter c.args.matches.now (rows_of (found_of c.in-Some-subcommand_matches-9.picture.now)) (found.found.0 refl) found.rows)) ∙ c.requires
 
 pub returns : goal.returns
-returns c = let found = c.in-Some-subcommand_matches-8.ensures in c.picture_in.ensures ∙ sym (command_is painter c.args.matches.now (rows_of (found_of c.in-Some-subcommand_matches-8.picture.now)) (found.found.0 refl) found.rows)
+returns c = let found = c.in-Some-subcommand_matches-9.ensures in c.picture_in.ensures ∙ sym (command_is painter c.args.matches.now (rows_of (found_of c.in-Some-subcommand_matches-9.picture.now)) (found.found.0 refl) found.rows)
