@@ -23,10 +23,11 @@ are so many copies that no two bodies are in the same ones: then it is this body
 
 Other runs of compare/ plant wrong bodies, too (`served/broken/`, `probe/broken*/`), and make copies with other changes (`probe/*.edit`);
 not all of them are stages of the gate. With `--read` each file below compare/ that ends in `.edit` is read: its old texts must stand in
-the sources, once, and of a wrong body in the function that it names, and the scenario that is to find it must be there. So a body that
-a change of the sources has left behind fails the gate's first stages, whichever run plants it.
+the sources, once, and of a wrong body in the function that it names, and the scenario or the row that is to find it must be there. So a
+body that a change of the sources or of the rows has left behind fails the gate's first stages, whichever run plants it.
 """
 import argparse
+import functools
 import glob
 import itertools
 import math
@@ -48,6 +49,7 @@ from edit_files import BadEdit, Edit, merged, text_of, touches
 from model import explorer, session, witness
 from model.debugger import RENDEZVOUS, answer
 from model.files import held
+from probe.call_rows import direct_names, rows as rows_of_calls
 from runs.serving import BY_NAME as SCENARIOS
 
 FOLDER = 'compare/broken'
@@ -75,12 +77,20 @@ class Body(InCrate):
         return found
 
 
+@functools.cache
+def calls():
+    """The names of the rows of calls, those of direct calls among them (compare/runs/refused_calls.py)."""
+    return {row.name for row in rows_of_calls()} | {f'direct {name}' for name in direct_names()}
+
+
 class OfOthers(Body):
-    """A wrong body that another run plants, and the scenario that is to find it, where it names one."""
+    """A wrong body that another run plants, and the scenario or the row that is to find it, where it names one."""
 
     def reads(self, key, value):
         if key == 'scenario' and value.strip() not in SCENARIOS:
             raise BadEdit(f'no scenario: {value.strip()}')
+        if key == 'row' and value.strip() not in calls():
+            raise BadEdit(f'no row: {value.strip()}')
         return key in ('scenario', 'row', 'said') or super().reads(key, value)
 
 

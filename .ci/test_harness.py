@@ -498,7 +498,7 @@ class Planted(WithFolder):
 
     def test_what_can_be_made(self):
         self.assertEqual(self.said('List::len', 'self.items.len()', 'scenario: a dialogue'), [])
-        self.assertEqual(self.said('list::left', 'right(count - 1);', 'row: one', 'said: memory'), [])
+        self.assertEqual(self.said('list::left', 'right(count - 1);', f'row: {min(planted.calls())}', 'said: memory'), [])
 
     def test_a_text_that_is_gone(self):
         [said] = self.said('List::len', 'self.items.count()', 'scenario: a dialogue')
@@ -512,6 +512,10 @@ class Planted(WithFolder):
 
     def test_a_scenario_that_is_gone(self):
         self.assertEqual(len(self.said('List::len', 'self.items.len()', 'scenario: a monologue')), 1)
+
+    def test_a_row_that_is_gone(self):
+        [said] = self.said('List::len', 'self.items.len()', f'row: {min(planted.calls())}, once', 'said: memory')
+        self.assertIn('BAD EDIT: no row: ', said)
 
     def test_what_makes_a_copy_for_a_run(self):
         self.body('compare/probe/copy.edit', 'answer', 'items: Vec<u64>,')

@@ -10,12 +10,12 @@ from itertools import islice
 from random import Random
 from typing import NamedTuple, Optional, Union
 
-from cases import explained_cases, session_cases
+from cases import deciding_cases, explained_cases, session_cases
 from cases.explore_cases import Beside
 from cases.session_cases import is_short
 from cases.walks import random_step, respaced, step_line
 from model import debugger, explorer, policy, walks, wide
-from model.console import NO_FILE, Console, debug, is_blank, way
+from model.console import NO_FILE, Console, NamedRun, debug, is_blank, leaf_of
 from model.console_words import ALL, STEPS, TABLE, Asked, NotAsked, full_name, names_of
 from model.debugger import RENDEZVOUS, Debugger, enabled_steps, last_call, lines_of, next_world, step_text
 from model.explorer import leaf_lines
@@ -23,12 +23,14 @@ from model.files import held
 from model.language import Fault, read_script
 from model.modes import MODES, by_turns
 from model.policy import Choice, Forced
-from model.walks import CUT, Run, walk
+from model.run_words import follower
+from model.states import Search, answered
+from model.walks import CUT, Run, ending, taken, walk
 from model.wide import ASLEEP, wide_ways
 from model.worlds import Step
 
-# What takes the model more steps or runs than these isn't asked for.
-LONGEST_RUN, MOST_RUNS, MOST_FUEL = 200, 60, 250
+# What takes the model more steps, runs or states than these isn't asked for.
+LONGEST_RUN, MOST_RUNS, MOST_FUEL, MOST_STATES = 200, 60, 250, 400
 # Words that look for a run that ends so.
 SOUGHT = 'deadlock', 'trap'
 EDGES = ('0', '1', '2', '15', '16', '63', '64', '65', '65536', '65537', '65538', '1000000', '1000001', '999999999', '000000001')
@@ -65,14 +67,17 @@ def shares(usual=2, **named):
     return {word: named.get(word.replace('-', '_'), usual) for word in words}
 
 
-MOVING = Habits(shares(1, next=20, run=12, back=5, run_back=4, undo_choice=6, goto=7, redo=9, local=10, deadlock=3, trap=3, follow=4, history=2),
+MOVING = Habits(shares(1, next=20, run=12, back=5, run_back=4, undo_choice=6, goto=7, redo=9, local=10, deadlock=3, trap=3, follow=4, history=2, blame=2),
                 (25, 40, 60))
 STOPPING = Habits(shares(1, next=8, run=16, back=4, run_back=12, redo=5, goto=2, **{'break': 12}, delete=4, breaks=4), (30, 50))
 LOOKING = Habits(shares(3, next=12, run=12, why=16, print=16, vars=6, list=4, calls=4, queues=4, ranks=4, enabled=4, check=6), (30, 45))
-ENDING = Habits(shares(1, next=14, run=22, back=4, undo_choice=9, redo=10, deadlock=8, trap=6, follow=8, check=8, why=6, history=3, goto=4), (25, 40))
+ENDING = Habits(shares(1, next=14, run=22, back=4, undo_choice=9, redo=10, deadlock=8, trap=6, follow=8, check=8, why=6, history=3, goto=4, blame=10), (25, 40))
 FILLING = Habits(shares(0, **{'break': 60}, delete=3, breaks=1, run=2, run_back=2), (90, 110), spoiled=0.01)
 SPOILED = Habits(shares(3, next=8, run=4), (40, 60), spoiled=0.6, empty=0.15)
 HITTING = Habits(shares(1, next=10, run=20, back=4, undo_choice=9, redo=6, goto=4, local=6, **{'break': 14}, delete=4), (30, 50), hitting=0.9)
+# Of scripts in which a step decides, of which so many come in turn.
+BLAMING = Habits(shares(1, next=12, run=20, back=3, undo_choice=6, redo=8, goto=5, local=8, deadlock=8, trap=8, follow=8, blame=24, why=2, check=6, vars=3), (25, 40))
+BLAMING_TURNS, BLAMING_EVERY = (3, 9, 13), 20
 ALL_HABITS = (MOVING, MOVING, MOVING, STOPPING, STOPPING, HITTING, HITTING, HITTING, LOOKING, LOOKING, LOOKING, ENDING, ENDING, ENDING, SPOILED,
               SPOILED, FILLING)
 
@@ -90,12 +95,26 @@ def is_tried_soon(walked, is_last):
     return True
 
 
+def is_sought_soon(console, sought):
+    """Whether few states are come to as a run is sought that ends in a way."""
+    search = Search(most=MOST_STATES, stops_at=(sought,))
+    answered(search.behind(console.world, console.fuel()))
+    return search.come_to < MOST_STATES
+
+
+def is_blamed_soon(console):
+    """Whether few states are come to from those of the run that is kept."""
+    search = Search(most=MOST_STATES)
+    console.last_not_doomed(search)
+    return search.come_to < MOST_STATES
+
+
 class Talk:
     """Lines for one console, each drawn where it stands then; what was drawn is counted in `met`."""
 
-    def __init__(self, random, script, mode, habits, witness=None):
+    def __init__(self, random, script, mode, habits, ahead=None):
         self.random, self.habits = random, habits
-        self.console = Console(script, mode, witness)
+        self.console = Console(script, mode, ahead)
         self.source_lines = script.count(b'\n') + 1
         self.was_numbered = False
         # The step that a breakpoint was set for, and the depth that it is taken from.
@@ -393,7 +412,9 @@ class Talk:
             return not is_tried_soon(self.walked, lambda count, _: count == (1000 if number is None else number))
         if asked.word == 'follow' and 1 <= number <= explorer.MOST_RUNS:
             return not is_tried_soon(self.walked, lambda count, _: count + 1 == number)
-        return asked.word in SOUGHT and not is_tried_soon(self.walked, lambda _, leaf: way(leaf) == asked.word)
+        if asked.word == 'blame':
+            return not is_blamed_soon(self.console)
+        return asked.word in SOUGHT and not is_sought_soon(self.console, asked.word)
 
     def lines(self, count):
         """So many lines with their ends; each is answered before the next is drawn."""
@@ -414,7 +435,7 @@ class Talk:
             asked = self.console.asked(line)
         except NotAsked:
             return False
-        return asked is not None and asked.word in ('next', 'run', 'check', 'follow', *SOUGHT)
+        return asked is not None and asked.word in ('next', 'run', 'check', 'follow', 'blame', *SOUGHT)
 
     def note(self, line):
         """Counts what is asked."""
@@ -538,7 +559,7 @@ class Talk:
         self.met['a breakpoint of a request'] += asked.word == 'break' and asked.given[0] == 'change' and asked.given[2].declared.kind == 'req'
 
 
-# ---- scripts and witnesses
+# ---- scripts, witnesses and runs
 
 def with_carriage_returns(random, script):
     """The script, whose lines now and then end with a carriage return, or whose last one doesn't end."""
@@ -557,8 +578,15 @@ def with_news(random, script):
     return script + b'print rank;\nprint -2;\n' if draw < 0.35 else script
 
 
+def is_turn_of_blaming(number):
+    return number % BLAMING_EVERY in BLAMING_TURNS
+
+
 def script_for(seed, random, number, mode):
-    """A script of either version: one that is explored or traced elsewhere, or one whose ranks nearly meet."""
+    """A script of either version: one in which a step decides how it ends, in its turn, one that is explored or traced elsewhere, or one whose
+    ranks nearly meet."""
+    if is_turn_of_blaming(number):
+        return deciding_cases.script_for(random, mode)[1]
     if number % 5 < 2:
         return explained_cases.nearly_script(random, 1 + random.randrange(2))
     script = session_cases.script_by(Beside(seed) if number % 5 == 2 else seed, random, mode)
@@ -589,25 +617,50 @@ def spoiled_witness(random, text):
     return text.replace(old, new, 1)
 
 
+def run_for(random, script, mode):
+    """A random run, along decisions or along the wide walk, as it is named by its choices; None where it is too long."""
+    ends = random.random() < 0.5
+    run, followed = Run(Debugger(read_script(script), mode).world, MOST_FUEL), follower(ends)
+    while True:
+        run, decided = followed(run)
+        ended_so = ending(decided, run.fuel)
+        if ended_so is not None:
+            return None if ended_so == CUT else NamedRun(' '.join(map(str, run.choices)), ends)
+        place = random.randrange(len(decided.steps))
+        run = taken(run, decided.steps[place], place)
+
+
+def spoiled_run(random, run):
+    """A run whose choices are one too many or too few, the other way round, or none."""
+    kind = random.choice(['more', 'more', 'less', 'walk', 'none'])
+    if kind == 'walk':
+        return run._replace(ends=not run.ends)
+    spoiled = {'more': f'{run.choices} 7', 'less': run.choices.rpartition(' ')[0], 'none': random.choice(['x', '-', '1,0', '0000000001', '1 x'])}
+    return run._replace(choices=spoiled[kind])
+
+
 class Case(NamedTuple):
-    """A script in a mode (None: not said), what is typed, the text of a witness, NO_FILE or None, and what was met as it was drawn."""
+    """A script in a mode (None: not said), what is typed, the text of a witness, NO_FILE or None, what was met as it was drawn, and a run that
+    is named by its choices."""
     name: str
     script: Optional[bytes]
     mode: Optional[str]
     data: bytes
     witness: Union[bytes, str, None] = None
     met: Counter = Counter()
+    run: Optional[NamedRun] = None
 
     def words(self, folder):
         """The words that have a program answer it, with its files in a folder."""
         mode = () if self.mode is None else ('--mode', self.mode)
         text = None if self.witness == NO_FILE else self.witness
         witness = () if self.witness is None else ('--witness', held(folder, 'witness.txt', text))
-        return ('debug', held(folder, 'script.mpd', self.script), *mode, *witness)
+        run = () if self.run is None else self.run.words()
+        return ('debug', held(folder, 'script.mpd', self.script), *mode, *witness, *run)
 
     def wanted(self):
         """What must be answered."""
-        return debug(self.script, self.data, RENDEZVOUS if self.mode is None else self.mode, self.witness)
+        return debug(self.script, self.data, RENDEZVOUS if self.mode is None else self.mode, self.witness, self.run)
 
 
 def ended(random, data, talk):
@@ -620,19 +673,30 @@ def ended(random, data, talk):
     return data + random.choice([b'quit\n', b'q\nnext\nshow\n', b' q \r\nshow\n', b'exit\nshow\n', b'quit']) if draw < 0.45 else data
 
 
+def ahead_in(script, mode, found, run):
+    """The run that lies ahead: that of a witness, or the one that is named; None where there is none."""
+    if found is not None:
+        return leaf_of(found[0])
+    return None if run is None else run.leaf(read_script(script), mode)
+
+
 def random_case(seed, number):
     """One dialogue, the same each time."""
     random = Random(f'consoles/{seed}/{number}')
     mode = by_turns(random.choice(MODES_DRAWN), number)
     script = with_news(random, script_for(seed, random, number, mode))
-    script, habits = with_carriage_returns(random, script), random.choice(ALL_HABITS)
-    found = None
+    script, habits = with_carriage_returns(random, script), BLAMING if is_turn_of_blaming(number) else random.choice(ALL_HABITS)
+    # (what is drawn of runs changes nothing else that is drawn)
+    of_runs = Random(f'consoles/{seed}/{number}/run')
+    found = run = None
     try:
         found = witness_for(random, script, mode) if random.random() < 0.25 else None
-        talk = Talk(random, script, mode, habits, None if found is None else found[0])
+        run = run_for(of_runs, script, mode) if of_runs.random() < (0.2 if found is None else 0.05) else None
+        talk = Talk(random, script, mode, habits, ahead_in(script, mode, found, run))
     except Fault:
         return Case(f'console-{seed}-{number}', script, mode, b'next\n')
     data = ended(random, b''.join(talk.lines(random.choice(habits.lines))), talk)
     mode = None if mode == RENDEZVOUS and random.random() < 0.3 else mode
     text = None if found is None else spoiled_witness(random, found[1]) if random.random() < 0.3 else found[1]
-    return Case(f'console-{seed}-{number}', script, mode, data, text, talk.met)
+    run = spoiled_run(of_runs, run) if run is not None and of_runs.random() < 0.3 else run
+    return Case(f'console-{seed}-{number}', script, mode, data, text, talk.met, run)

@@ -21,8 +21,12 @@ TOLD_BY = {
     'before a breakpoint': r'before breakpoint \d+: .*', 'stopped by a number': r'stopped: as many steps .*',
     'stopped behind a choice': r'stopped: behind the choice', 'printed on the way': r'rank \d+ prints -?\d+',
     'several values on the way': r'rank \d+ prints -?\d+( -?\d+)+', 'no statement at a line': r'no statement begins at line \d+',
-    'a depth': r'depth \d+', 'a deadlock ahead': r'deadlock .* is \d+ steps? ahead', 'a trap ahead': r'trap .* is \d+ steps? ahead',
+    'a depth': r'depth \d+', **{f'a run ahead that is {way}': rf'{way}.* is \d+ steps? ahead' for way in ('done', 'leftovers')}, 'a deadlock ahead': r'deadlock .* is \d+ steps? ahead', 'a trap ahead': r'trap .* is \d+ steps? ahead',
     **{f'no {way}': rf'no {way} from here: .*' for way in ('deadlock', 'trap')},
+    'none of several runs': r'no (deadlock|trap) from here: ([2-9]|\d\d+) runs, .*',
+    'decided by another message': r'decided at depth \d+: .*; with that of rank .* it can still end well',
+    'decided by another step': r'decided at depth \d+: .*; if .* instead, it can still end well',
+    'decided from the start': r'decided from the start: no run ends well', 'not decided': r'not decided: some run still ends well',
     **{f'a run that is {way} ahead': rf'run \d+, {way}.*, is \d+ steps? ahead' for way in ('done', 'leftovers', 'deadlock', 'trap')},
     'more runs': r'\d+ runs?, and there are more \(.*\)', 'no more runs': r'\d+ runs?, and no more \(.*\)', 'one run': r'1 run, .*',
     **{f'runs that are {way}': rf'.*runs?, and .*[(,] ?\d+ {way}\b.*' for way in ('done', 'leftovers', 'deadlock', 'trap')},
@@ -41,6 +45,7 @@ TOLD_BY = {
     'ranks below the script': r'ended: rank .*', 'a rank that has ended': r'rank \d+ has ended', 'a rank that waits': rf'rank \d+ waits at {CALL}.*',
     'a rank that can go on': rf'rank \d+ can go on from {CALL}.*', 'a call that is complete': r'  the call is complete: rank \d+ can go on',
     'a rank at a line': r'rank \d+ is at line \d+', 'a rank that is trapped': r'rank \d+ is trapped at line \d+: .*',
+    'not at a barrier, at a line': r'    rank \d+ is not there: it is at line \d+',
     'no call waited for': r'rank \d+ waits for no call', 'no rank that waits': r'no rank waits for a call',
     'a variable': r'rank \d+: \w+ = -?\d+', 'an array': r'rank \d+: \w+\[0\] = -?\d+, .*', 'a request': rf'rank \d+: \w+ = {CALL}.*',
     'no request': r'rank \d+: \w+ = no request',
@@ -66,17 +71,19 @@ TOLD_BY = {
 TOLD_BY = {name: re.compile(form) for name, form in TOLD_BY.items()}
 # Of explanations, which explained.py compares, these must be met here.
 OF_EXPLANATIONS = ('a rank at recv', 'a rank at send', 'a rank at wait', 'a rank at waitany', 'a rank at barrier', 'another tag', 'another source',
-                   'a send was taken', 'a receive was taken', 'not at a barrier, ended', 'not at a barrier, elsewhere', 'a cycle of 2', 'trap assert')
+                   'a send was taken', 'a receive was taken', 'not at a barrier, ended', 'not at a barrier, at recv', 'not at a barrier, at wait',
+                   'a cycle of 2', 'trap assert')
 # What may be told on standard error.
 OF_ERRORS = {'a witness that is refused': rb'mpdbg: witness refused .*', 'a witness of no such step': rb'mpdbg: witness refused 32 .* at \d+',
-             'a witness that is none': rb'mpdbg: bad witness.*'}
+             'a witness that is none': rb'mpdbg: bad witness.*', 'choices that no run has': rb'mpdbg: bad choices at \d+',
+             'choices that are none': rb'mpdbg: bad choices\n', 'choices beside a witness': rb"mpdbg: --choices and --witness can't stand together"}
 # By what a breakpoint is hit that is told behind a single step, and by what it isn't told.
 HITS = ('a breakpoint hit by next', 'a breakpoint hit by next and a number', 'a breakpoint hit by next at a choice',
         'a breakpoint hit by run at a choice', 'a breakpoint hit by redo', 'a breakpoint hit by a step by hand', 'several hit by one step',
         'a breakpoint that goto goes past')
 # Where there is none among all ways to end. (That more might be found, where runs are cut or too many, rows alone show.)
 OF_LOOKS = 'none beside a wait for any', 'none in slots', 'none in version 2', 'none with buffers'
-OF_DIALOGUES = ('slots', 'buffered', 'rendezvous', 'no mode', 'version 2', 'a witness', 'a last line without an end', 'words behind the end',
+OF_DIALOGUES = ('slots', 'buffered', 'rendezvous', 'no mode', 'version 2', 'a witness', 'a run by its choices', 'a run along the wide walk', 'a last line without an end', 'words behind the end',
                 'a script with carriage returns', 'a script whose last line does not end', 'an empty line that does the last word again',
                 'an empty line behind next and a number', 'an empty line at a choice, behind next and a number',
                 'a short name', 'a run that chooses again', 'a run that chooses again by an empty line',
@@ -100,6 +107,9 @@ OF_LINES = {'a line that goes on': r'\n {8}\S', 'a line that goes on twice': r'\
             'lost at an end': r'\nended: .*\n(  .*\n)*rank \d+ has lost',
             'printed in a step': r'\n\d+ local \d+: .*\nrank \d+ prints ', 'printed in a run': r'\n\d+ steps?, depth \d+\nrank \d+ prints ',
             'printed in steps that are taken again': r'\ndepth \d+\nrank \d+ prints ',
+            'decided at an end': r'\nended: (.*\n)+decided at depth \d', 'decided along steps ahead': r' steps ahead\n(.*\n){1,9}decided at depth \d',
+            'printed on the way to where it was decided': r'\ndecided at .*\n( {8}.*\n)*depth \d+\nrank \d+ prints ',
+            'decided at a choice': r'\ndecided at .*\n( {8}.*\n)*depth \d+\n(rank .*\n)*\d+ ahead: .*\n( .*\n)*stopped at a choice',
             'printed by several ranks': r'\nrank \d+ prints .*\nrank \d+ prints ',
             'lost in a step': r'\n\d+ local \d+: .*\nrank \d+ has lost',
             'lost in a run': r'\n\d+ steps?, depth \d+\n(rank \d+ prints .*\n)*rank \d+ has lost',
@@ -136,6 +146,8 @@ def met_in(case, wanted):
     mode = case.mode or 'no mode'
     yield 'slots' if mode.startswith('slots') else mode
     yield from ['version 2'] * case.script.startswith(b'mpd 2') + ['a witness'] * (case.witness is not None)
+    if case.run is not None:
+        yield 'a run along the wide walk' if case.run.ends else 'a run by its choices'
     yield from ['a last line without an end'] * (not case.data.endswith(b'\n'))
     yield from ['words behind the end'] * (re.search(rb'\n *(q|exit) *\r?\n.', case.data) is not None)
     yield from ['a script with carriage returns'] * (b'\r\n' in case.script)

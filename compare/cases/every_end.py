@@ -2,7 +2,7 @@
 
 It knows nothing of a walk that lets sleep what was tried: worlds are tried breadth first, step by step, where two that differ in the order of
 their match sets alone count as one. Scripts are of both versions and in all kinds of modes; without a wait for any, and in no mode of slots, no
-end may come twice. compare/runs/ends.py uses it.
+end may come twice. compare/runs/ends.py uses it, and compare/runs/outcomes.py, which asks too whether some interleaving from a world ends well.
 """
 
 from random import Random
@@ -62,6 +62,26 @@ def ends_of(start):
         if not level:
             return ends
     return None
+
+
+class EndingWell:
+    """Whether some interleaving from a world ends done or with leftovers; each world is looked at once."""
+
+    def __init__(self):
+        self.known = {}
+
+    def __call__(self, world):
+        place = key(world)
+        if place not in self.known:
+            self.known[place] = self.looked_at(world)
+        return self.known[place]
+
+    def looked_at(self, world):
+        """The same of a world that isn't known."""
+        steps = debugger.enabled_steps(world)
+        if not steps:
+            return outcome(world).split()[0] in ('done', 'leftovers')
+        return any([self(next_world(world, step)) for step in steps])
 
 
 def small(seed, number, kinds, mode) -> Optional[Small]:

@@ -16,15 +16,16 @@ TOLD_BY = {
     'a send nearly fits': rf'    {NEAREST}: {CALL}i?s?send .*', 'a receive nearly fits': rf'    {NEAREST}: {CALL}i?recv .*',
     'a send was taken': rf'    {TAKEN}: {CALL}i?s?send .*', 'a receive was taken': rf'    {TAKEN}: {CALL}i?recv .*',
     'not at a barrier, ended': r'    rank \d+ is not there: it has ended',
-    'not at a barrier, elsewhere': r'    rank \d+ is not there: it is at another call',
+    **{f'not at a barrier, at {word}': rf'    rank \d+ is not there: it waits at {CALL}{word}\b' for word in ('send', 'ssend', 'recv', 'wait', 'waitany')},
     'waits for one rank': r'  rank \d+ waits for rank \d+( \(ended\))?$', 'waits for several ranks': r'  rank \d+ waits for rank .*, rank .*',
     'waits for one that has ended': r'  rank \d+ waits for .*\(ended\).*', 'waits for nobody': r'  rank \d+ waits for nobody',
     'waits for itself': r'  rank (\d+) waits for rank \1\b',
     **{f'a cycle of {count}': rf'  {CYCLE}: rank \d+(, rank \d+){{{count}}}$' for count in (1, 2, 3, 4)},
+    'a send is left over': rf'  left over: {CALL}i?s?send ', 'a receive is left over': rf'  left over: {CALL}irecv ',
     **{f'trap {name}': rf'  rank \d+, line \d+: trap {name}' for name in ('assert', 'bad-index', 'bad-rank', 'bad-tag', 'overflow', 'zero-divisor')}}
 TOLD_BY = {name: re.compile(form) for name, form in TOLD_BY.items()}
 # What the leaf, and the lines below it, tell together.
-OF_LEAVES = ('deadlock', 'trap', 'a trap of several ranks', 'no cycle', 'several cycles', 'both a near miss and one taken', 'neither of them',
+OF_LEAVES = ('deadlock', 'trap', 'leftovers', 'several left over', 'a trap of several ranks', 'no cycle', 'several cycles', 'both a near miss and one taken', 'neither of them',
              'a wait for any of several requests', 'explained behind a witness', 'explained in a group', 'an end of several leaves explained')
 OF_REPORTS = ('runs that are drawn', 'several leaves explained', 'nothing explained', 'until', 'ends', 'a piece', 'several pieces',
               'several modes', 'buffered', 'slots', 'version 2', 'status 0', 'status 1', 'status 2', 'status 4')
@@ -70,6 +71,7 @@ def met_of_leaf(begins, below):
     count = sum(line.startswith(f'  {CYCLE}') for line in explained)
     yield from ['no cycle'] * (word == 'deadlock' and not count) + ['several cycles'] * (count > 1)
     yield from ['a trap of several ranks'] * (word == 'trap' and len(explained) > 1)
+    yield from ['several left over'] * (word == 'leftovers' and len(explained) > 1)
     yield from ['explained behind a witness'] * (explained != below) + ['explained in a group'] * (begins[1] == 'end')
     yield from ['an end of several leaves explained'] * bool(begins[3] and int(begins[3]) > 1)
 

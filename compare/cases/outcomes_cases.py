@@ -1,17 +1,19 @@
 """Checks that tell how the runs of a script end (`check --outcomes`), for outcomes.py.
 
 They are of the scripts of ends_cases.py, and of some that forget what they have received, so that different runs come to one state, with as
-many steps or with others; in all modes, and of both versions. Each has few enough states that the model can search them.
+many steps or with others; in all modes, and of both versions. Each has few enough states that the model can search them. Some are asked up to
+the first deadlock or trap, and some in several modes.
 """
 
 from random import Random
 
-from cases import ends_cases
+from cases import deciding_cases, ends_cases
 from cases.explore_cases import Case, Kind, asked, going_on, kind_of, next_to, script_of
 from cases.piece_cases import script_of as read_script_of
 from model.debugger import RENDEZVOUS
 from model.modes import MODES
-from model.outcomes import MOST_STATES, Outcomes, Search, answered, searched
+from model.outcomes import Outcomes, modes_tried
+from model.states import MOST_STATES, Search, answered, searched
 from model.walks import Run
 
 # A script has so many states at most, by any fuel that it is checked with; and a search that keeps few of them comes to no more than so
@@ -19,6 +21,8 @@ from model.walks import Run
 MOST_COME_TO, MOST_OF_FEW = 1500, 3000
 # How many states are kept: mostly as many as where no number is named.
 STATES = (None, None, None, None, 1, 2, 3, 8, 30, 100, MOST_STATES)
+# One script of so many stands beside another, in which a step decides how it ends.
+DECIDED_EVERY = 2
 # What rank 0 does by what it has received, and then what is left of that: nothing, or a request, a message, or a variable.
 BY_VALUE = ('y = 0; y = 0;', 'print x;', 'isend r[3] x to rank tag 5;', 'isend r[3] 1 to rank tag x;',
             'irecv r[3] a[x % 4] from any tag 5;', 'a[x % 4] = 1;',
@@ -56,16 +60,22 @@ def kinds(number):
 
 def search_of(checked):
     """A search of all states of a script, where they are few, and what it told."""
-    search, begun = Search(most=MOST_COME_TO), checked.begun()
+    search, begun = Search(most=MOST_COME_TO, stops_at=checked.stops_at), checked.begun()
     return search, answered(search.behind(begun.world, begun.fuel))
+
+
+def all_of(checked):
+    """The checks of all runs, in each mode in which a script is tried."""
+    plain = checked._replace(until=False, modes=None)
+    return [plain] if checked.modes is None else [plain._replace(mode=mode) for mode in modes_tried(checked.modes)]
 
 
 def with_few_states(checked):
     """The check with so little fuel that a search comes to few states, and with as many states kept as there are where few would take it
     long."""
-    while search_of(checked)[0].has_stopped:
+    while any(search_of(one)[0].has_stopped for one in all_of(checked)):
         checked = checked._replace(fuel=max(1, checked.begun().fuel // 2))
-    is_long = checked.states is not None and searched(checked.begun(), checked.states, MOST_OF_FEW).more
+    is_long = checked.states is not None and any(searched(one.begun(), checked.states, MOST_OF_FEW).more for one in all_of(checked))
     return checked._replace(states=None) if is_long else checked
 
 
@@ -98,15 +108,36 @@ def beside(seed, number, checked):
                                                                                   witnesses=not checked.witnesses)
 
 
+def asking_more(seed, checked, is_searched):
+    """The check, now and then up to the first deadlock or trap, explained, or in several modes."""
+    random = Random(f'outcomes-more/{seed}/{checked.name}')
+    checked = checked._replace(until=random.random() < 0.25, explain=checked.explain or random.random() < 0.2,
+                               modes=random.choice([0, 1, 1, 2, 3]) if random.random() < 0.1 else None)
+    return with_few_states(checked) if is_searched and checked.modes is not None else checked
+
+
+def decided(seed, number):
+    """A check that tells by which step each deadlock and each trap was decided, now and then with so little fuel that some runs may be cut."""
+    random, mode = Random(f'deciding/{seed}/{number}'), deciding_cases.mode_of(number)
+    name, text = deciding_cases.script_for(random, mode)
+    checked = with_few_states(Outcomes(f'{name}-{seed}-{number}', text, None if mode == RENDEZVOUS and random.random() < 0.3 else mode, explain=True,
+                                       witnesses=random.random() < 0.2, until=random.random() < 0.2, states=random.choice([None, None, 1, 5])))
+    longest = search_of(checked)[1].longest
+    return checked._replace(fuel=next_to(random, longest - random.choice([0, 1, 2, 4]))) if random.random() < 0.3 else checked
+
+
 def cases(seed, number):
-    """Two checks of a script, or one that is refused; each with whether it is searched."""
+    """Two checks of a script, or one that is refused, and now and then one by which step its runs are decided; each with whether it is
+    searched."""
     checked, is_searched = first_case(seed, number)
-    return [(checked, True), (beside(seed, number, checked), True)] if is_searched else [(checked, False)]
+    there = [checked, beside(seed, number, checked)] if is_searched else [checked]
+    more = [] if number % DECIDED_EVERY else [(decided(seed, number), True)]
+    return [(asking_more(seed, one, is_searched), is_searched) for one in there] + more
 
 
 def of_every_end(small):
-    """The check that tells all outcomes of a small script."""
-    return Outcomes(small.name, small.text, small.mode, complete=True)
+    """The check that tells all outcomes of a small script, and by which step each deadlock and each trap was decided."""
+    return Outcomes(small.name, small.text, small.mode, complete=True, explain=True)
 
 
 def begun_of(small):

@@ -10,6 +10,7 @@ from typing import NamedTuple
 
 from cases.ends_cases import filled, first_case
 from cases.explore_cases import next_to
+from model import samples
 from model.debugger import RENDEZVOUS, Step, first_world, step_text
 from model.modes import MODES
 from model.report_lines import read_report
@@ -102,7 +103,7 @@ class Lines(NamedTuple):
 
     def place(self):
         """Where the line of that leaf stands."""
-        return next(number for number, line in enumerate(self.lines) if line.startswith(b'leaf %d ' % self.leaf))
+        return next(number for number, line in enumerate(self.lines) if line.startswith(b'leaf %d ' % self.leaf) or b' first %d ' % self.leaf in line)
 
     def text(self, end=b'\n'):
         return b''.join(line + end for line in self.lines)
@@ -140,7 +141,7 @@ def with_explanations(random, found):
     lines = []
     for line, behind in zip(found.lines, (*found.lines[1:], b'')):
         lines.append(line)
-        if re.match(rb'witness |leaf .*\] trap', line) or line.startswith(b'leaf ') and b'] deadlock' in line and not behind.startswith(b'witness '):
+        if re.match(rb'witness |(leaf|end) .* trap', line) or re.match(rb'(leaf|end) .* deadlock', line) and not behind.startswith(b'witness '):
             lines += [random.choice(EXPLAINED).encode() for _ in range(random.randint(0, 3))]
     return found._replace(lines=tuple(lines))
 
@@ -159,6 +160,22 @@ def with_odd_witness(random, found):
     place = found.place() + 1
     line = found.lines[place]
     others = line + b',', line.replace(b': ', b': back, '), line.replace(b'local 0', b'local'), line.replace(b'witness ', b'witness 9')
+    return found.with_line(place, random.choice(others))
+
+
+def with_number_of_end(random, found):
+    """The grouped report with a witness by the number of its end, and not of the first leaf."""
+    place = found.place() + 1
+    end, line = found.lines[place - 1].split()[1], found.lines[place]
+    return found.with_line(place, line.replace(b'witness %d:' % found.leaf, b'witness %b:' % end))
+
+
+def with_odd_end(random, found):
+    """The grouped report with a line of an end that is none."""
+    place = found.place()
+    line = found.lines[place]
+    others = (line.replace(b'end ', b'ends '), line.replace(b' leaves ', b' '), re.sub(rb'^end [0-9]+', b'end', line), line.replace(b' first ', b'  first '),
+              re.sub(rb' first [0-9]+', b' first', line), line.replace(b' first ', b' first x'), line.replace(b' leaves ', b' leaves -'))
     return found.with_line(place, random.choice(others))
 
 
@@ -192,12 +209,30 @@ def verifications_of(random, case, report):
                              whole._replace(script=b'mpd 1;', leaf=0), whole._replace(text=b'', leaf=0)])
 
 
+def verifications_of_groups(random, case, report):
+    """What `verify` is asked of the report whose leaves are grouped by how they end: each by the number of its first leaf, and others."""
+    told = read_report(report)
+    text = samples.grouped(told, case.asked)
+    whole = Verification(case.script, text, case.asked.mode)
+    firsts = list({leaf.outcome: number for number, leaf in reversed([*enumerate(told.leaves)])}.values())
+    stuck = [number for number in firsts if told.leaves[number].steps]
+    yield whole
+    yield from [whole._replace(leaf=number) for number in range(min(4, len(told.leaves))) if number not in stuck]
+    for number in random.sample(stuck, min(LEAVES, len(stuck))):
+        found = Lines(tuple(text.splitlines()), number)
+        yield whole._replace(leaf=number)
+        yield whole._replace(leaf=number, text=random.choice(CHANGES)(random, found).text())
+        yield whole._replace(leaf=number, text=with_explanations(random, found).text(random.choice([b'\n', b'\r\n'])))
+        yield whole._replace(leaf=number, text=with_number_of_end(random, found).text())
+        yield whole._replace(leaf=number, text=with_odd_end(random, found).text())
+
+
 def questions(seed, number, case, script, report):
-    """What is asked of a report: the runs of some of its leaves, and its witnesses."""
+    """What is asked of a report: the runs of some of its leaves, and its witnesses, also where it is grouped."""
     random = Random(f'reread/{seed}/{number}')
     told = read_report(report)
     stuck = [leaf for leaf in told.leaves if leaf.steps]
     chosen = random.sample(told.leaves, min(LEAVES, len(told.leaves))) + random.sample(stuck, min(1, len(stuck)))
     asked = [one for leaf in chosen for one in words_of(random, case, script, leaf)] + [odd_words(random, case)] * (random.random() < 0.3)
     asked.append(Words(case.script, NO_CHOICES[number % len(NO_CHOICES)], random.choice([None, 'fast'])))
-    return asked + list(verifications_of(random, case, report))
+    return asked + list(verifications_of(random, case, report)) + list(verifications_of_groups(random, case, report))

@@ -6,6 +6,7 @@ choices that are run through, deadlocks by another walk, near misses that are le
 
 from inspect import isfunction
 
+from faults.console_faults_of_blame import blame_faults
 from faults.console_faults_of_hits import hit_faults
 from faults.console_faults_of_lines import line_faults
 from faults.console_faults_of_looks import look_faults
@@ -14,10 +15,12 @@ from faults.console_faults_of_ways import way_faults
 from faults.console_faults_of_words import word_faults
 from faults.policy_faults import Breakage
 from model import console, console_lines, debugger, policy, session
-from model.console import Console
+from model.console import Console, NamedRun
 from model.console_words import ALL, Asked, NotAsked
 from model.debugger import Result
+from model.modes import is_mode
 from model.policy import Forced
+from model.run_words import BadChoices, choices_in
 from model.session import must_be
 
 SOUND = {name: value for name, value in vars(Console).items() if isfunction(value)}
@@ -249,6 +252,7 @@ def where_faults():
             'none': lambda self, ended: (),
             'none of a trap': lambda self, ended: () if ended.startswith('trap') else SOUND['explanation'](self, ended),
             'none of a deadlock': lambda self, ended: () if ended.startswith('deadlock') else SOUND['explanation'](self, ended),
+            'none of leftovers': lambda self, ended: () if ended.startswith('leftovers') else SOUND['explanation'](self, ended),
             'four spaces': lambda self, ended: [f'  {line}' for line in SOUND['explanation'](self, ended)]})]
 
 
@@ -681,12 +685,52 @@ def steps_alone(script, mode, witness):
     return refused if refused and b' 32 ' in refused.errors else None
 
 
-def witness_first(text, mode, witness):
+def witness_first(text, mode, witness, run=None):
     """What looks at the witness before the script."""
-    return debugger.BAD_FILE if witness == console.NO_FILE else SOUND_BEGUN(text, mode, witness)
+    return debugger.BAD_FILE if witness == console.NO_FILE else SOUND_BEGUN(text, mode, witness, run)
 
 
-SOUND_BEGUN, SOUND_BEGUN_WITH = console.begun, console.begun_with
+def mode_first(text, mode, witness, run=None):
+    """What looks at the mode before it refuses to have a run told in two ways."""
+    return SOUND_BEGUN(text, mode, witness, run if is_mode(mode) else None)
+
+
+def choices_first(text, mode, witness, run=None):
+    """What looks at the choices before the script."""
+    return SOUND_BEGUN(b'mpd 1; ranks 1;' if run is not None and choices_in(run.choices) is None else text, mode, witness, run)
+
+
+SOUND_BEGUN, SOUND_BEGUN_WITH, SOUND_BEGUN_ALONG = console.begun, console.begun_with, console.begun_along
+
+
+def run_otherwise(change):
+    """What lays another run ahead than the one that is named."""
+    return lambda self, script, mode: change(SOUND_LEAF(self, script, mode), self, script, mode)
+
+
+def not_told_why(text, mode, run):
+    """What tells no place of the choices."""
+    found = SOUND_BEGUN_ALONG(text, mode, run)
+    return found._replace(errors=b'mpdbg: bad choices\n') if isinstance(found, Result) else found
+
+
+SOUND_LEAF = NamedRun.leaf
+
+
+def first_of_all(self, script, mode):
+    """The run that takes the first candidates, where a text names choices."""
+    numbers = choices_in(self.choices)
+    return None if numbers is None else SOUND_LEAF(self._replace(choices=' '.join('0' * len(numbers))), script, mode)
+
+
+def any_more(self, script, mode):
+    """The run of the first of some choices that a run has."""
+    for count in reversed(range(len(self.choices.split()) + 1)):
+        try:
+            return SOUND_LEAF(self._replace(choices=' '.join(self.choices.split()[:count])), script, mode)
+        except BadChoices:
+            continue
+    raise BadChoices(0)
 
 
 def witness_faults():
@@ -702,7 +746,20 @@ def witness_faults():
             'not where it stands first': lambda talked, data: Result(talked.first.partition('\n')[0].encode() + b'\n' * bool(talked.first)
                                                                      + console.answers(talked, data), b'', 0)}, owner=console),
         *named('begun', {
-            'the witness before the script': witness_first}, owner=console),
+            'the witness before the script': witness_first,
+            'the mode before two runs': mode_first,
+            'the choices before the script': choices_first,
+            'a witness, and no run beside it': lambda text, mode, witness, run=None: SOUND_BEGUN(text, mode, witness, None if witness else run),
+            'no run is named': lambda text, mode, witness, run=None: SOUND_BEGUN(text, mode, witness, None if witness is None else run)}, owner=console),
+        *named('leaf', {
+            'along decisions': lambda self, script, mode: SOUND_LEAF(self._replace(ends=False), script, mode),
+            'along the wide walk': lambda self, script, mode: SOUND_LEAF(self._replace(ends=True), script, mode),
+            'without buffers': lambda self, script, mode: SOUND_LEAF(self, script, debugger.RENDEZVOUS),
+            'without its last step': run_otherwise(lambda leaf, *_: leaf and leaf._replace(steps=leaf.steps[:-1])),
+            'that of the first candidates': first_of_all,
+            'more choices than there are': any_more}, owner=NamedRun),
+        *named('begun_along', {
+            'no place': not_told_why}, owner=console),
         *named('begun_with', {
             'no file is no witness': lambda text, mode, witness: SOUND_BEGUN_WITH(text, mode, b'' if witness == console.NO_FILE else witness)},
                owner=console)]
@@ -711,4 +768,4 @@ def witness_faults():
 def breakages():
     """All faults."""
     return [*line_of_words_faults(), *where_faults(), *move_faults(), *break_faults(), *look_faults(), *run_faults(), *way_faults(),
-            *hit_faults(), *witness_faults(), *line_faults(), *word_faults()]
+            *hit_faults(), *witness_faults(), *line_faults(), *word_faults(), *blame_faults()]

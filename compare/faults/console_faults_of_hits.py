@@ -149,10 +149,6 @@ def told_faults():
 
 # ---- whether all ways to end were looked at
 
-def is_whole(leaves, more):
-    return explorer.is_whole(explorer.Report(leaves, more))
-
-
 def was_issued(world):
     """Whether a rank has issued a wait for any."""
     return any(call.kind == 'waitany' for rank in world.ranks for call in rank.calls)
@@ -160,15 +156,14 @@ def was_issued(world):
 
 def all_where(is_all):
     """What tells by another rule whether the runs that were looked at are all ways to end, by the console, where all of them are listed whole."""
-    return lambda self, leaves, more: is_whole(leaves, more) and is_all(self)
+    return lambda self, ends, more: SOUND['are_all_ways'](self, ends, more) and is_all(self)
 
 
 def way_count_faults():
     return named('are_all_ways', {
-        'where there are no more': lambda self, leaves, more: not more,
-        'where not all runs are cut': lambda self, leaves, more: SOUND['are_all_ways'](
-            self, [leaf for leaf in leaves if leaf.outcome != CUT] or leaves, more),
-        'there are no more, ever': lambda self, leaves, more: SOUND['are_all_ways'](self, leaves, False),
+        'where there are no more': lambda self, ends, more: not more,
+        'where not all runs are cut': lambda self, ends, more: not more and any(ends[name] for name in ends if name != CUT),
+        'there are no more, ever': lambda self, ends, more: SOUND['are_all_ways'](self, ends, False),
         'as a report along decisions': all_where(lambda self: explorer.tells_all(self.script, self.mode, is_wide=False)),
         'not with a wait for any': all_where(lambda self: not explorer.has_waitany(self.script.body)),
         'not in slots': all_where(lambda self: slots_of(self.mode) is None),

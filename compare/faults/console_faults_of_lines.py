@@ -574,6 +574,64 @@ def going_faults():
             'four spaces': changed('waiting_lines', lambda lines, *_: [f'  {line}' if 'complete' in line else line for line in lines])})]
 
 
+# ---- ranks that aren't at a barrier, where they can go on
+
+SOUND_ABSENCE = explaining.why_not_there
+
+
+def absent(mode, change):
+    """What tells otherwise where a rank of a mode is that isn't at a barrier and hasn't ended, by where it is reached, and the rank's number."""
+    def why_not_there(at, number):
+        rank = at.world.ranks[number]
+        return change(at, number) if rank.mode == mode and not explaining.has_ended(rank) else SOUND_ABSENCE(at, number)
+    return why_not_there
+
+
+def next_of(at, number):
+    """What tells the next statement of a rank whose call is complete."""
+    rank = at.world.ranks[number]
+    if not SOUND['can_go_on'](at.world, number):
+        return SOUND_ABSENCE(at, number)
+    return 'it has ended' if rank.rest is None else f'it is at line {explaining.next_line(rank)}'
+
+
+def going_on(at, number):
+    """What says that a rank whose call is complete can go on."""
+    told = SOUND_ABSENCE(at, number)
+    return told.replace('it waits at', 'it can go on from') if SOUND['can_go_on'](at.world, number) else told
+
+
+def at_last_call(at, number):
+    """What says that a rank which can go on waits at its last call, where it has one."""
+    call_id = last_call(at.world, number)
+    return SOUND_ABSENCE(at, number) if call_id.number < 0 else f'it waits at {explaining.call_text(at, call_id)}'
+
+
+def line_of_last_call(at, number):
+    call_id = last_call(at.world, number)
+    return SOUND_ABSENCE(at, number) if call_id.number < 0 else f'it is at line {SOUND["line_of"](at, call_id)}'
+
+
+def line_moved(by):
+    return lambda at, number: f'it is at line {explaining.next_line(at.world.ranks[number]) + by}'
+
+
+def absence_faults():
+    kinds = {'running': 'a rank that runs', 'trapped': 'a rank that is trapped'}
+    faults = {f'{what} {told}': absent(mode, change) for mode, what in kinds.items() for told, change in {
+        'has ended': lambda at, number: 'it has ended',
+        'is at another call': lambda at, number: 'it is at another call',
+        'waits at its last call': at_last_call,
+        'is at the line of its last call': line_of_last_call,
+        'is at the line before': line_moved(-1),
+        'is at the line behind': line_moved(1)}.items()}
+    faults |= {
+        'a rank that is trapped, with the trap': absent('trapped', lambda at, number: f'{SOUND_ABSENCE(at, number)}: {at.world.ranks[number].trap}'),
+        'a rank whose call is complete is at its next statement': absent('blocked', next_of),
+        'a rank whose call is complete can go on': absent('blocked', going_on)}
+    return [Breakage(f'why_not_there: {what}', explaining, 'why_not_there', replacement) for what, replacement in faults.items()]
+
+
 def why_faults():
     return [
         *named('partner_line', {
@@ -603,4 +661,4 @@ def why_faults():
 
 def line_faults():
     return [*fold_faults(), *step_faults(), *list_faults(), *short_faults(), *lost_faults(), *variable_faults(), *queue_faults(), *going_faults(),
-            *why_faults()]
+            *absence_faults(), *why_faults()]

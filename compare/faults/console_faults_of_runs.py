@@ -1,6 +1,7 @@
 """Faults of the runs that the console's model tries, lays ahead and undoes (console_faults.py): runs by number, ends that are counted, deadlocks
 and traps that are sought, and choices."""
 
+from collections import Counter
 from inspect import isfunction
 from itertools import islice
 
@@ -102,21 +103,26 @@ def first_word(number, leaf):
 
 def ways_by(key):
     """What tells the ways in which runs end in another order."""
-    def counted(leaves, more):
-        head, _, ways = SOUND_COUNTED(leaves, more).removesuffix(')').partition(' (')
+    def counted(ends, more):
+        head, _, ways = SOUND_COUNTED(ends, more).removesuffix(')').partition(' (')
         return f'{head} ({", ".join(sorted(ways.split(", "), key=key))})'
     return counted
 
 
-def all_ways(leaves, more):
+def all_ways(ends, more):
     """What counts the ways too in which no run ends."""
-    ways = ', '.join(f'{sum(console.way(leaf) == name for leaf in leaves)} {name}' for name in console.WAYS)
-    return f'{SOUND_COUNTED(leaves, more).partition(" (")[0]} ({ways})'
+    ways = ', '.join(f'{ends[name]} {name}' for name in console.WAYS)
+    return f'{SOUND_COUNTED(ends, more).partition(" (")[0]} ({ways})'
 
 
-def runs_of_one(leaves, more):
+def runs_of_one(ends, more):
     """What says `1 runs`."""
-    return SOUND_COUNTED(leaves, more).replace('1 run', '1 runs', 1) if len(leaves) == 1 else SOUND_COUNTED(leaves, more)
+    return SOUND_COUNTED(ends, more).replace('1 run', '1 runs', 1) if sum(ends.values()) == 1 else SOUND_COUNTED(ends, more)
+
+
+def without_cut(ends, more):
+    """What leaves out the runs that are cut."""
+    return SOUND_COUNTED(Counter({name: count for name, count in ends.items() if name != CUT}), more)
 
 
 def leaf_by(walk, number):
@@ -176,13 +182,15 @@ def number_faults():
             'no choice left out': lambda number, leaf: SOUND_RUN_LINE(number, leaf).replace('no choice', 'choices '),
             'the first word of an outcome': first_word}, owner=console),
         *named('counted', {
-            'no ways': lambda leaves, more: SOUND_COUNTED(leaves, more).partition(' (')[0],
+            'no ways': lambda ends, more: SOUND_COUNTED(ends, more).partition(' (')[0],
             'all ways': all_ways,
             'ways by the alphabet': ways_by(lambda text: text.split()[1]),
             'the most runs first': ways_by(lambda text: -int(text.split()[0])),
-            'a cut run is none': lambda leaves, more: SOUND_COUNTED([leaf for leaf in leaves if leaf.outcome != CUT], more),
+            'a cut run is none': without_cut,
+            'each way once': lambda ends, more: SOUND_COUNTED(Counter(ends.keys()), more),
+            'whatever number': lambda ends, more: SOUND_COUNTED(ends, more).replace('at least ', ''),
             'runs of one': runs_of_one,
-            'there are no more': lambda leaves, more: SOUND_COUNTED(leaves, False)}, owner=console),
+            'there are no more': lambda ends, more: SOUND_COUNTED(ends, False)}, owner=console),
         *named('follow', {
             **by_other_walks('follow'),
             'from 0': lambda self, number: SOUND['follow'](self, number + 1),
@@ -211,14 +219,30 @@ def bad_too(self, sought):
 
 def none_of(self, sought, found):
     """What is told of the runs of a report, of which none is sought."""
-    return console.none_found(sought, *found, self.are_all_ways(*found))
+    return self.none(sought, console.ends_of(found.leaves), found.more)
+
+
+def by_listing(walk):
+    """What seeks among the runs of another walk, as far as these are few, and tells of them where there is none."""
+    def seek(self, sought):
+        leaves = list(islice(walk(self), SOME))
+        found = next((leaf for leaf in leaves if console.way(leaf) == sought), None)
+        if found is not None:
+            return self.found(found)
+        return SOUND['seek'](self, sought) if len(leaves) == SOME else none_of(self, sought, explorer.Report(leaves, False))
+    return seek
+
+
+def told_by_states(self, sought):
+    """What doesn't look at the runs that `check` lists, where there are too many states."""
+    return self.none(sought, Counter(['done']), True)
 
 
 def ends_at_bad(self, sought):
     """What looks no further than to the first deadlock or trap."""
     found = explorer.up_to_bad(explorer.ends_part(Run(self.world, self.fuel()), SOME))
     bad = found.leaves[-1]
-    return [none_of(self, sought, found)] if console.way(bad) not in (sought, 'done') else SOUND['seek'](self, sought)
+    return none_of(self, sought, found) if console.way(bad) not in (sought, 'done') else SOUND['seek'](self, sought)
 
 
 def last_one(self, sought):
@@ -231,7 +255,7 @@ def told_of_decisions(self, sought):
     """What tells of the runs along decisions where there is none."""
     told = SOUND['seek'](self, sought)
     found = explorer.part(Run(self.world, self.fuel()), min(SOME, explorer.MOST_RUNS))
-    return [none_of(self, sought, found)] if told[0].startswith('no ') else told
+    return none_of(self, sought, found) if told[0].startswith('no ') else told
 
 
 def dropped_where_none(self, sought):
@@ -271,18 +295,26 @@ def seek_faults():
             'what is left of all': lambda self: max(0, min(console.MOST_FUEL, console.debugger.MOST_STEPS) - self.debugger.depth)}),
         *named('walk', OTHER_WALKS),
         *named('seek', {
-            **by_other_walks('seek'),
+            **{name: by_listing(walk) for name, walk in (('along decisions', along_decisions), ('ends along decisions', ends_along_decisions),
+                                                         ('the ends that are listed', SOUND['walk']), ('from the start', from_the_start))},
             'along decisions first': first_along_decisions,
             'what is bad in any way': bad_too,
             'up to what is bad in any way': ends_at_bad,
             'the last one': last_one,
             'told of the runs along decisions': told_of_decisions,
             'what is ahead is dropped where there is none': dropped_where_none}),
+        *named('seek_listed', {
+            **by_other_walks('seek_listed'),
+            'told of the states': told_by_states,
+            'as many states as there are': lambda self, sought: (by_listing(all_wide))(self, sought)}),
+        *named('runs_by_end', {
+            'outcomes for runs': lambda ways: Counter(map(console.word_of, ways)),
+            'the last outcome of each way': lambda ways: Counter({console.word_of(outcome): there.runs for outcome, there in ways.items()})}, owner=console),
         *named('none_found', {
-            'found where all were looked at': lambda sought, leaves, more, are_all: SOUND_NONE_FOUND(sought, leaves, more, False),
-            'not found is none': lambda sought, leaves, more, are_all: SOUND_NONE_FOUND(sought, leaves, more, True),
-            'found where there are no more': lambda sought, leaves, more, are_all: SOUND_NONE_FOUND(sought, leaves, more, not are_all),
-            'a trap is found': lambda sought, leaves, more, are_all: SOUND_NONE_FOUND(sought, leaves, more, are_all and sought != 'trap'),
+            'found where all were looked at': lambda sought, ends, more, are_all: SOUND_NONE_FOUND(sought, ends, more, False),
+            'not found is none': lambda sought, ends, more, are_all: SOUND_NONE_FOUND(sought, ends, more, True),
+            'found where there are no more': lambda sought, ends, more, are_all: SOUND_NONE_FOUND(sought, ends, more, not are_all),
+            'a trap is found': lambda sought, ends, more, are_all: SOUND_NONE_FOUND(sought, ends, more, are_all and sought != 'trap'),
             'not from here': lambda *given: SOUND_NONE_FOUND(*given).replace(' from here', '')}, owner=console),
         *named('trap', {
             'a deadlock': lambda self: self.seek('deadlock')}),

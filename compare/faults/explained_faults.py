@@ -4,6 +4,8 @@ Lines of other statements, texts of calls with other parts, near misses of the w
 waited for, cycles where there are none, and explanations at another place.
 """
 
+import re
+
 from faults.policy_faults import Breakage
 from model import explaining, explorer
 from model.debugger import find_call, is_at_barrier, last_call, partner
@@ -13,7 +15,7 @@ from model.worlds import CallId
 SOUND = {name: getattr(explaining, name) for name in (
     'reached', 'next_line', 'plain_text', 'call_text', 'wish', 'wishing', 'differences', 'all_free', 'near_misses', 'nearest_miss', 'pairs_taken', 'last_taken',
     'chances', 'requests', 'has_ended', 'not_there', 'why_not_there', 'behind', 'blocked_lines', 'partners_of', 'waited_for', 'rank_text', 'whom_line',
-    'next_of', 'cycle_from', 'cycles', 'cycle_line', 'deadlock_lines', 'trap_lines', 'explanation')}
+    'next_of', 'cycle_from', 'cycles', 'cycle_line', 'deadlock_lines', 'trap_lines', 'left_lines', 'explanation')}
 SOUND |= {name: getattr(explorer, name) for name in ('leaf_lines', 'group_text', 'explained', 'checked')}
 
 
@@ -248,6 +250,54 @@ def indented(lines):
     return [line if line.startswith('line ') else f'  {line}' for line in lines]
 
 
+def waits_at(at, call_id):
+    return f'it waits at {explaining.call_text(at, call_id)}'
+
+
+def absent_where(holds, change):
+    """What tells otherwise where a rank is that isn't at a barrier, of ranks of which something holds; by where it is reached, and the rank's number."""
+    return lambda at, number: change(at, number) if holds(at.world.ranks[number]) else SOUND['why_not_there'](at, number)
+
+
+def of_waiting(change):
+    return absent_where(lambda rank: rank.mode == 'blocked', change)
+
+
+def at_next_statement(at, number):
+    """What takes a rank for one that goes on behind its call."""
+    rank = at.world.ranks[number]
+    return 'it has ended' if rank.rest is None else f'it is at line {SOUND["next_line"](rank)}'
+
+
+def call_at_next_statement(at, number):
+    """What tells the call of a rank at the line of the statement behind it."""
+    rank, told = at.world.ranks[number], SOUND['why_not_there'](at, number)
+    return told if rank.rest is None else re.sub('line [0-9]+', f'line {SOUND["next_line"](rank)}', told)
+
+
+def request_of(at, number):
+    """What tells the request that a rank waits for in the place of its wait."""
+    return waits_at(at, next(iter(SOUND['requests'](at.world, number)), last_call(at.world, number)))
+
+
+def absence_faults():
+    return named('why_not_there')(
+        ('always ended', lambda at, number: 'it has ended'),
+        ('at another call', of_waiting(lambda at, number: 'it is at another call')),
+        ('the first call of the rank', of_waiting(lambda at, number: waits_at(at, CallId(number, 0)))),
+        ('the call before', of_waiting(lambda at, number: waits_at(at, CallId(number, max(0, last_call(at.world, number).number - 1))))),
+        ('the call of the first rank that waits', of_waiting(lambda at, number: waits_at(at, explaining.debugger.blocked_calls(at.world)[0]))),
+        ('the call of the last rank that waits', of_waiting(lambda at, number: waits_at(at, explaining.debugger.blocked_calls(at.world)[-1]))),
+        ('the next statement of a rank that waits', of_waiting(at_next_statement)),
+        ('a call at the line of the next statement', of_waiting(call_at_next_statement)),
+        ('the request that is waited for', of_waiting(request_of)),
+        ('no line', of_waiting(lambda at, number: re.sub('line [0-9]+, ', '', SOUND['why_not_there'](at, number)))),
+        ('the line alone', of_waiting(lambda at, number: SOUND['why_not_there'](at, number).partition(',')[0])),
+        ('what it waits for', of_waiting(lambda at, number: f'it waits at {explaining.wishing(at, last_call(at.world, number))}')),
+        ('a rank that has ended waits', absent_where(lambda rank: SOUND['has_ended'](rank) and rank.calls,
+                                                     lambda at, number: waits_at(at, last_call(at.world, number)))))
+
+
 def behind_faults():
     return (named('requests')(
                 ('by number', after('requests', lambda found, *_: sorted(found))), ('the first alone', after('requests', lambda found, *_: found[:1])),
@@ -259,7 +309,7 @@ def behind_faults():
                 ('those that have ended alone', lambda world: [number for number, rank in enumerate(world.ranks) if SOUND['has_ended'](rank)]),
                 ('those that wait alone', lambda world: [number for number in SOUND['not_there'](world) if not SOUND['has_ended'](world.ranks[number])]),
                 ('the first alone', lambda world: SOUND['not_there'](world)[:1]))
-            + named('why_not_there')(('always ended', lambda rank: 'it has ended'), ('always elsewhere', lambda rank: 'it is at another call'))
+            + absence_faults()
             + named('behind')(
                 ('nothing behind a wait', of_waits(lambda lines: [])), ('six spaces', of_waits(indented)),
                 ('requests alone', of_waits(lambda lines: [line for line in lines if line.startswith('line ')])),
@@ -375,6 +425,11 @@ def of_outcomes(*words):
     return after('explanation', lambda lines, script, mode, leaf: lines if leaf.outcome.split()[0] in words else ())
 
 
+def first_of_each(world):
+    """The first free call of each rank."""
+    return list({call_id.rank: call_id for call_id in reversed(explaining.all_free(world))}.values())[::-1]
+
+
 def before_witness(number, leaf, witnesses):
     """What explains a leaf before its witness."""
     return iter(sorted(SOUND['leaf_lines'](number, leaf, witnesses), key=lambda line: line.startswith('witness ')))
@@ -403,6 +458,17 @@ def unexplained_groups(found, witnesses):
     return SOUND['group_text'](found._replace(leaves=tuple(leaf._replace(explained=()) for leaf in found.leaves)), witnesses)
 
 
+def as_another(other):
+    """What explains each end as another one, by its number and how many there are."""
+    def text(found, witnesses):
+        leaves, ends = list(found.leaves), explorer.ends_of(found)
+        for number, end in enumerate(ends):
+            explained = found.leaves[ends[other(number, len(ends))].first].explained
+            leaves[end.first] = leaves[end.first]._replace(explained=explained)
+        return SOUND['group_text'](found._replace(leaves=tuple(leaves)), witnesses)
+    return text
+
+
 def checked_otherwise(change):
     """What checks by other options, by those that are asked for."""
     return lambda script, asked: SOUND['checked'](script, asked._replace(**change(asked)))
@@ -417,13 +483,23 @@ def place_faults():
             + named('trap_lines')(
                 ('the first alone', after('trap_lines', lambda lines, at: lines[:1])), ('the blocked ranks too', after('trap_lines', with_blocked)),
                 ('no line', after('trap_lines', lambda lines, at: [f'{line.partition(",")[0]}:{line.partition(":")[2]}' for line in lines])))
+            + named('left_lines')(
+                ('the first alone', after('left_lines', lambda lines, at: lines[:1])), ('the last first', after('left_lines', lambda lines, at: lines[::-1])),
+                ('sends alone', after('left_lines', lambda lines, at: [line for line in lines if 'send ' in line])),
+                ('of each rank the first', lambda at: [f'  left over: {explaining.call_text(at, call_id)}' for call_id in first_of_each(at.world)]),
+                ('no line', after('left_lines', lambda lines, at: [re.sub('line [0-9]+, ', '', line) for line in lines])),
+                ('four spaces', after('left_lines', lambda lines, at: [f'  {line}' for line in lines])),
+                ('what it waits for', lambda at: [f'  left over: {explaining.wishing(at, call_id)}' for call_id in explaining.all_free(at.world)]))
             + named('next_line')(('the line before', lambda rank: SOUND['next_line'](rank) - 1))
-            + named('explanation')(('deadlocks alone', of_outcomes('deadlock')), ('traps alone', of_outcomes('trap')))
+            + named('explanation')(
+                ('deadlocks alone', of_outcomes('deadlock')), ('traps alone', of_outcomes('trap')), ('no leftovers', of_outcomes('deadlock', 'trap')))
             + named('leaf_lines', explorer)(
                 ('before the witness', before_witness), ('four spaces', after('leaf_lines', lambda lines, *_: iter([
                     f'  {line}' if line.startswith('  ') else line for line in lines]))))
             + named('explained', explorer)(('as the first that ends so', as_first), ('the first alone', first_alone))
-            + named('group_text', explorer)(('as the last that ends so', as_last), ('not explained', unexplained_groups))
+            + named('group_text', explorer)(
+                ('as the last that ends so', as_last), ('not explained', unexplained_groups), ('all as the first end', as_another(lambda number, count: 0)),
+                ('as the next end', as_another(lambda number, count: (number + 1) % count)))
             + named('checked', explorer)(
                 ('explained though it is not asked for', checked_otherwise(lambda asked: {'explain': True})),
                 ('a witness where it is explained', checked_otherwise(lambda asked: {'witnesses': asked.witnesses or asked.explain})),

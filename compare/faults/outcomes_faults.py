@@ -1,19 +1,22 @@
 """Faults that are put on purpose into what the model tells of how the runs of a script end: outcomes.py must notice each.
 
 A search that takes different states for one, or a result for one of other fuel; counts, first runs and orders that are others; one that
-stops and says nothing of it, or tells of runs that it has not come to; other lines, and other statuses.
+stops and says nothing of it, or tells of runs that it has not come to; other lines, and other statuses. Those of the step that decides, of
+the first run that ends badly, and of several modes stand in decided_faults.py.
 """
 
+from faults import decided_faults
 from faults.policy_faults import Breakage
-from model import explorer, outcomes, policy, wide
+from model import explorer, outcomes, policy, states, wide
 from model.debugger import Result
-from model.outcomes import MOST_COUNTED, NO_RUNS, Found, Search, Told, Way, of_leaves
+from model.outcomes import MOST_COUNTED
+from model.states import NO_RUNS, Found, Search, Told, Way, of_leaves
 from model.walks import CUT, walk
 
-SOUND = {name: getattr(outcomes, name) for name in (
-    'key', 'unread', 'variables', 'activity', 'asked_by_call', 'free', 'waited_for', 'requests', 'blocked_on', 'serves', 'ended',
-    'behind_step', 'chosen',
-    'joined', 'count_text', 'way_lines', 'text_of', 'status', 'searched', 'clash', 'answer')}
+SOUND = {name: getattr(owner, name) for owner, names in (
+    (states, ('key', 'unread', 'variables', 'activity', 'asked_by_call', 'free', 'waited_for', 'requests', 'blocked_on', 'serves', 'ended',
+              'behind_step', 'chosen', 'joined', 'searched')),
+    (outcomes, ('count_text', 'way_lines', 'text_of', 'status', 'clash', 'answer'))) for name in names}
 TOLD_BEHIND, KEEP = Search.told_behind, Search.keep
 
 
@@ -45,7 +48,7 @@ def of_requests(rank):
 
 def key_faults():
     """Those of what is told of a state."""
-    return [Breakage(f'a key: {name}', outcomes, attribute, replacement) for name, attribute, replacement in (
+    return [Breakage(f'a key: {name}', states, attribute, replacement) for name, attribute, replacement in (
         ('without requests', 'requests', lambda world, number: ()), ('without which call a request is of', 'requests', read_again),
         ('without whether there is a request', 'requests', lambda world, number: tuple(
             request for request in SOUND['requests'](world, number) if request is not None)),
@@ -86,12 +89,12 @@ def kept_faults():
         ('less fuel than the longest run has steps', lambda kept,
          fuel: SOUND['serves'](kept, fuel) or fuel < kept.fuel and CUT not in kept.told.ways),
         ('a step less than the longest run has', lambda kept, fuel: kept.fuel == fuel or kept.told.longest <= 1 + min(kept.fuel, fuel)))
-    return ([Breakage(f'a result for {name}', outcomes, 'serves', replacement) for name, replacement in serves]
-            + [Breakage('a run that is cut has as many steps as it has fuel', outcomes, 'ended',
+    return ([Breakage(f'a result for {name}', states, 'serves', replacement) for name, replacement in serves]
+            + [Breakage('a run that is cut has as many steps as it has fuel', states, 'ended',
                         lambda outcome: SOUND['ended'](outcome)._replace(longest=0)),
-               Breakage('the longest run is that of the last candidate', outcomes, 'joined', lambda told, later: (
+               Breakage('the longest run is that of the last candidate', states, 'joined', lambda told, later: (
                    SOUND['joined'](told, later)._replace(longest=later.longest))),
-               Breakage('the longest run is that of the first candidate', outcomes, 'joined', lambda told, later: (
+               Breakage('the longest run is that of the first candidate', states, 'joined', lambda told, later: (
                    SOUND['joined'](told, later)._replace(longest=told.longest or later.longest))),
                Breakage('a result is kept with a step more of fuel', Search, 'keep', kept_with_more_fuel)])
 
@@ -154,7 +157,7 @@ def along(leaves_of):
 
 def without_last_candidate(search, world, fuel):
     """What comes to all candidates of a choice but the last."""
-    decided = outcomes.decided(world)
+    decided = states.decided(world)
     if not isinstance(decided, policy.Choice) or len(decided.steps) < 3 or not fuel:
         return (yield from TOLD_BEHIND(search, world, fuel))
     told = yield from TOLD_BEHIND(search, world, fuel)
@@ -176,17 +179,17 @@ def count_faults():
         ('the last run in the place of the first', with_first(lambda one, other: other)),
         ('the first run with the most choices', with_first(lambda one, other: max(one, other, key=len))),
         ('the first run of another outcome', other_joined(of_another)), ('outcomes by their words', other_joined(of_words)))
-    return ([Breakage(name, outcomes, 'joined', replacement) for name, replacement in joins]
+    return ([Breakage(name, states, 'joined', replacement) for name, replacement in joins]
             + [Breakage(name, outcomes, 'count_text', replacement) for name, replacement in (
                 ('at least for the most that is told, too', lambda count: SOUND['count_text'](count if count < MOST_COUNTED
                                                                                               else MOST_COUNTED + 1)),
                 ('a count of any size', str), ('nothing but the most where there are more', lambda count: str(min(count, MOST_COUNTED))))]
-            + [Breakage(name, outcomes, 'chosen', replacement) for name, replacement in (
+            + [Breakage(name, states, 'chosen', replacement) for name, replacement in (
                 ('choices from the last one on', lambda told, number: told._replace(ways={
                     outcome: way._replace(first=(*way.first, number)) for outcome, way in told.ways.items()})),
                 ('the first candidate is no choice', lambda told, number: SOUND['chosen'](told, number) if number else told),
                 ('candidates numbered from one', lambda told, number: SOUND['chosen'](told, number + 1)))]
-            + [Breakage(name, outcomes, 'searched', replacement) for name, replacement in (
+            + [Breakage(name, states, 'searched', replacement) for name, replacement in (
                 ('outcomes by their texts', in_order_of(lambda one: one[0])),
                 ('outcomes by how many runs they have', in_order_of(lambda one: -one[1].runs)),
                 ('outcomes from the last to the first', other_found(lambda found: found._replace(ways=dict(reversed(found.ways.items()))))),
@@ -198,10 +201,10 @@ def count_faults():
                  **named: SOUND['searched'](begun._replace(fuel=begun.fuel + 1), *limits, **named)),
                 ('a step of fuel less', lambda begun, *limits,
                  **named: SOUND['searched'](begun._replace(fuel=begun.fuel - 1), *limits, **named)),
-                ('as many states as are kept', lambda begun, states=outcomes.USUAL_STATES, most=outcomes.MOST_COME_TO: (
-                    SOUND['searched'](begun, states, min(states, most)))),
+                ('as many states as are kept', lambda begun, kept=states.USUAL_STATES, most=states.MOST_COME_TO, **named: (
+                    SOUND['searched'](begun, kept, min(kept, most), **named))),
                 ('more where a run is cut', other_found(lambda found: found._replace(more=found.more or CUT in found.ways))))]
-            + [Breakage('the sharper rule', outcomes, 'decided', lambda world: wide.wide_decision(world, True)),
+            + [Breakage('the sharper rule', states, 'decided', lambda world: wide.wide_decision(world, True)),
                Breakage('the last of three candidates is lost', Search, 'told_behind', without_last_candidate)])
 
 
@@ -299,7 +302,7 @@ def status_faults():
 
 def breakages():
     """All that rows and checks must show."""
-    return [*key_faults(), *kept_faults(), *count_faults(), *text_faults(), *status_faults()]
+    return [*key_faults(), *kept_faults(), *count_faults(), *text_faults(), *status_faults(), *decided_faults.breakages()]
 
 
 # ---- what runs one after another must show
@@ -332,16 +335,15 @@ class NeverStopping(Search):
 
 def stop_faults():
     """Those of a search that stops."""
-    def never_stopping(begun, states=outcomes.USUAL_STATES, most=outcomes.MOST_COME_TO):
-        search = NeverStopping(states, most)
-        told = outcomes.answered(search.behind(begun.world, begun.fuel))
+    def never_stopping(begun, kept=states.USUAL_STATES, most=states.MOST_COME_TO, **_):
+        search = NeverStopping(kept, most)
+        told = states.answered(search.behind(begun.world, begun.fuel))
         return Found(told.ways, search.come_to == most)
 
-    return ([Breakage(name, outcomes, 'searched', replacement) for name, replacement in (
+    return ([Breakage(name, states, 'searched', replacement) for name, replacement in (
                 ('more no where it has stopped', other_found(stops_silently)), ('it goes on where it has stopped', never_stopping),
-                ('more where it has come to as many states as it may', lambda begun, states=outcomes.USUAL_STATES,
-                 most=outcomes.MOST_COME_TO: (
-                    SOUND['searched'](begun, states, most - 1))))]
+                ('more where it has come to as many states as it may', lambda begun, kept=states.USUAL_STATES, most=states.MOST_COME_TO, **named: (
+                    SOUND['searched'](begun, kept, most - 1, **named))))]
             + [Breakage(name, Search, 'told_behind', replacement) for name, replacement in (
                 ('what comes before is lost where it has stopped', stopped_early),
                 ('a run that is cut where it has stopped', cut_where_stopped))])
@@ -356,7 +358,7 @@ BY_DEFINITION = ('a key: without free calls', 'a key: without variables', 'a key
 
 def definition_faults():
     """Those that the runs of scripts, one after another, must show of their search."""
-    return [*stop_faults(), *(fault for fault in breakages() if fault.name in BY_DEFINITION)]
+    return [*stop_faults(), *decided_faults.stop_faults(), *(fault for fault in breakages() if fault.name in (*BY_DEFINITION, *decided_faults.BY_DEFINITION))]
 
 
 # Those by which an outcome of a small script is lost, or its first run is another: all interleavings must show them.
@@ -370,4 +372,4 @@ OF_EVERY_END = ('a key: without requests', 'a key: without variables', 'a key: t
 
 def every_end_faults():
     """Those that all interleavings must show."""
-    return [fault for fault in breakages() if fault.name in OF_EVERY_END]
+    return [fault for fault in breakages() if fault.name in (*OF_EVERY_END, *decided_faults.OF_EVERY_END)]

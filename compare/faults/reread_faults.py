@@ -282,10 +282,17 @@ def verify_faults():
         ('the report before the script',
          lambda said, *asked: said._replace(errors=b'mpdbg: bad witness\n') if b'script' in said.errors and asked[3] is not None else said))
     ends = ('carriage returns stay', lambda text: text.split(b'\n'))
+    leaf = rb'leaf (?=[0-9]{1,9} \[[0-9 ]*\] )'
+    named = (
+        ('the number of an end', rb'(?:%b|end (?=[0-9]{1,9} leaves [0-9]{1,9} first [0-9]{1,9} ))([0-9]{1,9}) .+' % leaf),
+        ('how many leaves end so', rb'(?:%b|end [0-9]{1,9} leaves (?=[0-9]{1,9} first [0-9]{1,9} ))([0-9]{1,9}) .+' % leaf),
+        ('no line of an end', rb'(?:%b)([0-9]{1,9}) .+' % leaf), ('an end has no number', rb'(?:%b|end leaves [0-9]{1,9} first )([0-9]{1,9}) .+' % leaf),
+        ('any words before the first', rb'(?:%b|end .*first )([0-9]{1,9}) .+' % leaf))
     return ([Breakage(f'verify: {name}', witness, 'chosen_witness', choosing(change)) for name, change in chosen]
             + [Breakage(f'verify: {name}', witness, 'witnesses_in', replacement) for name, replacement in found]
             + [Breakage(f'verify: {name}', witness, 'is_passed_over', replacement) for name, replacement in lines]
             + [Breakage(f'verify: {ends[0]}', witness, 'report_lines', ends[1])]
+            + [Breakage(f'verify: {name}', witness, 'LEAF_LINE', re.compile(pattern)) for name, pattern in named]
             + [Breakage(f'verify: {name}', witness, 'verify', verify_otherwise(change)) for name, change in said])
 
 

@@ -11,15 +11,18 @@ from collections import Counter
 from itertools import islice
 from typing import NamedTuple
 
-from model import console_lines, console_words, debugger, explaining, explorer, picture_model, policy, session
+from model import console_lines, console_words, debugger, deciding, explaining, explorer, picture_model, policy, session, states
 from model.console_lines import plural, step_words
 from model.console_words import Asked, NotAsked, read_line, shown, to_repeat
 from model.debugger import (BAD_FILE, BAD_MODE, LONGEST_LINE, RENDEZVOUS, Result, enabled_steps, file_content, find_call, lines_of, number_of,
                             refusal, show, step_text)
 from model.language import Declared, Fault, read_script
 from model.modes import is_mode
+from model.outcomes import count_text
 from model.policy import BREAK, FULL, MAX, START, ChangeBreak, Choice, Forced, HandleBreak, LineBreak
+from model.run_words import BadChoices, choices_in, run_by
 from model.session import Refused, Session, must_be
+from model.states import word_of
 from model.walks import CUT, Leaf, Run
 from model.witness import BAD_REPORT, REFUSAL_NAMES, BadWitness, witness_of
 from model.worlds import Step
@@ -45,6 +48,8 @@ STOPS = {MAX: 'stopped: as many steps as were asked for', FULL: 'stopped: no mor
 # The same of a run from a choice where steps are undone.
 BEHIND_CHOICE = 'stopped: behind the choice'
 LISTED, TRIED, MOST_FUEL = 10, 1000, 100000
+# How many states are come to where each is looked at once, at most.
+MOST_STATES = 1000000
 # How a run ends, by the first word of its outcome, in the order in which the last line of `check` has them.
 WAYS = 'done', 'leftovers', 'deadlock', 'trap', CUT
 # What may stand behind the first `[` of a name.
@@ -52,6 +57,7 @@ INDEX = re.compile(rb'([0-9]+)\]')
 # What a terminal is told first, on standard error.
 GREETING = 'help lists the words, an empty line repeats the last, quit ends; docs/CONSOLE.md'
 LONG_WITNESS = Result(b'', b'mpdbg: witness of more than 1000000 steps\n', 2)
+NOT_TOGETHER = Result(b'', b"mpdbg: --choices and --witness can't stand together\n", 2)
 # Words whose answers have lines of any length.
 UNFOLDED = frozenset(['list', 'show', 'words', 'picture'])
 # In the place of the text of a witness: its file can't be read.
@@ -72,16 +78,29 @@ def way(leaf):
     return leaf.outcome.split()[0]
 
 
-def counted(leaves, more):
+def ends_of(leaves):
+    """How many runs end in each way."""
+    return Counter(map(way, leaves))
+
+
+def runs_by_end(ways):
+    """The same by the way of each outcome."""
+    ends = Counter()
+    for outcome, there in ways.items():
+        ends[word_of(outcome)] += there.runs
+    return ends
+
+
+def counted(ends, more):
     """How many runs there were, whether there are more, and how many end in each way that occurs."""
-    ended = Counter(map(way, leaves))
-    ways = ', '.join(f'{ended[name]} {name}' for name in WAYS if ended[name])
-    return f'{plural(len(leaves), "run")}, and {"there are more" if more else "no more"} ({ways})'
+    runs = sum(ends.values())
+    ways = ', '.join(f'{count_text(ends[name])} {name}' for name in WAYS if ends[name])
+    return f'{count_text(runs)} {"run" if runs == 1 else "runs"}, and {"there are more" if more else "no more"} ({ways})'
 
 
-def none_found(sought, leaves, more, are_all):
+def none_found(sought, ends, more, are_all):
     """What is told where no run ends so of those that were looked at, be they all ways to end or not."""
-    return f'no {sought}{"" if are_all else " found"} from here: {counted(leaves, more)}'
+    return f'no {sought}{"" if are_all else " found"} from here: {counted(ends, more)}'
 
 
 def run_line(number, leaf):
@@ -111,15 +130,30 @@ def leaf_of(witness):
     return Leaf((), witness.steps, f'deadlock {" ".join(map(str, witness.blocked))}')
 
 
-class Console:
-    """A session that is asked by words, what is told before the first of them, and what an empty line does."""
+class NamedRun(NamedTuple):
+    """A run that is to lie ahead: the text of its choices, and whether these are along the wide walk."""
+    choices: str
+    ends: bool = False
 
-    def __init__(self, text, mode=RENDEZVOUS, witness=None):
+    def words(self):
+        """The words of the command line that name it."""
+        return ('--choices', self.choices, *['--ends'] * self.ends)
+
+    def leaf(self, script, mode):
+        """The run, as far as its fuel goes; None where the text names no choices. Raises the place where no run has them."""
+        choices = choices_in(self.choices)
+        return None if choices is None else run_by(Run(debugger.first_world(script, mode), MOST_FUEL), choices, self.ends)
+
+
+class Console:
+    """A session that is asked by words, what is told before the first of them, where a run lies ahead, and what an empty line does."""
+
+    def __init__(self, text, mode=RENDEZVOUS, ahead=None):
         self.text, self.mode = text, mode
         self.script = read_script(text)
         self.session = Session(self.script, mode)
         self.last, self.is_over = None, False
-        self.first = '' if witness is None else text_of(console_lines.all_folded(self.found(leaf_of(witness))))
+        self.first = '' if ahead is None else text_of(console_lines.all_folded(self.found(ahead)))
 
     @property
     def debugger(self):
@@ -204,7 +238,8 @@ class Console:
             lines = self.done(asked)
         except Refused as refused:
             return [REFUSALS[refused.number]]
-        return [*lines[:1], *self.on_the_way(before), *lines[1:]] if self.debugger.depth > depth else lines
+        first = LINES_FIRST.get(asked.word, 1)
+        return [*lines[:first], *self.on_the_way(before), *lines[first:]] if self.debugger.depth > depth else lines
 
     def done(self, asked):
         """Does what is asked; the lines of the answer."""
@@ -238,7 +273,7 @@ class Console:
         return [line for number in range(len(self.world.ranks)) for line in console_lines.lost_lines(at, number)]
 
     def explanation(self, ended):
-        """What is told of a deadlock or a trap."""
+        """What is told of a deadlock, a trap or leftovers."""
         steps = tuple(self.debugger.steps[:self.debugger.depth])
         return explaining.explanation(self.script, self.mode, Leaf((), steps, ended))
 
@@ -496,7 +531,7 @@ class Console:
         must_be(1 <= runs <= explorer.MOST_RUNS, BAD_RUNS)
         found = list(islice(self.walk(), runs + 1))
         leaves, more = found[:runs], len(found) > runs
-        return [*(run_line(number, leaf) for number, leaf in enumerate(leaves, 1)), counted(leaves, more)]
+        return [*(run_line(number, leaf) for number, leaf in enumerate(leaves, 1)), counted(ends_of(leaves), more)]
 
     def follow(self, number):
         """Lays the steps of the run of a number ahead."""
@@ -511,18 +546,49 @@ class Console:
         return self.seek('trap')
 
     def seek(self, sought):
-        """Lays the steps to the first run ahead that ends in a way."""
-        walk, looked = self.walk(), []
+        """Lays the steps of the first run ahead that ends in a way, of all runs of the wide walk; where these have too many states, of the first
+        runs that `check` lists."""
+        search = states.Search(most=MOST_STATES, stops_at=(sought,))
+        ways = states.answered(search.behind(self.world, self.fuel())).ways
+        found = next((outcome for outcome in ways if word_of(outcome) == sought), None)
+        if found is not None:
+            return self.found(run_by(Run(self.world, self.fuel()), ways[found].first, ends=True))
+        return self.seek_listed(sought) if search.left_out else self.none(sought, runs_by_end(ways), False)
+
+    def seek_listed(self, sought):
+        """The same of the first runs that `check` lists."""
+        walk, ends = self.walk(), Counter()
         for leaf in islice(walk, explorer.MOST_RUNS):
             if way(leaf) == sought:
                 return self.found(leaf)
-            looked.append(leaf._replace(steps=()))
-        more = next(walk, None) is not None
-        return [none_found(sought, looked, more, self.are_all_ways(looked, more))]
+            ends[way(leaf)] += 1
+        return self.none(sought, ends, next(walk, None) is not None)
 
-    def are_all_ways(self, leaves, more):
+    def none(self, sought, ends, more):
+        """What is told where there is none."""
+        return [none_found(sought, ends, more, self.are_all_ways(ends, more))]
+
+    def are_all_ways(self, ends, more):
         """Whether the runs that were looked at are all ways to end from here: where there are no more, and none is cut."""
-        return explorer.is_whole(explorer.Report(leaves, more))
+        return not more and not ends[CUT]
+
+    def blame(self):
+        """Goes to the last state of the run that is kept from which some run still ends well, where none does from its end."""
+        line, depth = self.decided_at()
+        return [line] if depth is None else [line, *self.goto(depth)]
+
+    def decided_at(self):
+        """What is told of the step that decides, and the depth to go to, None where there is none."""
+        steps = self.debugger.steps
+        last = self.last_not_doomed(states.Search(most=MOST_STATES))
+        line = deciding.line_of(self.script, self.mode, steps, last)
+        return line, None if last is None or last.ahead.well is None or last.depth == len(steps) else last.depth
+
+    def last_not_doomed(self, search):
+        """The last state that isn't doomed of the run that is kept, the steps ahead with it, by a search."""
+        steps = self.debugger.steps
+        fuel = min(len(steps) + MOST_FUEL, debugger.MOST_STEPS)
+        return deciding.last_not_doomed(deciding.worlds_along(self.debugger.worlds[0], steps), fuel, deciding.by_search(search))
 
     def found(self, leaf):
         return self.laid_ahead(leaf.outcome, leaf)
@@ -542,6 +608,8 @@ class Console:
         return []
 
 
+# How many lines stand before what happened on the way, where it isn't one: what decided is told before what `goto` tells.
+LINES_FIRST = {'blame': 2}
 # What answers a word whose name is another than the word.
 METHODS = {'break': 'set_break', 'vars': 'variables', 'run-back': 'run_back', 'undo-choice': 'undo_choice'}
 
@@ -576,17 +644,30 @@ def begun_with(text, mode, witness):
         found = witness_of(witness, None)
     except BadWitness as bad:
         return Result(b'', BAD_REPORT if bad.line is None else b'mpdbg: bad witness line %d\n' % bad.line, 2)
-    return refused_witness(script, mode, found) or Console(text, mode, found)
+    return refused_witness(script, mode, found) or Console(text, mode, leaf_of(found))
 
 
-def begun(text, mode, witness):
+def begun_along(text, mode, run):
+    """The console with a run ahead that is named by its choices; a result where there is none."""
+    try:
+        leaf = run.leaf(read_script(text), mode)
+    except BadChoices as bad:
+        return Result(b'', b'mpdbg: bad choices at %d\n' % bad.place, 2)
+    return Result(b'', b'mpdbg: bad choices\n', 2) if leaf is None else Console(text, mode, leaf)
+
+
+def begun(text, mode, witness, run=None):
     """The console for the text of a script, which is None where its file can't be read, and the text of a witness, as `verify` reads it, or
-    None where there is to be none; a result where there is none."""
+    a run that is named by its choices, or None where there is to be none of these; a result where there is none."""
+    if witness is not None and run is not None:
+        return NOT_TOGETHER
     if not is_mode(mode):
         return BAD_MODE
     if text is None:
         return BAD_FILE
     try:
+        if run is not None:
+            return begun_along(text, mode, run)
         return Console(text, mode) if witness is None else begun_with(text, mode, witness)
     except Fault as fault:
         return refusal(text, fault)
@@ -597,9 +678,9 @@ def answered(console, data):
     return Result(console.first.encode() + answers(console, data), b'', 0)
 
 
-def debug(text, data, mode=RENDEZVOUS, witness=None):
+def debug(text, data, mode=RENDEZVOUS, witness=None, run=None):
     """The result for a script and an input of words, without a terminal."""
-    console = begun(text, mode, witness)
+    console = begun(text, mode, witness, run)
     return answered(console, data) if isinstance(console, Console) else console
 
 

@@ -57,6 +57,7 @@ TABLE = (
     Row(('follow N',), ('f',), 'lays the steps of a run ahead; N is its number in a check from here'),
     Row(('deadlock',), (), "lays the first deadlock's steps ahead; the first from here, so that run and redo go there"),
     Row(('trap',), (), "lays the first trap's steps ahead; a trap ends a rank at an error, as a failed assert or a division by 0"),
+    Row(('blame',), (), 'goes to the step that decided how the run ends; from there on every run ends badly'),
     Row(('words',), (), 'lists the steps taken as trace words; to be kept in a file'),
     Row(('enabled',), (), 'lists the steps that are enabled'),
     Row(('show',), (), 'shows the whole state, as a trace does; docs/FORMATS.md, "Text of show"'),
@@ -87,7 +88,7 @@ FOLLOWING = {
     'break': ((NUMBER,), (literal('line'), NUMBER), (literal('match'), NUMBER), (literal('change'), NUMBER, NAME)), 'delete': ((NUMBER,),),
     'breaks': ((),), 'list': MAYBE_NUMBER, 'print': ((NAME,), (NAME, NUMBER)), 'vars': MAYBE_NUMBER, 'ranks': ((),), 'calls': MAYBE_NUMBER,
     'queues': ((),), 'why': ((), (NUMBER,), (CALL,)), 'history': MAYBE_NUMBER, 'picture': ((),), 'check': MAYBE_NUMBER,
-    'follow': ((NUMBER,),), 'deadlock': ((),), 'trap': ((),), 'words': ((),), 'enabled': ((),), 'show': ((),),
+    'follow': ((NUMBER,),), 'deadlock': ((),), 'trap': ((),), 'blame': ((),), 'words': ((),), 'enabled': ((),), 'show': ((),),
     'help': ((), (any_word,)), 'quit': ((),)}
 
 

@@ -5,7 +5,7 @@ compare/runs/ends.py asks a program for each of its reports with `--explain` too
 
 import re
 
-BAD = re.compile(rb'(?:leaf [0-9]+ \[[0-9 ]*\]|end [0-9]+ leaves [0-9]+ first [0-9]+) (?:deadlock|trap) ')
+TOLD_OF = re.compile(rb'(?:leaf [0-9]+ \[[0-9 ]*\]|end [0-9]+ leaves [0-9]+ first [0-9]+) (?:deadlock|trap|leftovers) ')
 # A line of an explanation: two spaces, or more, and a text in printable ASCII.
 LINE = re.compile(rb'  +[!-~](?:[ -~]*[!-~])?')
 
@@ -22,8 +22,9 @@ def blocks(output):
 
 
 def is_explained(line, behind):
-    """Whether an explanation must stand behind a line: that of a deadlock or a trap, or that of its witness, where it has one."""
-    return bool(BAD.match(line)) and not behind.startswith(b'witness ') or line.startswith(b'witness ')
+    """Whether an explanation must stand behind a line: that of a deadlock, a trap or leftovers, or that of its witness,
+    where it has one."""
+    return bool(TOLD_OF.match(line)) and not behind.startswith(b'witness ') or line.startswith(b'witness ')
 
 
 def wrong_of(plain, told):
@@ -58,7 +59,8 @@ def made_up(plain):
 FAULTS = (
     ('no explanation of a trap', lambda plain: with_lines(plain.output, lambda line, behind: is_explained(line, behind) and b' trap ' not in line)),
     ('no explanation of a deadlock', lambda plain: with_lines(plain.output, lambda line, behind: is_explained(line, behind) and b' trap ' in line)),
-    ('an explanation before a witness', lambda plain: with_lines(plain.output, lambda line, behind: bool(BAD.match(line)))),
+    ('no explanation of leftovers', lambda plain: with_lines(plain.output, lambda line, behind: is_explained(line, behind) and b' leftovers ' not in line)),
+    ('an explanation before a witness', lambda plain: with_lines(plain.output, lambda line, behind: bool(TOLD_OF.match(line)))),
     ('an explanation of each leaf', lambda plain: with_lines(plain.output, lambda line, behind: line.startswith((b'leaf ', b'end ')))),
     ('an explanation of the last line', lambda plain: with_lines(plain.output, lambda line, behind: not behind or is_explained(line, behind))),
     ('one space in front', lambda plain: made_up(plain).output.replace(b'\n  ', b'\n ')),

@@ -1,4 +1,4 @@
-"""Explanations of deadlocks and traps, in the model: what `check --explain` tells below the line of a leaf.
+"""Explanations of deadlocks, traps and leftovers, in the model: what `check --explain` tells below the line of a leaf.
 
 compare/rows/worked_explained.py has rows of it, and compare/runs/explained.py compares a program with it.
 """
@@ -150,15 +150,19 @@ def not_there(world):
     return [number for number, rank in enumerate(world.ranks) if not is_at_barrier(rank)]
 
 
-def why_not_there(rank):
-    return 'it has ended' if has_ended(rank) else 'it is at another call'
+def why_not_there(at, number):
+    """Where a rank is that is at no barrier: the call that it is blocked in, or the line of its next statement, where it has one."""
+    rank = at.world.ranks[number]
+    if rank.mode == 'blocked':
+        return f'it waits at {call_text(at, last_call(at.world, number))}'
+    return 'it has ended' if has_ended(rank) else f'it is at line {next_line(rank)}'
 
 
 def behind(at, call_id):
     """The lines behind that of a blocked call."""
     kind = find_call(at.world, call_id).kind
     if kind == 'barrier':
-        return [f'rank {number} is not there: {why_not_there(at.world.ranks[number])}' for number in not_there(at.world)]
+        return [f'rank {number} is not there: {why_not_there(at, number)}' for number in not_there(at.world)]
     if kind in ('send', 'recv'):
         return list(chances(at, call_id))
     return [line for request in requests(at.world, call_id.rank) for line in (wishing(at, request), *chances(at, request))]
@@ -242,7 +246,11 @@ def trap_lines(at):
     return [f'  rank {number}, line {next_line(rank)}: trap {rank.trap}' for number, rank in trapped]
 
 
+def left_lines(at):
+    return [f'  left over: {call_text(at, call_id)}' for call_id in all_free(at.world)]
+
+
 def explanation(script, mode, leaf):
-    """The lines that explain a leaf: none where it is no deadlock and no trap."""
-    tell = {'deadlock': deadlock_lines, 'trap': trap_lines}.get(leaf.outcome.split()[0])
+    """The lines that explain a leaf: none where it is done, or cut."""
+    tell = {'deadlock': deadlock_lines, 'trap': trap_lines, 'leftovers': left_lines}.get(leaf.outcome.split()[0])
     return () if tell is None else tuple(tell(reached(script, mode, leaf.steps)))

@@ -243,7 +243,7 @@ def explained(script, mode, found):
 def counted(found):
     """What a report tells of its leaves in one line, and whether a deadlock or a trap is among them."""
     ended = [leaf.outcome.split()[0] for leaf in found.leaves]
-    counts = [f'{name} {ended.count(word)}' for name, word in (('deadlocks', 'deadlock'), ('traps', 'trap'), ('cut', 'cut'))]
+    counts = [f'{name} {ended.count(word)}' for name, word in (('deadlocks', 'deadlock'), ('traps', 'trap'), ('leftovers', 'leftovers'), ('cut', 'cut'))]
     return f'leaves {len(ended)} {" ".join(counts)} more {"yes" if found.more else "no"}', any(map(is_bad, found.leaves))
 
 

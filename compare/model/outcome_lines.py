@@ -1,10 +1,11 @@
-"""What a check with `--outcomes` says, read from its lines: each outcome with how many runs end so and the first of them, and whether there
-are more."""
+"""What a check with `--outcomes` says, read from its lines: each outcome with how many runs end so and the first of them, whether there are more,
+and at which step a deadlock or a trap was decided."""
 
 import re
 
-from model.outcomes import MOST_COUNTED, Found, Way, count_text, total
+from model.outcomes import MOST_COUNTED, count_text, total
 from model.report_lines import choices_of, must_be
+from model.states import Found, Way
 
 OUTCOME = re.compile(rb'outcome ([0-9]+) runs ((?:at least )?)([0-9]+) first \[((?:[0-9]+(?: [0-9]+)*)?)\] ([^\n]+)\n')
 LAST = re.compile(rb'outcomes ([0-9]+) runs ((?:at least )?[0-9]+) more (yes|no)\n')
@@ -26,3 +27,17 @@ def read_outcomes(text):
     found = Found(ways, ended[3] == b'yes')
     must_be((int(ended[1]), ended[2].decode()) == (len(ways), count_text(total(found))), f'the last line counts otherwise: {last!r}')
     return found
+
+
+def read_decided(text):
+    """The lines of a text that explain nothing, and what is told of the step that decided an end, by its outcome."""
+    plain, decided, outcome = [], {}, None
+    for line in text.splitlines(keepends=True):
+        if line.startswith(b'  '):
+            if line.startswith(b'  decided '):
+                decided[outcome] = line.decode().strip()
+            continue
+        plain.append(line)
+        told = OUTCOME.fullmatch(line)
+        outcome = told[5].decode() if told else outcome
+    return b''.join(plain), decided

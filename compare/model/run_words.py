@@ -21,6 +21,11 @@ CHOICES = re.compile(' *(?:[0-9]{1,9}(?: +[0-9]{1,9})* *)?')
 WRONG_WORDS = Result(b'', b'wrong words\n', 2)
 
 
+def choices_in(text):
+    """The choices that a text names; None where it names none."""
+    return None if CHOICES.fullmatch(text) is None else tuple(map(int, re.findall('[0-9]+', text)))
+
+
 class BadChoices(Exception):
     """No run has exactly these choices: the place of the first that is none, or how many there are, where the run wants more."""
 
@@ -64,9 +69,9 @@ class Words(NamedTuple):
 
     def wanted(self):
         """What must be answered."""
-        if CHOICES.fullmatch(self.choices) is None:
+        choices = choices_in(self.choices)
+        if choices is None:
             return WRONG_WORDS
-        choices = tuple(map(int, re.findall('[0-9]+', self.choices)))
         return answer(self.script, choices, self.mode or RENDEZVOUS, self.fuel or USUAL.fuel, self.ends)
 
 

@@ -30,8 +30,8 @@ FIRST_LINE = re.compile(rb'(?:(?!deadlock )[^ ]* )*deadlock((?: %b)+)' % CALL)
 SECOND_LINE = re.compile(rb'(?:[^:]*:)?(%b(?:,%b)*)' % (STEP, STEP))
 # Empty lines alone.
 REST = re.compile(rb'(?:\r?\n)*\r?')
-# The lines of a report: a leaf, a witness, what is passed over, and the last one.
-LEAF_LINE = re.compile(rb'leaf ([0-9]{1,9}) \[[0-9 ]*\] .+')
+# The lines of a report: a leaf, or the first of those that end in one way; a witness, what is passed over, and the last one.
+LEAF_LINE = re.compile(rb'(?:leaf (?=[0-9]{1,9} \[[0-9 ]*\] )|end [0-9]{1,9} leaves [0-9]{1,9} first )([0-9]{1,9}) .+')
 WITNESS_LINE = re.compile(rb'witness ([0-9]{1,9}): .*')
 PASSED_LINE = re.compile(rb'  .*')
 LAST_LINE = re.compile(rb'leaves [0-9]+ more (?:yes|no)')

@@ -5,13 +5,16 @@ something has another one behind it, which shows whether it did.
 """
 
 from model import console
-from model.debugger import BUFFERED
+from model.debugger import BUFFERED, RENDEZVOUS, Debugger, enabled_steps, outcome, step_of
 from model.session import Session, answer_line
+from model.walks import CUT, Leaf
 from model.witness import read_witness
 from probe.call_given import Row, no_state
-from probe.call_scripts import ALL_HANG, BOTH_CAME, BOTH_SEND, CHOICE, HELD, ISSUED, MESSAGE, RACE, TRAPS, TWO_LINES, WHICHEVER
+from probe.call_scripts import ALL_HANG, BOTH_CAME, BOTH_SEND, CHOICE, ENDED, HELD, ISSUED, MESSAGE, RACE, STUCK, TRAPS, TWO_LINES, WHICHEVER
 from rows import console_memory
 
+# Both have sent, with buffers, and both messages are free.
+BOTH_SENT = ('local 0', 'wake 0', 'local 0', 'local 1', 'wake 1', 'local 1')
 NOT_STUCK = TWO_LINES.replace(', wake 2\n', '\n')
 # Calls that answer words one by one.
 TALKS = ('run_console', 'run_console, UntilQuit')
@@ -40,6 +43,11 @@ def consoles():
         yield Row('mpd_console::open', RACE, argument=argument)
     yield Row('open_with', RACE, argument=TWO_LINES)
     yield Row('open_with', RACE, argument=NOT_STUCK)
+    # a deadlock, an end, a trap, runs that are cut, no step, and steps of which one isn't enabled
+    for script, steps, mode in ((RACE, STUCK, RENDEZVOUS), (MESSAGE, ENDED, RENDEZVOUS), (TRAPS, ('local 0', 'local 1'), RENDEZVOUS),
+                                (BOTH_SEND, BOTH_SENT, BUFFERED), (RACE, CHOICE, RENDEZVOUS), (RACE, (), RENDEZVOUS),
+                                (MESSAGE, (*ENDED, 'wake 0'), RENDEZVOUS), (MESSAGE, ('wake 0', *ENDED), RENDEZVOUS)):
+        yield Row('open_along', script, argument='\n'.join(steps), mode=mode)
     yield Row('ConsoleDesk::new', RACE, ('{"cmd":"run","max":100}',), spares=True)
     for script, lines, words in WORDS:
         for word in words:
@@ -77,7 +85,18 @@ def opened_with(row):
     refused = console.explorer.verify(row.read(), row.mode, *witness)
     if refused is not None:
         return no_state(f'refused {refused.number}\n')
-    talked = console.Console(row.script.encode(), row.mode, witness)
+    talked = console.Console(row.script.encode(), row.mode, console.leaf_of(witness))
+    return no_state(f'{talked.first}{talked.answer(b"show")}\n')
+
+
+def opened_along(row):
+    """Steps that lie ahead, where each is enabled; else the first that isn't."""
+    walked, steps = Debugger(row.read(), row.mode), [step_of(words.encode().split()) for words in row.argument.splitlines()]
+    for place, step in enumerate(steps):
+        if not walked.take(step).startswith('ok'):
+            return no_state(f'not enabled at {place}\n')
+    ended = CUT if enabled_steps(walked.world) else outcome(walked.world)
+    talked = console.Console(row.script.encode(), row.mode, Leaf((), tuple(steps), ended))
     return no_state(f'{talked.first}{talked.answer(b"show")}\n')
 
 
@@ -94,7 +113,7 @@ def talked(row):
     return no_state('ended\n', console.answers(talked_to(row), row.argument.encode()).decode())
 
 
-CONSOLES = {'mpd_console::open': opened, 'open_with': opened_with, 'ConsoleDesk::new': made, 'run_console': talked, 'run_console, UntilQuit': talked}
+CONSOLES = {'mpd_console::open': opened, 'open_with': opened_with, 'open_along': opened_along, 'ConsoleDesk::new': made, 'run_console': talked, 'run_console, UntilQuit': talked}
 
 
 def problem(row, said, refused):

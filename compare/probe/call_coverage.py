@@ -24,21 +24,24 @@ LEFT_OUT = {
     'mpd_witness': dict.fromkeys(('written_witness_is_read', 'written_witness_of_a_leaf_is_read'), 'a law'),
     'mpd_c': {'text_ends_its_last_line': 'a law'},
     'mpd_walk': {'ending_of': 'called by explore', 'is_untaken': 'called by steps_by_choices'},
-    'mpd_explore': {'witness_here': 'called by explore', 'ends_with': 'called by explore', 'ends_with_report': 'called by check'},
+    'mpd_explore': {'push_choices': 'called by check', 'witness_here': 'called by explore', 'ends_with': 'called by explore', 'ends_with_report': 'called by check'},
+    'mpd_blame': {'blame_lines': 'called by check_outcomes', 'line_of_leaf': 'called by blame_lines', **dict.fromkeys(('blame_run', 'push_blame'), BY_WORDS)},
+    'mpd_outcomes': {'push_count': 'called by check', 'is_met': 'called by explore_outcomes'},
     'mpd_explain': {
+        'text_at': 'called by check_outcomes', 'firsts': 'called by print_grouped', 'explanation_at': 'called by print_grouped',
         'calls_name_their_statements': 'a law',
         **dict.fromkeys(('push_wish', 'push_helps', 'push_all_absent', 'push_told', 'requests'), BY_WORDS)},
     'mpd_session': dict.fromkeys(('debugger', 'breaks', 'lay'), BY_WORDS),
     'mpd_view': dict.fromkeys(('push_calls', 'push_enabled', 'push_history', 'push_queues', 'push_ranks', 'push_standing', 'push_step', 'push_step_line',
                                'push_why', 'push_why_rank', 'push_why_ranks', 'push_words', 'push_lost', 'push_all_lost', 'push_lost_line',
                                'lost_calls'), BY_WORDS),
-    'mpd_moves': dict.fromkeys(('doing_of', 'known_for', 'lead_of', 'lead_text', 'push_break_line', 'push_reply'), BY_WORDS),
+    'mpd_moves': dict.fromkeys(('doing_of', 'goto_command', 'known_for', 'lead_of', 'lead_text', 'push_break_line', 'push_reply'), BY_WORDS),
     'mpd_fold': {'push_folded': BY_WORDS, **dict.fromkeys(('long_lines_keep_their_words', 'long_lines_can_nowhere_be_cut'), 'a law')},
-    'mpd_runs': {'a_run_or_a_bad_choice': 'a law', **dict.fromkeys((
+    'mpd_runs': {'a_run_or_a_bad_choice': 'a law', 'counts_told': 'called by check_outcomes', **dict.fromkeys(('is_count', 'sees_all'), 'takes no memory'), **dict.fromkeys((
         'seek', 'numbered_run', 'last_choice', 'name', 'push_runs', 'push_none', 'push_ahead', 'push_count', 'push_no_run', 'push_no_choice'), BY_WORDS)},
     'mpd_picture': {'arrows_are_pairs': 'a law'}, 'mpd_console': {'has_quit': 'called by the program behind a console'},
     'mpd_vocabulary': dict.fromkeys(('line_of', 'push_fault', 'push_help'), BY_WORDS),
-    'mpd_names': dict.fromkeys(('find_named', 'issue_line', 'rank_line', 'push_placed', 'push_spaced', 'push_break', 'push_cell_name', 'push_list', 'push_list_about', 'push_named', 'push_source', 'push_variables'), BY_WORDS),
+    'mpd_names': dict.fromkeys(('find_named', 'issue_line', 'rank_line', 'push_issuer', 'push_placed', 'push_spaced', 'push_break', 'push_cell_name', 'push_list', 'push_list_about', 'push_named', 'push_source', 'push_variables'), BY_WORDS),
     'mpd_pieces': dict.fromkeys(('pieces_join_to_the_walk', 'each_piece_is_reached', 'no_choice_is_the_whole', 'no_more_is_the_whole'), 'a law')}
 
 

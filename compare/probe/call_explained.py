@@ -1,4 +1,4 @@
-"""What is told of hangs and traps of the scripts in call_scripts.py, worked out by hand from docs/FORMATS.md ("Explanations").
+"""What is told of hangs, traps and leftovers of the scripts in call_scripts.py, worked out by hand from docs/FORMATS.md ("Explanations").
 
 A script and an outcome have one explanation here: whatever run of the script ends so, it ends in calls that are paired in the same way.
 """
@@ -36,8 +36,8 @@ OF_ALL_HANG = '''\
   rank 1 waits at line 3, 1.0 send to 0 tag 5 value 7: for a receive of rank 0 from rank 1 with tag 5
     nearest miss: line 2, 0.0 irecv from 1 tag 4: another tag
   rank 2 waits at line 4, 2.0 barrier: for all ranks at a barrier
-    rank 0 is not there: it is at another call
-    rank 1 is not there: it is at another call
+    rank 0 is not there: it waits at line 2, 0.2 waitany 0 2
+    rank 1 is not there: it waits at line 3, 1.0 send to 0 tag 5 value 7
   rank 0 waits for rank 1, rank 2
   rank 1 waits for rank 0
   rank 2 waits for rank 0, rank 1
@@ -47,7 +47,7 @@ OF_A_WAIT = '''\
   rank 0 waits at line 2, 0.1 wait 0: for this request
     line 2, 0.0 irecv from 1 tag 2: for a send of rank 1 with tag 2
   rank 1 waits at line 3, 1.0 barrier: for all ranks at a barrier
-    rank 0 is not there: it is at another call
+    rank 0 is not there: it waits at line 2, 0.1 wait 0
   rank 0 waits for rank 1
   rank 1 waits for rank 0
   a cycle, where each waits for the next: rank 0, rank 1, rank 0
@@ -94,6 +94,7 @@ EXPLANATIONS = {
     (ALONE, 'deadlock 0.0'): OF_ALONE,
     (BY_THE_FIRST, 'deadlock 0.3'): OF_BY_THE_FIRST,
     (EARLY_OR_LATE, 'deadlock 0.1'): OF_EARLY_OR_LATE,
+    (EARLY_OR_LATE, 'leftovers 0.1'): '  left over: line 2, 0.1 send to 1 tag 1 value 2\n',
     (TRAPS, 'trap 0 zero-divisor 1 zero-divisor'): '  rank 0, line 2: trap zero-divisor\n  rank 1, line 2: trap zero-divisor\n',
     (TWO_RACES, 'trap 0 assert'): '  rank 0, line 2: trap assert\n',
     (TWO_RACES, 'trap 1 assert'): '  rank 1, line 2: trap assert\n',
@@ -101,8 +102,8 @@ EXPLANATIONS = {
 
 
 def explanation(script, outcome):
-    """What is told of an outcome of a script: nothing where it is no hang and no trap."""
-    return EXPLANATIONS[script, outcome] if outcome.split()[0] in ('deadlock', 'trap') else ''
+    """What is told of an outcome of a script: nothing where it is done, or cut."""
+    return EXPLANATIONS[script, outcome] if outcome.split()[0] in ('deadlock', 'trap', 'leftovers') else ''
 
 
 def outcome_in(words):
@@ -123,5 +124,5 @@ def explained_lines(script, text):
 
 
 def explained(script, text):
-    """The text of a report with the explanation of each hang and each trap, behind the line of the leaf or the end, and of its witness."""
+    """The text of a report with the explanation of each hang, each trap and all leftovers, behind the line of the leaf or the end, and of its witness."""
     return ''.join(explained_lines(script, text))

@@ -180,7 +180,7 @@ def asked_of(row, **more):
 def tally_text(row, found, is_wide):
     script = row.read()
     bad = [leaf.outcome.split()[0] for leaf in found.leaves]
-    counts = [f'{name} {bad.count(word)}' for name, word in (('deadlocks', 'deadlock'), ('traps', 'trap'), ('cut', 'cut'))]
+    counts = [f'{name} {bad.count(word)}' for name, word in (('deadlocks', 'deadlock'), ('traps', 'trap'), ('leftovers', 'leftovers'), ('cut', 'cut'))]
     more = 'true' if found.more else 'false'
     tells_all = 'true' if explorer.is_whole(found) and explorer.tells_all(script, row.mode, is_wide) else 'false'
     status = explorer.status_of(script, row.mode, found, True, is_wide)
@@ -245,6 +245,11 @@ def explained_printed(row):
     return no_state(line(listing_text(row, listed(row, walked(row), *row.numbers()))))
 
 
+def grouped_printed(row):
+    found = walked(row)
+    return unchanged(trail_text(found), line(listing_text(row, listed(row, found, *row.numbers()))))
+
+
 def listing_written(row):
     told = check_written(row)
     return told._replace(end=explained(row.script, told.end)) if row.has('explain') else told
@@ -294,5 +299,5 @@ REPORTS = {
     'explore_by_pieces': by_pieces, 'mpd_pool::check': by_workers, 'mpd_check::check': check_written, 'check_piece': piece_written,
     'count_pieces': pieces_counted, 'check_mode': mode_written, 'put_least': by_hand, 'judge': judged, 'read_witness': witness_read,
     'explain': leaf_explained, 'explain_all': all_explained, 'print_explained': explained_printed,
-    'check_listing': listing_written, 'check_sample': sample_written, 'is_left': left_behind, 'read_report': report_read,
+    'print_grouped': grouped_printed, 'check_listing': listing_written, 'check_sample': sample_written, 'is_left': left_behind, 'read_report': report_read,
     'read_report_witness': report_read, 'choices_of': by_hand, 'steps_by_choices': run_led, 'write_words': run_written}

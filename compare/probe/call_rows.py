@@ -3,7 +3,11 @@
 What the model says of them is in call_models.py. What it doesn't say stands here, as it was worked out by hand.
 """
 
+import glob
+import re
+
 from model.debugger import BUFFERED, RENDEZVOUS
+from places import TOP
 from probe.call_consoles import consoles
 from probe.call_given import Row, Wanted, no_state
 from probe.call_listings import listings
@@ -15,11 +19,22 @@ from probe.call_scripts import (BOTH_CAME, BOTH_SEND, BY_THE_FIRST, CHANGES, CHO
 from probe.call_sizes import sizes
 from probe.call_wide import wides
 
+# Rows of direct calls, which the program of calls asserts by itself.
+DIRECT = f'{TOP}/compare/probe/direct'
 # Nothing is known of a place whose line begins with `=`, since sections do.
 MISSING = 'mpd 1;\nranks 1;\nprint 1\nprint 2;\n'
 NO_STEP = TWO_LINES.replace('witness 1: local 0', 'witness 1: wake 0')
 NOT_STUCK = TWO_LINES.replace(', wake 2\n', '\n')
 OTHER_CALLS = TWO_LINES.replace('0.1 1.0', '0.1')
+
+
+def direct_names():
+    """The names of the rows of direct calls."""
+    names = set()
+    for path in glob.glob(f'{DIRECT}/*_rows.rattle'):
+        with open(path, encoding='utf-8') as file:
+            names.update(re.findall(r'(?m)^pub\(crate\) fn (\w+)', file.read()))
+    return names
 
 
 def scripts():
@@ -407,7 +422,9 @@ def programs():
     # the line ends behind byte 8, and three bytes of a script stand before it
     yield Row('Divider looks', argument='ab\n---\nlocal 0\n', by_hand=no_state('7 3\n'), spares=True)
     for words, told in (('check a --runs 7 --workers 3', 'check a rendezvous 7 100000 1 3 false'), ('trace a --mode b', 'trace a b'),
-                        ('debug a', 'debug a rendezvous'), ('debug a --mode b --witness c', 'debug a b c'),
+                        ('diagnose a', 'diagnose a rendezvous false'), ('diagnose --strict a --mode b', 'diagnose a b true'),
+                        ('debug a', 'debug a rendezvous - - false'), ('debug a --mode b --witness c', 'debug a b - c false'),
+                        ('debug a --choices 3 --ends', 'debug a rendezvous 3 - true'),
                         ('serve a --port 80 --clients 2', 'serve a rendezvous 80 2'), ('verify a b', 'verify a b rendezvous'),
                         ('verify a b --leaf 7', 'verify a b rendezvous 7'), ('words a --choices 3 --fuel 9', 'words a 3 rendezvous 9 false'),
                         ('words a --choices 3 --ends', 'words a 3 rendezvous 100000 true'), ('c a', 'c a'),

@@ -4,29 +4,31 @@ A dialogue may end with `mpdbg: memory`, status 3, before it has read a line; of
 that a line may be answered by one of two constant lines: `refused: memory`, and then all goes on as if it had done nothing, or, where its word
 may change something, `done, but memory for the answer was refused`, and then as if it had been answered. Which of the two it was is seen by
 what stands behind each such word. What was understood is done once more by an empty line in both cases. A line that is too long, and a comment,
-take no memory at all.
+take no memory at all. Of `blame` what decided may be told before either of the two lines.
 """
 
 from typing import NamedTuple, Optional
 
-from model.console import begun, is_blank, is_comment
+from model.console import NamedRun, begun, is_blank, is_comment, text_of
+from model.console_lines import all_folded
 from model.console_words import NotAsked, STEPS, to_repeat
 from model.debugger import BUFFERED, LONGEST_LINE, RENDEZVOUS, lines_of
 from rows.session_memory import HEAD_TO_HEAD, SCRIPT
 
 REFUSED, UNPRINTED = b'refused: memory\n', b'done, but memory for the answer was refused\n'
 # Words that may change something, and what is looked at behind each.
-CHANGING = {**dict.fromkeys(('next', 'run', 'back', 'run-back', 'undo-choice', 'goto', 'redo', 'follow', 'deadlock', 'trap', *STEPS), b'show'),
+CHANGING = {**dict.fromkeys(('next', 'run', 'back', 'run-back', 'undo-choice', 'goto', 'redo', 'follow', 'deadlock', 'trap', 'blame', *STEPS), b'show'),
             **dict.fromkeys(('break', 'delete'), b'breaks')}
 
 
 class Typed(NamedTuple):
-    """A dialogue: its script, the mode, its lines, and the text of a witness or None."""
+    """A dialogue: its script, the mode, its lines, and the text of a witness, or a run that is named by its choices, or None."""
     name: str
     script: bytes
     mode: str
     lines: tuple
     witness: Optional[bytes] = None
+    run: Optional[NamedRun] = None
 
     @property
     def data(self):
@@ -34,7 +36,7 @@ class Typed(NamedTuple):
 
     def begun(self):
         """The console of the model."""
-        return begun(self.script, self.mode, self.witness)
+        return begun(self.script, self.mode, self.witness, self.run)
 
 
 def word_in(talked, line):
@@ -46,9 +48,9 @@ def word_in(talked, line):
     return asked and asked.word
 
 
-def with_looks(script, mode, text, witness=None):
+def with_looks(script, mode, text, witness=None, run=None):
     """The lines of a text, with a look behind each that may change something."""
-    talked = begun(script, mode, witness)
+    talked = begun(script, mode, witness, run)
     for line in text.encode().strip(b'\n').split(b'\n'):
         look = CHANGING.get(word_in(talked, line))
         for typed in (line,) if look is None else (line, look):
@@ -133,9 +135,12 @@ why 9
 '''
 DEADLOCK = '''
 deadlock
+blame
 run
 run
 run
+blame
+redo all
 why
 why 0
 why 2
@@ -171,6 +176,8 @@ def dialogues():
     yield Typed('a dialogue of lines, each done twice', SCRIPT, RENDEZVOUS, (*lines, b'x' * (LONGEST_LINE + 1), b'ranks', b'quit', b'next'))
     yield Typed('a dialogue to a deadlock', RACE, RENDEZVOUS, tuple(with_looks(RACE, RENDEZVOUS, DEADLOCK)))
     yield Typed('a dialogue with a witness ahead', RACE, RENDEZVOUS, tuple(with_looks(RACE, RENDEZVOUS, DEADLOCK, WITNESS)), WITNESS)
+    run = NamedRun('0', ends=True)
+    yield Typed('a dialogue with a run ahead', RACE, RENDEZVOUS, tuple(with_looks(RACE, RENDEZVOUS, DEADLOCK, run=run)), run=run)
     words = 'run 3\nwhy 0\ncalls\nrun\ndeadlock'
     yield Typed('a dialogue of sends with buffers', HEAD_TO_HEAD, BUFFERED, tuple(with_looks(HEAD_TO_HEAD, BUFFERED, words)))
 
@@ -194,10 +201,21 @@ def is_silent(talked, line):
     return takes_memory(line) and word_in(talked, line) == 'words' and not talked.answer(line)
 
 
+def told_before(talked, line):
+    """What may stand before one of the two constant lines: of `blame` what decided, where it goes there."""
+    if not takes_memory(line) or word_in(talked, line) != 'blame':
+        return b''
+    decided, depth = talked.decided_at()
+    return b'' if depth is None else text_of(all_folded([decided])).encode()
+
+
 def answer_len(talked, line, said):
     """How many bytes of what is said behind it answer a line; None where they don't. The model goes on as they tell."""
     if is_silent(talked, line):
         return 0
+    before = told_before(talked, line)
+    if before and said.startswith((before + REFUSED, before + UNPRINTED)):
+        return len(before) + answer_len(talked, line, said[len(before):])
     if said.startswith(REFUSED) and takes_memory(line) and not (is_blank(line) and talked.last is None):
         remember(talked, line)
         return len(REFUSED)

@@ -1,22 +1,25 @@
-"""Worked rows of how a console starts with a witness: what is told first, or why there is no console (console_worked.py).
+"""Worked rows of how a console starts with a witness or the choices of a run: what is told first, or why there is no console (console_worked.py).
 
 Each was worked out by hand from docs/CONSOLE.md and docs/FORMATS.md ("Faults and statuses"). The words `history` and `redo` stand behind each.
 """
 
 from typing import NamedTuple, Optional, Union
 
-from model.console import NO_FILE, debug
+from model.console import NO_FILE, NamedRun, debug
 from model.debugger import BAD_FILE, BAD_MODE, BUFFERED, RENDEZVOUS, Result
+from rows.examples import open_example
 from rows.worked_console_scripts import LOOP
 
 
 class Start(NamedTuple):
-    """What it is of, a script (None: there is no such file), the text of a witness, and what must be answered; the mode."""
+    """What it is of, a script (None: there is no such file), the text of a witness, and what must be answered; the mode, and a run that is named
+    by its choices."""
     what: str
     script: Optional[str]
-    witness: Union[bytes, str]
+    witness: Union[bytes, str, None]
     wanted: Result
     mode: str = RENDEZVOUS
+    run: Optional[NamedRun] = None
 
     @property
     def text(self):
@@ -49,6 +52,42 @@ def refused(text):
     return Result(b'', f'mpdbg: {text}\n'.encode(), 2)
 
 
+def along(what, script, choices, wanted, mode=RENDEZVOUS, ends=False):
+    """A row of a run that is named by its choices."""
+    return Start(what, script, None, wanted, mode, NamedRun(choices, ends))
+
+
+def told(text):
+    """What is told, with status 0."""
+    return Result(text.encode(), b'', 0)
+
+
+TOGETHER = refused("--choices and --witness can't stand together")
+ENDS_AT_ONCE, EMPTY = 'mpd 1; ranks 1;\nprint 5;\n', 'mpd 1; ranks 1;\n'
+AT_ONCE = told('''done is 1 step ahead
+1 ahead: local 0: line 2
+    2  print 5;
+no step is taken
+1 local 0: line 2
+rank 0 prints 5
+ended: done
+''')
+NO_STEP = told('''done is 0 steps ahead
+ended: done
+no step is taken
+refused: no step is ahead
+''')
+# The match of rank 2 comes first along the wide walk, where its request is the one that is taken (worked_ends.py).
+ORDER_DECIDES = open_example('order_decides.mpd').decode()
+TRAPPED = told('''trap 0 assert is 14 steps ahead
+14 ahead: local 0: line 7
+    7  if rank == 0 {
+no step is taken
+1 local 0: line 7
+13 ahead: local 0: line 8
+    8    irecv r[0] x from 1 tag 0;
+''')
+
 STARTS = (
     Start('a witness', BOTH_RECEIVE, b'deadlock 0.0 1.0\nlocal 0, local 1\n', RECEIVED),
     Start('a witness in a report', BOTH_RECEIVE, b'leaf 0 [] deadlock 0.0 1.0\nwitness 0: local 0, local 1\nleaves 1 more no\n', RECEIVED),
@@ -66,7 +105,20 @@ STARTS = (
     Start('no file of a witness', BOTH_RECEIVE, NO_FILE, BAD_FILE),
     Start('the mode before the files', None, NO_FILE, BAD_MODE, 'eager'),
     Start('the script before the witness', None, b'deadlok', BAD_FILE),
-    Start('a fault of the script before the witness', 'mpd 1; ranks 2; 5', NO_FILE, refused('script refused 4 expected at 16 line 1')))
+    Start('a fault of the script before the witness', 'mpd 1; ranks 2; 5', NO_FILE, refused('script refused 4 expected at 16 line 1')),
+    # a run that is named by its choices
+    along('a run without a choice', BOTH_RECEIVE, '', RECEIVED), along('the same along the wide walk', BOTH_RECEIVE, '  ', RECEIVED, ends=True),
+    along('the same of sends', BOTH_SEND, '', SENT), along('a run of one step', ENDS_AT_ONCE, '', AT_ONCE), along('no step', EMPTY, '', NO_STEP),
+    along('choices of the wide walk alone', ORDER_DECIDES, '1 1', TRAPPED, ends=True),
+    along('the same, and no choices along decisions', ORDER_DECIDES, '1 1', refused('bad choices at 0')),
+    along('blanks, and zeros in front', ORDER_DECIDES, ' 01  1 ', TRAPPED, ends=True),
+    along('a choice too many', BOTH_RECEIVE, '0', refused('bad choices at 0')),
+    along('a choice too few', ORDER_DECIDES, '1', refused('bad choices at 1'), ends=True),
+    *(along('choices that are none', BOTH_RECEIVE, text, refused('bad choices')) for text in ('x', '0,1', '-', '0000000001', '1 x')),
+    along('the mode before the choices', BOTH_RECEIVE, 'x', BAD_MODE, mode='eager'), along('the file before the choices', None, 'x', BAD_FILE),
+    along('the script before the choices', 'mpd 1; ranks 2; 5', 'x', refused('script refused 4 expected at 16 line 1')),
+    *(Start('a witness and choices', script, witness, TOGETHER, mode, NamedRun(choices, ends)) for script, witness, mode, choices, ends in (
+        (BOTH_RECEIVE, b'deadlock 0.0 1.0\nlocal 0, local 1\n', RENDEZVOUS, '', False), (None, NO_FILE, 'eager', 'x', True))))
 STUCK_NOWHERE = b'deadlock 0.0\n' + b', '.join([b'local 0'] * 1_000_000)
 # What the model isn't asked.
 LONG_STARTS = (
@@ -76,5 +128,5 @@ LONG_STARTS = (
 
 def start_problem(row):
     """What the model answers otherwise than a row wants; None where nothing is."""
-    result = debug(row.text, TYPED, row.mode, row.witness)
+    result = debug(row.text, TYPED, row.mode, row.witness, row.run)
     return None if result == row.wanted else f'{result}'

@@ -15,21 +15,36 @@ from model.console_words import MORE_HELP, TABLE, full_name
 from rows.console_starts import STARTS, start_problem
 from rows.examples import EXAMPLES
 from rows.worked_console_along import ALONG
-from rows.worked_console_choices import ALL_RUNS, CHOICES, MANY_RUNS
+from rows.worked_console_blame import BLAME, CUT_FROM_HERE
+from rows.worked_console_choices import CHOICES
 from rows.worked_console_going import GOING
 from rows.worked_console_hits import HITS
 from rows.worked_console_looks import LOOKS
 from rows.worked_console_moves import FIRST_RUNS, MOVES
 from rows.worked_console_scripts import LOOP, Dialogue
+from rows.worked_console_sought import ALL_RUNS, MANY_RUNS, SOUGHT
 from rows.worked_console_texts import TEXTS
 from rows.worked_console_told import TOLD
 from rows.worked_console_ways import WAYS
 
 PAGE = os.path.join(os.path.dirname(EXAMPLES), 'docs', 'CONSOLE.md')
-DIALOGUES = MOVES + ALONG + LOOKS + TOLD + TEXTS + CHOICES + WAYS + GOING + HITS
+DIALOGUES = MOVES + ALONG + LOOKS + TOLD + TEXTS + CHOICES + SOUGHT + WAYS + GOING + HITS + BLAME
 SLOW = ALL_RUNS + FIRST_RUNS
 # What takes the model long: runs of 100,000 steps, and of one more.
 CUT = (
+    Dialogue('a run that is cut lies ahead', LOOP, '''
+cut is 100000 steps ahead
+100000 ahead: local 0: line 2
+    2  while 1 { }
+> goto 100000
+depth 100000
+next: local 0: line 2
+    2  while 1 { }
+> next
+100001 local 0: line 2
+next: local 0: line 2
+    2  while 1 { }
+''', run=console.NamedRun('')),
     Dialogue('a run of one step too many, and the same from its second step on',
              'mpd 1; ranks 1; var x;\nwhile x < 49999 { x = x + 1; }\nprint 1;\nprint 2;', '''
 > check
@@ -64,7 +79,7 @@ next: local 0: line 4
 refused: no choice was made before
 '''),)
 # What the model isn't asked: more than 65,536 runs, and a million steps.
-LONG = MANY_RUNS + (
+LONG = MANY_RUNS + CUT_FROM_HERE + (
     Dialogue('a million steps', LOOP, '''
 > run
 1000000 steps, depth 1000000
@@ -169,9 +184,10 @@ def dialogue_problem(row):
     limit = debugger.MOST_STEPS if row.limit is None else row.limit
     fuel = console.MOST_FUEL if row.fuel is None else row.fuel
     runs = explorer.MOST_RUNS if row.runs is None else row.runs
+    states = console.MOST_STATES if row.states is None else row.states
     with (mock.patch.object(debugger, 'MOST_STEPS', limit), mock.patch.object(console, 'MOST_FUEL', fuel),
-          mock.patch.object(explorer, 'MOST_RUNS', runs)):
-        talked = console.begun(row.text, row.mode, row.witness_text)
+          mock.patch.object(explorer, 'MOST_RUNS', runs), mock.patch.object(console, 'MOST_STATES', states)):
+        talked = console.begun(row.text, row.mode, row.witness_text, row.run)
         if talked.first != row.first:
             return f'{talked.first} was told first, and not {row.first}'
         for typed, wanted in row.turns:

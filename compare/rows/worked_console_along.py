@@ -14,7 +14,7 @@ stopped at a choice; next N takes one:
 1 choices 1 1: done
 1 run, and no more (1 done)
 > deadlock
-no deadlock from here: 1 run, and no more (1 done)
+no deadlock from here: 2 runs, and no more (2 done)
 > next 2
 9 match 3.0 1.0: rank 3, line 5, to rank 1, line 3
 next: wake 1: line 3

@@ -1,8 +1,8 @@
 """Worked dialogues of the console about runs and choices: runs by number, deadlocks and traps that are sought, choices that are undone, all
 ranks that wait, and so many steps at once (console_worked.py)."""
 
-from rows.worked_console_scripts import (AT_A_BARRIER, BESIDE_ANY, BOTH_RACES, HANG_THEN_TRAP, LOOP, MANY_ENDS, RARE, RARE_TRAP, RARER,
-                                         STOLEN_CHOICE, THIRD_TRAPS, TRAP_THEN_HANG, TWO_RACES, WAITS, Dialogue)
+from rows.worked_console_scripts import (AT_A_BARRIER, BESIDE_ANY, BOTH_RACES, HANG_THEN_TRAP, LOOP, STOLEN_CHOICE, THIRD_TRAPS, TRAP_THEN_HANG,
+                                         TWO_RACES, WAITS, Dialogue)
 
 # The choice of TRAP_THEN_HANG, its trap, its deadlock, and the choice of HANG_THEN_TRAP, whose lines are the same.
 TRAP_CHOICE = '''stopped at a choice of rank 0, line 3; next N takes one:
@@ -440,7 +440,7 @@ line 7, 1.0 isend to 0 tag 4 value 7 free
 7 steps, depth 7
 ended: deadlock 0.0 1.0
   rank 0 waits at line 2, 0.0 barrier: for all ranks at a barrier
-    rank 1 is not there: it is at another call
+    rank 1 is not there: it waits at line 4, 1.0 ssend to 2 tag 0 value 1
     rank 2 is not there: it has ended
   rank 1 waits at line 4, 1.0 ssend to 2 tag 0 value 1: for a receive of rank 2
         from rank 1 with tag 0
@@ -448,7 +448,7 @@ ended: deadlock 0.0 1.0
   rank 1 waits for rank 2 (ended)
 > why
 line 2, 0.0 barrier
-    rank 1 is not there: it is at another call
+    rank 1 is not there: it waits at line 4, 1.0 ssend to 2 tag 0 value 1
     rank 2 is not there: it has ended
 line 4, 1.0 ssend to 2 tag 0 value 1 free
   has no partner yet: for a receive of rank 2 from rank 1 with tag 0
@@ -554,75 +554,6 @@ depth 9
 {STOLEN_CHOICE}
 > quit
 '''),
-    Dialogue('a deadlock beside messages whose order changes nothing', RARE, '''
-> check 7
-1 choices 1 1 1 1 1: done
-2 choices 2 1 1 1 1: deadlock 0.1 1.0
-2 runs, and no more (1 done, 1 deadlock)
-> check 1
-1 choices 1 1 1 1 1: done
-1 run, and there are more (1 done)
-> follow 1
-run 1, done, is 68 steps ahead
-68 ahead: local 0: line 2
-    2  if rank < 3 {
-> follow 2
-run 2, deadlock 0.1 1.0, is 65 steps ahead
-65 ahead: local 0: line 2
-    2  if rank < 3 {
-> follow 3
-refused: there is no such run
-> deadlock
-deadlock 0.1 1.0 is 65 steps ahead
-65 ahead: local 0: line 2
-    2  if rank < 3 {
-'''),
-    Dialogue('no more runs than are looked at, and the way to where a deadlock is decided', RARE, '''
-> trap
-no trap from here: 2 runs, and no more (1 done, 1 deadlock)
-> follow 3
-refused: there is no such run
-> check 3
-refused: 1 to 65536 runs can be asked for
-> follow 2
-run 2, deadlock 0.1 1.0, is 65 steps ahead
-65 ahead: local 0: line 2
-    2  if rank < 3 {
-> deadlock
-deadlock 0.1 1.0 is 65 steps ahead
-65 ahead: local 0: line 2
-    2  if rank < 3 {
-> run 25
-25 steps, depth 25
-40 ahead: match 2.0 0.0: rank 2, line 3, to rank 0, line 3
-    3    if rank == 0 { recv x from any tag 0; recv x from 2 tag 0; } else {
-        send rank to 0 tag 0; }
-stopped at a choice; next N takes one:
-  1 match 1.0 0.0: rank 1, line 3, to rank 0, line 3
-  2 match 2.0 0.0: rank 2, line 3, to rank 0, line 3
-  3 match 5.0 3.0: rank 5, line 6, to rank 3, line 6
-  4 match 6.0 4.0: rank 6, line 6, to rank 4, line 6
-''', runs=2),
-    Dialogue('a trap beside messages whose order changes nothing', RARE_TRAP, '''
-> trap
-trap 0 zero-divisor is 65 steps ahead
-65 ahead: local 0: line 2
-    2  if rank < 3 {
-> deadlock
-no deadlock from here: 2 runs, and no more (1 done, 1 trap)
-''', runs=2),
-    Dialogue('what no run is that is looked at, and there are more', RARE, '''
-> deadlock
-no deadlock found from here: 1 run, and there are more (1 done)
-> trap
-no trap found from here: 1 run, and there are more (1 done)
-> follow 1
-run 1, done, is 68 steps ahead
-68 ahead: local 0: line 2
-    2  if rank < 3 {
-> follow 2
-refused: there is no such run
-''', runs=1),
     # the runs are told in worked_ends.py
     Dialogue('a trap that another order of a match and a wait for any comes to', 'order_decides.mpd', f'''
 > check
@@ -630,7 +561,7 @@ refused: there is no such run
 2 choices 2 2: trap 0 assert
 2 runs, and no more (1 done, 1 trap)
 > deadlock
-no deadlock from here: 2 runs, and no more (1 done, 1 trap)
+no deadlock from here: 3 runs, and no more (2 done, 1 trap)
 > trap
 trap 0 assert is 14 steps ahead
 14 ahead: local 0: line 7
@@ -772,6 +703,7 @@ no deadlock from here: 1 run, and no more (1 leftovers)
 > redo all
 depth 9
 ended: leftovers 0.1
+  left over: line 8, 0.1 isend to 1 tag 1 value 2
 ''', 'slots:1'),
     Dialogue('where no slot is, and where there is one for each send', 'freed_slot.mpd', '''
 > check
@@ -789,31 +721,3 @@ no deadlock from here: 1 run, and no more (1 leftovers)
 > trap
 no trap from here: 1 run, and no more (1 leftovers)
 ''', 'slots:2'))
-# What takes the model some seconds.
-ALL_RUNS = (
-    Dialogue('a deadlock beside more messages whose order changes nothing', RARER, '''
-> deadlock
-deadlock 0.1 1.0 is 143 steps ahead
-143 ahead: local 0: line 2
-    2  if rank < 3 {
-> trap
-no trap from here: 2 runs, and no more (1 done, 1 deadlock)
-> follow 2
-run 2, deadlock 0.1 1.0, is 143 steps ahead
-143 ahead: local 0: line 2
-    2  if rank < 3 {
-> follow 3
-refused: there is no such run
-'''),)
-# What the model isn't asked: more than 65,536 runs.
-MANY_RUNS = (
-    Dialogue('more than 65,536 ends', MANY_ENDS, '''
-> deadlock
-no deadlock found from here: 65536 runs, and there are more (65536 done)
-> trap
-no trap found from here: 65536 runs, and there are more (65536 done)
-> follow 65536
-run 65536, done, is 74 steps ahead
-74 ahead: local 0: line 2
-    2  if rank == 0 {
-'''),)

@@ -279,4 +279,4 @@ next: wake 0: line 7
 no trap from here: 1 run, and no more (1 done)
 > deadlock
 no deadlock from here: 1 run, and no more (1 done)
-''', runs=1))
+''', runs=1, states=1))

@@ -245,9 +245,13 @@ breakpoint 1: change 0 x
 5 local 0: line 6
 breakpoint 1: change 0 x
 ended: leftovers 0.0 0.1
+  left over: line 4, 0.0 isend to 0 tag 0 value 1
+  left over: line 5, 0.1 isend to 0 tag 1 value 2
 {LOST}
 > next
 ended: leftovers 0.0 0.1
+  left over: line 4, 0.0 isend to 0 tag 0 value 1
+  left over: line 5, 0.1 isend to 0 tag 1 value 2
 {LOST}
 > goto 3
 depth 3
@@ -536,18 +540,18 @@ no deadlock from here: 1 run, and no more (1 done)
 no deadlock found from here: 1 run, and there are more (1 done)
 > trap
 no trap found from here: 1 run, and there are more (1 done)
-''', runs=1),
+''', runs=1, states=1),
     Dialogue('a wait for any, by which runs are cut', 'order_decides.mpd', '''
 > deadlock
-no deadlock found from here: 2 runs, and no more (2 cut)
+no deadlock found from here: 3 runs, and no more (3 cut)
 > trap
-no trap found from here: 2 runs, and no more (2 cut)
+no trap found from here: 3 runs, and no more (3 cut)
 > next
 1 local 0: line 7
 next: local 0: line 8
     8    irecv r[0] x from 1 tag 0;
 > deadlock
-no deadlock from here: 2 runs, and no more (1 done, 1 trap)
+no deadlock from here: 3 runs, and no more (2 done, 1 trap)
 > trap
 trap 0 assert is 13 steps ahead
 13 ahead: local 0: line 8
@@ -577,9 +581,9 @@ no trap from here: 1 run, and no more (1 done)
 '''),
     Dialogue('sends with a slot, which two matches give back in either order, to one end', 'head_to_head.mpd', '''
 > deadlock
-no deadlock from here: 1 run, and no more (1 done)
+no deadlock from here: 2 runs, and no more (2 done)
 > trap
-no trap from here: 1 run, and no more (1 done)
+no trap from here: 2 runs, and no more (2 done)
 > check
 1 choices 1 1: done
 1 run, and no more (1 done)

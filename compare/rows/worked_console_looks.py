@@ -1,7 +1,7 @@
 """Worked dialogues of the console that look: why calls are not matched, where ranks stand, variables and requests (console_worked.py)."""
 
 from model.debugger import BUFFERED
-from rows.worked_console_scripts import ANY_OF_TWO, APART, AT_A_BARRIER, BEHIND_ANOTHER, CELLS, NEARLY, ONE_CELL, ONE_OF_TWO, WAITS, Dialogue
+from rows.worked_console_scripts import ANY_OF_TWO, APART, AT_A_BARRIER, BEFORE_A_BARRIER, BEHIND_ANOTHER, CELLS, NEARLY, ONE_CELL, ONE_OF_TWO, WAITS, Dialogue
 
 LOOKS = (
     Dialogue('requests that are waited for, and near misses', WAITS, '''
@@ -181,7 +181,7 @@ no call
 7 steps, depth 7
 ended: deadlock 0.0 1.0
   rank 0 waits at line 2, 0.0 barrier: for all ranks at a barrier
-    rank 1 is not there: it is at another call
+    rank 1 is not there: it waits at line 4, 1.0 ssend to 2 tag 0 value 1
     rank 2 is not there: it has ended
   rank 1 waits at line 4, 1.0 ssend to 2 tag 0 value 1: for a receive of rank 2
         from rank 1 with tag 0
@@ -189,7 +189,7 @@ ended: deadlock 0.0 1.0
   rank 1 waits for rank 2 (ended)
 > why 0
 line 2, 0.0 barrier
-    rank 1 is not there: it is at another call
+    rank 1 is not there: it waits at line 4, 1.0 ssend to 2 tag 0 value 1
     rank 2 is not there: it has ended
 > release
 refused: this step is not enabled
@@ -201,6 +201,75 @@ refused: this step is not enabled
 refused: this step is not enabled
 > queues
 pending 1 to 2: line 4, 1.0 ssend to 2 tag 0 value 1
+'''),
+    Dialogue('where ranks are that are not at a barrier, as they go on', BEFORE_A_BARRIER, '''
+> run 2
+2 steps, depth 2
+stopped: as many steps as were asked for
+next: local 1: line 2
+    2  if rank == 0 { barrier; }
+> why
+line 2, 0.0 barrier
+    rank 1 is not there: it is at line 2
+    rank 2 is not there: it is at line 2
+> run 3
+3 steps, depth 5
+stopped: as many steps as were asked for
+next: local 2: line 2
+    2  if rank == 0 { barrier; }
+> why
+line 2, 0.0 barrier
+    rank 1 is not there: it waits at line 4, 1.0 recv from 2 tag 0
+    rank 2 is not there: it is at line 2
+line 4, 1.0 recv from 2 tag 0 free
+  has no partner yet: for a send of rank 2 with tag 0
+> run 4
+4 steps, depth 9
+stopped: as many steps as were asked for
+next: match 2.0 1.0: rank 2, line 8, to rank 1, line 4
+    8    send 0 to 1 tag 0;
+    4    recv x from 2 tag 0;
+> next
+10 match 2.0 1.0: rank 2, line 8, to rank 1, line 4
+next: wake 1: line 4
+    4    recv x from 2 tag 0;
+> why 0
+line 2, 0.0 barrier
+    rank 1 is not there: it waits at line 4, 1.0 recv from 2 tag 0
+    rank 2 is not there: it waits at line 8, 2.0 send to 1 tag 0 value 0
+> next
+11 wake 1: line 4
+next: local 1: line 5
+    5    print 1 / x;
+> why 0.0
+line 2, 0.0 barrier
+    rank 1 is not there: it is at line 5
+    rank 2 is not there: it waits at line 8, 2.0 send to 1 tag 0 value 0
+> next
+12 local 1: line 5
+next: wake 2: line 8
+    8    send 0 to 1 tag 0;
+> why 0
+line 2, 0.0 barrier
+    rank 1 is not there: it is at line 5
+    rank 2 is not there: it waits at line 8, 2.0 send to 1 tag 0 value 0
+> next
+13 wake 2: line 8
+next: local 2: line 10
+   10  barrier;
+> why 0
+line 2, 0.0 barrier
+    rank 1 is not there: it is at line 5
+    rank 2 is not there: it is at line 10
+> next
+14 local 2: line 10
+ended: trap 1 zero-divisor
+  rank 1, line 5: trap zero-divisor
+> why
+line 2, 0.0 barrier
+    rank 1 is not there: it is at line 5
+line 10, 2.1 barrier
+    rank 1 is not there: it is at line 5
 '''),
     Dialogue('a trap, and where ranks stand', 'trap.mpd', '''
 > run
@@ -551,6 +620,7 @@ stopped at a choice of rank 0, line 6; next N takes one:
 > next 2
 6 wakeany 0 1: line 6, by line 5, 0.2 isend to 0 tag 1 value 7
 ended: leftovers 0.0
+  left over: line 3, 0.0 isend to 0 tag 9 value 5
 '''),
     Dialogue('a wait for no request, and one for a request that is free', APART, '''
 > run 3
@@ -574,6 +644,7 @@ line 5, 0.1 wait none
 > run
 2 steps, depth 6
 ended: leftovers 0.0
+  left over: line 4, 0.0 isend to 0 tag 0 value 1
 > why 0.2
 line 6, 0.2 wait 0
 line 4, 0.0 isend to 0 tag 0 value 1 free

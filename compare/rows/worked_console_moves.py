@@ -1,7 +1,48 @@
 """Worked dialogues of the console that go along runs: steps, choices, deadlocks, breakpoints, and steps that are undone (console_worked.py)."""
 
+from model.console import NamedRun
 from rows.worked_console_scripts import (LOOP, SEVEN_SENDERS, STOLEN_AHEAD, STOLEN_CHOICE, STOLEN_END, STOLEN_STEPS, Dialogue,
                                          first_orders)
+
+# What is told where the deadlock of examples/stolen_message.mpd lies ahead from the start on.
+TO_STOLEN = f'''
+deadlock 0.1 2.0 is 11 steps ahead
+11 ahead: local 0: line 7
+    7  if rank == 0 {{
+> history
+no step is taken
+> show
+depth 0 of 11
+rank 0 at 7
+vars 0 0
+handles -
+out
+rank 1 at 7
+vars 0 0
+handles -
+out
+rank 2 at 7
+vars 0 0
+handles -
+out
+end
+> back
+refused: fewer steps are taken
+> goto 12
+refused: so many steps are neither taken nor ahead
+> goto 9
+depth 9
+2 ahead: match 1.0 0.0: rank 1, line 13, to rank 0, line 8
+   13    if rank == 1 {{ send 42 to 0 tag 7; }} else {{ send 5 to 0 tag 1; }}
+    8    irecv r note from any tag any;
+{STOLEN_CHOICE}
+> redo 3
+depth 11
+{STOLEN_END}
+> words
+{STOLEN_STEPS}
+> quit
+'''
 
 MOVES = (
     Dialogue('the first message, step by step, there and back', 'first_message.mpd', '''
@@ -209,6 +250,9 @@ rank 2: r = no request
 > check 1
 1 choices 1: deadlock 0.1 2.0
 1 run, and there are more (1 deadlock)
+>
+1 choices 1: deadlock 0.1 2.0
+1 run, and there are more (1 deadlock)
 > check 2
 1 choices 1: deadlock 0.1 2.0
 2 choices 2: done
@@ -382,44 +426,30 @@ next: wake 0: line 9
     9    recv result from 1 tag 7;
 > quit
 '''),
-    Dialogue('a witness lies ahead from the start on', 'stolen_message.mpd', f'''
-deadlock 0.1 2.0 is 11 steps ahead
-11 ahead: local 0: line 7
+    Dialogue('a witness lies ahead from the start on', 'stolen_message.mpd', TO_STOLEN, witness=STOLEN_AHEAD),
+    Dialogue('a run lies ahead by its choices from the start on', 'stolen_message.mpd', TO_STOLEN, run=NamedRun('0')),
+    Dialogue('the same along the wide walk', 'stolen_message.mpd', TO_STOLEN, run=NamedRun(' 0 ', ends=True)),
+    Dialogue('a run that ends well lies ahead', 'stolen_message.mpd', f'''
+done is 17 steps ahead
+17 ahead: local 0: line 7
     7  if rank == 0 {{
-> history
-no step is taken
-> show
-depth 0 of 11
-rank 0 at 7
-vars 0 0
-handles -
-out
-rank 1 at 7
-vars 0 0
-handles -
-out
-rank 2 at 7
-vars 0 0
-handles -
-out
-end
-> back
-refused: fewer steps are taken
-> goto 12
-refused: so many steps are neither taken nor ahead
-> goto 9
-depth 9
-2 ahead: match 1.0 0.0: rank 1, line 13, to rank 0, line 8
+> run
+9 steps, depth 9
+8 ahead: match 2.0 0.0: rank 2, line 13, to rank 0, line 8
    13    if rank == 1 {{ send 42 to 0 tag 7; }} else {{ send 5 to 0 tag 1; }}
     8    irecv r note from any tag any;
 {STOLEN_CHOICE}
-> redo 3
-depth 11
-{STOLEN_END}
-> words
-{STOLEN_STEPS}
-> quit
-''', witness=STOLEN_AHEAD),
+> next
+10 match 2.0 0.0: rank 2, line 13, to rank 0, line 8
+7 ahead: wake 2: line 13
+   13    if rank == 1 {{ send 42 to 0 tag 7; }} else {{ send 5 to 0 tag 1; }}
+> run
+7 steps, depth 17
+rank 0 prints 42
+ended: done
+> redo
+refused: no step is ahead
+''', run=NamedRun('1')),
     Dialogue('a barrier that all leave', 'skipped_barrier.mpd', '''
 > run 6
 6 steps, depth 6

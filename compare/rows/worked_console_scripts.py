@@ -4,13 +4,15 @@ of them are answered."""
 from itertools import islice, product
 from typing import NamedTuple, Optional
 
+from model.console import NamedRun
 from model.debugger import RENDEZVOUS
 from rows.examples import open_example
 
 
 class Dialogue(NamedTuple):
-    """What it is of, a script, what is spoken, from what is told first on, the mode, the text of a witness that lies ahead, and how many steps
-    are kept, how many a run may have that is tried, and how many runs are looked at, where that is less than usual."""
+    """What it is of, a script, what is spoken, from what is told first on, the mode, the text of a witness that lies ahead, how many steps are
+    kept, how many a run may have that is tried, how many runs are looked at, and how many states are come to, where that is less than usual, and
+    a run that lies ahead by its choices."""
     what: str
     script: str
     spoken: str
@@ -19,11 +21,13 @@ class Dialogue(NamedTuple):
     limit: Optional[int] = None
     fuel: Optional[int] = None
     runs: Optional[int] = None
+    states: Optional[int] = None
+    run: Optional[NamedRun] = None
 
     @property
     def is_usual(self):
         """Whether a program can be asked it."""
-        return self.limit is None and self.fuel is None and self.runs is None
+        return self.limit is None and self.fuel is None and self.runs is None and self.states is None
 
     @property
     def text(self):
@@ -101,6 +105,18 @@ if rank == 0 { barrier; }
 if rank == 1 {
   ssend 1 to 2 tag 0;
 }
+'''
+# A rank at a barrier, and two that come to one behind a message, but for a trap.
+BEFORE_A_BARRIER = '''mpd 1; ranks 3; var x;
+if rank == 0 { barrier; }
+if rank == 1 {
+  recv x from 2 tag 0;
+  print 1 / x;
+}
+if rank == 2 {
+  send 0 to 1 tag 0;
+}
+barrier;
 '''
 # Two races that have nothing to do with each other, of one sender each.
 TWO_RACES = '''mpd 1; ranks 4; var x;
@@ -208,6 +224,7 @@ if rank < 3 {
 # The same with a trap, and with five pairs: the ten messages come in 113,400 orders.
 RARE_TRAP = RARE.replace('recv x from 2', 'print 1 / (2 - x); recv x from 2')
 RARER = RARE.replace('ranks 7', 'ranks 13').replace('rank < 5', 'rank < 8').replace('rank - 2', 'rank - 5')
+RARER_OF_THREE = RARE.replace('ranks 7', 'ranks 9').replace('rank < 5', 'rank < 6').replace('rank - 2', 'rank - 3')
 # Nine messages to one rank, which come in 362,880 orders; each of them is an end of its own.
 MANY_ENDS = SEVEN_SENDERS.replace('ranks 8', 'ranks 10').replace('i < 7', 'i < 9')
 LOOP = 'mpd 1; ranks 1;\nwhile 1 { }\n'

@@ -553,6 +553,8 @@ check [N]                           tries the choices, and lists how runs end
 follow N                            lays the steps of a run ahead
 deadlock                            lays the first deadlock's steps ahead
 trap                                lays the first trap's steps ahead
+blame                               goes to the step that decided how the run
+        ends
 words                               lists the steps taken as trace words
 enabled                             lists the steps that are enabled
 show                                shows the whole state, as a trace does

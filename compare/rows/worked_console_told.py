@@ -358,6 +358,7 @@ rank 0 has lost a request: line 5, 0.3 isend to 0 tag 0 value 6
 > run
 2 steps, depth 9
 ended: leftovers 0.2
+  left over: line 4, 0.2 irecv from 0 tag 1
 > vars
 rank 0: x = 6, i = 0, r = [-], h = 0.2
 > goto 5
@@ -391,6 +392,8 @@ rank 0 has lost a request: line 3, 0.1 irecv from 0 tag 0
 > run
 4 steps, depth 4
 ended: leftovers 0.0 0.1
+  left over: line 2, 0.0 irecv from 0 tag 3
+  left over: line 3, 0.1 isend to 0 tag 0 value 3
 rank 0 has lost a request: line 2, 0.0 irecv from 0 tag 3
 > vars
 rank 0: x = 0, i = 0, r = -
@@ -416,6 +419,7 @@ next: local 0: line 7
 4 steps, depth 9
 breakpoint 0: change 0 r[0]
 ended: leftovers 0.2
+  left over: line 4, 0.2 irecv from 0 tag 1
 > break change 0 r[0]
 breakpoint 1: change 0 r[0]
 > break change 0 r[1]
@@ -438,6 +442,8 @@ rank 0: none = [], one = [0], some = [0, 0, 0, 0, 0, 0, 0, 0, 0, 0, 0, 0, 0, 0,
 > run
 5 steps, depth 5
 ended: leftovers 0.0 0.1
+  left over: line 5, 0.0 isend to 0 tag 0 value 1
+  left over: line 6, 0.1 isend to 0 tag 0 value 2
 > vars 0
 rank 0: none = [], one = [0], some = [0, 0, 0, 0, 0, 0, 0, 0, 0, 0, 0, 0, 0, 0,
         0, -3], more = [0, 0, 0, 0, 0, 0, 0, 0, 0, 0, 0, 0, 0, 0, 0, 8, ..], p =
@@ -464,6 +470,7 @@ rank 0: r = -, none = []
 2 steps, depth 2
 rank 0 prints -1
 ended: leftovers 0.0
+  left over: line 2, 0.0 isend to 0 tag 0 value 1
 > vars
 rank 0: r = 0.0, none = []
 rank 0 has printed -1
@@ -474,6 +481,7 @@ rank 0: r = -
 > run
 1 step, depth 1
 ended: leftovers 0.0
+  left over: line 2, 0.0 isend to 0 tag 0 value 1
 > vars
 rank 0: r = 0.0
 '''))

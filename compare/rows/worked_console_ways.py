@@ -253,6 +253,8 @@ next: wake 1: line 7
 2 steps, depth 19
 rank 1 prints 2
 ended: leftovers 0.0 0.1
+  left over: line 3, 0.0 isend to 1 tag 0 value 0
+  left over: line 3, 0.1 isend to 1 tag 1 value 1
 {FIRST_LOST}
 {SECOND_LOST}
 > goto 5
@@ -264,6 +266,8 @@ depth 19
 rank 0 prints 3
 rank 1 prints 2
 ended: leftovers 0.0 0.1
+  left over: line 3, 0.0 isend to 1 tag 0 value 0
+  left over: line 3, 0.1 isend to 1 tag 1 value 1
 {FIRST_LOST}
 {SECOND_LOST}
 > goto 7
@@ -285,6 +289,8 @@ next: local 0: line 3
 >
 2 local 0: line 3
 ended: leftovers 0.0 0.1
+  left over: line 2, 0.0 isend to 0 tag 0 value 1
+  left over: line 3, 0.1 isend to 0 tag 1 value 2
 rank 0 has lost a request: line 2, 0.0 isend to 0 tag 0 value 1
 > back
 depth 1
@@ -293,6 +299,8 @@ depth 1
 > redo
 2 local 0: line 3
 ended: leftovers 0.0 0.1
+  left over: line 2, 0.0 isend to 0 tag 0 value 1
+  left over: line 3, 0.1 isend to 0 tag 1 value 2
 rank 0 has lost a request: line 2, 0.0 isend to 0 tag 0 value 1
 > goto 0
 depth 0
@@ -301,6 +309,8 @@ depth 0
 > run
 2 steps, depth 2
 ended: leftovers 0.0 0.1
+  left over: line 2, 0.0 isend to 0 tag 0 value 1
+  left over: line 3, 0.1 isend to 0 tag 1 value 2
 rank 0 has lost a request: line 2, 0.0 isend to 0 tag 0 value 1
 '''),
     Dialogue('what all ranks have printed before what any has lost', BOTH_LOSE, '''
@@ -315,6 +325,10 @@ next: release: all ranks leave the barrier
 > next
 11 release: all ranks leave the barrier
 ended: leftovers 0.0 0.1 1.0 1.1
+  left over: line 3, 0.0 isend to 0 tag 0 value 1
+  left over: line 4, 0.1 isend to 0 tag 1 value 2
+  left over: line 3, 1.0 isend to 1 tag 0 value 1
+  left over: line 4, 1.1 isend to 1 tag 1 value 2
 rank 0 has lost a request: line 3, 0.0 isend to 0 tag 0 value 1
 rank 1 has lost a request: line 3, 1.0 isend to 1 tag 0 value 1
 > goto 4

@@ -89,8 +89,8 @@ ENDED = (
     # in each mode
     CheckRow(TWO_RACES, ENDS._replace(mode=BUFFERED, complete=True), BY_TWO.replace('deadlock', 'leftovers'), 0),
     CheckRow(TWO_RACES, ENDS._replace(mode='slots:1', complete=True), BY_TWO.replace('deadlock', 'leftovers'), 0),
-    CheckRow(TWO_RACES, ENDS._replace(modes=0), 'rendezvous leaves 4 deadlocks 4 traps 0 cut 0 more no; '
-             'buffered leaves 4 deadlocks 0 traps 0 cut 0 more no; least buffered', 1),
+    CheckRow(TWO_RACES, ENDS._replace(modes=0), 'rendezvous leaves 4 deadlocks 4 traps 0 leftovers 0 cut 0 more no; '
+             'buffered leaves 4 deadlocks 0 traps 0 leftovers 4 cut 0 more no; least buffered', 1),
     # a choice among requests
     CheckRow(TWO_REQUESTS, ENDS._replace(mode=BUFFERED), BY_REQUESTS, 0),
     CheckRow(TWO_REQUESTS, ENDS._replace(mode=BUFFERED, complete=True), BY_REQUESTS, 0),
@@ -140,10 +140,10 @@ OF_EVERY_SCRIPT = (
     *(CheckRow(ORDER_DECIDES, ENDS._replace(fuel=fuel), cut(*choices), 0) for fuel, choices in (
         (9, ['']), (10, ['']), (11, ['0', '1']), (12, ['0', '1']), (13, ['0 0', '1 1']))),
     CheckRow(ORDER_DECIDES, ENDS._replace(fuel=12, complete=True), cut('0', '1'), 4), CheckRow(ORDER_DECIDES, ENDS._replace(fuel=14), BY_ORDER, 1),
-    CheckRow(ORDER_DECIDES, ENDS._replace(modes=0, complete=True), 'rendezvous leaves 2 deadlocks 0 traps 1 cut 0 more no; '
-             'buffered leaves 2 deadlocks 0 traps 1 cut 0 more no; least none', 1),
-    CheckRow(ORDER_DECIDES, Asked(modes=0, complete=True), 'rendezvous leaves 1 deadlocks 0 traps 0 cut 0 more no; '
-             'buffered leaves 1 deadlocks 0 traps 0 cut 0 more no; least rendezvous', 0),
+    CheckRow(ORDER_DECIDES, ENDS._replace(modes=0, complete=True), 'rendezvous leaves 2 deadlocks 0 traps 1 leftovers 0 cut 0 more no; '
+             'buffered leaves 2 deadlocks 0 traps 1 leftovers 0 cut 0 more no; least none', 1),
+    CheckRow(ORDER_DECIDES, Asked(modes=0, complete=True), 'rendezvous leaves 1 deadlocks 0 traps 0 leftovers 0 cut 0 more no; '
+             'buffered leaves 1 deadlocks 0 traps 0 leftovers 0 cut 0 more no; least rendezvous', 0),
     CheckRow(ORDER_DECIDES, IN_SLOTS, BY_ORDER_IN_SLOTS, 1), CheckRow(ORDER_DECIDES, IN_SLOTS._replace(piece=1), 'leaves 0 more no', 0),
     *(CheckRow(ORDER_DECIDES, IN_SLOTS._replace(split=split, pieces=True), f'pieces {count}', 0) for split, count in ((1, 2), (2, 4), (3, 6), (4, 6))),
     *(CheckRow(ORDER_DECIDES, IN_SLOTS._replace(split=split), BY_ORDER_IN_SLOTS, 1) for split in (0, 2, 3, 4)),
@@ -155,8 +155,8 @@ OF_EVERY_SCRIPT = (
     CheckRow(NOTHING, ENDS._replace(complete=True), 'leaf 0 [] done; leaves 1 more no', 0),
     CheckRow(IN_A_LOOP, ENDS._replace(complete=True), 'leaf 0 [0 0] done; leaf 1 [1 0] done; leaves 2 more no', 0),
     CheckRow(TWO_CAME, ENDS._replace(complete=True), 'leaf 0 [0] done; leaf 1 [1] trap 0 assert; leaves 2 more no', 1),
-    CheckRow(NOTHING, ENDS._replace(modes=0, complete=True), 'rendezvous leaves 1 deadlocks 0 traps 0 cut 0 more no; '
-             'buffered leaves 1 deadlocks 0 traps 0 cut 0 more no; least rendezvous', 0),
+    CheckRow(NOTHING, ENDS._replace(modes=0, complete=True), 'rendezvous leaves 1 deadlocks 0 traps 0 leftovers 0 cut 0 more no; '
+             'buffered leaves 1 deadlocks 0 traps 0 leftovers 0 cut 0 more no; least rendezvous', 0),
     # of two ranks that wait so, all requests are candidates, and those of the first sleep behind those of the second
     *(CheckRow(BOTH_WAIT, ENDS._replace(split=split), BY_EACH, 1) for split in (0, 1, 2)), CheckRow(BOTH_WAIT, Asked(split=1, pieces=True), 'pieces 2', 0),
     CheckRow(BOTH_WAIT, ENDS._replace(pieces=True), 'pieces 4', 0), CheckRow(BOTH_WAIT, ENDS._replace(split=2, pieces=True), 'pieces 8', 0),
@@ -176,9 +176,9 @@ OF_EVERY_SCRIPT = (
     *(CheckRow(FREED_SLOT, ENDS._replace(mode=mode, complete=True), 'leaf 0 [0] leftovers 0.1; leaves 1 more no', 0) for mode in ('slots:2', 'slots:65536')),
     CheckRow(FREED_SLOT, Asked('slots:2', complete=True), 'leaf 0 [] leftovers 0.1; leaves 1 more no', 4),
     CheckRow(FREED_SLOT, ENDS._replace(mode=BUFFERED, complete=True), 'leaf 0 [] leftovers 0.1; leaves 1 more no', 0),
-    CheckRow(FREED_SLOT, ENDS._replace(modes=2, complete=True), 'rendezvous leaves 1 deadlocks 1 traps 0 cut 0 more no; '
-             'slots:1 leaves 2 deadlocks 1 traps 0 cut 0 more no; slots:2 leaves 1 deadlocks 0 traps 0 cut 0 more no; '
-             'buffered leaves 1 deadlocks 0 traps 0 cut 0 more no; least slots:2', 1),
+    CheckRow(FREED_SLOT, ENDS._replace(modes=2, complete=True), 'rendezvous leaves 1 deadlocks 1 traps 0 leftovers 0 cut 0 more no; '
+             'slots:1 leaves 2 deadlocks 1 traps 0 leftovers 1 cut 0 more no; slots:2 leaves 1 deadlocks 0 traps 0 leftovers 1 cut 0 more no; '
+             'buffered leaves 1 deadlocks 0 traps 0 leftovers 1 cut 0 more no; least slots:2', 1),
     CheckRow(EARLY_OR_LATE, IN_SLOTS._replace(complete=True), 'leaf 0 [0 0] deadlock 0.1; leaf 1 [1] leftovers 0.1; leaves 2 more no', 1),
     # a send that lacks a slot is a choice of one where nothing else is enabled
     CheckRow(FIVE, ENDS._replace(mode='slots:3'), 'leaf 0 [0] deadlock 0.3; leaves 1 more no', 1),
@@ -210,8 +210,8 @@ GROUPED = (
     CheckRow(LOW_WANTED, Asked(group=True, witnesses=True),
              f'end 0 leaves 1 first 0 deadlock 2.0; witness 0: {SIX}, match 1.0 0.0, wake 0, local 0, wake 1; '
              'end 1 leaves 1 first 1 trap 0 assert; leaves 2 more no', 1),
-    CheckRow(TWO_RACES, Asked(group=True, modes=0), 'rendezvous leaves 8 deadlocks 8 traps 0 cut 0 more no; '
-             'buffered leaves 8 deadlocks 0 traps 0 cut 0 more no; least buffered', 1))
+    CheckRow(TWO_RACES, Asked(group=True, modes=0), 'rendezvous leaves 8 deadlocks 8 traps 0 leftovers 0 cut 0 more no; '
+             'buffered leaves 8 deadlocks 0 traps 0 leftovers 8 cut 0 more no; least buffered', 1))
 
 CHECKS = ENDED + OF_EVERY_SCRIPT + GROUPED
 
@@ -395,6 +395,10 @@ EXPLAINED = lines(*LEAVES_OF_TWO[0], '  rank 2, line 2, waits in 2.0 send to 0 t
                   '  rank 2 waits for nobody who is left: rank 0 has ended', *LEAVES_OF_TWO[1],
                   '  rank 1, line 2, waits in 1.0 send to 0 tag 0 value 1', '  witness 0: local 0', '  leaf 7 [] deadlock 0.0', LAST)
 WITH_TEN = lines('leaf 1 [1] done', 'leaf 10 [0] deadlock 2.0', LEAVES_OF_TWO[0][1].replace('witness 0', 'witness 10'), 'leaves 11 more no')
+ENDS_OF_TWO = (('end 1 leaves 2 first 3 deadlock 2.0', LEAVES_OF_TWO[0][1].replace('witness 0', 'witness 3')),
+               ('end 2 leaves 1 first 5 deadlock 1.0', LEAVES_OF_TWO[1][1].replace('witness 1', 'witness 5')))
+GROUPED = lines('end 0 leaves 3 first 0 done', *ENDS_OF_TWO[0], '  said of it', *ENDS_OF_TWO[1], 'leaves 6 more no')
+SOLE_END = lines('end 0 leaves 3 first 0 done', *ENDS_OF_TWO[0], '  said of it', 'end 2 leaves 1 first 5 cut', 'leaves 6 more yes')
 LEAVES = (
     LeafRow(ONE_OF_TWO, BOTH, 0, 'accepted'), LeafRow(ONE_OF_TWO, BOTH, 1, 'accepted'), LeafRow(ONE_OF_TWO, EXPLAINED, 0, 'accepted'),
     LeafRow(ONE_OF_TWO, EXPLAINED, 1, 'accepted'), LeafRow(THREE, ONE_DONE, 1, 'accepted'), LeafRow(THREE, ONE_DONE, None, 'accepted'),
@@ -420,7 +424,23 @@ LEAVES = (
     LeafRow(ONE_OF_TWO, BOTH.replace('deadlock 2.0', 'deadlock 1.0'), 0, 'refused 34 wrong-blocked'),
     LeafRow(ONE_OF_TWO, BOTH.replace('deadlock 2.0', 'deadlock 1.0'), 1, 'accepted'),
     # the mode
-    LeafRow(ONE_OF_TWO, BOTH, 0, 'refused 33 not-stuck', BUFFERED), LeafRow(ONE_OF_TWO, BOTH, 0, 'accepted', RENDEZVOUS))
+    LeafRow(ONE_OF_TWO, BOTH, 0, 'refused 33 not-stuck', BUFFERED), LeafRow(ONE_OF_TWO, BOTH, 0, 'accepted', RENDEZVOUS),
+    # leaves that are grouped: that of an end is its first, and its own number is none of a leaf
+    *(LeafRow(ONE_OF_TWO, GROUPED, leaf, wanted) for leaf, wanted in ((3, 'accepted'), (5, 'accepted'), (0, None), (1, None), (2, None), (4, None), (None, None))),
+    *(LeafRow(ONE_OF_TWO, SOLE_END, leaf, wanted) for leaf, wanted in ((3, 'accepted'), (None, 'accepted'), (1, None), (0, None), (2, None))),
+    LeafRow(ONE_OF_TWO, SOLE_END.replace('witness 3', 'witness 1'), 3, None), LeafRow(ONE_OF_TWO, SOLE_END.replace('witness 3', 'witness 1'), 1, None),
+    LeafRow(ONE_OF_TWO, SOLE_END.replace('witness 3', 'witness 1'), None, None),
+    LeafRow(ONE_OF_TWO, lines(*ENDS_OF_TWO[0]), 3, 'accepted'), LeafRow(ONE_OF_TWO, lines(*ENDS_OF_TWO[0]), 1, None),
+    LeafRow(ONE_OF_TWO, lines(*ENDS_OF_TWO[0]), None, 'accepted'), LeafRow(ONE_OF_TWO, GROUPED, 3, 'refused 33 not-stuck', BUFFERED),
+    LeafRow(ONE_OF_TWO, GROUPED.replace('deadlock 1.0', 'deadlock 2.0'), 5, 'refused 34 wrong-blocked'),
+    LeafRow(ONE_OF_TWO, GROUPED.replace('match 2.0 0.0', 'match 2.0 0.1'), 5, 'refused 32 no-such-step at 6'),
+    # a line of an end is wrong where a word or a number of its three is not there, or another blank is
+    *(LeafRow(ONE_OF_TWO, SOLE_END.replace('end 1 leaves 2 first 3', other), 3, None) for other in (
+        'end leaves 2 first 3', 'end 1 first 3', 'end 1 leaves first 3', 'end 1 leaves 2', 'end 1 leaves 2 3', 'end 1 leaves 2  first 3', 'end x leaves 2 first 3',
+        'end 1 leaves x first 3', 'end 1 leaves 2 first x', 'ends 1 leaves 2 first 3', ' end 1 leaves 2 first 3', 'end 1 leaf 2 first 3',
+        'end 1 leaves 2 firsts 3', 'end 1 leaves 2 first 0000000003')),
+    *(LeafRow(ONE_OF_TWO, SOLE_END.replace('end 1 leaves 2 first 3', other), 3, 'accepted') for other in (
+        'end 7 leaves 2 first 3', 'end 1 leaves 999999999 first 3', 'end 0001 leaves 02 first 03')))
 
 
 # As many bytes as a report may have, and one more; of programs alone.

@@ -1,4 +1,4 @@
-"""Worked rows of checks that explain deadlocks and traps, each worked out by hand from docs/FORMATS.md ("Explanations", "Groups").
+"""Worked rows of checks that explain deadlocks, traps and leftovers, each worked out by hand from docs/FORMATS.md ("Explanations", "Groups").
 
 compare/runs/worked.py has the model answer them, and compare/runs/explained.py a program. A script is one of examples/, or stands here.
 """
@@ -53,6 +53,16 @@ ALONE_AT_IT = '''mpd 1; ranks 3; var x;
 if rank == 0 { barrier; }
 if rank == 1 { recv x from any tag 4; }
 '''
+# Two ranks are at a barrier, and one waits for a request before it, and has a statement left before that barrier.
+WAITS_BEFORE_IT = '''mpd 1; ranks 3; var x; req r;
+if rank == 0 {
+  irecv r x from 1 tag 3;
+  wait r;
+  print x;
+}
+barrier;
+if rank == 1 { send 5 to 0 tag 3; }
+'''
 NOBODY = 'mpd 1; ranks 1; var x;\nrecv x from any tag any;'
 # Of what nearly fits the first send, another tag counts, though a receive of another source stands before it.
 IN_ORDER = '''mpd 1; ranks 3; var x; req r[4];
@@ -76,9 +86,38 @@ if rank == 0 { recv x from 1 tag 0; }
 if rank == 1 { issend r 5 to 2 tag 0; }
 if rank == 2 { issend r 6 to 0 tag 0; }
 '''
+# Only the rank that is taken last is answered: three ends of two leaves each, of which those of one end are no neighbours.
+ANSWERED_LAST = '''mpd 1; ranks 4; var x;
+if rank == 0 {
+  recv x from any tag 0;
+  recv x from any tag 0;
+  recv x from any tag 0;
+  send 7 to x tag 1;
+} else {
+  send rank to 0 tag 0;
+  recv x from 0 tag 1;
+}
+'''
 OTHER_SOURCE = '''mpd 1; ranks 3; var x;
 if rank == 0 { recv x from 2 tag 0; }
 if rank == 1 { ssend 7 to 0 tag 0; }
+'''
+
+# Rank 2 sends two messages, of which one is received at most, and rank 0 posts a receive that no message fits.
+LEFT_BY_TWO = '''mpd 1; ranks 3; var x; req r;
+if rank == 0 { irecv r x from 1 tag 7; }
+if rank == 1 { recv x from any tag any; }
+if rank == 2 {
+  isend r 30 to 1 tag 4;
+  isend r 31 to 1
+    tag 5;
+}
+'''
+# Which of two messages is left over is decided by a choice.
+ONE_IS_LEFT = '''mpd 1; ranks 3; var x; req r;
+if rank == 0 { recv x from any tag any; }
+if rank == 1 { issend r -1 to 0 tag 0; }
+if rank == 2 { issend r 2 to 0 tag 0; }
 '''
 
 STOLEN = '''  rank 0 waits at line 9, 0.1 recv from 1 tag 7: for a send of rank 1 with tag 7
@@ -203,11 +242,24 @@ leaves 1 more no
 '''
 NOT_THERE = '''leaf 0 [] deadlock 0.0 1.0
   rank 0 waits at line 2, 0.0 barrier: for all ranks at a barrier
-    rank 1 is not there: it is at another call
+    rank 1 is not there: it waits at line 3, 1.0 recv from any tag 4
     rank 2 is not there: it has ended
   rank 1 waits at line 3, 1.0 recv from any tag 4: for a send of any rank with tag 4
   rank 0 waits for rank 1, rank 2 (ended)
   rank 1 waits for rank 0, rank 2 (ended)
+leaves 1 more no
+'''
+WAITING_BEFORE_IT = '''leaf 0 [] deadlock 0.1 1.0 2.0
+  rank 0 waits at line 4, 0.1 wait 0: for this request
+    line 3, 0.0 irecv from 1 tag 3: for a send of rank 1 with tag 3
+  rank 1 waits at line 7, 1.0 barrier: for all ranks at a barrier
+    rank 0 is not there: it waits at line 4, 0.1 wait 0
+  rank 2 waits at line 7, 2.0 barrier: for all ranks at a barrier
+    rank 0 is not there: it waits at line 4, 0.1 wait 0
+  rank 0 waits for rank 1
+  rank 1 waits for rank 0
+  rank 2 waits for rank 0
+  a cycle, where each waits for the next: rank 0, rank 1, rank 0
 leaves 1 more no
 '''
 FOR_NOBODY = '''leaf 0 [] deadlock 0.0
@@ -250,6 +302,35 @@ WAITED_TWICE_GROUPED = ('end 0 leaves 1 first 0 done\nend 1 leaves 1 first 1 tra
                         'leaves 2 more no\n')
 TRAPPED = 'leaf 0 [] trap 1 zero-divisor\n  rank 1, line 10: trap zero-divisor\nleaves 1 more no\n'
 ALL_DONE = 'leaf 0 [] done\nleaves 1 more no\n'
+TWO_ARE_LEFT = '''leaf 0 [0] leftovers 0.0 2.1
+  left over: line 2, 0.0 irecv from 1 tag 7
+  left over: line 6, 2.1 isend to 1 tag 5 value 31
+leaves 1 more no
+'''
+LAST_IS_LEFT, FIRST_IS_LEFT = '  left over: line 4, 2.0 issend to 0 tag 0 value 2\n', '  left over: line 3, 1.0 issend to 0 tag 0 value -1\n'
+EACH_IS_LEFT = f'leaf 0 [0] leftovers 2.0\n{LAST_IS_LEFT}leaf 1 [1] leftovers 1.0\n{FIRST_IS_LEFT}leaves 2 more no\n'
+EACH_END_IS_LEFT = f'end 0 leaves 1 first 0 leftovers 2.0\n{LAST_IS_LEFT}end 1 leaves 1 first 1 leftovers 1.0\n{FIRST_IS_LEFT}leaves 2 more no\n'
+FREED = '  left over: line 8, 0.1 isend to 1 tag 1 value 2\n'
+
+
+def unanswered(one, other):
+    """What is told of the two ranks that `ANSWERED_LAST` doesn't answer."""
+    return (''.join(f'  rank {rank} waits at line 9, {rank}.1 recv from 0 tag 1: for a send of rank 0 with tag 1\n' for rank in (one, other))
+            + ''.join(f'  rank {rank} waits for rank 0 (ended)\n' for rank in (one, other)))
+
+
+def answered_last(*ranks):
+    """The steps of its run that takes these ranks in this order."""
+    taken = ''.join(f', match {rank}.0 0.{number}, wake 0, local 0, wake {rank}, local {rank}' for number, rank in enumerate(ranks))
+    return f'local 0, local 0, local 1, local 1, local 2, local 2, local 3, local 3{taken}, match 0.3 {ranks[2]}.1, wake 0, wake {ranks[2]}'
+
+
+def three_ends(witnessed):
+    """Its groups, each with the witness and the explanation of its first leaf."""
+    ends = ((0, 0, (1, 2), (1, 2, 3)), (1, 1, (1, 3), (1, 3, 2)), (2, 3, (2, 3), (2, 3, 1)))
+    return ''.join(f'end {number} leaves 2 first {first} deadlock {one}.1 {other}.1\n'
+                   + (f'witness {first}: {answered_last(*ranks)}\n' if witnessed else '') + unanswered(one, other)
+                   for number, first, (one, other), ranks in ends) + 'leaves 6 more no\n'
 
 
 class Explained(NamedTuple):
@@ -296,14 +377,24 @@ ROWS = (
     Explained('lost_request', ALL_DONE, status=0), Explained('skipped_barrier', SKIPPED), Explained('waited_twice', WAITED_TWICE),
     Explained('waited_twice', WAITED_TWICE_GROUPED, GROUPED),
     Explained('trap', TRAPPED), Explained('trap', TRAPPED, Asked(witnesses=True)),
+    # groups of several leaves
+    *(Explained(ANSWERED_LAST, three_ends(witnessed), Asked(group=True, witnesses=witnessed, ends=ends))
+      for witnessed in (False, True) for ends in (False, True)),
     # requests
     Explained(WAITS, WAITED), Explained(WAITS, WAITED, Asked(mode='slots:0')),
     *(Explained(WAITS, WAITED_BUFFERED, Asked(mode=mode)) for mode in (BUFFERED, 'slots:1')),
     Explained(ANY_OF_TWO, WAITED_FOR_ANY), Explained(ANY_OF_TWO, WAITED_FOR_ANY, Asked(mode=BUFFERED)),
     Explained(ANY_OF_ONE_RANK, WAITED_FOR_ONE_RANK),
+    # what is left over, of sends and receives, the first line of a statement of two; the status is that of a report without it
+    *(Explained(LEFT_BY_TWO, TWO_ARE_LEFT, Asked(mode=mode), 0) for mode in (None, BUFFERED, 'slots:1', 'slots:2')),
+    *(Explained(ONE_IS_LEFT, EACH_IS_LEFT, Asked(witnesses=witnesses), 0) for witnesses in (False, True)),
+    Explained(ONE_IS_LEFT, EACH_END_IS_LEFT, GROUPED, 0), Explained(ONE_IS_LEFT, EACH_IS_LEFT, Asked(until=True), 0),
+    Explained(ONE_IS_LEFT, f'leaf 0 [1] leftovers 1.0\n{FIRST_IS_LEFT}leaves 1 more no\n', Asked(piece=1), 0),
+    Explained('freed_slot', f'leaf 0 [] leftovers 0.1\n{FREED}leaves 1 more no\n', Asked(mode=BUFFERED), 0),
     # what was taken, cycles, barriers, nobody, and what nearly fits
     Explained(ONCE_MORE, SENT_ONCE_MORE), Explained(OF_THREE, ROUND_OF_THREE), Explained(APART, ROUNDS_APART), Explained(TWO_TRAPS, TRAPPED_TWICE),
-    Explained(ALONE_AT_IT, NOT_THERE), Explained(NOBODY, FOR_NOBODY), Explained(IN_ORDER, MISSED_IN_ORDER), Explained(OTHER_SOURCE, MISSED_BY_SOURCE),
+    Explained(ALONE_AT_IT, NOT_THERE), *(Explained(WAITS_BEFORE_IT, WAITING_BEFORE_IT, Asked(mode=mode)) for mode in (None, BUFFERED)),
+    Explained(NOBODY, FOR_NOBODY), Explained(IN_ORDER, MISSED_IN_ORDER), Explained(OTHER_SOURCE, MISSED_BY_SOURCE),
     Explained(FIRST_BY_RANK, MISSED_BY_RANK), Explained(SOURCE_FIRST, MISSED_BY_SOURCE_FIRST))
 
 

@@ -4,15 +4,17 @@ Each was worked out by hand from the rules (docs/DEFINITIONS.md, "The wide walk"
 answer them, and compare/runs/outcomes.py a program those of CHECKS. KEYS are of the model alone.
 """
 
+import re
 from itertools import combinations
 from math import factorial
 from typing import NamedTuple, Optional
 
 from cases.rare_cases import Races
-from model import outcomes
+from model import states
 from model.debugger import BUFFERED, RENDEZVOUS, Debugger, Result
 from model.language import read_script
-from model.outcomes import MOST_COUNTED, MOST_STATES, NOT_TOGETHER, Outcomes
+from model.outcomes import MOST_COUNTED, NOT_TOGETHER, Outcomes
+from model.states import MOST_STATES
 from rows.examples import open_example
 from rows.worked_ends import (FOUR_RACES, FREED_LEFT, FREED_SLOT, FREED_STUCK, ORDER_DECIDES, THREE_SENDERS, TWO_RACES, TWO_REQUESTS,
                               UP_TO_ORDER,
@@ -21,6 +23,15 @@ from rows.worked_explorer import BOTH_ANY, BY_VALUE, LOW_WANTED, SIX, STUCK, TO_
 from rows.worked_runs import EMPTY, HEAD_TO_HEAD, ON_AND_ON, THREE, UNRECEIVED
 from rows.worked_slots import EARLY_OR_LATE
 from rows.worked_waitany import BOTH_WAIT, NOTHING, STUCK_NOT_LISTED
+
+
+# In a line that tells what decided a semicolon stands.
+DIVIDED = re.compile(r'; (?!with that of |if rank |if all )')
+
+
+def lines_of(text):
+    """Lines that stand in a row."""
+    return DIVIDED.sub('\n', text).encode() + b'\n' if text else b''
 
 
 class OutcomesRow(NamedTuple):
@@ -35,7 +46,7 @@ class OutcomesRow(NamedTuple):
         return self.asked._replace(script=None if self.script is None else self.script.encode())
 
     def wanted(self):
-        lines, errors = (text.replace('; ', '\n').encode() + b'\n' if text else b'' for text in (self.lines, self.errors))
+        lines, errors = (lines_of(text) for text in (self.lines, self.errors))
         return Result(lines, errors, self.status)
 
 
@@ -112,7 +123,9 @@ FEW = (
 
 # The runs of the wide walk are [0 0] done, [1 0] done and [1 1] trap (worked_ends.py), in rendezvous and with buffers.
 BY_ORDER = 'outcome 0 runs 2 first [0 0] done; outcome 1 runs 1 first [1 1] trap 0 assert; outcomes 2 runs 3 more no'
-EXPLAINED_ORDER = BY_ORDER.replace('; outcomes', ';   rank 0, line 11: trap assert; outcomes')
+EXPLAINED_ORDER = BY_ORDER.replace('; outcomes', (
+    '\n  rank 0, line 11: trap assert\n  decided at depth 12: rank 0, line 10, goes on by line 9, 0.1 irecv from any tag 0; '
+    'if rank 0, line 10, goes on by line 8, 0.0 irecv from 1 tag 0 instead, it can still end well; outcomes'))
 # In slots:1 both matches are candidates, 0 match 1.0 0.0 and 1 match 2.0 0.1, behind ten steps.
 #   0: candidates 0 wakeany 0 0 and 1 match 2.0 0.1.   [0 0]: i is 0; a choice of one: [0 0 0] done.
 #      [0 1]: candidates 0 wakeany 0 0, [0 1 0] done, and 1 wakeany 0 1, [0 1 1] a trap.
@@ -269,7 +282,8 @@ SWAPPED = one_way('deadlock 0.0 1.0').replace('; outcomes', (
     ';     nearest miss: line 10, 1.0 recv from 0 tag 2: another tag'
     ';   rank 1 waits at line 10, 1.0 recv from 0 tag 2: for a send of rank 0 with tag 2'
     ';     nearest miss: line 7, 0.0 send to 1 tag 1 value 640: another tag'
-    ';   rank 0 waits for rank 1;   rank 1 waits for rank 0;   a cycle, where each waits for the next: rank 0, rank 1, rank 0; outcomes'))
+    ';   rank 0 waits for rank 1;   rank 1 waits for rank 0;   a cycle, where each waits for the next: rank 0, rank 1, rank 0'
+    ';   decided from the start: no run ends well; outcomes'))
 SWAPPED_TAGS = open_example('swapped_tags.mpd').decode()
 EXPLAINED = (
     row(SWAPPED_TAGS, SWAPPED, 1, explain=True),
@@ -337,9 +351,9 @@ MANY = (
 # ---- what is refused
 
 # Words of each option that can't stand beside it.
-BESIDE = (('--ends',), ('--runs', '5'), ('--split', '1'), ('--piece', '0'), ('--pieces',), ('--sample', '5'), ('--group',),
-          ('--modes', '1'),
-          ('--until', 'deadlock'))
+BESIDE = (('--ends',), ('--runs', '5'), ('--split', '1'), ('--piece', '0'), ('--pieces',), ('--sample', '5'), ('--seed', '1'), ('--group',))
+# What can, but not with `--states` alone.
+TOGETHER = ('--modes', '1'), ('--until', 'deadlock')
 BAD_SCRIPT = 'mpd 1;ranks 1;print'
 REFUSED = (
     # each by its name, before all else
@@ -368,6 +382,13 @@ LONG_CHECKS = (
     row(counting(49999, 'recv i from 0 tag 0;'), one_way('deadlock 0.0'), 1),
     row(counting(49999, 'print 1; recv i from 0 tag 0;'), one_way('cut')),
     row(Races(1, 12, 12).script(), one_way('done', factorial(12), ' '.join('0' * 12)), complete=True))
+# The orders of 24 messages of eight senders, by 4 to the 8 states, of which 57 and 85 in a hundred are kept: the table is full, and drops the half
+# from which the runs are the shortest. With a table that keeps what it had first, or drops the other half, the first takes many minutes. Each
+# message is a choice, also where one sender is left.
+ANY_ORDER = ('mpd 1; ranks 9; var x; var i;\nif rank == 0 { while i < 24 { recv x from any tag any; i = i + 1; } } '
+            'else { while i < 3 { send i to 0 tag 0; i = i + 1; } }')
+FULL_TABLES = tuple(row(ANY_ORDER, one_way('done', factorial(24) // factorial(3) ** 8, ' '.join('0' * 24)), states=states, complete=True)
+                    for states in (37355, 55705))
 # What takes a program long, too.
 STOPPED_CHECKS = (row(STOPPING, STOPPED, mode=BUFFERED, fuel=MOST_STEPS),
                   row(STOPPING, STOPPED, 4, mode=BUFFERED, fuel=MOST_STEPS, states=1000, complete=True))
@@ -380,9 +401,11 @@ MISTAKES = ('--outcomes --outcomes', '--outcomes 1', '--outcomes=yes', '--outcom
             '--outcomes --states 1 --states 1', '--outcomes --fuel 0', '--outcomes --fuel 1000001', '--outcomes --witness 1', '--states 5',
             '--outcomes --seed 1', *(f'--outcomes {" ".join(words)}' for words in BESIDE),
             *(f'{" ".join(words)} --outcomes' for words in BESIDE),
-            *(f'{" ".join(words)} --states 5' for words in BESIDE), '--outcomes --no-such-option')
+            *(f'{" ".join(words)} --states 5' for words in BESIDE + TOGETHER), '--outcomes --no-such-option', '--outcomes --until trap',
+            '--outcomes --until', '--outcomes --modes 1001', '--outcomes --modes -1')
 RIGHT = ('--outcomes', '--outcomes --states 1', '--states 16000000 --outcomes', '--outcomes --states=+5', '--outcomes --fuel 1000000',
-         '--outcomes --witness --explain --complete --states 1000000 --fuel 1')
+         '--outcomes --witness --explain --complete --states 1000000 --fuel 1', '--outcomes --until deadlock', '--until=deadlock --outcomes --states 5',
+         '--outcomes --modes 0', '--modes 1000 --outcomes --until deadlock --states 1 --complete')
 
 
 # ---- what tells states apart
@@ -443,7 +466,7 @@ def key_behind(script, mode, steps):
     """What tells the state apart where steps lead in a script; None where one isn't enabled."""
     walked = Debugger(script, mode)
     refused_steps = [step for step in steps.split(', ') if step and not walked.answer(step.encode()).startswith('ok')]
-    return None if refused_steps else outcomes.key(walked.world)
+    return None if refused_steps else states.key(walked.world)
 
 
 def key_problem(row_of):

@@ -163,8 +163,8 @@ RUNS = (
            'local 1: ok 3; local 1: ok 4; match 0.0 1.0: ok 5; run 100: stop leaf steps 3 depth 8; decide: leaf leftovers 0.1'))
 
 def told_of(*modes, least):
-    """What is told of modes that were tried one after another, each with its one leaf, by whether that is a deadlock."""
-    lines = [f'{mode} leaves 1 deadlocks {deadlocks} traps 0 cut 0 more no' for mode, deadlocks in modes]
+    """What is told of modes that were tried one after another, each with its one leaf, by whether that is a deadlock, and whether messages are left."""
+    lines = [f'{mode} leaves 1 deadlocks {deadlocks} traps 0 leftovers {sum(left)} cut 0 more no' for mode, deadlocks, *left in modes]
     return '; '.join([*lines, f'least {least}'])
 
 
@@ -198,20 +198,20 @@ CHECKS = (
     CheckRow(HEAD_TO_HEAD, Asked(modes=2), told_of((RENDEZVOUS, 1), ('slots:1', 0), ('slots:2', 0), (BUFFERED, 0), least='slots:1'), 1),
     CheckRow(THREE_SENDS, Asked(BUFFERED, modes=3, pieces=True, piece=9, witnesses=True),
              told_of((RENDEZVOUS, 1), ('slots:1', 1), ('slots:2', 0), ('slots:3', 0), (BUFFERED, 0), least='slots:2'), 1),
-    CheckRow(FIVE, Asked(modes=1), told_of((RENDEZVOUS, 1), ('slots:1', 1), (BUFFERED, 0), least=BUFFERED), 1),
+    CheckRow(FIVE, Asked(modes=1), told_of((RENDEZVOUS, 1), ('slots:1', 1), (BUFFERED, 0, 1), least=BUFFERED), 1),
     CheckRow(UNRECEIVED.replace('send', 'ssend'), Asked(modes=1), told_of((RENDEZVOUS, 1), ('slots:1', 1), (BUFFERED, 1), least='none'), 1),
     CheckRow(HEAD_TO_HEAD, Asked('fast', modes=2), '', 2, 'mpdbg: bad mode'),
     # where all must be told the report of each mode must be whole, and no more; something bad in one of them comes first
     CheckRow(EMPTY, Asked(modes=2, complete=True), told_of((RENDEZVOUS, 0), ('slots:1', 0), ('slots:2', 0), (BUFFERED, 0), least=RENDEZVOUS), 0),
     CheckRow(HEAD_TO_HEAD, Asked(modes=0, complete=True), told_of((RENDEZVOUS, 1), (BUFFERED, 0), least=BUFFERED), 1),
-    *(CheckRow(ON_AND_ON, Asked(modes=0, fuel=5, complete=complete), 'rendezvous leaves 1 deadlocks 0 traps 0 cut 1 more no; '
-               'buffered leaves 1 deadlocks 0 traps 0 cut 1 more no; least rendezvous', status) for complete, status in ((False, 0), (True, 4))),
-    *(CheckRow(CHOICE_IF_BUFFERED, Asked(modes=0, runs=1, split=0, complete=complete), 'rendezvous leaves 1 deadlocks 0 traps 0 cut 0 more no; '
-               'buffered leaves 1 deadlocks 0 traps 0 cut 0 more yes; least rendezvous', status) for complete, status in ((False, 0), (True, 4))),
-    CheckRow(CHOICE_IF_BUFFERED, Asked(modes=0, runs=2, split=0, complete=True), 'rendezvous leaves 1 deadlocks 0 traps 0 cut 0 more no; '
-             'buffered leaves 2 deadlocks 0 traps 0 cut 0 more no; least rendezvous', 0),
-    CheckRow(UNRECEIVED, Asked(modes=0, fuel=1, complete=True), 'rendezvous leaves 1 deadlocks 1 traps 0 cut 0 more no; '
-             'buffered leaves 1 deadlocks 0 traps 0 cut 1 more no; least buffered', 1),
+    *(CheckRow(ON_AND_ON, Asked(modes=0, fuel=5, complete=complete), 'rendezvous leaves 1 deadlocks 0 traps 0 leftovers 0 cut 1 more no; '
+               'buffered leaves 1 deadlocks 0 traps 0 leftovers 0 cut 1 more no; least rendezvous', status) for complete, status in ((False, 0), (True, 4))),
+    *(CheckRow(CHOICE_IF_BUFFERED, Asked(modes=0, runs=1, split=0, complete=complete), 'rendezvous leaves 1 deadlocks 0 traps 0 leftovers 0 cut 0 more no; '
+               'buffered leaves 1 deadlocks 0 traps 0 leftovers 0 cut 0 more yes; least rendezvous', status) for complete, status in ((False, 0), (True, 4))),
+    CheckRow(CHOICE_IF_BUFFERED, Asked(modes=0, runs=2, split=0, complete=True), 'rendezvous leaves 1 deadlocks 0 traps 0 leftovers 0 cut 0 more no; '
+             'buffered leaves 2 deadlocks 0 traps 0 leftovers 0 cut 0 more no; least rendezvous', 0),
+    CheckRow(UNRECEIVED, Asked(modes=0, fuel=1, complete=True), 'rendezvous leaves 1 deadlocks 1 traps 0 leftovers 0 cut 0 more no; '
+             'buffered leaves 1 deadlocks 0 traps 0 leftovers 0 cut 1 more no; least buffered', 1),
     # a synchronous send in front takes no slot
     CheckRow(SYNCHRONOUS_FIRST, Asked('slots:1'), 'leaf 0 [] leftovers 0.0 0.1; leaves 1 more no', 0),
     CheckRow(SYNCHRONOUS_FIRST, Asked('slots:0'), 'leaf 0 [] deadlock 0.1; leaves 1 more no', 1),

@@ -257,8 +257,8 @@ CHECKS = (
     CheckRow(IN_A_LOOP, Asked(complete=True), 'leaf 0 [0 0] done; leaf 1 [1 0] done; leaves 2 more no', 4),
     CheckRow(TWO_CAME, Asked(complete=True), 'leaf 0 [0] done; leaf 1 [1] trap 0 assert; leaves 2 more no', 1),
     # of modes that are tried in turn it is asked whether each report is whole, and not this
-    CheckRow(NOTHING, Asked(modes=0, complete=True), 'rendezvous leaves 1 deadlocks 0 traps 0 cut 0 more no; '
-             'buffered leaves 1 deadlocks 0 traps 0 cut 0 more no; least rendezvous', 0),
+    CheckRow(NOTHING, Asked(modes=0, complete=True), 'rendezvous leaves 1 deadlocks 0 traps 0 leftovers 0 cut 0 more no; '
+             'buffered leaves 1 deadlocks 0 traps 0 leftovers 0 cut 0 more no; least rendezvous', 0),
     CheckRow('mpd 2; ranks 1; req r; if rank { wait r; }', Asked(complete=True), 'leaf 0 [] done; leaves 1 more no', 0),
     CheckRow('mpd 1; ranks 1; req r[1]; var i; waitany r to i;', Asked(), '', 2, 'mpdbg: script refused 10 not-in-version at 33 line 1'))
 

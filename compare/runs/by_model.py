@@ -80,9 +80,12 @@ def run(words):
 def debug(words):
     """What `debug` gives; at a terminal it has been said by then."""
     parser = parser_of()
+    parser.add_argument('--choices')
+    parser.add_argument('--ends', action='store_true')
     parser.add_argument('--witness', metavar='WITNESS')
     chosen = parser.parse_args(words)
-    found = console.begun(file_content(chosen.file), chosen.mode, console.witness_text(chosen.witness))
+    run = None if chosen.choices is None else console.NamedRun(chosen.choices, chosen.ends)
+    found = console.begun(file_content(chosen.file), chosen.mode, console.witness_text(chosen.witness), run)
     if not isinstance(found, console.Console):
         return found
     if sys.stdin.isatty():

@@ -6,8 +6,9 @@
     python3 compare/runs/consoles.py --broken              faults of the model (console_faults.py), each of which must be noticed; with PROGRAM,
                                                            beside it
 
-Each dialogue is a script in a file, of either version, in some mode, now and then with a witness, and lines of words on standard input
-(console_cases.py): words that fit the script, and words, names, numbers and bytes that don't. Output, errors and status must be the model's.
+Each dialogue is a script in a file, of either version, in some mode, now and then with a witness or the choices of a run, and lines of words
+on standard input (console_cases.py): words that fit the script, and words, names, numbers and bytes that don't. Output, errors and status
+must be the model's.
 The status is 0 where dialogues were compared, none differed, and all was met that must be, which fewer than 300 needn't do.
 """
 
@@ -63,17 +64,17 @@ def worked_cases(chosen):
     is_long = not chosen.short and chosen.program is not None
     rows = DIALOGUES + SLOW + (() if chosen.short else CUT) + LONG * is_long
     for row in (row for row in rows if row.is_usual):
-        yield Case(row.what, row.text, row.mode, row.data, row.witness_text), Result(row.wanted(), b'', 0)
+        yield Case(row.what, row.text, row.mode, row.data, row.witness_text, run=row.run), Result(row.wanted(), b'', 0)
     for row in ENDINGS:
         yield Case(row.what, LOOP.encode(), None, row.data), Result(row.wanted.encode(), b'', 0)
     for row in STARTS + LONG_STARTS * is_long:
-        yield Case(row.what, row.text, row.mode, TYPED, row.witness), row.wanted
+        yield Case(row.what, row.text, row.mode, TYPED, row.witness, run=row.run), row.wanted
 
 
 def terminal_wrong(chosen, row):
     """What is answered otherwise at a terminal than a worked dialogue wants; None where nothing is."""
     with tempfile.TemporaryDirectory(prefix='consoles-') as folder:
-        words = Case(row.what, row.text, row.mode, b'', row.witness_text).words(folder)
+        words = Case(row.what, row.text, row.mode, b'', row.witness_text, run=row.run).words(folder)
         how = wrong_at_terminal(chosen.program, words, row, chosen.seconds)
     return None if how is None else f'{row.what}, at a terminal: {how}'
 

@@ -1,4 +1,4 @@
-"""Compares what `check --explain` of a program tells of deadlocks and traps with the model, whole and grouped, byte for byte.
+"""Compares what `check --explain` of a program tells of deadlocks, traps and leftovers with the model, whole and grouped, byte for byte.
 
     python3 compare/runs/explained.py PROGRAM                 worked rows (worked_explained.py), and two or three checks of each of 1,000 random
                                                               scripts, the same ones for a seed

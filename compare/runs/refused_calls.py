@@ -18,7 +18,6 @@ program itself, with nothing refused. The status is 0 where every row did one of
 """
 
 import argparse
-import glob
 import itertools
 import os
 import re
@@ -33,11 +32,11 @@ sys.path.insert(0, os.path.dirname(os.path.dirname(os.path.abspath(__file__))))
 
 from model.debugger import Debugger, Result, divided
 from probe import call_consoles
-from probe.call_coverage import not_called, text_of
+from probe.call_coverage import not_called
 from probe.call_given import trail_text
 from probe.call_models import wanted
-from probe.call_rows import rows
-from probe.calls_program import Body, DIRECT, TOP, build
+from probe.call_rows import direct_names, rows
+from probe.calls_program import Body, TOP, build
 from rows import session_memory
 from runs import refused_memory
 from started.shims import built
@@ -256,10 +255,9 @@ def fails_directly(program, name):
 def direct_rows(program, jobs):
     """What is wrong with rows of direct calls, those that stand in a file and aren't listed among it; and how many there are."""
     names = subprocess.run([program, 'direct'], capture_output=True, text=True, check=True).stdout.split()
-    stand = {name for path in glob.glob(f'{DIRECT}/*_rows.rattle') for name in re.findall(r'(?m)^pub\(crate\) fn (\w+)', text_of(path))}
     with ThreadPoolExecutor(jobs) as pool:
         wrong = [it for it in pool.map(lambda name: fails_directly(program, name), names) if it]
-    return [*wrong, *(f'direct {name}: it is not tried' for name in sorted(stand - set(names)))], len(names)
+    return [*wrong, *(f'direct {name}: it is not tried' for name in sorted(direct_names() - set(names)))], len(names)
 
 
 def summary(outcomes):

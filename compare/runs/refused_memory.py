@@ -5,7 +5,7 @@
 A run may end with the right answers up to one of them, `mpdbg: memory` and status 3; or it goes on, with `refused memory` in
 place of an answer that can be refused: then the state stands, and all answers behind it are right. Where all allocations from
 one on are refused it is the same. The sessions have their scripts on standard input, one also in a file, and one in a file alone,
-in the mode `buffered`. What `check` and `verify` answer, words of the command line that ask for help, and those that are wrong, are
+in the mode `buffered`. What `check`, `diagnose` and `verify` answer, words of the command line that ask for help, and those that are wrong, are
 answered as ever, or by `mpdbg: memory`, status 3, with nothing written. Of several workers of a check, who ask for memory at the same
 time, it is another request each time that is refused. A session of `run` has two lines of its own for this (session_memory.py), and so has a
 dialogue of `debug` (console_memory.py). The status is 0 where every run did one of these. The allocations are refused by a shared object, which is built from bench/malloc_shim.c
@@ -25,6 +25,7 @@ sys.path.insert(0, os.path.dirname(os.path.dirname(os.path.abspath(__file__))))
 from cases.explore_cases import Case
 from model import console, session
 from model.debugger import BUFFERED, RENDEZVOUS, Debugger, Result, divided, enabled_steps, next_world, step_of, step_text
+from model.diagnosed import Diagnosis
 from model.explorer import Asked
 from model.files import held
 from model.language import read_script
@@ -142,6 +143,12 @@ def reports_by_workers():
     yield 'a report by four workers', Case('', DECIDED, Asked(witnesses=True, split=2, workers=4))
     yield 'a report by sixteen workers', Case('', DECIDED, Asked(BUFFERED, 3, 19, split=1, workers=16))
     yield 'a report up to its first deadlock by two workers', Case('', DECIDED, Asked(split=2, workers=2, until=True))
+
+
+def diagnoses():
+    """What `diagnose` is asked of. It hangs or traps: how many states are come to, which hangs on how many are kept, isn't told then."""
+    yield 'a diagnosis', Diagnosis('', DECIDED)
+    yield 'a strict diagnosis, buffered', Diagnosis('', DECIDED, BUFFERED, strict=True)
 
 
 def can_be_refused(debugger, line):
@@ -269,11 +276,13 @@ def try_dialogue(program, typed, shim):
         words = ('debug', held(folder, 'script', typed.script), '--mode', typed.mode)
         if typed.witness is not None:
             words += ('--witness', held(folder, 'witness', typed.witness))
+        if typed.run is not None:
+            words += typed.run.words()
 
         def run(**refused):
             return shim.run(program, typed.data, words, **refused)
 
-        if run()[0] != console.debug(typed.script, typed.data, typed.mode, typed.witness):
+        if run()[0] != console.debug(typed.script, typed.data, typed.mode, typed.witness, typed.run):
             print(f'{typed.name}: not what the model answers')
             return 1
         return refuse_each(typed.name, run, lambda *seen: console_memory.problem(typed, *seen), console_memory.kind_of, MET_IN_SESSIONS)
@@ -288,8 +297,10 @@ def try_whole(program, name, words, shim, is_same=True):
 
 
 def try_report(program, name, case, shim, is_same=True):
-    """A case of `check` or `verify`, which is answered rightly where nothing is refused."""
+    """A case of `check`, `diagnose` or `verify`, which is answered rightly where nothing is refused."""
     with tempfile.TemporaryDirectory() as folder:
+        if isinstance(case, Diagnosis):
+            case = case._replace(file=os.path.join(folder, case.file))
         words = case.words(folder)
         if shim.run(program, b'', words)[0] != case.wanted():
             print(f'{name}: not what the model answers')
@@ -312,7 +323,7 @@ def main():
         wrong += [try_file(program, 'head to head, buffered', walked(HEAD_TO_HEAD, BUFFERED), shim, BUFFERED)]
         wrong += [try_session(program, asked, shim) for asked in session_memory.sessions()]
         wrong += [try_dialogue(program, typed, shim) for typed in console_memory.dialogues()]
-        wrong += [try_report(program, name, case, shim) for name, case in reports()]
+        wrong += [try_report(program, name, case, shim) for name, case in (*reports(), *diagnoses())]
         wrong += [try_report(program, name, case, shim, is_same=False) for name, case in reports_by_workers()]
         wrong += [try_whole(program, f'words {words}', words.split(), shim) for words in ANSWERED]
     return 1 if any(wrong) else 0

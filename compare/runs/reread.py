@@ -8,8 +8,9 @@
 
 Of a report's leaves `words` must write the steps, or say where no run has such choices; the choices of a report with `--ends` are given with
 that, and without it, too. What it writes of a leaf must be the steps of its witness, where that is a deadlock, and `trace` must take all of
-them and come to the outcome of the leaf. `verify` must accept each witness of the whole report by the number of its leaf, and say what is
-wrong with changed ones. Where a text has no such witness, only how the line on standard error begins is compared. The status is 0 where reports were read, none differed, and all was met that must be.
+them and come to the outcome of the leaf. `verify` must accept each witness of the whole report by the number of its leaf, also where the
+report is grouped, and say what is wrong with changed ones. Where a text has no such witness, only how the line on standard error begins is
+compared. The status is 0 where reports were read, none differed, and all was met that must be.
 """
 
 import os
@@ -41,7 +42,7 @@ MUST_MEET = (
     'reports', 'words of a run', 'words of a deadlock', 'words of a trap', 'words of a run that is cut', 'words, buffered', 'words, slots',
     'words of a wake by a handle', 'bad choices at 0', 'bad choices behind some', 'bad choices, all taken', 'bad choices, more wanted',
     'no choices', 'bad mode of words', 'words of a bad script', 'words of no script', 'accepted by a leaf', 'accepted, one alone',
-    'accepted, explained', 'accepted, CR LF', 'refused 32', 'refused 33', 'refused 34',
+    'accepted, explained', 'accepted, CR LF', 'accepted, grouped', 'bad witness, grouped', 'refused 32', 'refused 33', 'refused 34',
     'bad witness, a leaf', 'bad witness, no leaf', 'traces', 'words along the wide walk', 'words of a leaf that no choices along decisions tell')
 
 
@@ -122,13 +123,20 @@ def met_along(asked, wanted):
     yield from ['words of a leaf that no choices along decisions tell'] * (asked._replace(ends=False).wanted() != wanted)
 
 
+def is_grouped(asked):
+    """Whether the report that `verify` is asked of has a line of those that end in one way."""
+    return b'end 0 leaves ' in (asked.text or b'')
+
+
 def met_by_verify(asked, wanted):
     """The same of `verify`."""
     if b'bad witness' in wanted.errors:
         yield 'bad witness, no leaf' if asked.leaf is None else 'bad witness, a leaf'
+        yield from ['bad witness, grouped'] * is_grouped(asked)
     elif wanted.status == 0:
         yield 'accepted, one alone' if asked.leaf is None else 'accepted by a leaf'
         yield from ['accepted, explained'] * (b'\n  ' in asked.text) + ['accepted, CR LF'] * (b'\r\n' in asked.text)
+        yield from ['accepted, grouped'] * is_grouped(asked)
     elif wanted.status == 1:
         yield ' '.join(wanted.output.decode().split()[:2])
 

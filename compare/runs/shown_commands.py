@@ -43,7 +43,7 @@ RUN = ('./mpdbg', 'cat ', 'sed ', 'echo ', 'mkdir ', 'seq ', 'sbatch ', 'sh exam
 EXCERPTS = {
     'README.md': ('checked as it runs',),
     'docs/FORMATS.md': ('enabled local 3', 'handles 1', 'leaf N ', 'rendezvous leaves 2', 'witness N: ', 'leaf 1 [1] deadlock', 'deadlock 0.1', 'mpdbg: script refused', 'mpdbg: device',
-                        'every way it can end', 'not everything was tried', 'outcome 0 runs 3', 'words and picture take', 'JSON requests', 'end 0 leaves 3', 'proving '),
+                        'all 12 runs were tried', 'not everything was tried', 'outcome 0 runs 3', '  decided at depth 9', 'rendezvous outcomes 2', 'words and picture take', 'JSON requests', 'end 0 leaves 3', 'proving '),
     'docs/CONSOLE.md': ('help lists ',),
     'docs/FROM_A_RUN.md': ('mpdrec stands ', 'recv x from any tag 2 '),
     'docs/GATE.md': ('fn: ',),
@@ -66,6 +66,9 @@ for number in $(seq "${range%-*}" "${range#*-}"); do
   SLURM_ARRAY_TASK_ID=$number sh "$script" || exit 1
 done
 '''
+# What tells of a deadlock or a trap, in a report, grouped or of modes, or in a diagnosis.
+IS_BAD = re.compile(r'^(?:leaf|outcome) .*\] (?:deadlock|trap) |^end .* first \d+ (?:deadlock|trap) |'
+                    r'^\S+ leaves \d+ (?:deadlocks [1-9]|deadlocks 0 traps [1-9])|^it can (?:hang|trap): ', re.M)
 # What the examples of help answer, each in its turn.
 STUCK = '  rank {0} waits at line 4, {0}.0 send to {1} tag 5 value {0}: for a receive of rank {1} from rank {0} with tag 5\n'
 CANDIDATE = '  {0} match {0}.0 0.0: rank {0}, line 7, to rank 0, line 7\n'
@@ -183,7 +186,8 @@ class Page:
         elif block.follows and self.commands and TYPED_TURN.match(block.text):
             self.commands[-1] = self.commands[-1]._replace(talk=block.text)
         elif block.follows and self.commands:
-            self.commands[-1] = self.commands[-1]._replace(answer=block.text)
+            before = self.commands[-1].answer
+            self.commands[-1] = self.commands[-1]._replace(answer=block.text if before is None else f'{before}\n{block.text}')
         elif all(re.search(r'\S {2,}\S', line) for line in block.lines) and not first.startswith(EXCERPTS.get(self.page, ())):
             self.spoken(block.number, [tuple(re.split(r' {2,}', line, maxsplit=1)) for line in block.lines])
         elif not first.startswith(EXCERPTS.get(self.page, ())):
@@ -320,7 +324,7 @@ def answer_of_example(command):
 def problem_of(shown, result):
     """What is wrong with what a command gave; None where nothing is."""
     said = result.output.decode()
-    is_bad = re.search(r'^(?:leaf|outcome) .*\] (?:deadlock|trap) |^end .* first \d+ (?:deadlock|trap) |^\S+ leaves \d+ (?:deadlocks [1-9]|deadlocks 0 traps [1-9])', said, re.M)
+    is_bad = IS_BAD.search(said)
     status = 1 if is_bad and '|' not in shown.command else 0
     if not shown.command or result.errors or result.status != status:
         return f'status {result.status}, {result.errors.decode()!r}'

@@ -28,6 +28,7 @@ from model.debugger import MOST_READS, MOST_STEPS, RENDEZVOUS, Debugger, Result,
 from model.files import held
 from model.language import MOST_OPEN_BLOCKS, MOST_OPERATORS, read_script, read_up_to
 from model.modes import KNOWN, know_modes
+from model.tried import tried
 from probe.call_sizes import nested
 from rows.examples import EXAMPLES, checks, consoles, example_names, lessons, open_example, strays
 from rows.worked_slots import NONE as BAD_SLOTS
@@ -226,7 +227,8 @@ def usage_rows(program):
     for first, second in (('--choices', '--witness'), ('--choices', '--words'), ('--witness', '--words')):
         told = Result(b'', f"mpdbg: {first} and {second} can't stand together\n".encode(), 2)
         for words in ((first, '0', second, '1'), (f'{second}=1', f'{first}=', '--mode', 'no-mode')):
-            yield f'a run told twice, {words}', no_input(program, 'picture', 'no-such-file', *words), told
+            for command in ('picture', 'debug') if '--words' not in (first, second) else ('picture',):
+                yield f'a run told twice to {command}, {words}', no_input(program, command, 'no-such-file', *words), told
     for told, *options in (('--piece', '--piece', '0'), ('--pieces', '--pieces'), ('--piece', '--pieces', '--piece=9'), ('--piece', '--modes', '1', '--piece', '0')):
         refusal = Result(b'', f"mpdbg: --complete and {told} can't stand together\n".encode(), 2)
         yield f'all of {options}', no_input(program, 'check', 'no-such-file', '--complete', *options, '--mode', 'no-mode'), refusal
@@ -234,10 +236,10 @@ def usage_rows(program):
     for told, *options in (("--sample and --piece can't stand together", '--sample', '3'), ('--seed wants --sample', '--seed', '3')):
         refusal = Result(b'', f'mpdbg: {told}\n'.encode(), 2)
         yield f'all of a piece, and {options}', no_input(program, 'check', 'no-such-file', '--piece', '0', '--complete', *options), refusal
-    # what can't stand beside outcomes before these, and states without them behind that
-    beside = (('--ends',), ('--runs', '5'), ('--split', '1'), ('--piece', '0'), ('--pieces',), ('--sample', '3'), ('--seed', '3'), ('--group',), ('--modes', '1'),
-              ('--until', 'deadlock'))
-    clashes = [(f"--outcomes and {options[0]} can't stand together", '--outcomes', *options, '--states', '5', '--complete') for options in beside]
+    # what can't stand beside outcomes before these, and states without them behind that; modes and the first deadlock can stand beside them
+    beside = (('--ends',), ('--runs', '5'), ('--split', '1'), ('--piece', '0'), ('--pieces',), ('--sample', '3'), ('--seed', '3'), ('--group',))
+    fits = ('--states', '5', '--complete', '--modes', '1', '--until', 'deadlock')
+    clashes = [(f"--outcomes and {options[0]} can't stand together", '--outcomes', *options, *fits) for options in beside]
     for told, *options in (*clashes, ('--states wants --outcomes', '--states', '5', '--sample', '3', '--ends')):
         refusal = Result(b'', f'mpdbg: {told}\n'.encode(), 2)
         yield f'all of {options}', no_input(program, 'check', 'no-such-file', *options, '--mode', 'no-mode'), refusal
@@ -410,7 +412,7 @@ def why_rows(program):
         reasons = ((missing, 'no such file'), (folder, 'is a directory'), (denied, 'permission denied'), ('', 'no such file'),
                    (os.path.join(script, 'x'), 'Not a directory (os error 20)'), ('/proc/self/mem', 'Input/output error (os error 5)'))
         for name, reason in reasons:
-            for words in (('trace', name), ('check', name, '--witness'), ('verify', name, script), ('verify', script, name), ('debug', name),
+            for words in (('trace', name), ('check', name, '--witness'), ('diagnose', name), ('verify', name, script), ('verify', script, name), ('debug', name),
                           ('debug', script, '--witness', name)):
                 yield f'a terminal, {words}', at_terminal(program, *words, LD_PRELOAD=shim), why(f"'{name}': {reason}")
         for word in ('none', '', 'Buffered', 'slots:', 'slots:65537'):
@@ -433,9 +435,9 @@ SLOW = (b'mpd 1;\nranks 9;\nvar x;\nvar i;\nif rank == 0 { while i < 8 { recv x 
         b'else { send 1 to 0 tag 0; }\n')
 # Four messages, in all orders: 24 leaves, six of each candidate of the first choice.
 FEW = b'mpd 1; ranks 5; var x; var i;\nif rank == 0 { while i < 4 { recv x from any tag 0; i = i + 1; } } else { send 1 to 0 tag 0; }\n'
-NEVER_BAD = b'every way it can end is listed: it always ends, and never in a deadlock or trap\n'
+ALL_END_WELL = b'all %d runs were tried: %d finish\n'
 TOLD = rb'\rpieces ([0-9]+) of ([0-9]+), leaves ([0-9]{1,3}(?:,[0-9]{3})*)'
-RISING = re.compile(rb'(?:%b)+\r\x1b\[K' % TOLD + NEVER_BAD)
+RISING = re.compile(rb'(?:%b)+\r\x1b\[K' % TOLD + ALL_END_WELL % (40320, 40320))
 
 
 def told_counts(counts, of_piece, pieces):
@@ -470,7 +472,7 @@ def progress_rows(program):
         before = time.time()
         result = at_terminal(program, 'check', slow, '--runs', '65536', '--workers', '4')
         # (four processors may have done within a second)
-        told = result.errors == NEVER_BAD or is_rising(result.errors, 8, time.time() - before)
+        told = result.errors == ALL_END_WELL % (40320, 40320) or is_rising(result.errors, 8, time.time() - before)
         yield 'a terminal, a long check by four workers', (result._replace(errors=b''), told), (Result(report, b'', 0), True)
         # 24 leaves, by a clock that goes on by so much at each: at the end of each second, all leaves so far are counted
         shim, few = built(os.path.join(HERE, 'terminal_shim.c'), folder), os.path.join(folder, 'few')
@@ -480,17 +482,17 @@ def progress_rows(program):
             for split, of_piece, pieces in ((1, 6, 4), (0, 24, 1), (2, 2, 12)):
                 words = ('check', few, '--workers', '1', '--split', str(split))
                 result = at_terminal(program, *words, LD_PRELOAD=shim, CLOCK_MS=str(pause))
-                wanted = told_counts(range(between, 25, between), of_piece, pieces) + NEVER_BAD
+                wanted = told_counts(range(between, 25, between), of_piece, pieces) + ALL_END_WELL % (24, 24)
                 yield f'a terminal, {pause} ms for each leaf, {pieces} pieces', result.errors, wanted
         piece = at_terminal(program, 'check', few, '--piece', '3', LD_PRELOAD=shim, CLOCK_MS='1000')
         yield 'a terminal, one piece', piece.errors, told_counts(range(1, 7), 6, 1)
         short = at_terminal(program, 'check', race)
-        yield 'a terminal, a short check', short._replace(output=b''), Result(b'', b'every way it can end is listed: it always ends, in 2 ways, 1 of them a deadlock\n', 1)
+        yield 'a terminal, a short check', short._replace(output=b''), Result(b'', b'all 2 runs were tried: 1 finishes, 1 hangs\n', 1)
         yield 'no terminal, a check', Files(None).run(program, 'check', race)._replace(output=b''), Result(b'', b'', 1)
 
 
-ALL_TOLD = 'every way it can end is listed: it always ends'
-NEVER = f'{ALL_TOLD}, and never in a deadlock or trap'
+# What becomes of all runs, or ends, of which the model tells how many they are (model/tried.py).
+WHOLE = '..'
 UNTRIED = 'not everything was tried'
 # What hangs on the order of steps, which one report tries and another doesn't: what a waitany takes, and which sends are buffered.
 BY_REQUESTS = 'what a waitany takes may depend on the order of steps (--ends)'
@@ -499,12 +501,12 @@ BY_ORDER = 'which sends are buffered may depend on the order of steps (--ends)'
 ALONG = 'words and picture take the choices of these leaves with --ends'
 # A script of examples/, the options of its check, the status, and what a terminal is told below the report.
 SUMMED = (
-    ('first_message', '', 0, NEVER),
-    ('first_message', '--complete', 0, NEVER),
-    ('head_to_head', '', 1, f'{ALL_TOLD}, in 1 way, 1 of them a deadlock'),
-    ('trap', '', 1, f'{ALL_TOLD}, in 1 way, 1 of them a trap'),
-    ('one_in_seven', '--complete', 1, f'{ALL_TOLD}, in 7 ways, 1 of them a deadlock'),
-    ('one_in_seven', '--runs 1 --complete', 1, f'{ALL_TOLD}, in 7 ways, 1 of them a deadlock'),
+    ('first_message', '', 0, WHOLE),
+    ('first_message', '--complete', 0, WHOLE),
+    ('head_to_head', '', 1, WHOLE),
+    ('trap', '', 1, WHOLE),
+    ('one_in_seven', '--complete', 1, WHOLE),
+    ('one_in_seven', '--runs 1 --complete', 1, WHOLE),
     ('one_in_seven', '--split 0 --runs 6', 0, f'{UNTRIED}: 6 runs were listed, and there are more (--ends, --runs)'),
     ('one_in_seven', '--split 0 --runs 6 --complete', 4, f'{UNTRIED}: 6 runs were listed, and there are more (--ends, --runs)'),
     ('one_in_seven', '--split 0 --runs 1 --complete', 4, f'{UNTRIED}: 1 run was listed, and there are more (--ends, --runs)'),
@@ -514,7 +516,7 @@ SUMMED = (
     ('one_in_seven', '--split 0 --runs 6 --fuel 40 --complete', 4,
      f'{UNTRIED}: 6 runs were listed, and there are more (--ends, --runs), 6 runs were cut (--fuel)'),
     # up to the first deadlock, behind which there are others or none; where none is listed, it is the runs that leave something out
-    ('one_in_seven', '--until deadlock', 1, f'{ALL_TOLD}, in 7 ways, 1 of them a deadlock'),
+    ('one_in_seven', '--until deadlock', 1, WHOLE),
     ('two_each', '--until deadlock', 1, f'{UNTRIED}: 1 run was listed, and there are more (--until)'),
     ('two_each', '--until deadlock --ends', 1, f'{UNTRIED}: 1 run was listed, and there are more (--until)'),
     ('one_in_seven', '--split 0 --runs 6 --until deadlock --complete', 4, f'{UNTRIED}: 6 runs were listed, and there are more (--ends, --runs)'),
@@ -527,19 +529,19 @@ SUMMED = (
     ('waited_twice', '--until deadlock --complete', 1, f'{UNTRIED}: {BY_REQUESTS}'),
     ('order_decides', '--complete', 4, f'{UNTRIED}: {BY_REQUESTS}'),
     # a report that lists ends tells all of every script
-    ('four_races', '--ends', 0, NEVER),
-    ('four_races', '--ends --complete', 0, NEVER),
+    ('four_races', '--ends', 0, WHOLE),
+    ('four_races', '--ends --complete', 0, WHOLE),
     ('four_races', '--ends --split 0 --runs 3', 0, f'{UNTRIED}: 3 runs were listed, and there are more (--runs, --sample)'),
     ('four_races', '--ends --split 0 --runs 3 --complete', 4, f'{UNTRIED}: 3 runs were listed, and there are more (--runs, --sample)'),
-    ('one_in_seven', '--ends', 1, f'{ALL_TOLD}, in 7 ways, 1 of them a deadlock'),
+    ('one_in_seven', '--ends', 1, WHOLE),
     ('one_in_seven', '--ends --fuel 63 --complete', 4, f'{UNTRIED}: 1 run was cut (--fuel)'),
-    ('waitany', '--ends', 0, f'{NEVER}\n{ALONG}'),
-    ('waitany', '--ends --complete', 0, f'{NEVER}\n{ALONG}'),
-    ('waitany', '--ends --group --complete', 0, f'{NEVER}\n{ALONG}'),
+    ('waitany', '--ends', 0, f'{WHOLE}\n{ALONG}'),
+    ('waitany', '--ends --complete', 0, f'{WHOLE}\n{ALONG}'),
+    ('waitany', '--ends --group --complete', 0, f'{WHOLE}\n{ALONG}'),
     ('waitany', '--ends --fuel 21 --complete', 4, f'{UNTRIED}: 2 runs were cut (--fuel)\n{ALONG}'),
     ('waitany', '--ends --piece 1', 0, ALONG),
-    ('order_decides', '--ends', 1, f'{ALL_TOLD}, in 2 ways, 1 of them a trap\n{ALONG}'),
-    ('order_decides', '--ends --complete --until deadlock', 1, f'{ALL_TOLD}, in 2 ways, 1 of them a trap\n{ALONG}'),
+    ('order_decides', '--ends', 1, f'{WHOLE}\n{ALONG}'),
+    ('order_decides', '--ends --complete --until deadlock', 1, f'{WHOLE}\n{ALONG}'),
     ('order_decides', '--ends --split 0 --runs 1', 0, f'{UNTRIED}: 1 run was listed, and there are more (--runs, --sample)\n{ALONG}'),
     ('order_decides', '--ends --split 0 --runs 1 --complete', 4, f'{UNTRIED}: 1 run was listed, and there are more (--runs, --sample)\n{ALONG}'),
     ('order_decides', '--ends --split 0 --runs 1 --fuel 13', 0,
@@ -547,15 +549,29 @@ SUMMED = (
     ('order_decides', '--ends --piece 0', 0, ALONG), ('order_decides', '--ends --piece 1', 1, ALONG),
     ('order_decides', '--ends --pieces', 0, ''),
     # so does one of runs that are drawn, where all of them were
-    ('one_in_seven', '--sample 500 --complete', 1, f'{ALL_TOLD}, in 7 ways, 1 of them a deadlock'),
-    ('first_message', '--sample 5 --complete', 0, NEVER),
+    ('one_in_seven', '--sample 500 --complete', 1, WHOLE),
+    ('first_message', '--sample 5 --complete', 0, WHOLE),
     ('four_races', '--sample 1', 0, f'{UNTRIED}: 1 run was listed, and there are more (--sample)'),
     ('four_races', '--sample 1 --complete', 4, f'{UNTRIED}: 1 run was listed, and there are more (--sample)'),
-    ('waitany', '--sample 60 --complete', 0, f'{NEVER}\n{ALONG}'),
+    ('waitany', '--sample 60 --complete', 0, f'{WHOLE}\n{ALONG}'),
     ('waitany', '--sample 1', 0, f'{UNTRIED}: 1 run was listed, and there are more (--sample)\n{ALONG}'),
-    ('order_decides', '--sample 60 --complete', 1, f'{ALL_TOLD}, in 3 ways, 1 of them a trap\n{ALONG}'),
+    ('order_decides', '--sample 60 --complete', 1, f'{WHOLE}\n{ALONG}'),
     # a deadlock was found, so the status is not that of a report that isn't whole
     ('race', '--split 0 --runs 1 --complete', 1, f'{UNTRIED}: 1 run was listed, and there are more (--ends, --runs)'),
+)
+
+# Of outcomes it is said how many states were come to as well, the choices and the ends: of `one_in_seven` one choice of seven, and their ends;
+# of `two_each` and `race`, of whose runs the first hangs, its two choices, or its one, and its end.
+SUMMED_OUTCOMES = (
+    ('head_to_head', '--outcomes', 1, f'{WHOLE}\n1 state was come to'),
+    ('head_to_head', '--outcomes --until deadlock', 1, f'{WHOLE}\n1 state was come to'),
+    ('first_message', '--outcomes --until deadlock --complete', 0, f'{WHOLE}\n1 state was come to'),
+    ('one_in_seven', '--outcomes', 1, f'{WHOLE}\n8 states were come to'),
+    ('one_in_seven', '--outcomes --until deadlock', 1, f'{WHOLE}\n8 states were come to'),
+    ('race', '--outcomes --until deadlock --complete', 1, f"{UNTRIED}: there are runs that aren't counted (--until)\n2 states were come to"),
+    ('two_each', '--outcomes --until deadlock', 1, f"{UNTRIED}: there are runs that aren't counted (--until)\n3 states were come to"),
+    ('two_each', '--outcomes --until deadlock --states 16000000', 1, f"{UNTRIED}: there are runs that aren't counted (--until)\n3 states were come to"),
+    ('order_decides', '--outcomes --until deadlock --fuel 1 --complete', 4, f'{UNTRIED}: some runs were cut (--fuel)\n{ALONG}\n1 state was come to'),
 )
 
 # In a mode of slots a send is buffered or not by what was matched before it, so again a report along decisions tells of its runs alone.
@@ -571,17 +587,17 @@ SUMMED_IN_SLOTS = (
     ('freed_slot', '--mode slots:2 --complete', 4, f'{UNTRIED}: {BY_ORDER}'),
     ('waitany', '--mode slots:0', 0, f'{UNTRIED}: {BY_REQUESTS}, {BY_ORDER}'),
     ('waitany', '--mode slots:0 --complete', 4, f'{UNTRIED}: {BY_REQUESTS}, {BY_ORDER}'),
-    ('first_message', '--mode slots:1 --ends', 0, f'{NEVER}\n{ALONG}'),
-    *(('first_message', f'--mode {mode} --ends --complete', 0, f'{NEVER}\n{ALONG}') for mode in ('slots:0', 'slots:1', 'slots:65536')),
+    ('first_message', '--mode slots:1 --ends', 0, f'{WHOLE}\n{ALONG}'),
+    *(('first_message', f'--mode {mode} --ends --complete', 0, f'{WHOLE}\n{ALONG}') for mode in ('slots:0', 'slots:1', 'slots:65536')),
     ('first_message', '--mode slots:1 --ends --fuel 1 --complete', 4, f'{UNTRIED}: 1 run was cut (--fuel)\n{ALONG}'),
-    ('first_message', '--mode slots:1 --ends --piece 0', 0, ALONG), ('first_message', '--mode slots:1 --sample 3 --complete', 0, f'{NEVER}\n{ALONG}'),
-    ('head_to_head', '--mode slots:0 --ends --complete', 1, f'{ALL_TOLD}, in 1 way, 1 of them a deadlock\n{ALONG}'),
-    ('freed_slot', '--mode slots:1 --ends', 1, f'{ALL_TOLD}, in 2 ways, 1 of them a deadlock\n{ALONG}'),
+    ('first_message', '--mode slots:1 --ends --piece 0', 0, ALONG), ('first_message', '--mode slots:1 --sample 3 --complete', 0, f'{WHOLE}\n{ALONG}'),
+    ('head_to_head', '--mode slots:0 --ends --complete', 1, f'{WHOLE}\n{ALONG}'),
+    ('freed_slot', '--mode slots:1 --ends', 1, f'{WHOLE}\n{ALONG}'),
     ('freed_slot', '--mode slots:1 --ends --until deadlock', 1, f'{UNTRIED}: 1 run was listed, and there are more (--until)\n{ALONG}'),
-    ('freed_slot', '--mode slots:1 --sample 60 --complete', 1, f'{ALL_TOLD}, in 2 ways, 1 of them a deadlock\n{ALONG}'),
-    ('freed_slot', '--mode slots:2 --ends --complete', 0, f'{NEVER}\n{ALONG}'),
-    ('freed_slot', '--ends', 1, f'{ALL_TOLD}, in 1 way, 1 of them a deadlock'),
-    ('waitany', '--mode slots:0 --ends --complete', 0, f'{NEVER}\n{ALONG}'),
+    ('freed_slot', '--mode slots:1 --sample 60 --complete', 1, f'{WHOLE}\n{ALONG}'),
+    ('freed_slot', '--mode slots:2 --ends --complete', 0, f'{WHOLE}\n{ALONG}'),
+    ('freed_slot', '--ends', 1, WHOLE),
+    ('waitany', '--mode slots:0 --ends --complete', 0, f'{WHOLE}\n{ALONG}'),
 )
 
 # Of modes that are tried in turn it is said which ones have a deadlock or a trap, as far as the first that has none.
@@ -597,15 +613,23 @@ SUMMED_MODES = (
     ('four_races', '--modes 0 --split 0 --runs 3', 0, 'no deadlock or trap is listed in any of these modes'),
     ('four_races', '--modes 0 --split 0 --runs 3 --complete', 4, 'no deadlock or trap is listed in any of these modes'),
     ('head_to_head', '--modes 2 --complete', 1, 'hangs or traps without a slot'),
+    # by outcomes too
+    ('first_message', '--outcomes --modes 1 --complete', 0, 'no deadlock or trap is listed in any of these modes'),
+    ('first_message', '--outcomes --modes 1 --fuel 1 --complete', 4, 'no deadlock or trap is listed in any of these modes'),
+    ('head_to_head', '--outcomes --modes 2', 1, 'hangs or traps without a slot'),
+    ('freed_slot', '--outcomes --modes 3 --until deadlock', 1, 'hangs or traps with fewer than 2 slots'),
+    ('freed_slot', '--outcomes --modes 1 --until deadlock --complete', 1, 'hangs or traps with each number of slots that was tried (--modes)'),
+    ('two_receives', '--outcomes --modes 0', 1, 'hangs or traps in each of these modes'),
 )
 
 
 def summed_rows(program):
     """At a terminal, and there alone, a line below a report says whether everything was tried, and how the script can end, and a second one that
     its choices are those of the wide walk; with `--complete` a report that isn't whole and has nothing bad has a status of its own."""
-    for name, options, status, line in SUMMED + (SUMMED_IN_SLOTS + SUMMED_MODES) * bool(KNOWN):
+    for name, options, status, line in SUMMED + SUMMED_OUTCOMES + (SUMMED_IN_SLOTS + SUMMED_MODES) * bool(KNOWN):
         words = ('check', os.path.join(EXAMPLES, f'{name}.mpd'), *options.split())
         result = at_terminal(program, *words)
+        line = line.replace(WHOLE, tried(open_example(f'{name}.mpd'), words)) if line.startswith(WHOLE) else line
         yield f'a terminal, check {name} {options}', (result.errors, result.status), (line.encode() + b'\n' * bool(line), status)
         quiet = Files(None).run(program, *words)
         yield f'no terminal, check {name} {options}', quiet, Result(result.output, b'', status)

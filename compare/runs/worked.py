@@ -7,7 +7,8 @@ compare/rows/worked_traces.py, texts that print, trap or are refused in compare/
 program answer all these too. Decisions, breakpoints and runs stand in compare/rows/worked_runs.py, reports and witnesses in
 compare/rows/worked_explorer.py, reports by pieces in compare/rows/worked_pieces.py, those that list ends or group them, or runs that are drawn,
 and runs by their choices, in compare/rows/worked_ends.py, those that tell how the runs of a script end in
-compare/rows/worked_outcomes.py, explanations in compare/rows/worked_explained.py, dialogues of a session in
+compare/rows/worked_outcomes.py and compare/rows/worked_decided.py, those that say whether one can hang, and how, in
+compare/rows/worked_diagnosed.py, explanations in compare/rows/worked_explained.py, dialogues of a session in
 compare/rows/worked_sessions.py, rows of all these kinds for version 2 in compare/rows/worked_waitany.py, and for the modes `slots:K` in
 compare/rows/worked_slots.py, and wide walks in compare/rows/worked_wide.py. Dialogues of the console stand in compare/rows/console_worked.py. The lessons of docs/COURSE.md are rows too,
 with their answers in files. The status is 0 where the model answers all of them so.
@@ -23,7 +24,7 @@ from model import console, debugger, explorer
 from model.debugger import Result, answer, answer_file
 from model.language import read_script
 from model.policy_words import Driven
-from rows import (console_worked, worked_ends, worked_explained, worked_explorer, worked_outcomes, worked_pieces, worked_sessions, worked_slots,
+from rows import (console_worked, worked_decided, worked_diagnosed, worked_ends, worked_explained, worked_explorer, worked_outcomes, worked_pieces, worked_sessions, worked_slots,
                   worked_waitany, worked_wide)
 from rows.examples import checks, consoles, lessons, open_example
 from rows.worked_runs import RUNS
@@ -99,6 +100,8 @@ def main():
     problems += worked_pieces.problems()
     problems += worked_ends.problems()
     problems += worked_outcomes.problems()
+    problems += worked_decided.problems()
+    problems += worked_diagnosed.problems()
     problems += worked_wide.problems()
     problems += list(worked_explained.problems())
     problems += worked_sessions.problems()

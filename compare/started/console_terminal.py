@@ -59,7 +59,7 @@ def wrong_at_terminal(program, words, row, seconds):
 def wrong_in_talk(terminal, row, seconds):
     """The same of the prompts and answers, up to the end of the input; where no word ends it, a line feed is written last. Of every second
     dialogue the last line has no end then."""
-    console = begun(row.text, row.mode, row.witness_text)
+    console = begun(row.text, row.mode, row.witness_text, row.run)
     due = f'{GREETING}\n{row.first}{console.prompt()}'.encode()
     for number, (typed, wanted) in enumerate(row.turns, 1):
         if (told := read(terminal, len(due), seconds)) != due:

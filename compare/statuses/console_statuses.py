@@ -89,7 +89,7 @@ def witness_rows(folder):
     for number, row in enumerate(STARTS):
         path = os.path.join(folder.path, str(number))
         os.mkdir(path)
-        words = Case(row.what, row.text, row.mode, TYPED, row.witness).words(path)
+        words = Case(row.what, row.text, row.mode, TYPED, row.witness, run=row.run).words(path)
         yield row.what, Files(file_of(TYPED)).run(folder.program, *words), row.wanted
     receives, stuck = folder.file('receives', BOTH_RECEIVE.encode()), folder.file('stuck', b'deadlock 0.0 1.0\nlocal 0\n')
     not_stuck = Result(b'', b'mpdbg: witness refused 33 not-stuck\n', 2)
@@ -103,6 +103,20 @@ def witness_rows(folder):
     yield 'a witness, input closed', Files(None).run(folder.program, 'debug', receives, '--witness', good), device(told)
     yield 'a witness, output full', folder.run(receives, '--witness', good, data=b'', output=full()), device()
     yield 'a witness, a terminal', at_terminal(folder.program, 'debug', receives, '--witness', good), Result(told, HINT, 0)
+    yield from run_rows(folder, receives, told)
+
+
+def run_rows(folder, receives, told):
+    """Runs that are named by their choices, on a script that has none, and where each rank waits."""
+    too_many = Result(b'', b'mpdbg: bad choices at 0\n', 2)
+    yield 'choices that no run has, input closed', Files(None).run(folder.program, 'debug', receives, '--choices', '0'), too_many
+    yield 'choices that no run has, output full', folder.run(receives, '--choices', '0', output=full()), too_many
+    yield 'choices that no run has, a terminal', at_terminal(folder.program, 'debug', receives, '--choices', '0', '--ends'), too_many
+    yield 'a run ahead, no words', folder.run(receives, '--choices', '', data=b''), Result(told, b'', 0)
+    yield 'a run ahead, input closed', Files(None).run(folder.program, 'debug', receives, '--choices='), device(told)
+    yield 'a run ahead, output full', folder.run(receives, '--choices=', data=b'', output=full()), device()
+    yield 'a run ahead, a terminal', at_terminal(folder.program, 'debug', receives, '--ends', '--choices', ''), Result(told, HINT, 0)
+    yield 'no run ahead, and whose choices these are', folder.run(receives, '--ends', data=b''), Result(b'', b'', 0)
 
 
 def device_rows(folder):

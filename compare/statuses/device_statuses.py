@@ -1,4 +1,4 @@
-"""What the built program does where its devices fail, of a trace, a session, a dialogue, checks and a witness: each read and each write in turn, of files
+"""What the built program does where its devices fail, of a trace, a session, a dialogue, checks, a diagnosis and a witness: each read and each write in turn, of files
 and of standard input and output; reads and writes of one byte; interrupted ones; output that is full, closed, or whose reader stalls or
 leaves; and a file system that is full. compare/runs/statuses.py runs these rows, and those of connections (connection_statuses.py).
 
@@ -48,6 +48,28 @@ LEAF = 'leaf 0 [0] deadlock 0.1 2.0\n'
 STEPS = 'witness 0: local 0, local 0, local 1, local 1, local 2, local 2, match 1.0 0.0, wake 0, local 0, wake 1\n'
 REPORT = f'{LEAF}{STEPS}leaf 1 [1] done\nleaves 2 more no\n'.encode()
 WITNESS = (LEAF + STEPS).encode()
+# What is said of it where it is diagnosed.
+DIAGNOSED = f'''it can hang: 1 of 2 runs
+
+deadlock at line 7: 1 of 2 runs
+  rank 0 waits at line 7, 0.1 recv from 1 tag any: for a send of rank 1 with any
+        tag
+    nearest miss: line 7, 2.0 send to 0 tag 0 value 2: another source
+    the last that fits is taken: line 7, 1.0 send to 0 tag 0 value 1, by line 7,
+        0.0 recv from any tag any
+  rank 2 waits at line 7, 2.0 send to 0 tag 0 value 2: for a receive of rank 0
+        from rank 2 with tag 0
+    nearest miss: line 7, 0.1 recv from 1 tag any: another source
+    the last that fits is taken: line 7, 0.0 recv from any tag any, by line 7,
+        1.0 send to 0 tag 0 value 1
+  rank 0 waits for rank 1 (ended)
+  rank 2 waits for rank 0
+  decided at depth 6: rank 0, line 7, takes the message of rank 1 (line 7, value
+        1, tag 0); with that of rank 2 (line 7, value 2, tag 0) it can still end
+        well
+  ./mpdbg debug {RACE} --ends --choices '0'
+  ./mpdbg picture {RACE} --ends --choices '0' > run.svg
+'''.encode()
 
 
 class Case(NamedTuple):
@@ -90,16 +112,18 @@ def answering(folder):
 
 
 def telling(folder):
-    """Checks, verdicts, and what is told first of a witness that lies ahead: each of them is one text."""
+    """Checks, a diagnosis, verdicts, and what is told first of a witness that lies ahead: each of them is one text."""
     good, cut = held(folder, 'good', WITNESS), held(folder, 'cut', WITNESS.replace(b', wake 1', b''))
     checks = (('a check', ('--witness',), REPORT, 1), ('a piece', ('--piece', '1'), b'leaf 0 [1] done\nleaves 1 more no\n', 0),
               ('pieces', ('--pieces',), b'pieces 2\n', 0))
     for name, options, text, status in checks:
         yield Case(name, ('check', RACE, *options), b'', [text], size_of(RACE), status)
+    yield Case('a diagnosis', ('diagnose', RACE), b'', [DIAGNOSED], size_of(RACE), 1)
     verdicts = (('a witness', good, b'accepted\n', 0), ('no witness', cut, b'refused 33 not-stuck\n', 1))
     for name, path, text, status in verdicts:
         yield Case(name, ('verify', RACE, path), b'', [text], size_of(RACE, path), status)
     yield Case('a witness ahead', ('debug', RACE, '--witness', good), b'', [AHEAD], size_of(RACE, good), 0)
+    yield Case('a run ahead', ('debug', RACE, '--choices', '0'), b'', [AHEAD], size_of(RACE), 0)
 
 
 def cases(folder):

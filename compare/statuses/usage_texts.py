@@ -20,16 +20,17 @@ Without words it reads a script from standard input, up to a line ---, and answe
 Usage: mpdbg <COMMAND>
 
 Commands:
-  trace    Trace the script of a file
-  debug    Debug the script of a file, at a prompt
-  run      Answer JSON requests on the script of a file
-  serve    Answer JSON requests of several clients, on one session
-  check    Look for deadlocks: try the choices of wildcard receives one after another
-  verify   Check a witness that check has written
-  words    Write the trace words of the run with these choices
-  c        Write the script of a file as a C program with MPI calls
-  picture  Draw a run of the script of a file, as SVG
-  help     Print this message or the help of the given subcommand(s)
+  diagnose  Say whether the runs of the script of a file can hang or trap, how, and where that was decided
+  trace     Trace the script of a file
+  debug     Debug the script of a file, at a prompt
+  run       Answer JSON requests on the script of a file
+  serve     Answer JSON requests of several clients, on one session
+  check     Look for deadlocks: try the choices of wildcard receives one after another
+  verify    Check a witness that check has written
+  words     Write the trace words of the run with these choices
+  c         Write the script of a file as a C program with MPI calls
+  picture   Draw a run of the script of a file, as SVG
+  help      Print this message or the help of the given subcommand(s)
 
 Options:
   -h, --help     Print help
@@ -37,6 +38,24 @@ Options:
 
 Example:
   ./mpdbg < examples/first.trace
+"""
+
+DIAGNOSE = """\
+Say whether the runs of the script of a file can hang or trap, how, and where that was decided
+
+Usage: mpdbg diagnose [OPTIONS] <FILE>
+
+Arguments:
+  <FILE>  The script
+
+Options:
+      --mode <M>  How standard sends behave: rendezvous, buffered, or slots:K with K from 0 to 65536 [default: rendezvous]
+      --strict    End with status 1 also where messages can be left over
+  -h, --help      Print help
+
+Examples:
+  ./mpdbg diagnose examples/race.mpd
+  ./mpdbg diagnose examples/exchange.mpd --mode buffered --strict
 """
 
 TRACE = """\
@@ -71,7 +90,9 @@ Arguments:
 
 Options:
       --mode <M>           How standard sends behave: rendezvous, buffered, or slots:K with K from 0 to 65536 [default: rendezvous]
+      --choices <C>        The choices of a run that is laid ahead, numbers from 0 with spaces between them
       --witness <WITNESS>  A witness or a report, whose deadlock is laid ahead
+      --ends               The choices are those of a leaf of `check --ends` or `check --sample`
   -h, --help               Print help
 
 Words stand on standard input, one line each; help lists them all:
@@ -147,9 +168,9 @@ Options:
       --states <N>   How many states --outcomes keeps at most, 1 to 16000000 [default: 1000000]
       --sample <N>   Draw the choices of N runs at random, 1 to 65536
       --seed <S>     What --sample begins to draw with, 0 to 18446744073709551615 [default: 0]
-      --explain      Explain each deadlock and each trap: what waits, and for what
+      --explain      Explain each deadlock and trap, and tell what is left over
       --group        List each different end once, with how many runs come to it
-      --until <END>  List the runs up to the first that ends in a deadlock or a trap [possible values: deadlock]
+      --until <END>  Stop at the first run that ends in a deadlock or a trap [possible values: deadlock]
       --witness      Print the trace words of a run that comes to a deadlock
       --complete     End with status 4 where nothing was found and not all was tried, with --modes in each mode; not beside --piece or --pieces
       --piece <N>    Print the part of the report that piece N has, 0 to 1023
@@ -257,9 +278,11 @@ def known(text):
 # Words, parted by `|`, and what they print. What stands in front of `--help` isn't looked at.
 ANSWERS = (
     ('--help', PROGRAM), ('-h', PROGRAM), ('help', PROGRAM), ('--version', VERSION), ('-V', VERSION),
+    ('diagnose|--help', DIAGNOSE), ('diagnose|-h', DIAGNOSE), ('help|diagnose', DIAGNOSE), ('diagnose|no-such-file|--strict|--mode|no-mode|--help', DIAGNOSE),
     ('trace|--help', TRACE), ('trace|-h', TRACE), ('help|trace', TRACE), ('trace|no-such-file|--mode|no-mode|--help', TRACE),
     ('debug|--help', DEBUG), ('debug|-h', DEBUG), ('help|debug', DEBUG), ('debug|no-such-file|--witness|no-such-file|--mode|no-mode|--help', DEBUG),
     ('debug|--witness=|-h', DEBUG),
+    ('debug|a|--choices|x|--ends|-h', DEBUG),
     ('run|--help', RUN), ('run|-h', RUN), ('help|run', RUN), ('run|no-such-file|--mode|no-mode|--help', RUN),
     ('serve|--help', SERVE), ('serve|-h', SERVE), ('help|serve', SERVE), ('serve|no-such-file|--port|1|--mode|no-mode|--help', SERVE),
     ('check|--help', CHECK), ('check|-h', CHECK), ('help|check', CHECK), ('check|a|--runs|5|-h', CHECK),
@@ -274,8 +297,8 @@ ANSWERS = (
     ('picture|no-such-file|--choices|x|--words=w|--witness|w|--fuel|7|--mode|no-mode|--help', PICTURE))
 
 NO_COMMAND = 'mpdbg <COMMAND>'
-OF_TRACE, OF_DEBUG, OF_RUN, OF_SERVE, OF_CHECK, OF_VERIFY, OF_WORDS, OF_C, OF_PICTURE = (
-    f'mpdbg {rest}' for rest in ('trace [OPTIONS] <FILE>', 'debug [OPTIONS] <FILE>', 'run [OPTIONS] <FILE>',
+OF_DIAGNOSE, OF_TRACE, OF_DEBUG, OF_RUN, OF_SERVE, OF_CHECK, OF_VERIFY, OF_WORDS, OF_C, OF_PICTURE = (
+    f'mpdbg {rest}' for rest in ('diagnose [OPTIONS] <FILE>', 'trace [OPTIONS] <FILE>', 'debug [OPTIONS] <FILE>', 'run [OPTIONS] <FILE>',
                                  'serve [OPTIONS] --port <P> --clients <N> <FILE>', 'check [OPTIONS] <FILE>',
                                  'verify [OPTIONS] <FILE> <WITNESS>', 'words [OPTIONS] --choices <C> <FILE>', 'c <FILE>', 'picture [OPTIONS] <FILE>'))
 # What `serve` wants, where something that was given is named.
@@ -325,6 +348,8 @@ NO_DIGIT, TOO_LARGE = 'invalid digit found in string', 'number too large to fit 
 MISTAKES = (
     # commands
     Mistake('trac', "unrecognized subcommand 'trac'", NO_COMMAND, "a similar subcommand exists: 'trace'"),
+    Mistake('diagnos|a', "unrecognized subcommand 'diagnos'", NO_COMMAND, "a similar subcommand exists: 'diagnose'"),
+    Mistake('help|diagnose|x', "unrecognized subcommand 'x'", OF_DIAGNOSE),
     Mistake('debgu|a', "unrecognized subcommand 'debgu'", NO_COMMAND, "a similar subcommand exists: 'debug'"),
     Mistake('Debug|a', "unrecognized subcommand 'Debug'", NO_COMMAND, "a similar subcommand exists: 'debug'"),
     Mistake('help|debug|x', "unrecognized subcommand 'x'", OF_DEBUG),
@@ -349,7 +374,9 @@ MISTAKES = (
     unknown('--fly', '--fly', NO_COMMAND),
     unknown('-x', '-x', NO_COMMAND),
     unknown('--mode|buffered|trace|a', '--mode', NO_COMMAND, "'trace --mode' exists"),
+    unknown('--strict|diagnose|a', '--strict', NO_COMMAND, "'diagnose --strict' exists"),
     unknown('--witness|w|debug|a', '--witness', NO_COMMAND, "'debug --witness' exists"),
+    unknown('--ends|debug|a', '--ends', NO_COMMAND, "'debug --ends' exists"),
     unknown('--port|1|serve|a|--clients|1', '--port', NO_COMMAND, "'serve --port' exists"),
     unknown('--choices|0|words|a', '--choices', NO_COMMAND, "'words --choices' exists"),
     unknown('--words|w|picture|a', '--words', NO_COMMAND, "'picture --words' exists"),
@@ -358,9 +385,12 @@ MISTAKES = (
     unknown('--|trace|a', 'trace', NO_COMMAND, "subcommand 'trace' exists; to use it, remove the '--' before it"),
     # files, and options that must be there
     missing('trace', ['<FILE>'], 'mpdbg trace <FILE>'),
+    missing('diagnose', ['<FILE>'], 'mpdbg diagnose <FILE>'),
+    missing('diagnose|--strict', ['<FILE>'], 'mpdbg diagnose --strict <FILE>'),
     missing('debug', ['<FILE>'], 'mpdbg debug <FILE>'),
     missing('debug|--witness|w', ['<FILE>'], 'mpdbg debug --witness <WITNESS> <FILE>'),
     missing('debug|--mode|buffered|--witness=w', ['<FILE>'], 'mpdbg debug --mode <M> --witness <WITNESS> <FILE>'),
+    missing('debug|--choices|0|--ends', ['<FILE>'], 'mpdbg debug --choices <C> --ends <FILE>'),
     missing('run', ['<FILE>'], 'mpdbg run <FILE>'),
     missing('run|--mode|buffered', ['<FILE>'], 'mpdbg run --mode <M> <FILE>'),
     missing('serve', ['--port <P>', '--clients <N>', '<FILE>'], WANTED_OF_SERVE),
@@ -378,6 +408,7 @@ MISTAKES = (
     missing('check|--outcomes|--states|5', ['<FILE>'], 'mpdbg check --outcomes --states <N> <FILE>'),
     missing('check|--sample|5|--seed|6', ['<FILE>'], 'mpdbg check --sample <N> --seed <S> <FILE>'),
     missing('check|--explain|--group', ['<FILE>'], 'mpdbg check --explain --group <FILE>'),
+    missing('diagnose|--strict|--mode|buffered', ['<FILE>'], 'mpdbg diagnose --strict --mode <M> <FILE>'),
     missing('verify', ['<FILE>', '<WITNESS>'], 'mpdbg verify <FILE> <WITNESS>'),
     missing('verify|a', ['<WITNESS>'], 'mpdbg verify <FILE> <WITNESS>'),
     missing('verify|a|--leaf|1', ['<WITNESS>'], 'mpdbg verify --leaf <N> <FILE> <WITNESS>'),
@@ -393,11 +424,16 @@ MISTAKES = (
     missing('picture|--choices|0|--fuel|5', ['<FILE>'], 'mpdbg picture --choices <C> --fuel <N> <FILE>'),
     missing('picture|--ends', ['<FILE>'], ENDS_OF_PICTURE),
     unknown('trace|a|b', 'b', OF_TRACE),
+    unknown('diagnose|a|b', 'b', OF_DIAGNOSE),
+    unknown('diagnose|a|--strict|b', 'b', OF_DIAGNOSE),
     unknown('debug|a|b', 'b', OF_DEBUG),
     unknown('debug|a|--witness|--|b', 'b', OF_DEBUG),
+    unknown('debug|a|--choices|0|1', '1', OF_DEBUG),
+    unknown('debug|a|--ends|b', 'b', OF_DEBUG),
     unknown('run|a|b', 'b', OF_RUN),
     unknown('serve|a|b|--port|1|--clients|1', 'b', OF_SERVE),
     unknown('check|a|b', 'b', OF_CHECK),
+    unknown('diagnose|a|--strict|true', 'true', OF_DIAGNOSE),
     unknown('verify|a|b|c', 'c', OF_VERIFY),
     unknown('words|a|b|--choices|0', 'b', OF_WORDS),
     unknown('words|a|--choices|0|1', '1', OF_WORDS),
@@ -407,7 +443,13 @@ MISTAKES = (
     unknown('picture|a|--ends|b', 'b', OF_PICTURE),
     # options
     unknown('trace|a|--mod|buffered', '--mod', 'mpdbg trace --mode <M> <FILE>', "a similar argument exists: '--mode'"),
+    unknown('diagnose|a|--stric', '--stric', 'mpdbg diagnose --strict <FILE>', "a similar argument exists: '--strict'"),
+    hyphened('diagnose|a|--runs|5', '--runs', 'mpdbg diagnose <FILE>'),
+    hyphened('diagnose|a|-s', '-s', OF_DIAGNOSE),
+    hyphened('trace|a|--strict', '--strict', 'mpdbg trace <FILE>'),
     unknown('debug|a|--witnes|w', '--witnes', 'mpdbg debug --witness <WITNESS> <FILE>', "a similar argument exists: '--witness'"),
+    unknown('debug|a|--choice|0', '--choice', 'mpdbg debug --choices <C> <FILE>', "a similar argument exists: '--choices'"),
+    unknown('debug|a|--end', '--end', 'mpdbg debug --ends <FILE>', "a similar argument exists: '--ends'"),
     unknown('debug|a|--laid_witness|w', '--laid_witness', 'mpdbg debug --witness <WITNESS> <FILE>', "a similar argument exists: '--witness'"),
     unknown('debug|--witness|w|a|--mod|buffered', '--mod', 'mpdbg debug --witness <WITNESS> --mode <M> <FILE>', "a similar argument exists: '--mode'"),
     unknown('check|a|--witnes', '--witnes', 'mpdbg check --witness <FILE>', "a similar argument exists: '--witness'"),
@@ -423,6 +465,8 @@ MISTAKES = (
     unknown('check|a|--sed|5', '--sed', 'mpdbg check --seed <S> <FILE>', "a similar argument exists: '--seed'"),
     unknown('check|a|--explian', '--explian', 'mpdbg check --explain <FILE>', "a similar argument exists: '--explain'"),
     unknown('check|a|--groups', '--groups', 'mpdbg check --group <FILE>', "a similar argument exists: '--group'"),
+    hyphened('diagnose|a|--fuel|5', '--fuel', 'mpdbg diagnose <FILE>'),
+    hyphened('diagnose|a|--complete', '--complete', 'mpdbg diagnose <FILE>'),
     unknown('verify|a|b|--leafs|1', '--leafs', 'mpdbg verify --leaf <N> <FILE> <WITNESS>', "a similar argument exists: '--leaf'"),
     unknown('words|a|--choice|0', '--choice', WANTED_OF_WORDS, "a similar argument exists: '--choices'"),
     unknown('words|a|--choices|0|--end', '--end', ENDS_OF_WORDS, "a similar argument exists: '--ends'"),
@@ -432,6 +476,8 @@ MISTAKES = (
     hyphened('debug|a|--laid=w', '--laid', 'mpdbg debug <FILE>'),
     hyphened('debug|a|-w|w', '-w', OF_DEBUG),
     hyphened('debug|a|--witness|-1', '-1', OF_DEBUG),
+    hyphened('debug|a|--choices|-1', '-1', OF_DEBUG),
+    hyphened('debug|a|-c|0', '-c', OF_DEBUG),
     hyphened('run|a|--witness', '--witness', 'mpdbg run <FILE>'),
     hyphened('run|a|--port|1', '--port', 'mpdbg run <FILE>'),
     hyphened('run|a|-m', '-m', OF_RUN),
@@ -468,10 +514,18 @@ MISTAKES = (
     hyphened('picture|a|-c|0', '-c', OF_PICTURE),
     hyphened('trace|a|--ends', '--ends', 'mpdbg trace <FILE>'),
     Mistake('trace|a|--mode', "a value is required for '--mode <M>' but none was supplied"),
+    Mistake('diagnose|a|--mode|--strict', "a value is required for '--mode <M>' but none was supplied"),
+    Mistake('diagnose|a|--strict|--strict', "the argument '--strict' cannot be used multiple times", OF_DIAGNOSE),
+    Mistake('diagnose|a|--strict=true', "unexpected value 'true' for '--strict' found; no more were expected", 'mpdbg diagnose --strict <FILE>'),
+    Mistake('diagnose|a|--mode=b|--mode=b', "the argument '--mode <M>' cannot be used multiple times", OF_DIAGNOSE),
     Mistake('check|a|--fuel', "a value is required for '--fuel <N>' but none was supplied"),
     Mistake('trace|a|--mode|buffered|--mode=buffered', "the argument '--mode <M>' cannot be used multiple times", OF_TRACE),
     Mistake('debug|a|--mode', "a value is required for '--mode <M>' but none was supplied"),
     Mistake('debug|a|--witness', "a value is required for '--witness <WITNESS>' but none was supplied"),
+    Mistake('debug|a|--choices|--ends', "a value is required for '--choices <C>' but none was supplied"),
+    Mistake('debug|a|--choices|0|--choices=0', "the argument '--choices <C>' cannot be used multiple times", OF_DEBUG),
+    Mistake('debug|a|--ends|--ends', "the argument '--ends' cannot be used multiple times", OF_DEBUG),
+    Mistake('debug|a|--ends=true', "unexpected value 'true' for '--ends' found; no more were expected", 'mpdbg debug --ends <FILE>'),
     Mistake('debug|a|--witness|--mode|buffered', "a value is required for '--witness <WITNESS>' but none was supplied"),
     Mistake('debug|--witness|--|a', "a value is required for '--witness <WITNESS>' but none was supplied"),
     Mistake('debug|a|--witness|w|--witness=', "the argument '--witness <WITNESS>' cannot be used multiple times", OF_DEBUG),
@@ -522,6 +576,9 @@ MISTAKES = (
     Mistake('picture|a|--words=w|--words=w', "the argument '--words <WORDS>' cannot be used multiple times", OF_PICTURE),
     Mistake('check|a|--pieces|--pieces', "the argument '--pieces' cannot be used multiple times", OF_CHECK),
     Mistake('check|a|--pieces=5', "unexpected value '5' for '--pieces' found; no more were expected", 'mpdbg check --pieces <FILE>'),
+    Mistake('diagnose|a|--strict=1', "unexpected value '1' for '--strict' found; no more were expected", 'mpdbg diagnose --strict <FILE>'),
+    Mistake('diagnose|a|--mode', "a value is required for '--mode <M>' but none was supplied"),
+    Mistake('diagnose|a|--mode=b|--mode|b', "the argument '--mode <M>' cannot be used multiple times", OF_DIAGNOSE),
     Mistake('check|a|--witness|--witness', "the argument '--witness' cannot be used multiple times", OF_CHECK),
     Mistake('check|a|--witness=true', "unexpected value 'true' for '--witness' found; no more were expected", 'mpdbg check --witness <FILE>'),
     # the words of --until

@@ -80,9 +80,11 @@ NAMED = (
     ('trace|-|--mode=buffered=', BAD_MODE), ('trace|', NO_FILE), ('trace|b', NO_FILE), ('trace|a|--mode|rendezvous', RENDEZVOUS),
     ('trace|a|--mode|buffered ', BAD_MODE), ('trace|a|--mode|', BAD_MODE))
 
-# A race of nine ranks has eight leaves, and a rank that goes on and on is cut; each is in the file `a` or `b`.
+# A race of nine ranks has eight leaves, and a rank that goes on and on is cut; each is in the file `a` or `b`. One of three ranks hangs if
+# rank 1 comes first (`d`), or if rank 2 does (`e`).
 RACE = b'mpd 1; ranks 9; var x; req r; if rank == 0 { recv x from any tag 0; } else { isend r rank to 0 tag 0; }'
 LOOP = b'mpd 1; ranks 1; while 1 { }'
+HANGS_FIRST, HANGS_LAST = (b'mpd 1; ranks 3; var x; if rank == 0 { recv x from any tag 0; recv x from %d tag 0; } else { send 0 to 0 tag 0; }' % rank for rank in (1, 2))
 
 
 def leaves(*lines, more='no', status=0):
@@ -120,6 +122,71 @@ CHECKED = (
     ('check|--|c', STUCK), ('check|c|--mode|buffered', leaves('[] leftovers 0.0')),
     ('check|c|--witness', Result(b'leaf 0 [] deadlock 0.0\nwitness 0: local 0\nleaves 1 more no\n', b'', 1)))
 
+
+
+def lines(*told, status):
+    """These lines, and a status."""
+    return Result(''.join(f'{line}\n' for line in told).encode(), b'', status)
+
+
+def modes(*told, least, status):
+    """A line of the outcomes of each mode, and the mode that is told as least."""
+    return lines(*(f'{mode} outcomes {counts}' for mode, counts in told), f'least {least}', status=status)
+
+
+def not_beside_outcomes(option):
+    return refused(f"--outcomes and {option} can't stand together")
+
+
+LEAVES_ONE, HANGS, IS_CUT = (f'1 deadlocks {deadlocks} traps 0 leftovers {left} cut {cut} more no' for deadlocks, left, cut in ((0, 1, 0), (1, 0, 0), (0, 0, 1)))
+EIGHT_LEAVE_SEVEN = '8 deadlocks 0 traps 0 leftovers 8 cut 0 more no'
+ONE_OF_TWO, FIRST_OF_MORE = '2 deadlocks 1 traps 0 leftovers 0 cut 0 more no', '1 deadlocks 1 traps 0 leftovers 0 cut 0 more yes'
+WANTS_A_SLOT = modes(('rendezvous', HANGS), ('slots:1', LEAVES_ONE), ('buffered', LEAVES_ONE), least='slots:1', status=1)
+BOTH_WAYS = lines('outcome 0 runs 1 first [0] done', 'outcome 1 runs 1 first [1] deadlock 0.1 1.0', 'outcomes 2 runs 2 more no', status=1)
+# Outcomes up to the first deadlock or trap, and in several modes.
+COUNTED = (
+    ('check|d|--outcomes|--until|deadlock', lines('outcome 0 runs 1 first [0] deadlock 0.1 2.0', 'outcomes 1 runs 1 more yes', status=1)),
+    ('check|--until=deadlock|--outcomes|--complete|--|d', lines('outcome 0 runs 1 first [0] deadlock 0.1 2.0', 'outcomes 1 runs 1 more yes', status=1)),
+    ('check|d|--outcomes', lines('outcome 0 runs 1 first [0] deadlock 0.1 2.0', 'outcome 1 runs 1 first [1] done', 'outcomes 2 runs 2 more no', status=1)),
+    ('check|e|--outcomes|--until|deadlock', BOTH_WAYS), ('check|e|--outcomes', BOTH_WAYS),
+    ('check|c|--outcomes|--until=deadlock|--witness',
+     lines('outcome 0 runs 1 first [] deadlock 0.0', 'witness 0: local 0', 'outcomes 1 runs 1 more no', status=1)),
+    ('check|b|--outcomes|--until|deadlock|--fuel|1|--complete', lines('outcome 0 runs 1 first [] cut', 'outcomes 1 runs 1 more no', status=4)),
+    ('check|a|--outcomes|--modes|0', modes(('rendezvous', EIGHT_LEAVE_SEVEN), ('buffered', EIGHT_LEAVE_SEVEN), least='rendezvous', status=0)),
+    ('check|c|--outcomes|--modes|1', WANTS_A_SLOT),
+    ('check|--modes=+01|--mode=buffered|--witness|--explain|--states=1|--workers|16|--outcomes|--until|deadlock|--complete|--|c', WANTS_A_SLOT),
+    ('check|b|--outcomes|--modes|0|--fuel=1', modes(('rendezvous', IS_CUT), ('buffered', IS_CUT), least='rendezvous', status=0)),
+    ('check|b|--outcomes|--modes|0|--fuel=1|--complete', modes(('rendezvous', IS_CUT), ('buffered', IS_CUT), least='rendezvous', status=4)),
+    ('check|d|--outcomes|--modes|0', modes(('rendezvous', ONE_OF_TWO), ('buffered', ONE_OF_TWO), least='none', status=1)),
+    ('check|d|--outcomes|--modes|0|--until|deadlock', modes(('rendezvous', FIRST_OF_MORE), ('buffered', FIRST_OF_MORE), least='none', status=1)),
+    ('check|e|--outcomes|--modes|0|--until|deadlock', modes(('rendezvous', ONE_OF_TWO), ('buffered', ONE_OF_TWO), least='none', status=1)),
+    ('check|c|--outcomes|--modes|1|--mode|b', BAD_MODE), ('check|none|--outcomes|--modes|1', NO_FILE),
+    ('check|c|--outcomes|--modes|1|--workers|17', BAD_WORKERS), ('check|c|--outcomes|--until|deadlock|--ends', not_beside_outcomes('--ends')),
+    ('check|c|--outcomes|--modes|1|--sample|5', not_beside_outcomes('--sample')),
+    ('check|c|--modes|1|--until|deadlock|--outcomes|--group|--seed|1', not_beside_outcomes('--seed')))
+
+
+def stuck_once(file):
+    """What is said of a rank that sends to itself, which waits for ever, by the name of its file."""
+    return lines('it can hang: 1 of 1 run', '', 'deadlock at line 1: 1 of 1 run',
+                 '  rank 0 waits at line 1, 0.0 send to 0 tag 0 value 1: for a receive of rank 0', '        from rank 0 with tag 0', '  rank 0 waits for rank 0',
+                 '  a cycle, where each waits for the next: rank 0, rank 0', '  decided from the start: no run ends well',
+                 f"  ./mpdbg debug {file} --ends --choices ''", f"  ./mpdbg picture {file} --ends --choices '' > run.svg", status=1)
+
+
+def left_once(status):
+    """What is said of the same with buffers, where its message is left over."""
+    return lines('it never hangs or traps, whatever is taken first (1 run, 1 state)', 'it can leave messages over: 1 of 1 run', '',
+                 'left over from line 1: 1 of 1 run', '  left over: line 1, 0.0 send to 0 tag 0 value 1',
+                 "  ./mpdbg debug c --mode buffered --ends --choices ''", "  ./mpdbg picture c --mode buffered --ends --choices '' > run.svg", status=status)
+
+
+# Diagnoses: the mode is tested before the file, and that stands in commands as it was given.
+DIAGNOSED = (
+    ('diagnose|c', stuck_once('c')), ('diagnose|--mode=rendezvous|--strict|--|./c', stuck_once('./c')), ('diagnose|c|--mode|buffered', left_once(0)),
+    ('diagnose|--strict|c|--mode=buffered', left_once(1)), ('diagnose|c|--mode|b', BAD_MODE), ('diagnose|--mode=|--strict|c', BAD_MODE),
+    ('diagnose|none|--mode|b', BAD_MODE), ('diagnose|none', NO_FILE), ('diagnose|none|--strict', NO_FILE), ('diagnose|', NO_FILE))
+
 # Words that ask for help or the version, status 0, and wrong words, status 2; standard input has a script that would be traced.
 ANSWERED = ('--help', 'help', 'help|trace', 'trace|--help', 'help|serve', 'serve|--help', 'help|check', 'check|--help', '--version')
 MISTAKEN = (
@@ -130,7 +197,8 @@ MISTAKEN = (
     'check|a|--fuel|1000001', 'check|a|--fuel|ten', 'check|a|--runs=', 'check|a|--runs|5|--runs=5', 'check|a|--witness=true',
     'check|a|--witness|--witness', 'check|a|--split|9', 'check|a|--split|-1', 'check|a|--split=', 'check|a|--split|1|--split=1',
     'check|a|--workers|1001', 'check|a|--workers|two', 'check|a|--piece|1024', 'check|a|--piece=', 'check|a|--until', 'check|a|--until|trap',
-    'check|a|--until=', 'check|a|--pieces=yes', 'check|a|--pieces|--pieces', 'trace|a|--split|1', 'run|a|--workers|2', 'verify|a|b|--piece|0')
+    'check|a|--until=', 'check|a|--pieces=yes', 'check|a|--pieces|--pieces', 'diagnose', 'diagnose|a|b', 'diagnose|a|--strict=yes',
+    'diagnose|a|--strict|--strict', 'diagnose|a|--mode', 'diagnose|a|--fuel|5', 'diagnose|a|--complete', 'check|a|--strict', 'trace|a|--split|1', 'run|a|--workers|2', 'verify|a|b|--piece|0')
 
 
 def write_files(**files):
@@ -147,8 +215,8 @@ def word_rows(program):
 
         write_files(**{name: SENT for name in NAMES})
         yield from [(f'words {words}', given(words), wanted) for words, wanted in NAMED]
-        write_files(a=RACE, b=LOOP, c=SENT)
-        yield from [(f'words {words}', given(words), wanted) for words, wanted in CHECKED]
+        write_files(a=RACE, b=LOOP, c=SENT, d=HANGS_FIRST, e=HANGS_LAST)
+        yield from [(f'words {words}', given(words), wanted) for words, wanted in (*CHECKED, *DIAGNOSED, *(COUNTED if KNOWN else ()))]
         for words in ANSWERED:
             said = given(words)
             yield f'asked for {words}', (bool(said.output), said.errors, said.status), (True, b'', 0)

@@ -10,7 +10,7 @@ TOP = os.path.dirname(os.path.dirname(os.path.dirname(os.path.abspath(__file__))
 SECONDS = 120
 
 LEAF = re.compile(r'leaf \d+ \[([\d ]*)\] (\w+)(?: (.*))?$')
-MODE = re.compile(r'(\S+) leaves \d+ deadlocks (\d+) traps (\d+) cut \d+ more (yes|no)$')
+MODE = re.compile(r'(\S+) leaves \d+ deadlocks (\d+) traps (\d+) leftovers \d+ cut \d+ more (yes|no)$')
 
 
 class NotChecked(Exception):

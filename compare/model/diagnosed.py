@@ -1,0 +1,299 @@
+"""Whether the runs of a script can hang or trap, how, and where that was decided: what `diagnose` answers, in the model.
+
+By definition an end is an outcome of `check --outcomes`, which has its first run and how many runs end so (outcomes.py). Ends of one kind whose first
+runs stand at the same lines of the script are told together, and of these the one with the shortest first run is explained (explaining.py,
+deciding.py). Where the search has stopped and none of its runs hangs or traps, runs are drawn as `check --sample` draws them (sampler.py), and what
+becomes of these is told after the rest. Lines are folded as in the console, but for commands.
+
+compare/rows/worked_diagnosed.py has rows of it, and compare/runs/diagnosed.py compares a program with it.
+"""
+
+import math
+from typing import NamedTuple, Optional
+
+from model import explaining, explorer, outcomes, sampler, states
+from model.console_lines import all_folded
+from model.debugger import BAD_FILE, BAD_MODE, RENDEZVOUS, Debugger, Result, blocked_calls, refusal
+from model.explorer import NOT_WHOLE
+from model.files import held
+from model.language import Fault
+from model.modes import is_mode, slots_of
+from model.outcomes import count_text, is_bad, is_whole
+from model.policy import Forced
+from model.run_words import run_by
+from model.states import NO_RUNS, Found, answered, word_of
+from model.walks import CUT, Leaf, Run
+
+# The kinds of ends that are told, and how it is told where one stands.
+HANG, TRAP, LEFT = 'deadlock', 'trap', 'leftovers'
+STANDS = {HANG: 'deadlock at', TRAP: 'trap at', LEFT: 'left over from'}
+NEVER, NOT_FOUND = 'it never hangs or traps, whatever is taken first', 'no hang and no trap was found in'
+UNTRIED, AT_RANDOM = 'not everything was tried', 'drawn at random'
+# What seeds the generator that runs are drawn by.
+SEED = 0
+
+
+class Limits(NamedTuple):
+    """How many steps a run has at most, how many states are kept and come to, how many the search for a step that decides comes to, and how many
+    runs are drawn."""
+    fuel: int = 100000
+    kept: int = 1000000
+    come_to: int = 4000000
+    deciding: int = 1000000
+    drawn: int = 4096
+
+
+class Diagnosis(NamedTuple):
+    """What is asked of a script (None: there is no such file), with the name of its file; a mode that is None is left out. A program has the limits
+    that stand here; others are asked of the model alone."""
+    name: str
+    script: Optional[bytes]
+    mode: Optional[str] = None
+    strict: bool = False
+    file: str = 'script.mpd'
+    limits: Limits = Limits()
+
+    def words(self, folder):
+        """The words that ask a program, with the file in a folder, or where the program is run."""
+        mode = () if self.mode is None else ('--mode', self.mode)
+        return ('diagnose', held(folder, self.file, self.script), *mode, *['--strict'] * self.strict)
+
+    def begun(self):
+        """The run at the start of the script."""
+        return Run(explorer.first_world(explorer.read_script(self.script), self.mode or RENDEZVOUS), self.limits.fuel)
+
+    def searched(self):
+        """A search for how its runs end, and what it found."""
+        search, begun = Counting(self.limits.kept, self.limits.come_to), self.begun()
+        ways = answered(search.behind(begun.world, begun.fuel)).ways
+        return search, Found(ways, search.left_out)
+
+    def drawn(self):
+        """The runs that are drawn, each different one once, in the order of the walk."""
+        start = Debugger(explorer.read_script(self.script), self.mode or RENDEZVOUS)
+        return sampler.sampled(start, self.limits.drawn, self.limits.fuel, SEED).leaves
+
+    def deciding(self):
+        """The search for the step that decides how one of its runs ends."""
+        return Counting(self.limits.kept, self.limits.deciding)
+
+    def wanted(self):
+        """What must be answered."""
+        return answer(self)
+
+
+# ---- the search
+
+class Counting(states.Search):
+    """A search whose states are those with a choice, and those where a run ends. It counts them, those that it comes to again too, and stops
+    behind so many; it keeps no others."""
+
+    def __init__(self, kept, most):
+        super().__init__(kept, math.inf)
+        self.counted, self.most_counted = 0, most
+
+    def behind(self, world, fuel):
+        """What is told of the runs behind a world; what it asks for is told of those behind another one."""
+        if fuel and isinstance(states.decided(world), Forced):
+            return (yield from self.told_behind(world, fuel))
+        if self.counted == self.most_counted:
+            self.has_stopped = self.left_out = True
+            return NO_RUNS
+        self.counted += 1
+        return (yield from super().behind(world, fuel))
+
+
+# ---- what is drawn
+
+def is_drawn(found):
+    """Whether runs are drawn: there are more than these, and none of these hangs or traps."""
+    return found.more and not any(map(is_bad, found.ways))
+
+
+def drawn_of(asked, found):
+    """What is found of the runs that are drawn behind a search; None where none are."""
+    return states.of_leaves(asked.drawn(), more=True) if is_drawn(found) else None
+
+
+# ---- ends, and those that are told together
+
+class End(NamedTuple):
+    """An end that isn't done: its first run, how many runs end so, and the lines of the script where that run stands."""
+    leaf: Leaf
+    runs: int
+    lines: tuple
+
+    @property
+    def kind(self):
+        return word_of(self.leaf.outcome)
+
+
+def places(at, kind):
+    """The line of each rank that is trapped, of each call that a rank is blocked in, or of each that is left over."""
+    if kind == TRAP:
+        return [explaining.next_line(rank) for rank in at.world.ranks if rank.mode == 'trapped']
+    return [at.lines[call_id] for call_id in (blocked_calls(at.world) if kind == HANG else explaining.all_free(at.world))]
+
+
+def lines_of(asked, leaf):
+    """The lines of the script where a run stands at its end, each once, the least first."""
+    at = explaining.reached(explorer.read_script(asked.script), asked.mode or RENDEZVOUS, leaf.steps)
+    return tuple(sorted(set(places(at, word_of(leaf.outcome)))))
+
+
+def ends_of(asked, found):
+    """The ends that are told, in the order of the first run of each."""
+    for outcome, way in found.ways.items():
+        if word_of(outcome) in STANDS:
+            leaf = run_by(asked.begun(), way.first, ends=True)
+            yield End(leaf, way.runs, lines_of(asked, leaf))
+
+
+def bug_of(end):
+    """What ends have in common that are told together."""
+    return end.kind, end.lines
+
+
+def bugs_of(ends):
+    """The ends that are told together, in the order of the first of each."""
+    found = {}
+    for end in ends:
+        found.setdefault(bug_of(end), []).append(end)
+    return list(found.values())
+
+
+def explained_of(ends):
+    """Of ends that are told together the one that is explained: the first of those whose first run has the fewest steps."""
+    return min(ends, key=lambda end: len(end.leaf.steps))
+
+
+# ---- what is written
+
+def several(count, what):
+    """A count of runs or states."""
+    return f'{count_text(count)} {what}{"" if count == 1 else "s"}'
+
+
+def of_runs(count, found):
+    """How many of all runs."""
+    return f'{count_text(count)} of {several(outcomes.total(found), "run")}'
+
+
+def runs_of(found, kind):
+    """How many runs end in a kind of way."""
+    return sum(way.runs for outcome, way in found.ways.items() if word_of(outcome) == kind)
+
+
+def file_of(asked):
+    """The file as commands have it, with its mode, whose number has no leading zeros."""
+    if asked.mode in (None, RENDEZVOUS):
+        return asked.file
+    slots = slots_of(asked.mode)
+    return f'{asked.file} --mode {asked.mode if slots is None else f"slots:{slots}"}'
+
+
+def verdict_lines(asked, search, found):
+    """What becomes of the runs."""
+    hang, trap, left, cut = (runs_of(found, kind) for kind in (HANG, TRAP, LEFT, CUT))
+    if hang:
+        yield f'it can hang: {of_runs(hang, found)}'
+    if trap:
+        yield f'it can trap: {of_runs(trap, found)}'
+    if not hang and not trap:
+        runs = several(outcomes.total(found), 'run')
+        yield f'{NEVER} ({runs}, {several(search.counted, "state")})' if is_whole(found) else f'{NOT_FOUND} {runs}'
+    if left:
+        yield f'it can leave messages over: {of_runs(left, found)}'
+    if cut:
+        yield f'{UNTRIED}: {of_runs(cut, found)} were cut after {asked.limits.fuel} steps'
+    if found.more:
+        yield f'{UNTRIED}: there are more runs than these'
+
+
+def others(asked):
+    """The command that tries others."""
+    return f'  ./mpdbg check {file_of(asked)} --sample 65536 --group --explain'
+
+
+def verdict(asked, search, found):
+    """The same, as it is written, with the command that tries others where there are more and none are drawn."""
+    lines = all_folded(verdict_lines(asked, search, found))
+    return [*lines, others(asked)] if found.more and not is_drawn(found) else lines
+
+
+def drawn_lines(drawn):
+    """What becomes of runs that are drawn."""
+    hang, trap, left = (runs_of(drawn, kind) for kind in (HANG, TRAP, LEFT))
+    if hang:
+        yield f'{AT_RANDOM}: {of_runs(hang, drawn)} hang'
+    if trap:
+        yield f'{AT_RANDOM}: {of_runs(trap, drawn)} trap'
+    if not hang and not trap:
+        yield f'{AT_RANDOM}: none of {several(outcomes.total(drawn), "run")} hangs or traps'
+    if left:
+        yield f'{AT_RANDOM}: {of_runs(left, drawn)} leave messages over'
+
+
+def drawn_verdict(asked, drawn):
+    """The same, as it is written behind an empty line, with the command that tries others where none hangs or traps."""
+    lines = ['', *all_folded(drawn_lines(drawn))]
+    return lines if any(map(is_bad, drawn.ways)) else [*lines, others(asked)]
+
+
+def heading(ends, found):
+    """What is told of ends that are told together: their kind, where they stand, and how many runs end so."""
+    lines = ends[0].lines
+    where = f'line{"s" if len(lines) > 1 else ""} {", ".join(map(str, lines))}'
+    return f'{STANDS[ends[0].kind]} {where}: {of_runs(sum(end.runs for end in ends), found)}'
+
+
+def commands(asked, leaf):
+    """The commands that debug a run, and draw it."""
+    run = f"{file_of(asked)} --ends --choices '{' '.join(map(str, leaf.choices))}'"
+    return [f'  ./mpdbg debug {run}', f'  ./mpdbg picture {run} > run.svg']
+
+
+def bug_lines(asked, ends, found):
+    """What is written of ends that are told together, behind an empty line."""
+    leaf = explained_of(ends).leaf
+    return ['', *all_folded([heading(ends, found), *outcomes.explained(asked, leaf)]), *commands(asked, leaf)]
+
+
+def all_bug_lines(asked, found):
+    """What is written of all ends of what was found, or drawn."""
+    return [line for ends in bugs_of(ends_of(asked, found)) for line in bug_lines(asked, ends, found)]
+
+
+def text_of(asked, search, found, drawn):
+    """What is written of what a search found, and of what was drawn, if that was."""
+    lines = [*verdict(asked, search, found), *all_bug_lines(asked, found)]
+    if drawn is not None:
+        lines += [*drawn_verdict(asked, drawn), *all_bug_lines(asked, drawn)]
+    return ''.join(f'{line}\n' for line in lines)
+
+
+def status(asked, found, drawn):
+    """The status by what was found, and what was drawn."""
+    ends = [*found.ways, *(drawn.ways if drawn is not None else ())]
+    if any(is_bad(outcome) or asked.strict and word_of(outcome) == LEFT for outcome in ends):
+        return 1
+    return 0 if is_whole(found) else NOT_WHOLE
+
+
+def diagnosed(asked):
+    """The result of a script that is one."""
+    search, found = asked.searched()
+    drawn = drawn_of(asked, found)
+    return Result(text_of(asked, search, found, drawn).encode(), b'', status(asked, found, drawn))
+
+
+def answer(asked):
+    """The result: the mode is tested first, then the file, and the script."""
+    if asked.mode is not None and not is_mode(asked.mode):
+        return BAD_MODE
+    if asked.script is None:
+        return BAD_FILE
+    try:
+        return diagnosed(asked)
+    except Fault as fault:
+        return refusal(asked.script, fault)

@@ -1,0 +1,214 @@
+"""What `diagnose` says of a script, read from its text: what becomes of the runs, and of those that were drawn if some were, and each bug with its
+lines, its explanation, and the run that its commands have. What can be told of the text without its script must be so. It knows nothing of
+diagnosed.py, and folds nothing."""
+
+import re
+from typing import NamedTuple, Optional
+
+from model.outcomes import MOST_COUNTED
+from model.report_lines import choices_of, must_be
+
+COMMAND, GOES_ON, WIDTH = '  ./mpdbg ', ' ' * 8, 80
+COUNT = '((?:at least )?[0-9]+)'
+RUNS = f'{COUNT} (runs?)'
+# What becomes of the runs, in the order of the lines.
+VERDICT = tuple((name, re.compile(line)) for name, line in (
+    ('hang', f'it can hang: {COUNT} of {RUNS}'), ('trap', f'it can trap: {COUNT} of {RUNS}'),
+    ('never', rf'it never hangs or traps, whatever is taken first \({RUNS}, ([0-9]+) (states?)\)'),
+    ('none found', f'no hang and no trap was found in {RUNS}'), ('left', f'it can leave messages over: {COUNT} of {RUNS}'),
+    ('cut', f'not everything was tried: {COUNT} of {RUNS} were cut after 100000 steps'),
+    ('more', 'not everything was tried: there are more runs than these')))
+# What becomes of runs that are drawn, in the order of the lines.
+AT_RANDOM = 'drawn at random: '
+DRAWN = tuple((name, re.compile(f'{AT_RANDOM}{line}')) for name, line in (
+    ('hang', f'{COUNT} of {RUNS} hang'), ('trap', f'{COUNT} of {RUNS} trap'), ('none drawn', f'none of {RUNS} hangs or traps'),
+    ('left', f'{COUNT} of {RUNS} leave messages over')))
+HEADING = re.compile(f'(deadlock at|trap at|left over from) (lines?) ([0-9]+(?:, [0-9]+)*): {COUNT} of {RUNS}')
+KINDS = {'deadlock at': 'hang', 'trap at': 'trap', 'left over from': 'left'}
+CHOICES = re.compile('(?:[0-9]+(?: [0-9]+)*)?')
+# Where the script stands, in the lines of an explanation.
+PLACES = {'hang': re.compile('  rank [0-9]+ waits at line ([0-9]+), '), 'trap': re.compile('  rank [0-9]+, line ([0-9]+): trap '),
+          'left': re.compile('  left over: line ([0-9]+), ')}
+
+
+class Bug(NamedTuple):
+    """Ends that are told together: their kind and lines, how many runs end so, the lines that explain one of them, that which tells what decided
+    (None where none does), and the choices of the run that is shown."""
+    kind: str
+    lines: tuple
+    runs: int
+    explained: tuple
+    decided: Optional[str]
+    choices: tuple
+
+
+class Drawn(NamedTuple):
+    """How many runs that were drawn become what, by kind; how many there are, and their bugs."""
+    counts: dict
+    runs: int
+    bugs: tuple
+
+
+class Told(NamedTuple):
+    """How many runs become what, by kind; how many there are, how many states were come to where that is told, whether there are more, the bugs, and
+    what was drawn (None where nothing was)."""
+    counts: dict
+    runs: int
+    states: Optional[int]
+    more: bool
+    bugs: tuple
+    drawn: Optional[Drawn]
+
+
+def count_of(text):
+    """A count; what is counted `at least` is read as one run more than are counted."""
+    return MOST_COUNTED + 1 if text.startswith('at least ') else int(text)
+
+
+def runs_in(count, word):
+    """How many runs are told by a count and a word."""
+    must_be((count == '1') == (word == 'run'), f'{count} {word}')
+    return count_of(count)
+
+
+# ---- long lines
+
+def unfolded(lines):
+    """The lines as they were before they were folded; each part has as many words as there is room for."""
+    found = []
+    for before, line in zip(['', *lines], lines):
+        if not line.startswith(GOES_ON):
+            found.append(line)
+            continue
+        word = line.removeprefix(GOES_ON).split(' ')[0]
+        must_be(bool(before.strip()) and not before.startswith(COMMAND), f'what goes on behind {before[:60]!r}')
+        must_be(bool(word) and len(before) + 1 + len(word) > WIDTH, f'{word!r} has room behind {before!r}')
+        found[-1] += f' {line.removeprefix(GOES_ON)}'
+    must_be(all(len(line) <= WIDTH for line in lines if not line.startswith(COMMAND)), f'a line is longer than {WIDTH} bytes')
+    return found
+
+
+def blocks(text):
+    """The parts of a text that empty lines divide, each with its lines."""
+    must_be(text.endswith('\n'), 'the last line has no end')
+    found = [[]]
+    for line in unfolded(text[:-1].split('\n')):
+        if line:
+            found[-1].append(line)
+        else:
+            found.append([])
+    must_be(all(found), 'an empty line too many')
+    return found
+
+
+# ---- what becomes of the runs
+
+def verdict_of(lines, patterns):
+    """What is told by each line of a verdict, by its name; they stand in the order of their patterns."""
+    found, names = {}, iter(patterns)
+    for line in lines:
+        name, told = next(((name, told) for name, pattern in names if (told := pattern.fullmatch(line))), (None, None))
+        must_be(name is not None, f'a line that is none, or stands too late: {line!r}')
+        found[name] = told.groups()
+    return found
+
+
+def counts_in(verdict):
+    """How many runs become what, and how many there are."""
+    counts = {name: count_of(verdict[name][0]) if name in verdict else 0 for name in ('hang', 'trap', 'left', 'cut')}
+    must_be(all(counts[name] for name in counts if name in verdict), 'a line of no run')
+    told = [runs_in(*verdict[name][-2:]) for name in counts if name in verdict]
+    told += [runs_in(*verdict[name][:2]) for name in ('never', 'none found') if name in verdict]
+    must_be(len(set(told)) == 1, f'there are {told} runs')
+    must_be(sum(counts.values()) <= told[0] or told[0] > MOST_COUNTED, f'{counts} of {told[0]} runs')
+    is_bad, is_part = counts['hang'] or counts['trap'], counts['cut'] or 'more' in verdict
+    wanted = set() if is_bad else {'none found' if is_part else 'never'}
+    must_be({'never', 'none found'} & set(verdict) == wanted, f'{sorted(verdict)} is told')
+    return counts, told[0]
+
+
+def counts_drawn(verdict):
+    """How many runs that were drawn become what, and how many there are."""
+    counts = {name: count_of(verdict[name][0]) if name in verdict else 0 for name in ('hang', 'trap', 'left')}
+    must_be(all(counts[name] for name in counts if name in verdict), 'a line of no run that was drawn')
+    told = [runs_in(*found[-2:]) for found in verdict.values()]
+    must_be(len(set(told)) == 1 and sum(counts.values()) <= told[0], f'{counts} of {told} runs that were drawn')
+    must_be(('none drawn' in verdict) != bool(counts['hang'] or counts['trap']), f'{sorted(verdict)} is told of what was drawn')
+    return counts, told[0]
+
+
+# ---- commands, and bugs
+
+def choices_in(line, front, behind):
+    """The choices that a command has, of which this stands in front and behind."""
+    must_be(line.startswith(front) and line.endswith(behind), f'{line!r} is not {front}..{behind}')
+    told = line.removeprefix(front).removesuffix(behind)
+    must_be(CHOICES.fullmatch(told) is not None, f'{told!r} are no choices')
+    return choices_of(told)
+
+
+def bug_in(lines, file, runs):
+    """A bug, by its lines."""
+    told = HEADING.fullmatch(lines[0])
+    must_be(told is not None and len(lines) > 3, f'ends are told by {lines[:4]}')
+    kind, places = KINDS[told[1]], tuple(map(int, told[3].split(', ')))
+    must_be(places == tuple(sorted(set(places))) and (told[2] == 'line') == (len(places) == 1), f'{told[2]} {places}')
+    must_be(runs_in(told[5], told[6]) == runs, f'{told[0]} of {runs} runs')
+    choices = [choices_in(line, f"{COMMAND}{word} {file} --ends --choices '", behind)
+               for line, word, behind in zip(lines[-2:], ('debug', 'picture'), ("'", "' > run.svg"))]
+    must_be(choices[0] == choices[1], f'commands of two runs, {choices}')
+    explained, decided = lines[1:-2], None
+    if kind != 'left':
+        *explained, decided = explained
+        must_be(decided.startswith('  decided '), f'what decided is {decided!r}')
+    stands = {int(place[1]) for line in explained if (place := PLACES[kind].match(line))}
+    must_be(stands == set(places), f'it stands at {sorted(stands)}, and not {places}')
+    return Bug(kind, places, count_of(told[4]), tuple(explained), decided, choices[0])
+
+
+def bugs_in(blocks_of_bugs, file, counts, runs):
+    """The bugs of some blocks, each another, which add up to how many runs become what."""
+    bugs = tuple(bug_in(lines, file, runs) for lines in blocks_of_bugs)
+    must_be(len({(bug.kind, bug.lines) for bug in bugs}) == len(bugs), 'a bug twice')
+    for kind in ('hang', 'trap', 'left'):
+        there = sum(bug.runs for bug in bugs if bug.kind == kind)
+        must_be(there == counts[kind] or there > MOST_COUNTED < counts[kind], f'{there} runs of {kind}, and not {counts[kind]}')
+    return bugs
+
+
+def told_and_others(lines, patterns, file):
+    """What is told by the lines of a verdict, and whether the command that tries others stands behind them."""
+    has_command = lines[-1] == f'{COMMAND}check {file} --sample 65536 --group --explain'
+    return verdict_of(lines[:-1] if has_command else lines, patterns), has_command
+
+
+def drawn_in(verdict, others, file):
+    """What is told of runs that were drawn, by the lines of their verdict, and the blocks behind it."""
+    told, has_command = told_and_others(verdict, DRAWN, file)
+    counts, runs = counts_drawn(told)
+    must_be(has_command == ('none drawn' in told), 'a command that tries others, behind what was drawn')
+    return Drawn(counts, runs, bugs_in(others, file, counts, runs))
+
+
+def read_diagnosis(text, file):
+    """What is told of the script of a file, which has its mode behind it; raises why it is none."""
+    verdict, *others = blocks(text.decode())
+    told, has_command = told_and_others(verdict, VERDICT, file)
+    counts, runs = counts_in(told)
+    place = next((place for place, lines in enumerate(others) if lines[0].startswith(AT_RANDOM)), len(others))
+    is_drawn = 'more' in told and not counts['hang'] and not counts['trap']
+    must_be((place < len(others)) == is_drawn, f'{"nothing" if is_drawn else "something"} is told of runs that were drawn')
+    must_be(has_command == ('more' in told and not is_drawn), 'a command that tries others')
+    bugs = bugs_in(others[:place], file, counts, runs)
+    if 'never' in told:
+        must_be((told['never'][2] == '1') == (told['never'][3] == 'state'), 'states')
+    drawn = drawn_in(others[place], others[place + 1:], file) if is_drawn else None
+    return Told(counts, runs, int(told['never'][2]) if 'never' in told else None, 'more' in told, bugs, drawn)
+
+
+def status_of(told, strict):
+    """The status by what is told."""
+    for counts in (told.counts, *([told.drawn.counts] if told.drawn is not None else [])):
+        if counts['hang'] or counts['trap'] or strict and counts['left']:
+            return 1
+    return 4 if told.more or told.counts['cut'] else 0
