@@ -214,7 +214,7 @@ def verifications_of_groups(random, case, report):
     told = read_report(report)
     text = samples.grouped(told, case.asked)
     whole = Verification(case.script, text, case.asked.mode)
-    firsts = list({leaf.outcome: number for number, leaf in reversed([*enumerate(told.leaves)])}.values())
+    firsts = list({str(leaf.outcome): number for number, leaf in reversed([*enumerate(told.leaves)])}.values())
     stuck = [number for number in firsts if told.leaves[number].steps]
     yield whole
     yield from [whole._replace(leaf=number) for number in range(min(4, len(told.leaves))) if number not in stuck]

@@ -92,6 +92,7 @@ def kept_faults():
     return ([Breakage(f'a result for {name}', states, 'serves', replacement) for name, replacement in serves]
             + [Breakage('a run that is cut has as many steps as it has fuel', states, 'ended',
                         lambda outcome: SOUND['ended'](outcome)._replace(longest=0)),
+               Breakage('traps at other statements are one outcome', states, 'ended', lambda outcome: SOUND['ended'](str(outcome))),
                Breakage('the longest run is that of the last candidate', states, 'joined', lambda told, later: (
                    SOUND['joined'](told, later)._replace(longest=later.longest))),
                Breakage('the longest run is that of the first candidate', states, 'joined', lambda told, later: (

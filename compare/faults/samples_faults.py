@@ -167,7 +167,7 @@ def saying_faults():
     orders = (
         ('in the order of drawing', lambda leaves: tuple(dict.fromkeys(leaves))),
         ('a run as often as it is drawn', lambda leaves: tuple(sorted(leaves))),
-        ('each outcome once', lambda leaves: tuple({leaf.outcome: leaf for leaf in sorted(leaves, reverse=True)}.values())[::-1]),
+        ('each outcome once', lambda leaves: tuple({str(leaf.outcome): leaf for leaf in sorted(leaves, reverse=True)}.values())[::-1]),
         ('by their ends', lambda leaves: tuple(sorted(dict.fromkeys(leaves), key=lambda leaf: leaf.outcome))))
     said = (
         ('status 0', lambda said, asked: said._replace(status=0)), ('status 4 without --complete', lambda said, asked: said._replace(

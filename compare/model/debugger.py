@@ -408,12 +408,30 @@ def blocked_calls(world):
     return tuple(last_call(world, number) for number, rank in enumerate(world.ranks) if rank.mode == 'blocked')
 
 
+class Outcome(str):
+    """How a run ended, as it is told, and where the statements begin that trapped ranks stand at: an outcome is another one where these are
+    others, though it is told alike. A text alone is the same as one that is told so."""
+
+    def __new__(cls, told, places=()):
+        it = super().__new__(cls, told)
+        it.places = places
+        return it
+
+    def __eq__(self, other):
+        return super().__eq__(other) and (not isinstance(other, Outcome) or self.places == other.places)
+
+    def __ne__(self, other):
+        return not self == other
+
+    __hash__ = str.__hash__
+
+
 def outcome(world):
     """How a world ended in which no step is enabled."""
     ranks = list(enumerate(world.ranks))
-    traps = [f'{number} {rank.trap}' for number, rank in ranks if rank.mode == 'trapped']
-    if traps:
-        return joined('trap', traps)
+    trapped = [(number, rank) for number, rank in ranks if rank.mode == 'trapped']
+    if trapped:
+        return Outcome(joined('trap', [f'{number} {rank.trap}' for number, rank in trapped]), tuple(rank.rest[0].line.place for _, rank in trapped))
     if blocked := blocked_calls(world):
         return joined('deadlock', blocked)
     free = [CallId(number, place) for number, rank in ranks for place in rank.free]

@@ -146,7 +146,7 @@ class End(NamedTuple):
 
 def ends_of(found):
     """The different outcomes of a report, in the order in which it has them first."""
-    outcomes = [leaf.outcome for leaf in found.leaves]
+    outcomes = [str(leaf.outcome) for leaf in found.leaves]
     return [End(outcome, outcomes.count(outcome), outcomes.index(outcome)) for outcome in dict.fromkeys(outcomes)]
 
 

@@ -91,8 +91,17 @@ class Binary(NamedTuple):
     right: object
 
 
+class Line(int):
+    """The line at which a statement begins, and the place of its first byte, which tells it from others of that line."""
+
+    def __new__(cls, line, place=None):
+        it = super().__new__(cls, line)
+        it.place = place
+        return it
+
+
 class Assign(NamedTuple):
-    line: int
+    line: Line
     place: Place
     value: object
 
@@ -352,7 +361,7 @@ class Reader:
                 raise Fault(EXPECTED, place)
         if over:
             raise Fault(TOO_MANY, place)
-        line = 1 + bisect_left(self.line_feeds, place)
+        line = Line(1 + bisect_left(self.line_feeds, place), place)
         if kind == 'name':
             return self.assignment(line)
         self.tokens.advance()

@@ -92,6 +92,11 @@ BY_TWO = ways(8, (2, '0 0', 'deadlock 2.0 5.0'), (2, '0 1', 'deadlock 2.0 4.0'),
 # deadlock.
 HIGH_WANTED = LOW_WANTED.replace('x == 1', 'x == 2')
 TRAP_FIRST = 'outcome 0 runs 1 first [0] trap 0 assert; outcome 1 runs 1 first [1] deadlock 1.0; outcomes 2 runs 2 more no'
+# Whose message comes first decides which of two statements of a line traps: they are two outcomes, told alike. Where both come to one
+# statement, it is one.
+TWO_ASSERTS = 'mpd 1; ranks 3; var x;\nif rank == 0 { recv x from any tag 0; if x == 1 { assert 0; } else { assert 0; } } else { send rank to 0 tag 0; }'
+ONE_ASSERT = TWO_ASSERTS.replace('if x == 1 { assert 0; } else { assert 0; }', 'assert x == 0;')
+TOLD_ALIKE = ways(2, (1, '0', 'trap 0 assert'), (1, '1', 'trap 0 assert'))
 # One of three senders is received: each leaves the two others blocked.
 ONE_OF_THREE = Races(1, 3, 1).script()
 BY_ONE = ways(3, (1, '0', 'deadlock 2.0 3.0'), (1, '1', 'deadlock 1.0 3.0'), (1, '2', 'deadlock 1.0 2.0'))
@@ -109,7 +114,7 @@ FEW = (
     row(ONE_OF_THREE, BY_ONE, 1), row(ONE_OF_THREE, BY_ONE.replace('deadlock', 'leftovers'), mode=BUFFERED),
     row(TWO_OF_THREE, BY_TWO_OF_THREE, 1), *(row(TWO_OF_THREE, BY_TWO_OF_THREE, 1, states=states) for states in (1, 2, 10, MOST_STATES)),
     # the first runs stand in another order than the texts
-    row(HIGH_WANTED, TRAP_FIRST, 1), row(TWO_RACES, BY_TWO, 1),
+    row(HIGH_WANTED, TRAP_FIRST, 1), row(TWO_RACES, BY_TWO, 1), row(TWO_ASSERTS, TOLD_ALIKE, 1), row(ONE_ASSERT, one_way('trap 0 assert', 2, '0'), 1),
     row(TWO_RACES, BY_TWO.replace('deadlock', 'leftovers'), mode=BUFFERED, complete=True),
     *(row(TWO_RACES, BY_TWO, 1, states=states) for states in (1, 5)),
     row(LOW_WANTED, 'outcome 0 runs 1 first [0] deadlock 2.0; '

@@ -42,7 +42,7 @@ from model.remembered import remembering, steps_remembered
 from model.policy import Choice
 from model.report_lines import NoReport, must_be
 from model.run_words import BadChoices, run_by
-from model.states import USUAL_STATES, Search, of_leaves, up_to_first
+from model.states import USUAL_STATES, Found, Search, of_leaves, up_to_first
 from model.walks import CUT
 from model.wide import wide_walk
 from rows import worked_decided, worked_outcomes
@@ -253,10 +253,22 @@ def told_of(small, result):
     plain, decided = read_decided(result.output)
     try:
         must_be(result.errors == b'', f'standard error has {result.errors[:80]!r}')
-        found = read_outcomes(plain)
+        read = read_outcomes(plain)
+        found = Found(dict(ends_read(small, read)), read.more)
+        must_be(len(found.ways) == len(read.outcomes), 'an outcome twice')
         return outcomes_wrong(small, found, result.status) or decided_wrong(small, found, decided)
     except NoReport as why:
         return str(why)
+    except BadChoices as bad:
+        return f'the first run of an outcome is none, by its choice {bad.place}'
+
+
+def ends_read(small, read):
+    """How the first run of each outcome ends that was read, which must be told so, with its way."""
+    for it in read.outcomes:
+        leaf = run_by(outcomes_cases.begun_of(small), it.way.first, ends=True)
+        must_be(leaf.outcome == it.told, f'{it.way.first} ends {leaf.outcome}, and not {it.told}')
+        yield leaf.outcome, it.way
 
 
 def outcomes_wrong(small, found, status):
@@ -264,12 +276,6 @@ def outcomes_wrong(small, found, status):
     must_be(not found.more, 'there are more')
     firsts = [way.first for way in found.ways.values()]
     must_be(all(one < other for one, other in zip(firsts, firsts[1:])), 'outcomes are not in the order of their first runs')
-    for outcome, way in found.ways.items():
-        try:
-            leaf = run_by(outcomes_cases.begun_of(small), way.first, ends=True)
-        except BadChoices as bad:
-            return f'{way.first} is no run, by its choice {bad.place}'
-        must_be(leaf.outcome == outcome, f'{way.first} ends {leaf.outcome}, and not {outcome}')
     there = set(small.ends.values())
     must_be(there <= found.ways.keys(), f'no run ends {sorted(there - found.ways.keys())}')
     must_be(found.ways.keys() <= there, f'no interleaving ends {sorted(found.ways.keys() - there)}')
@@ -279,15 +285,15 @@ def outcomes_wrong(small, found, status):
 
 def decided_wrong(small, found, decided):
     """The same of the steps that decided how runs end: each is beside all interleavings from the state before it, and from the one behind it."""
-    bad = [outcome for outcome in found.ways if is_bad(outcome)]
-    must_be(set(decided) == set(bad), f'{set(decided) ^ set(bad)} is or is not decided')
+    bad = {number: outcome for number, outcome in enumerate(found.ways) if is_bad(outcome)}
+    must_be(decided.keys() == bad.keys(), f'{decided.keys() ^ bad.keys()} is or is not decided')
     can_end_well = EndingWell()
-    for outcome in bad:
+    for number, outcome in bad.items():
         steps = run_by(outcomes_cases.begun_of(small), found.ways[outcome].first, ends=True).steps
         worlds = deciding.worlds_along(small.start, steps)
-        wrong = decided_wrongly(small, worlds, steps, decided[outcome], can_end_well)
+        wrong = decided_wrongly(small, worlds, steps, decided[number], can_end_well)
         if wrong is not None:
-            return f'{outcome}, {decided[outcome]!r}: {wrong}'
+            return f'{outcome}, {decided[number]!r}: {wrong}'
     return None
 
 
@@ -312,13 +318,15 @@ def decided_wrongly(small, worlds, steps, line, can_end_well):
 def met_of(small, result):
     """What is met of a small script."""
     plain, decided = read_decided(result.output)
-    found = read_outcomes(plain)
+    read = read_outcomes(plain)
+    told = [it.told for it in read.outcomes]
     yield from [how_decided(line) for line in decided.values()]
-    yield from ['small scripts', small.mode, 'several outcomes' if len(found.ways) > 1
+    yield from ['small scripts', small.mode, 'several outcomes' if len(told) > 1
                 else 'one outcome'] + ['waitany'] * (b'waitany' in small.text)
-    yield from [outcome.split()[0] for outcome in found.ways]
-    yield from ['fewer outcomes than ends'] * (len(found.ways) < len(small.ends))
-    yield from ['more runs than ends'] * (total(found) > len(small.ends))
+    yield from [outcome.split()[0] for outcome in told]
+    yield from ['told alike'] * (len(set(told)) < len(told))
+    yield from ['fewer outcomes than ends'] * (len(told) < len(small.ends))
+    yield from ['more runs than ends'] * (sum(it.way.runs for it in read.outcomes) > len(small.ends))
 
 
 def compare_every_end(chosen, number):

@@ -77,7 +77,7 @@ unfolding walk decision
 row_walk = refl
 
 pub row_left_out : option_map {U = Outcome × List Step} (λ w. (ending w, enabled w)) (fold (start asserting Buffered) (matched_first ++ Local 0 ∷ []))
-    ≡ Some (o.Trap (record { rank = 0; trap = Assertion } ∷ []), [])
+    ≡ Some (o.Trap (record { rank = 0; statement = 3; trap = Assertion } ∷ []), [])
 row_left_out = refl
 
 -- ---- a run that is longer than the fuel: while i == 1 { print i; }

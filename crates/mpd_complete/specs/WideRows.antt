@@ -65,12 +65,12 @@ row_full = refl
 -- ---- a waitany takes what is complete by then
 
 -- the buffered send is complete at once, and the waitany is answered before the match or after it
-pub row_waitany : ended (wide_walk 6 (start asserting Buffered)) ≡ (0 ∷ 0 ∷ [], Ended o.Done) ∷ (1 ∷ 0 ∷ [], Ended o.Done) ∷ (1 ∷ 1 ∷ [], Ended (o.Trap (record { rank = 0; trap = Assertion } ∷ []))) ∷ []
+pub row_waitany : ended (wide_walk 6 (start asserting Buffered)) ≡ (0 ∷ 0 ∷ [], Ended o.Done) ∷ (1 ∷ 0 ∷ [], Ended o.Done) ∷ (1 ∷ 1 ∷ [], Ended (o.Trap (record { rank = 0; statement = 3; trap = Assertion } ∷ []))) ∷ []
 unfolding wide_walk wide_decision
 row_waitany = refl
 
 -- after the match the request that was tried before it is asleep, and the other one is not
-pub row_waitany_asleep : ended (sleeping_wide_walk 6 (start asserting Buffered)) ≡ (0 ∷ 0 ∷ [], Ended o.Done) ∷ (1 ∷ 1 ∷ [], Ended (o.Trap (record { rank = 0; trap = Assertion } ∷ []))) ∷ []
+pub row_waitany_asleep : ended (sleeping_wide_walk 6 (start asserting Buffered)) ≡ (0 ∷ 0 ∷ [], Ended o.Done) ∷ (1 ∷ 1 ∷ [], Ended (o.Trap (record { rank = 0; statement = 3; trap = Assertion } ∷ []))) ∷ []
 unfolding awake_by wide_decision
 row_waitany_asleep = refl
 
@@ -87,6 +87,6 @@ asked ends = record { runs = 9; fuel = 6; witnesses = false; until_bad = false; 
 
 -- both say that there are no more, and none is cut, but the one of every order lacks the trap
 pub row_reported : map {B = Bool × List Ending} (λ (ends : Bool). (left_out (asked ends) (all_leaves (asked ends) (start asserting Buffered)), map (λ (x : Leaf). x.ending) (reported (asked ends) (start asserting Buffered)))) (true ∷ false ∷ [])
-    ≡ (false, Ended o.Done ∷ Ended (o.Trap (record { rank = 0; trap = Assertion } ∷ [])) ∷ []) ∷ (false, Ended o.Done ∷ []) ∷ []
+    ≡ (false, Ended o.Done ∷ Ended (o.Trap (record { rank = 0; statement = 3; trap = Assertion } ∷ [])) ∷ []) ∷ (false, Ended o.Done ∷ []) ∷ []
 unfolding walk awake_by decision wide_decision
 row_reported = refl

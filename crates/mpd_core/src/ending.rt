@@ -110,7 +110,12 @@ impl<'c> Core<'c> {
         ensures memory { OnErr result (0 < length (traps_at rank (slice_get self.now.world.ranks rank))) }
     {
         if let Some(Activity::Trapped(trap)) = self.activity(rank) {
-            out.push(TrappedRank { rank, trap })?;
+            let statement = self.next_statement(rank).unwrap_or(0);
+            out.push(TrappedRank {
+                rank,
+                statement,
+                trap,
+            })?;
         }
         Ok(())
     }

@@ -4,10 +4,11 @@ use crate::call::Trap;
 use crate::step::CallId;
 use std::marker::Model;
 
-/// A rank that is trapped, and why.
+/// A rank that is trapped, at which statement, by its number in text order, and why.
 #[derive(Clone, Copy)]
 pub struct TrappedRank {
     pub rank: usize,
+    pub statement: usize,
     pub trap: Trap,
 }
 

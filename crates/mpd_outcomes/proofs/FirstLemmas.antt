@@ -47,11 +47,12 @@ number_each n =
 
 trapped_same : (a b : TrappedRank) → trapped_eq a b ≡ true → a ≡ b
 trapped_same a b e =
-    let parts = and_parts (a.rank == b.rank) (trap_eq a.trap b.trap) e in
-    λ i. record { rank = eqb-true a.rank b.rank parts.0 i; trap = trap_same a.trap b.trap parts.1 i }
+    let parts = and_parts (a.rank == b.rank) ((a.statement == b.statement) && trap_eq a.trap b.trap) e in
+    let rest = and_parts (a.statement == b.statement) (trap_eq a.trap b.trap) parts.1 in
+    λ i. record { rank = eqb-true a.rank b.rank parts.0 i; statement = eqb-true a.statement b.statement rest.0 i; trap = trap_same a.trap b.trap rest.1 i }
 
 trapped_each : (a : TrappedRank) → trapped_eq a a ≡ true
-trapped_each a = λ j. number_each a.rank j && trap_each a.trap j
+trapped_each a = λ j. number_each a.rank j && (number_each a.statement j && trap_each a.trap j)
 
 id_each : (c : CallId) → id_eq c c ≡ true
 id_each c = λ j. number_each c.rank j && number_each c.index j

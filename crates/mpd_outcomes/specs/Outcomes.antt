@@ -29,7 +29,7 @@ trap_eq Assertion Assertion = true
 trap_eq t u = false
 
 abbrev pub trapped_eq : TrappedRank → TrappedRank → Bool
-trapped_eq a b = (a.rank == b.rank) && trap_eq a.trap b.trap
+trapped_eq a b = (a.rank == b.rank) && ((a.statement == b.statement) && trap_eq a.trap b.trap)
 
 abbrev pub outcome_eq : Outcome → Outcome → Bool
 outcome_eq outcome_is.Done outcome_is.Done = true

@@ -29,7 +29,7 @@ fn same_trap(one: Trap, other: Trap) -> bool
 fn same_trapped(one: TrappedRank, other: TrappedRank) -> bool
     ensures { result ≡ trapped_eq one other }
 {
-    one.rank == other.rank && same_trap(one.trap, other.trap)
+    one.rank == other.rank && one.statement == other.statement && same_trap(one.trap, other.trap)
 }
 
 /// Whether two lists of trapped ranks are the same.

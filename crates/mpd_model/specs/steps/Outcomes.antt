@@ -1,6 +1,7 @@
 -- How a run has ended, where no step is enabled.
 use Rattle.std.specs.Prelude.{ℕ, Bool, true, false, if◌then◌else◌, List, [], ◌∷◌, map, slice_get, Option, Some, None}
 use Rattle.std.specs.List.{filter, flat_map, list_any, list_all}
+use Rattle.std.specs.Option.{unwrap_or}
 use Rattle.mpd_model.specs.declared.step.CallId.{CallId}
 use Rattle.mpd_model.specs.declared.call.Activity.{Activity}
 use Rattle.mpd_model.specs.declared.call.Activity.TheVariants.{Running, Blocked, Trapped}
@@ -29,14 +30,15 @@ ended_by (Trapped t) rest = false
 abbrev pub has_ended : RankWorld → Bool
 has_ended r = ended_by r.activity r.rest
 
-abbrev pub trap_by : ℕ → Activity → List TrappedRank
-trap_by p Running = []
-trap_by p Blocked = []
-trap_by p (Trapped t) = record { rank = p; trap = t } ∷ []
+-- A trapped rank stands at the statement that trapped it, so it has one; without one it would be told as the first.
+abbrev pub trap_by : ℕ → Option ℕ → Activity → List TrappedRank
+trap_by p n Running = []
+trap_by p n Blocked = []
+trap_by p n (Trapped t) = record { rank = p; statement = unwrap_or n 0; trap = t } ∷ []
 
 abbrev pub traps_at : ℕ → Option RankWorld → List TrappedRank
 traps_at p None = []
-traps_at p (Some r) = trap_by p r.activity
+traps_at p (Some r) = trap_by p (first_number r.rest) r.activity
 
 -- the trapped ranks, the blocked calls and the free calls, by rank and number
 abbrev pub traps_in : World → List TrappedRank

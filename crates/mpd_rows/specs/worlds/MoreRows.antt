@@ -557,7 +557,7 @@ rv_t5 = refl
 pub rv_t6 : seen (go (prog 2 (send (n 1) size (n 0) ∷ [])) Rendezvous (Local 0 ∷ [])) ≡ Some ((pos 0 ∷ pos 0 ∷ [], ([], Trapped BadRank)) ∷ (pos 0 ∷ pos 0 ∷ [], ([], Running)) ∷ [])
 rv_t6 = refl
 
-pub rv_t7 : option_map outcome (go (prog 2 (branch own_rank (then_more (recv (into y) (n 0) (n 0)) no_more) (then_more (recv (into y) (n 2) (n 0)) no_more) ∷ [])) Rendezvous (Local 0 ∷ Local 0 ∷ Local 1 ∷ Local 1 ∷ [])) ≡ Some (Some (o.Trap (record { rank = 0; trap = BadRank } ∷ [])))
+pub rv_t7 : option_map outcome (go (prog 2 (branch own_rank (then_more (recv (into y) (n 0) (n 0)) no_more) (then_more (recv (into y) (n 2) (n 0)) no_more) ∷ [])) Rendezvous (Local 0 ∷ Local 0 ∷ Local 1 ∷ Local 1 ∷ [])) ≡ Some (Some (o.Trap (record { rank = 0; statement = 2; trap = BadRank } ∷ [])))
 rv_t7 = refl
 
 pub rv_t8 : option_map outcome (go (prog 2 (branch own_rank (then_more (recv (into y) (n 0) (n 0)) no_more) no_more ∷ [])) Rendezvous (Local 0 ∷ Local 1 ∷ Local 1 ∷ [])) ≡ Some (Some (o.Deadlock (call_id 1 0 ∷ [])))

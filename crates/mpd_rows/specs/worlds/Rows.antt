@@ -34,7 +34,7 @@ abbrev n : ℕ → Term
 n k = lit (pos k)
 
 abbrev trap_at : ℕ → TrappedRank
-trap_at p = record { rank = p; trap = BadRank }
+trap_at p = record { rank = p; statement = 0; trap = BadRank }
 
 abbrev script : ℕ → List Tree → Program
 script ranks body = record { version = 1; ranks = ranks; decls = record { kind = Variable; name = 120 ∷ []; size = None } ∷ []; body = body; lines = [] }
@@ -119,6 +119,10 @@ nested_trap = script 1 (branch (n 1) (then_more (branch (n 1) (then_more (send (
 
 pub row_nested_trap : option_map seen (fold (start nested_trap Rendezvous) (Local 0 ∷ Local 0 ∷ Local 0 ∷ [])) ≡ Some ((pos 0 ∷ [], ([], Trapped BadTag)) ∷ [])
 row_nested_trap = refl
+
+-- the outcome says at which statement: the third in text order
+pub row_nested_trap_told : option_map outcome (fold (start nested_trap Rendezvous) (Local 0 ∷ Local 0 ∷ Local 0 ∷ [])) ≡ Some (Some (o.Trap (record { rank = 0; statement = 2; trap = BadTag } ∷ [])))
+row_nested_trap_told = refl
 
 pub row_nested_trap_rest : option_map numbers_left (fold (start nested_trap Rendezvous) (Local 0 ∷ Local 0 ∷ Local 0 ∷ [])) ≡ Some ((2 ∷ 3 ∷ []) ∷ [])
 row_nested_trap_rest = refl
