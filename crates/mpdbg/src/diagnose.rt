@@ -32,6 +32,7 @@ fn plan_of(file: &str) -> DiagnosisPlan<'_>
         blamed: STATES_VISITED,
         drawn: DRAWN,
         file,
+        ranks: None,
     }
 }
 
