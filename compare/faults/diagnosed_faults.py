@@ -21,7 +21,7 @@ from model.walks import CUT
 
 SOUND = {name: getattr(owner, name) for owner, names in (
     (diagnosed, ('places', 'lines_of', 'ends_of', 'bug_of', 'bugs_of', 'several', 'of_runs', 'runs_of', 'file_of', 'script_of', 'mode_of', 'word_for',
-                 'verdict_lines', 'always', 'well_line', 'tried_next', 'pictures', 'verdict', 'heading', 'commands', 'bug_lines', 'all_bug_lines', 'text_of', 'status', 'answer', 'drawn_of', 'drawn_lines', 'drawn_verdict')),
+                 'verdict_lines', 'always', 'well_line', 'tried_next', 'pictures', 'hints', 'verdict', 'heading', 'commands', 'bug_lines', 'all_bug_lines', 'text_of', 'status', 'answer', 'drawn_of', 'drawn_lines', 'drawn_verdict')),
     (outcomes, ('explained', 'is_whole'))) for name in names}
 BEHIND, SEARCHED, DRAWN = Counting.behind, Diagnosis.searched, Diagnosis.drawn
 
@@ -409,7 +409,13 @@ def undecided(*kinds):
 
 def explanation_faults():
     """Those of what explains an end."""
-    return named('explanation', outcomes, 'explained', (
+    hints = (
+        ('never', lambda explained: []), ('always', lambda explained: [diagnosed.HINT]),
+        ('where it is not known, too', lambda explained: [diagnosed.HINT] * any(line.startswith('  decided at depth') for line in explained)),
+        ('from the start, too', lambda explained: [diagnosed.HINT] * any(line.startswith('  decided ') for line in explained)),
+        ('twice', lambda explained: SOUND['hints'](explained) * 2),
+        ('to where it is run to', lambda explained: [line.replace('redo all', 'run') for line in SOUND['hints'](explained)]))
+    return named('hints', diagnosed, 'hints', hints) + named('explanation', outcomes, 'explained', (
         ('none', explained_by(lambda lines, kind: ())), ('none of leftovers', explained_by(lambda lines, kind: () if kind == LEFT else lines)),
         ('nothing decides', undecided(HANG, TRAP)), ('nothing decides a trap', undecided(TRAP)), ('nothing decides a deadlock', undecided(HANG)),
         ('what decides comes first', explained_by(lambda lines, kind: sorted(lines, key=lambda line: not decides(line)))),
@@ -848,6 +854,7 @@ BY_TEXT = {
     'always': ('never', 'though there are more', 'beside what is done', 'beside leftovers'),
     'word': ('as it was given', 'no ./ in front of -', './ in front of the quotes', 'quotes are left out', 'two quotes for one', 'backslashes before quotes',
              'by the first byte', "as it stands with ' '"),
+    'hints': ('never', 'always', 'from the start, too', 'twice', 'to where it is run to'),
     'pictures': ('no numbers', 'always a number', 'from 0', 'run though it was drawn', 'from the last to the first'),
     'bugs': ('by kinds alone', 'by lines alone', 'by outcomes', 'by the first line', 'by ranks and not by lines', 'by their lines', 'hangs first', 'in the order of their first runs',
              'leftovers first', 'from the last to the first', 'the first alone', 'of ends beside each other', 'without the last end of one'),

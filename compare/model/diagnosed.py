@@ -32,6 +32,8 @@ NEVER, TAKEN, NOT_FOUND = 'it never hangs or traps in', 'whatever is taken first
 LEAVES, UNTRIED, AT_RANDOM = 'it can end with calls left over', 'not everything was tried', 'drawn at random'
 # What pictures are called of runs that were found, and of those that were drawn.
 RUN, OF_DRAWN = 'run', 'drawn'
+# What is told behind the step that decided.
+DECIDED_AT, HINT = re.compile('  decided at depth [0-9]+:'), '  at the prompt of `debug`, `blame` goes to this step and `redo all` to the end'
 # What a shell takes as it stands.
 PLAIN = re.compile('[A-Za-z0-9_./+,:@%-]+')
 # What seeds the generator that runs are drawn by.
@@ -314,7 +316,13 @@ def commands(asked, leaf, picture):
 def bug_lines(asked, ends, found, picture):
     """What is written of ends that are told together, behind an empty line."""
     leaf = explained_of(ends).leaf
-    return ['', *all_folded([heading(ends, found), *outcomes.explained(asked, leaf)]), *commands(asked, leaf, picture)]
+    explained = outcomes.explained(asked, leaf)
+    return ['', *all_folded([heading(ends, found), *explained, *hints(explained)]), *commands(asked, leaf, picture)]
+
+
+def hints(explained):
+    """What to type to come to the step that decided, where one is told."""
+    return [HINT] * any(map(DECIDED_AT.match, explained))
 
 
 def pictures(kind, count):

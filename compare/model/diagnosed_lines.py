@@ -29,6 +29,8 @@ DRAWN = tuple((name, re.compile(f'{AT_RANDOM}{line}')) for name, line in (
     ('left', f'{COUNT} of {RUNS} end with calls left over')))
 HEADING = re.compile(f'(deadlock at|trap at|left over from) (lines?) ([0-9]+(?:, [0-9]+)*): {COUNT} of {RUNS}')
 KINDS = {'deadlock at': 'hang', 'trap at': 'trap', 'left over from': 'left'}
+# What tells the step that decided, and what must follow it.
+DECIDED_AT, HINT = re.compile('  decided at depth [0-9]+: .'), '  at the prompt of `debug`, `blame` goes to this step and `redo all` to the end'
 CHOICES = re.compile('(?:[0-9]+(?: [0-9]+)*)?')
 # Where the script stands, in the lines of an explanation.
 PLACES = {'hang': re.compile('  rank [0-9]+ waits at line ([0-9]+), '), 'trap': re.compile('  rank [0-9]+, line ([0-9]+): trap '),
@@ -187,6 +189,10 @@ def bug_in(lines, named, runs, picture):
                for line, word, behind in zip(lines[-2:], ('debug', 'picture'), ("'", f"' > {picture}"))]
     must_be(choices[0] == choices[1], f'commands of two runs, {choices}')
     explained, decided = lines[1:-2], None
+    must_be((HINT in explained) == any(map(DECIDED_AT.match, explained)), f'what to type is told by {explained}')
+    if HINT in explained:
+        *explained, hint = explained
+        must_be(hint == HINT, f'{hint!r} stands behind what to type')
     if kind != 'left':
         *explained, decided = explained
         must_be(decided.startswith('  decided '), f'what decided is {decided!r}')

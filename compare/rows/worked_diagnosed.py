@@ -55,6 +55,8 @@ def runs_of(choices, file='script.mpd', picture='run'):
 
 SLOTTED, WITH_BUFFERS = 'script.mpd --mode slots:1', 'script.mpd --mode buffered'
 FROM_START = '  decided from the start: no run ends well'
+# (It has 79 bytes.)
+HINT = '  at the prompt of `debug`, `blame` goes to this step and `redo all` to the end'
 MORE = 'not everything was tried: there are more runs than these'
 
 
@@ -107,10 +109,11 @@ OF_STOLEN = '''\
   rank 0 waits for rank 1 (ended)
   rank 2 waits for rank 0'''
 STOLEN = open_example('stolen_message.mpd').decode()
-BY_MESSAGE = '''\
+BY_MESSAGE = f'''\
   decided at depth 9: rank 0, line 8, takes the message of rank 1 (line 13,
         value 42, tag 7); with that of rank 2 (line 13, value 5, tag 1) it can
-        still end well'''
+        still end well
+{HINT}'''
 # Always, in one run.
 OF_SWAPPED = '''\
 it always hangs (1 run)
@@ -156,7 +159,8 @@ deadlock at lines 11, 15: 4 of 2164 runs
   rank 4 waits for rank 0
   decided at depth 15: rank 0, line 10, takes the message of rank 1 (line 16,
         value 1, tag 0); with that of rank 2 (line 15, value 2, tag 0) it can
-        still end well'''
+        still end well
+  at the prompt of `debug`, `blame` goes to this step and `redo all` to the end'''
 TWO_EACH = open_example('two_each.mpd').decode()
 # Two bugs: rank 0 is stuck where rank 1 comes first, and else behind the message of rank 1.
 TWO_HANGS = '''mpd 1; ranks 3; var x; req r;
@@ -298,7 +302,8 @@ HANGS = (
 BY_REQUEST = '''\
   decided at depth 12: rank 0, line 10, goes on by line 9, 0.1 irecv from 2 tag
         0; if rank 0, line 10, goes on by line 8, 0.0 irecv from 1 tag 0
-        instead, it can still end well'''
+        instead, it can still end well
+  at the prompt of `debug`, `blame` goes to this step and `redo all` to the end'''
 WAITED_TWICE = open_example('waited_twice.mpd').decode()
 # Ranks trap at two lines, two of them at one.
 THREE_TRAPS = 'mpd 1; ranks 3;\nif rank == 0 { assert 0; }\nassert 0;'
@@ -337,7 +342,8 @@ deadlock at line 2: 1 of 2 runs
 BY_LAST = '''\
   decided at depth 950: rank 0, line 3, goes on by line 3, 0.316 isend to 0 tag
         0 value 1; if rank 0, line 3, goes on by line 3, 0.315 isend to 0 tag 0
-        value 1 instead, it can still end well'''
+        value 1 instead, it can still end well
+  at the prompt of `debug`, `blame` goes to this step and `redo all` to the end'''
 TRAPPED = (
     *(row(WAITED_TWICE, 1, 'it can trap: 1 of 2 runs\n', 'trap at line 12: 1 of 2 runs', '  rank 0, line 12: trap assert', BY_REQUEST,
           runs_of(1, file),
@@ -390,7 +396,8 @@ deadlock at line 9: 1 of 2 runs
   rank 0 waits for rank 1 (ended)
   decided at depth 4: rank 0, line 8, goes on; if rank 1, line 11, takes the
         message of rank 0 (line 7, value 1, tag 0) instead, it can still end
-        well'''
+        well
+  at the prompt of `debug`, `blame` goes to this step and `redo all` to the end'''
 SECOND_LEFT = '  left over: line 8, 0.1 isend to 1 tag 1 value 2'
 LEFT = (
     *(row(UNRECEIVED, int(strict), *ONE_LEFT, mode=BUFFERED, strict=strict) for strict in (False, True)),
@@ -551,7 +558,8 @@ FOUR_FOUND = (none_found('1 run')[0], f'{LEAVES} 1 of 1 run', MORE, *left_of_fou
 BY_MESSAGE_OF = '''\
   decided at depth 10: rank 0, line 3, takes the message of rank {0} (line 6,
         value {0}, tag 0); with that of rank 1 (line 6, value 1, tag 0) it can
-        still end well'''
+        still end well
+  at the prompt of `debug`, `blame` goes to this step and `redo all` to the end'''
 FOUR_HANG = ('\ndeadlock at line 4: 1 of 4 runs', waits_for_itself(4, '0.1', 9), TO_ITSELF, BY_MESSAGE_OF.format(2), runs_of(1, picture='drawn-1'))
 
 
@@ -570,7 +578,8 @@ if rank == 0 {
 AT_A_LINE = '''\
   decided at depth 8: rank 0, line 3, takes the message of rank {0} (line 6, value
         {0}, tag 0); with that of rank 1 (line 6, value 1, tag 0) it can still end
-        well'''
+        well
+  at the prompt of `debug`, `blame` goes to this step and `redo all` to the end'''
 
 
 def left_at_six(count, picture='drawn-2'):

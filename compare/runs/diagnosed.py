@@ -8,7 +8,8 @@
 
 Each text is read (diagnosed_lines.py): lines are folded where they must be, what is told of bugs adds up to what becomes of the runs, the lines of a
 bug are those of its explanation, its commands name the file as a shell reads it, and the status is that of what is told. The run of its commands must
-end so, and be explained so. Commands of files with names that a shell reads otherwise are run by one, beside the program. Where the runs
+end so, and be explained so. Commands of files with names that a shell reads otherwise are run by one, beside the program. What is said to be typed at
+the prompt of `debug` is typed there. Where the runs
 of a script are few, all of them, one after another, say how many there are of each kind, how many states they come to, which ends are one bug, which
 of these has the shortest run, and which step decided. The model alone answers each script with small limits, too: there the first runs, and those that
 are drawn by going down the runs that are listed, say the same of what was found and what was drawn. The status is 0 where scripts were compared,
@@ -122,6 +123,30 @@ def names_wrong(chosen, pool):
     wrong = [how for how in pool.map(name_wrong, [chosen] * len(NAMES), NAMES) if how is not None] if chosen.program else []
     print(f'{len(NAMES) if chosen.program else 0} names of files in a shell, {len(wrong)} wrong', flush=True)
     return wrong
+
+
+# ---- what is typed at the prompt
+
+def typed_wrong(chosen, asked, bug):
+    """What is wrong with what is typed at the prompt where the run of a bug lies ahead, to come to the step that decided and to the end."""
+    depth = diagnosed_lines.DECIDED_AT.match(bug.decided)[0].split()[3]
+    with tempfile.TemporaryDirectory(prefix='typed-') as folder:
+        held(folder, asked.file, asked.script)
+        mode = () if asked.mode is None else ('--mode', asked.mode)
+        words = 'debug', *mode, '--ends', '--choices', ' '.join(map(str, bug.choices)), '--', asked.file
+        done = subprocess.run([os.path.abspath(chosen.program), *words], cwd=folder, input=b'blame\nredo all\n', capture_output=True, timeout=chosen.seconds,
+                              check=False)
+    _, there, behind = done.stdout.decode().partition(f'\ndepth {depth.removesuffix(":")}\n')
+    return None if there and '\nended: ' in behind and not done.returncode else f'{asked}: {bug.choices} at the prompt: {done.stdout.decode()}'
+
+
+def all_typed_wrong(chosen, pool):
+    """What is wrong with what is typed for the bugs of worked rows whose step is told."""
+    asked = [(row.case(), bug) for row in worked_diagnosed.ROWS if chosen.program and not row.errors
+             for bug in read_diagnosis(row.wanted().output, named(row.case())).bugs if bug.decided and diagnosed_lines.DECIDED_AT.match(bug.decided)]
+    found = [how for how in pool.map(typed_wrong, [chosen] * len(asked), *zip(*asked)) if how is not None] if asked else []
+    print(f'{len(asked)} runs at the prompt, {len(found)} wrong', flush=True)
+    return found
 
 
 # ---- what is wrong with a text by itself
@@ -429,7 +454,7 @@ def rows_wrong(chosen, pool):
 
 def compare(chosen, pool):
     """Compares so many scripts; gives how much differed, or was not met that must be."""
-    differing, met, files = driving.tell([*rows_wrong(chosen, pool), *names_wrong(chosen, pool)]), Counter(), driving.Kept('diagnosed-')
+    differing, met, files = driving.tell([*rows_wrong(chosen, pool), *names_wrong(chosen, pool), *all_typed_wrong(chosen, pool)]), Counter(), driving.Kept('diagnosed-')
     for found, there in driving.by_chunks(pool, compare_chunk, chosen):
         met += there
         for asked, how in found:

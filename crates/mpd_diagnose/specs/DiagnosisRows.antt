@@ -7,6 +7,7 @@ use Rattle.mpd_outcomes.specs.declared.report.Count.TheVariants.{Exactly, More}
 use Rattle.mpd_runs.specs.declared.counts.WayCounts.{WayCounts}
 use Rattle.mpd_diagnose.specs.Headings.{with_numbers, lines_text}
 use Rattle.mpd_diagnose.specs.Groups.{groups, shortest}
+use Rattle.mpd_diagnose.specs.Hints.{tells_step}
 use Rattle.mpd_diagnose.specs.Words.{named}
 use Rattle.mpd_diagnose.specs.Commands.{picture_file}
 use Rattle.mpd_diagnose.specs.Told.{always_hangs, always_traps, draws, never_fails, share}
@@ -37,7 +38,7 @@ pub row_share : share (Exactly 1) (Exactly 1) ++ share More (Exactly 24) ≡ cod
 unfolding digits
 row_share = refl
 
--- three runs each: all are done; one leaves messages over; one traps; one is cut; and there are more
+-- three runs each: all are done; one leaves calls over; one traps; one is cut; and there are more
 abbrev tidy : WayCounts
 tidy = record { done = Exactly 3; leftovers = Exactly 0; deadlock = Exactly 0; trap = Exactly 0; cut = Exactly 0; total = Exactly 3; more = false }
 
@@ -96,3 +97,8 @@ row_words = refl
 pub row_pictures : picture_file (codes "run") false 1 ∷ picture_file (codes "run") true 12 ∷ [] ≡ codes "run.svg" ∷ codes "run-12.svg" ∷ []
 unfolding digits
 row_pictures = refl
+
+-- a step is told only where its depth is known
+pub row_steps : tells_step (codes "  decided at depth 12: rank 0") ∷ tells_step (codes "  decided at depth 12 or earlier: x") ∷ tells_step (codes "  decided from the start: no") ∷ tells_step (codes "  decided at") ∷ tells_step [] ∷ []
+    ≡ true ∷ false ∷ false ∷ false ∷ false ∷ []
+row_steps = refl

@@ -1,5 +1,6 @@
 pub mod Headings
 pub mod Groups
+pub mod Hints
 pub mod Details
 pub mod Words
 pub mod Commands

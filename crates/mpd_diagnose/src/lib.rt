@@ -7,6 +7,7 @@ mod details;
 mod diagnosis;
 mod groups;
 mod heading;
+mod hint;
 mod told;
 mod verdict;
 mod words;

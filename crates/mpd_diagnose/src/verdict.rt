@@ -8,14 +8,14 @@ use crate::told::ends_well;
 use mpd_lines::Verdict;
 use mpd_runs::{WayCounts, is_count, sees_all};
 
-/// Whether a run leaves messages over, where that is asked for.
+/// Whether a run ends with calls left over, where that is asked for.
 fn is_untidy(counts: WayCounts, strict: bool) -> bool
     ensures { result ≡ spec.is_untidy strict counts }
 {
     strict && !is_count(counts.leftovers, 0)
 }
 
-/// Whether a run hangs or traps, or leaves messages over where that is asked for.
+/// Whether a run hangs or traps, or ends with calls left over where that is asked for.
 fn is_bad(counts: WayCounts, strict: bool) -> bool
     ensures { result ≡ spec.is_bad strict counts }
 {
