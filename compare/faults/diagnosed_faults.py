@@ -8,6 +8,7 @@ otherwise; other statuses, and others that are refused; runs that are drawn wher
 import re
 
 from faults import decided_faults
+from faults.diagnosed_command_faults import command_faults, named
 from faults.policy_faults import Breakage
 from model import diagnosed, explaining, outcomes, sampler, states
 from model.console_lines import all_folded
@@ -20,15 +21,11 @@ from model.states import Found, Search, answered, decided, word_of
 from model.walks import CUT
 
 SOUND = {name: getattr(owner, name) for owner, names in (
-    (diagnosed, ('places', 'lines_of', 'ends_of', 'bug_of', 'bugs_of', 'several', 'of_runs', 'runs_of', 'file_of', 'script_of', 'mode_of', 'word_for',
-                 'verdict_lines', 'always', 'well_line', 'tried_next', 'pictures', 'hints', 'verdict', 'heading', 'commands', 'bug_lines', 'all_bug_lines', 'text_of', 'status', 'answer', 'drawn_of', 'drawn_lines', 'drawn_verdict')),
+    (diagnosed, ('places', 'lines_of', 'ends_of', 'bug_of', 'bugs_of', 'several', 'of_runs', 'runs_of', 'mode_of',
+                 'verdict_lines', 'always', 'well_line', 'tried_next', 'hints', 'verdict', 'heading', 'bug_lines', 'all_bug_lines', 'text_of', 'status',
+                 'answer', 'drawn_of', 'drawn_lines', 'drawn_verdict')),
     (outcomes, ('explained', 'is_whole'))) for name in names}
 BEHIND, SEARCHED, DRAWN = Counting.behind, Diagnosis.searched, Diagnosis.drawn
-
-
-def named(part, owner, attribute, replacements):
-    """Faults of one part of what is told."""
-    return [Breakage(f'{part}: {name}', owner, attribute, replacement) for name, replacement in replacements]
 
 
 # ---- the search
@@ -222,7 +219,8 @@ def verdict_faults():
             [] if SOUND['runs_of'](found, LEFT) and not found.more else SOUND['tried_next'](asked, found)),
         ('a command that tries other modes in a mode', lambda asked, found:
             [line.replace(' --modes', f' --mode {asked.mode} --modes') for line in SOUND['tried_next'](asked, found)]),
-        ('a command that tries five modes', lambda asked, found: [line.replace('--modes 4', '--modes 5') for line in SOUND['tried_next'](asked, found)]))
+        ('a command that tries five modes', lambda asked, found:
+            [line.replace('--modes 4', '--modes 5') for line in SOUND['tried_next'](asked, found)]))
     commands = (
         ('no command that tries others', lambda *told: [line for line in SOUND['verdict'](*told) if './mpdbg' not in line]),
         ('a command that tries others though there are none', lambda asked, search,
@@ -421,117 +419,6 @@ def explanation_faults():
         ('what decides comes first', explained_by(lambda lines, kind: sorted(lines, key=lambda line: not decides(line)))),
         ('what decides alone', explained_by(lambda lines, kind: [line for line in lines if decides(line) or kind == LEFT])),
         ('the first line alone', explained_by(lambda lines, kind: lines[:1]))))
-
-
-# ---- commands
-
-def commanded(change):
-    """What writes each command otherwise."""
-    return lambda asked, leaf, picture: [change(line) for line in SOUND['commands'](asked, leaf, picture)]
-
-
-def with_commas(line):
-    """A command with commas between its choices."""
-    begins, between, choices = line.partition(" --choices '")
-    choices, quote, ends = choices.partition("'")
-    return f"{begins}{between}{choices.replace(' ', ',')}{quote}{ends}"
-
-
-def of_two_runs(asked, leaf, picture):
-    """The commands, of which the second has another run."""
-    return [SOUND['commands'](asked, leaf, picture)[0], SOUND['commands'](asked, leaf._replace(choices=(*leaf.choices, 0)), picture)[1]]
-
-
-def mode_first(asked):
-    """What has the mode in front of the file."""
-    there = SOUND['script_of'](asked)
-    return ' '.join([*SOUND['file_of'](asked).removeprefix(there).split(), there])
-
-
-def ranks_last(asked):
-    """What has how many ranks there are behind the mode."""
-    words = SOUND['file_of'](asked._replace(ranks=None))
-    return words if asked.ranks is None else f'{words} --ranks {asked.ranks}'
-
-
-def of_first(asked, ends, found, picture):
-    """What is written with the commands of the first end, in the place of that which is explained."""
-    return [*SOUND['bug_lines'](asked, ends, found, picture)[:-2], *SOUND['commands'](asked, ends[0].leaf, picture)]
-
-
-def word_by(plain, quoted=lambda path: f"'{path}'"):
-    """What writes a name as it stands where a pattern fits it, and else in quotes in some way."""
-    def word_for(name):
-        path = f'./{name}' if name.startswith('-') else name
-        return path if re.fullmatch(plain, name, re.ASCII) else quoted(path)
-    return word_for
-
-
-def escaped(path, quote):
-    """What stands in quotes, each quote in it in another way."""
-    return "'" + path.replace("'", quote) + "'"
-
-
-def word_faults():
-    """Those of the word for a file."""
-    plain, here = '[A-Za-z0-9_./+,:@%-]+', SOUND['word_for']
-    words = [
-        ('as it was given', lambda name: name), ('in quotes always', lambda name: here(f'{name} ').replace(" '", "'")),
-        ('no ./ in front of -', lambda name: here(f'x{name}').replace('x', '', 1)),
-        ('./ in front always', lambda name: here(name if name.startswith('-') else f'./{name}')),
-        ('./ in front of the quotes', lambda name: f'./{here(f"x{name}").replace("x", "", 1)}' if name.startswith('-') else here(name)),
-        ('quotes as they are', word_by(plain, lambda path: escaped(path, "'"))), ('quotes are left out', word_by(plain, lambda path: escaped(path, ''))),
-        ('two quotes for one', word_by(plain, lambda path: escaped(path, "''"))), ('backslashes before quotes', word_by(plain, lambda path: escaped(path, "\\'"))),
-        ('the first quote alone', word_by(plain, lambda path: "'" + path.replace("'", "'\\''", 1) + "'")),
-        ('in other quotes', lambda name: here(name) if re.fullmatch(plain, name) else f'"{name}"'),
-        ('by the first byte', lambda name: here(name) if re.match('[A-Za-z0-9_./+,:@%-]', name) is None else name)]
-    sound = re.compile(plain)
-    others = [(f'as it stands with {byte!r}', lambda name, byte=byte: name if sound.fullmatch(name.replace(byte, '')) else here(name)) for byte in " ';$~=("]
-    lacking = [(f'in quotes with {byte!r}', lambda name, byte=byte: f"'{name}'" if byte in name and here(name) == name else here(name)) for byte in 'a._/+,:@%-09AZz']
-    return named('word', diagnosed, 'word_for', [*words, *others, *lacking])
-
-
-def picture_faults():
-    """Those of the files of pictures."""
-    files = (
-        ('no numbers', lambda kind, count: [f'{kind}.svg'] * count), ('always a number', lambda kind, count: [f'{kind}-{place + 1}.svg' for place in range(count)]),
-        ('from 0', lambda kind, count: [name.replace(f'-{place + 1}', f'-{place}') for place, name in enumerate(SOUND['pictures'](kind, count))]),
-        ('none for the first', lambda kind, count: [f'{kind}.svg', *SOUND['pictures'](kind, count)][:1] + SOUND['pictures'](kind, count)[1:]),
-        ('run though it was drawn', lambda kind, count: SOUND['pictures']('run', count)), ('from the last to the first', lambda kind, count:
-            SOUND['pictures'](kind, count)[::-1]))
-    return named('pictures', diagnosed, 'pictures', files)
-
-
-def in_mode(asked, mode):
-    """The file, with a mode where there is one."""
-    return SOUND['script_of'](asked) if mode is None else f'{SOUND["script_of"](asked)} --mode {mode}'
-
-
-def command_faults():
-    """Those of commands."""
-    lines = (
-        ('without --ends', lambda line: line.replace(' --ends', '')), ('no choices', lambda line: line.partition(' --choices')[0]),
-        ('choices without quotes', lambda line: re.sub("--choices '([0-9 ]*)'", r'--choices \1', line)), ('choices with commas', with_commas),
-        ('no picture is kept', lambda line: line.partition(' > ')[0]), ('no blanks in front', str.strip),
-        ('no ./ in front', lambda line: line.replace('./', '')))
-    both = (
-        ('the picture first', lambda *told: SOUND['commands'](*told)[::-1]),
-        ('no picture', lambda *told: SOUND['commands'](*told)[:1]),
-        ('the picture of another run', of_two_runs),
-        ('of all choices but the last', lambda asked, leaf, picture: SOUND['commands'](asked, leaf._replace(choices=leaf.choices[:-1]), picture)))
-    files = (
-        ('without a mode', SOUND['script_of']), ('with a mode that is usual', lambda asked: in_mode(asked, asked.mode or RENDEZVOUS)),
-        ('with a mode that is usual, where it is given', lambda asked: in_mode(asked, asked.mode)),
-        ('the mode as it was given', lambda asked: in_mode(asked, None if asked.mode == RENDEZVOUS else asked.mode)),
-        ('the mode first', mode_first), ('how many ranks there are comes last', ranks_last),
-        ('another file', lambda asked: SOUND['file_of'](asked._replace(file='FILE'))))
-    scripts = (
-        ('without its ranks', lambda asked: SOUND['script_of'](asked._replace(ranks=None))),
-        ('with a rank more', lambda asked: SOUND['script_of'](asked._replace(ranks=asked.ranks and asked.ranks + 1))),
-        ('with ranks though none are asked for', lambda asked: SOUND['script_of'](asked._replace(ranks=asked.ranks or 2))))
-    return [*named('commands', diagnosed, 'commands', [(name, commanded(change)) for name, change in lines]),
-            *named('commands', diagnosed, 'commands', both), *named('commands', diagnosed, 'file_of', files),
-            *named('commands', diagnosed, 'script_of', scripts), *word_faults(), *picture_faults(), Breakage('commands: of another end', diagnosed, 'bug_lines', of_first)]
 
 
 # ---- long lines
@@ -770,7 +657,8 @@ def of_all_that_was_found(asked, search, found, drawn):
     if drawn is None:
         return SOUND['text_of'](asked, search, found, drawn)
     both = found._replace(ways=added(found.ways, drawn.ways))
-    lines = [line for ends in SOUND['bugs_of'](SOUND['ends_of'](asked, drawn)) for line in SOUND['bug_lines'](asked, ends, both, 'drawn.svg')]
+    bugs = SOUND['bugs_of'](SOUND['ends_of'](asked, drawn))
+    lines = [line for ends in bugs for line in SOUND['bug_lines'](asked, ends, both, 'drawn.svg')]
     return by_parts(0, 1, 2)(asked, search, found, drawn) + ''.join(f'{line}\n' for line in lines)
 
 
@@ -852,11 +740,12 @@ BY_TEXT = {
                 'no command that tries other modes', 'a command that tries other modes beside a deadlock',
                 'a command that tries other modes where there are more', 'a command that tries five modes'),
     'always': ('never', 'though there are more', 'beside what is done', 'beside leftovers'),
-    'word': ('as it was given', 'no ./ in front of -', './ in front of the quotes', 'quotes are left out', 'two quotes for one', 'backslashes before quotes',
-             'by the first byte', "as it stands with ' '"),
+    'word': ('as it was given', 'no ./ in front of -', './ in front of the quotes', 'quotes are left out', 'two quotes for one',
+             'backslashes before quotes', 'by the first byte', "as it stands with ' '"),
     'hints': ('never', 'always', 'from the start, too', 'twice', 'to where it is run to'),
     'pictures': ('no numbers', 'always a number', 'from 0', 'run though it was drawn', 'from the last to the first'),
-    'bugs': ('by kinds alone', 'by lines alone', 'by outcomes', 'by the first line', 'by ranks and not by lines', 'by their lines', 'hangs first', 'in the order of their first runs',
+    'bugs': ('by kinds alone', 'by lines alone', 'by outcomes', 'by the first line', 'by ranks and not by lines', 'by their lines', 'hangs first',
+             'in the order of their first runs',
              'leftovers first', 'from the last to the first', 'the first alone', 'of ends beside each other', 'without the last end of one'),
     'explained': ('the first', 'the longest', 'the last of equals', 'that with the most runs'),
     'ends': ('no leftovers', 'no traps', 'the first run of another end', 'no end of one run'),

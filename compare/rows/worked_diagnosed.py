@@ -271,7 +271,8 @@ OF_ALONE = (
 LONG_NAME = 'a name of a file by which each command is longer than eighty bytes, by itself.mpd'
 # Names that a shell reads otherwise, or a command, and the words for them.
 WORDS = (('a b.mpd', "'a b.mpd'"), ("it's.mpd", r"'it'\''s.mpd'"), ('$(x);', "'$(x);'"), ('-x.mpd', './-x.mpd'), ('-x y', "'./-x y'"),
-         ("'", r"''\'''"), ("'a'b'", r"''\''a'\''b'\'''"), ('-', './-'), ('~/x', "'~/x'"), ('a=b', "'a=b'"), ('é.mpd', "'é.mpd'"), ('A-Z_az.09/+,:@%', 'A-Z_az.09/+,:@%'))
+         ("'", r"''\'''"), ("'a'b'", r"''\''a'\''b'\'''"), ('-', './-'), ('~/x', "'~/x'"), ('a=b', "'a=b'"), ('é.mpd', "'é.mpd'"),
+         ('A-Z_az.09/+,:@%', 'A-Z_az.09/+,:@%'))
 STUCK_ONCE = 'it can hang: 1 of 2 runs\n', 'deadlock at lines 9, 13: 1 of 2 runs', OF_STOLEN, BY_MESSAGE
 HANGS = (
     row(STOLEN, 1, *STUCK_ONCE, runs_of(0)), row(STOLEN, 1, *STUCK_ONCE, runs_of(0), mode=RENDEZVOUS, strict=True),
@@ -497,7 +498,8 @@ LIMITED = (
           limits=few(fuel=fuel),
           strict=strict) for fuel in (1, 5) for strict in (False, True)),
     row(THREE, 1, CUT_AND_HANG, runs_of(1), limits=few(fuel=12)),
-    row(THREE, 4, 'no hang and no trap was found in 2 runs in rendezvous', 'not everything was tried: 2 of 2 runs were cut after 9 steps', limits=few(fuel=9)),
+    row(THREE, 4, 'no hang and no trap was found in 2 runs in rendezvous',
+        'not everything was tried: 2 of 2 runs were cut after 9 steps', limits=few(fuel=9)),
     row(UNRECEIVED, 0, *ONE_LEFT, mode=BUFFERED, limits=few(fuel=2)),
     # states that are come to; where a hang was found nothing is drawn
     row(STOLEN, 1, *OF_THE_FIRST, limits=few(come_to=2)), row(STOLEN, 1, *STUCK_ONCE, runs_of(0), limits=few(come_to=3)),
@@ -608,7 +610,8 @@ DRAWN_LEFT = ('\ndrawn at random: none of 2 runs hangs or traps', 'drawn at rand
 DRAWN = (
     # nothing is found, and a hang, or none, is drawn
     row(STOLEN, 4, *none_found('0 runs'), *none_drawn('1 run'), limits=Limits(come_to=1, drawn=1)),
-    *(row(STOLEN, 1, *none_found('0 runs'), *STOLEN_DRAWN, BY_MESSAGE, runs_of(0, picture='drawn'), limits=Limits(come_to=1, drawn=drawn)) for drawn in (2, 3)),
+    *(row(STOLEN, 1, *none_found('0 runs'), *STOLEN_DRAWN, BY_MESSAGE, runs_of(0, picture='drawn'),
+          limits=Limits(come_to=1, drawn=drawn)) for drawn in (2, 3)),
     row(STOLEN, 1, *none_found('0 runs'), *STOLEN_DRAWN, BY_MESSAGE, runs_of(0, f"'{LONG_NAME}'", 'drawn'), file=LONG_NAME, limits=few(come_to=1)),
     # how many ranks there are stands behind the file, and before the mode
     *(row(STOLEN, 1, *STUCK_ONCE, runs_of(0, f'{word} --ranks 3'), file=name, ranks=3) for name, word in WORDS),
@@ -621,7 +624,8 @@ DRAWN = (
     # the first run is well, and the other traps
     row(WAITED_TWICE, 1, *none_found('1 run'), *SECOND_TRAPS, limits=few(come_to=2)),
     row(WAITED_TWICE, 1, *none_found('1 run'), *SECOND_TRAPS, limits=few(come_to=2), strict=True),
-    row(WAITED_TWICE, 1, *none_found('1 run', BUFFERED), '\ndrawn at random: 1 of 1 run trap', '\ntrap at line 12: 1 of 1 run', '  rank 0, line 12: trap assert',
+    row(WAITED_TWICE, 1, *none_found('1 run', BUFFERED), '\ndrawn at random: 1 of 1 run trap',
+        '\ntrap at line 12: 1 of 1 run', '  rank 0, line 12: trap assert',
         BY_REQUEST, runs_of(1, WITH_BUFFERS, 'drawn'), mode=BUFFERED, limits=few(1, come_to=2)),
     # a trap is found, and nothing is drawn
     row(TRAPS, 1, 'it can trap: 1 of 1 run', MORE, others(WITH_BUFFERS), '\ntrap at line 3: 1 of 1 run', '  rank 0, line 3: trap bad-tag', FROM_START,

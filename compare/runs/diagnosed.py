@@ -9,11 +9,10 @@
 Each text is read (diagnosed_lines.py): lines are folded where they must be, what is told of bugs adds up to what becomes of the runs, the lines of a
 bug are those of its explanation, its commands name the file as a shell reads it, and the status is that of what is told. The run of its commands must
 end so, and be explained so. Commands of files with names that a shell reads otherwise are run by one, beside the program. What is said to be typed at
-the prompt of `debug` is typed there. Where the runs
-of a script are few, all of them, one after another, say how many there are of each kind, how many states they come to, which ends are one bug, which
-of these has the shortest run, and which step decided. The model alone answers each script with small limits, too: there the first runs, and those that
-are drawn by going down the runs that are listed, say the same of what was found and what was drawn. The status is 0 where scripts were compared,
-nothing was wrong, and all was met that must be.
+the prompt of `debug` is typed there. Where the runs of a script are few, all of them, one after another, say how many there are of each kind, how
+many states they come to, which ends are one bug, which of these has the shortest run, and which step decided. The model alone answers each script
+with small limits, too: there the first runs, and those that are drawn by going down the runs that are listed, say the same of what was found and what
+was drawn. The status is 0 where scripts were compared, nothing was wrong, and all was met that must be.
 """
 
 import contextlib
@@ -65,8 +64,8 @@ MUST_MEET = (
     'an end that is drawn elsewhere', 'a bug is found and drawn', 'it always hangs', 'it always traps', 'always bad, and in two ways',
     'left before what is bad, by its first run', 'a name in quotes', 'a quote in a name', 'a name that begins as an option', 'other modes')
 # Names of files that a shell reads otherwise where they stand without quotes, or a command takes for options.
-NAMES = ('a b.mpd', "it's.mpd", 'a;b.mpd', '$(x).mpd', '`x`.mpd', '"a".mpd', 'a&b.mpd', 'a|b.mpd', 'a>b.mpd', '*.mpd', '~', '#a', 'a\\b.mpd', "'", '\u00e9.mpd',
-         '-x.mpd', '-x y.mpd', '--help', '-')
+NAMES = ('a b.mpd', "it's.mpd", 'a;b.mpd', '$(x).mpd', '`x`.mpd', '"a".mpd', 'a&b.mpd', 'a|b.mpd', 'a>b.mpd', '*.mpd', '~', '#a', 'a\\b.mpd', "'",
+         '\u00e9.mpd', '-x.mpd', '-x y.mpd', '--help', '-')
 # Of a script that hangs, and of one that never does, the words of each command, in their order, but for the file.
 IN_A_SHELL = ((worked_diagnosed.STOLEN, (('debug', '--ends', '--choices', '0'), ('picture', '--ends', '--choices', '0'))),
               (worked_diagnosed.THREE_SENDERS, (('check', '--modes', '4', '--outcomes'),)))
@@ -134,8 +133,8 @@ def typed_wrong(chosen, asked, bug):
         held(folder, asked.file, asked.script)
         mode = () if asked.mode is None else ('--mode', asked.mode)
         words = 'debug', *mode, '--ends', '--choices', ' '.join(map(str, bug.choices)), '--', asked.file
-        done = subprocess.run([os.path.abspath(chosen.program), *words], cwd=folder, input=b'blame\nredo all\n', capture_output=True, timeout=chosen.seconds,
-                              check=False)
+        done = subprocess.run([os.path.abspath(chosen.program), *words], cwd=folder, input=b'blame\nredo all\n', capture_output=True,
+                              timeout=chosen.seconds, check=False)
     _, there, behind = done.stdout.decode().partition(f'\ndepth {depth.removesuffix(":")}\n')
     return None if there and '\nended: ' in behind and not done.returncode else f'{asked}: {bug.choices} at the prompt: {done.stdout.decode()}'
 
@@ -454,7 +453,8 @@ def rows_wrong(chosen, pool):
 
 def compare(chosen, pool):
     """Compares so many scripts; gives how much differed, or was not met that must be."""
-    differing, met, files = driving.tell([*rows_wrong(chosen, pool), *names_wrong(chosen, pool), *all_typed_wrong(chosen, pool)]), Counter(), driving.Kept('diagnosed-')
+    wrong = [*rows_wrong(chosen, pool), *names_wrong(chosen, pool), *all_typed_wrong(chosen, pool)]
+    differing, met, files = driving.tell(wrong), Counter(), driving.Kept('diagnosed-')
     for found, there in driving.by_chunks(pool, compare_chunk, chosen):
         met += there
         for asked, how in found:

@@ -32,8 +32,8 @@ fn is_bad_if(drawn: Option<WayCounts>, strict: bool) -> bool
     }
 }
 
-/// The verdict on a script that is diagnosed: bad where a run hangs or traps, one that was drawn among them, or where one leaves messages
-/// over and `strict` says that this is asked for; else not whole where there are more runs, or one is cut; else good.
+/// The verdict on a script that is diagnosed: bad where a run hangs or traps, one that was drawn among them, or where one ends
+/// with calls left over and `strict` says that this is asked for; else not whole where there are more runs, or one is cut; else good.
 pub fn verdict_of(diagnosis: &Diagnosis, strict: bool) -> Verdict
     ensures { result ≡ spec.verdict_of strict diagnosis.now.counts diagnosis.now.drawn }
 {
