@@ -8,7 +8,7 @@ are is told where the table keeps nothing, or where nothing is refused; and a se
 from typing import NamedTuple
 
 from model import diagnosed, outcomes, states, wide
-from model.debugger import RENDEZVOUS
+from model.debugger import BUFFERED, RENDEZVOUS
 from model.explorer import Report, counted, leaf_lines
 from model.policy import Forced
 from model.run_words import run_by
@@ -115,6 +115,11 @@ def diagnoses():
     for states in (0, 1, 2, 3):
         yield Row('diagnose', RACE, (), f'100 0 {states} {ALL} 8')
     yield Row('diagnose', RACE, (), f'100 0 {ALL} 0 8', most=FEW)
+    # with a number of ranks in commands: that debug and draw a run, and that try other runs, or other modes
+    yield Row('diagnose', RACE, (), f'100 0 {ALL} {ALL} 8 3', most=FEW)
+    yield Row('diagnose', RACE, (), f'100 0 1 {ALL} 1 12', BUFFERED, most=FEW)
+    yield Row('diagnose', GATHER, (), f'200 0 9 {ALL} 8 5', most=FEW)
+    yield Row('diagnose', MESSAGE, (), f'100 0 {ALL} {ALL} 8 7', BUFFERED, most=FEW)
     for script in (TWO_RACES, THEN_A_RACE):
         for states in (9, 8, 5):
             yield Row('diagnose', script, (), f'200 0 {states} {ALL} 8', most=FEW)
@@ -282,7 +287,8 @@ def mode_ways_written(row):
 
 def told_of_script(row):
     """Whether a script can hang or trap, and the status without and with `--strict`."""
-    asked = diagnosed.Diagnosis('row', row.script.encode(), row.mode, False, 'script.mpd', diagnosed.Limits(*row.numbers()))
+    limits, ranks = diagnosed.Limits(*row.numbers()[:5]), next(iter(row.numbers()[5:]), None)
+    asked = diagnosed.Diagnosis('row', row.script.encode(), row.mode, False, 'script.mpd', limits, ranks)
     told, strict = diagnosed.answer(asked), diagnosed.answer(asked._replace(strict=True))
     return no_state(told.output.decode() + line(f'status {told.status}, strict {strict.status}'))
 

@@ -67,6 +67,7 @@ deadlock at line 7: 1 of 2 runs
   decided at depth 6: rank 0, line 7, takes the message of rank 1 (line 7, value
         1, tag 0); with that of rank 2 (line 7, value 2, tag 0) it can still end
         well
+  at the prompt of `debug`, `blame` goes to this step and `redo all` to the end
   ./mpdbg debug {RACE} --ends --choices '0'
   ./mpdbg picture {RACE} --ends --choices '0' > run.svg
 '''.encode()

@@ -7,7 +7,7 @@ use Rattle.mpd_runs.specs.Counts.{is_count}
 use Rattle.mpd_runs.specs.Runs.{sees_all}
 use Rattle.mpd_diagnose.specs.Told.{ends_well}
 
--- whether a run leaves messages over, where that is asked for
+-- whether a run ends with calls left over, where that is asked for
 abbrev pub is_untidy : Bool → WayCounts → Bool
 is_untidy strict c = strict && not (is_count 0 c.leftovers)
 

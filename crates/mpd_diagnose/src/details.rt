@@ -9,6 +9,7 @@ ghost use Rattle.mpd_explore.specs.Witness.{HasWitness};
 ghost use Rattle.mpd_diagnose.specs.Details.{LineAt, IsDetailed, AreDetailed};
 
 use crate::groups::Group;
+use crate::hint::push_hint;
 use mpd_blame::line_of_leaf;
 use mpd_explain::{Beside, explanation_at};
 use mpd_explore::{Leaf, Report};
@@ -66,6 +67,7 @@ fn details_at(
     let mut text = explanation_at(alloc, &Wide, debugger, report, number, beside)?;
     let line = line_at(alloc, debugger, limits, &report.leaves, number)?;
     text.push_str(&line)?;
+    push_hint(&mut text, &line)?;
     Ok(text)
 }
 

@@ -8,14 +8,14 @@ use crate::told::ends_well;
 use mpd_lines::Verdict;
 use mpd_runs::{WayCounts, is_count, sees_all};
 
-/// Whether a run leaves messages over, where that is asked for.
+/// Whether a run ends with calls left over, where that is asked for.
 fn is_untidy(counts: WayCounts, strict: bool) -> bool
     ensures { result ≡ spec.is_untidy strict counts }
 {
     strict && !is_count(counts.leftovers, 0)
 }
 
-/// Whether a run hangs or traps, or leaves messages over where that is asked for.
+/// Whether a run hangs or traps, or ends with calls left over where that is asked for.
 fn is_bad(counts: WayCounts, strict: bool) -> bool
     ensures { result ≡ spec.is_bad strict counts }
 {
@@ -32,8 +32,8 @@ fn is_bad_if(drawn: Option<WayCounts>, strict: bool) -> bool
     }
 }
 
-/// The verdict on a script that is diagnosed: bad where a run hangs or traps, one that was drawn among them, or where one leaves messages
-/// over and `strict` says that this is asked for; else not whole where there are more runs, or one is cut; else good.
+/// The verdict on a script that is diagnosed: bad where a run hangs or traps, one that was drawn among them, or where one ends
+/// with calls left over and `strict` says that this is asked for; else not whole where there are more runs, or one is cut; else good.
 pub fn verdict_of(diagnosis: &Diagnosis, strict: bool) -> Verdict
     ensures { result ≡ spec.verdict_of strict diagnosis.now.counts diagnosis.now.drawn }
 {

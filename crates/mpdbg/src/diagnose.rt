@@ -32,10 +32,11 @@ fn plan_of(file: &str) -> DiagnosisPlan<'_>
         blamed: STATES_VISITED,
         drawn: DRAWN,
         file,
+        ranks: None,
     }
 }
 
-/// Says whether the runs of the script of a file can hang or trap, and answers the verdict; that messages can be left over counts where
+/// Says whether the runs of the script of a file can hang or trap, and answers the verdict; that calls can be left over counts where
 /// `strict` says so.
 pub(crate) fn diagnose_script<'a, W: Sink>(
     alloc: Global,
