@@ -6,17 +6,19 @@ ghost use Rattle.clap.specs.Words.{App, Rule, app_of, rule_of, with_rule, with_s
 ghost use Rattle.clap.specs.declared.builder.command.Command.TheViews.{out-Command as fields_of};
 ghost use Rattle.mpd_options.specs.Help.{example_of};
 ghost use Rattle.mpd_options.specs.declared.command.Topic.TheVariants.{Check, Debug, Diagnose, Picture, Program, Run, Serve, Trace, Translate, Verify, Words};
-ghost use Rattle.mpd_options.specs.Program.{check_app, choices_rule, chosen_app, clients_rule, command_app, complete_rule, debug_app, diagnose_app, ends_rule, explain_rule, file_app, file_rule, flag_rule, fuel_rule, group_rule, laid_witness_rule, leaf_rule, mode_rule, modes_rule, mpdbg_app, named_app, number_rule, outcomes_rule, picture_app, piece_rule, pieces_rule, port_rule, required_number_rule, run_app, runs_rule, sample_rule, script_app, seed_rule, serve_app, split_rule, states_rule, strict_rule, told_app, trace_app, translate_app, until_rule, valued_rule, verify_app, witness_rule, word_rule, words_app, work_app, workers_rule};
+ghost use Rattle.mpd_options.specs.Program.{check_app, choices_rule, chosen_app, clients_rule, command_app, complete_rule, debug_app, diagnose_app, ends_rule, explain_rule, file_app, file_rule, flag_rule, fuel_rule, group_rule, laid_witness_rule, leaf_rule, mode_rule, modes_rule, mpdbg_app, named_app, number_rule, outcomes_rule, picture_app, piece_rule, pieces_rule, port_rule, ranks_rule, required_number_rule, run_app, runs_rule, sample_rule, script_app, seed_rule, serve_app, split_rule, states_rule, strict_rule, told_app, trace_app, translate_app, until_rule, valued_rule, verify_app, witness_rule, word_rule, words_app, work_app, workers_rule};
 
 use crate::names::{
     CHECK, CHOICES, CLIENTS, COMPLETE, DEBUG, DIAGNOSE, ENDS, EXPLAIN, FILE, FUEL, GROUP,
-    LAID_WITNESS, LEAF, MODE, MODES, OUTCOMES, PICTURE, PIECE, PIECES, PORT, RUN, RUNS, SAMPLE,
-    SEED, SERVE, SPLIT, STATES, STRICT, TRACE, TRANSLATE, UNTIL, VERIFY, WITNESS, WITNESS_FILE,
+    LAID_WITNESS, LEAF, MODE, MODES, OUTCOMES, PICTURE, PIECE, PIECES, PORT, RANKS, RUN, RUNS,
+    SAMPLE, SEED, SERVE, SPLIT, STATES, STRICT, TRACE, TRANSLATE, UNTIL, VERIFY, WITNESS, WITNESS_FILE,
     WORDS, WORDS_FILE, WORKERS,
 };
 use clap::builder::ValueParser;
 use clap::{Arg, ArgAction, Command};
 use std::alloc::{AllocError, Global};
+
+const MOST_RANKS: u64 = 16;
 
 const MOST_PORT: u64 = 65_535;
 
@@ -229,6 +231,16 @@ fn mode_option<'a>(alloc: Global) -> Arg<'a>
 {
     let help = "How standard sends behave: rendezvous, buffered, or slots:K with K from 0 to 65536";
     word_option(alloc, MODE, "M", help).default_value("rendezvous")
+}
+
+/// `--ranks N`.
+fn ranks_option<'a>(alloc: Global) -> Arg<'a>
+    ensures rule { rule_of result ≡ ranks_rule }
+    ensures own { result.global ≡ false }
+{
+    let numbers = ValueParser::unsigned(1, MOST_RANKS);
+    let help = "How many ranks run the script, 1 to 16, in place of the number in it";
+    valued_option(alloc, RANKS, "N", numbers, help)
 }
 
 /// An option with a value, which may be left out.
@@ -561,16 +573,17 @@ fn with_arg<'a>(command: Made<'a>, arg: Arg<'a>) -> Made<'a>
     }
 }
 
-/// A command on the script of a file: `NAME FILE`.
+/// A command on the script of a file: `NAME FILE --ranks N`.
 fn file_command<'a>(alloc: Global, name: &'a str) -> Made<'a>
     ensures app { IfOk result (λ c. app_of c ≡ file_app name.entry.now) }
     ensures own { IfOk result (λ c. (fields_of c).has_globals ≡ false) }
 {
     let command = Command::new(alloc, name);
-    command.arg(file_word(alloc, FILE, "The script"))
+    let command = command.arg(file_word(alloc, FILE, "The script"));
+    with_arg(command, ranks_option(alloc))
 }
 
-/// A command on the script of a file, in a mode: `NAME FILE --mode M`.
+/// A command on the script of a file, in a mode: `NAME FILE --ranks N --mode M`.
 fn script_command<'a>(alloc: Global, name: &'a str) -> Made<'a>
     ensures app { IfOk result (λ c. app_of c ≡ script_app name.entry.now) }
     ensures own { IfOk result (λ c. (fields_of c).has_globals ≡ false) }
@@ -578,7 +591,7 @@ fn script_command<'a>(alloc: Global, name: &'a str) -> Made<'a>
     with_arg(file_command(alloc, name), mode_option(alloc))
 }
 
-/// `mpdbg diagnose FILE --mode M --strict`.
+/// `mpdbg diagnose FILE --ranks N --mode M --strict`.
 fn diagnose_command<'a>(alloc: Global) -> Made<'a>
     ensures app { IfOk result (λ c. app_of c ≡ diagnose_app) }
     ensures own { IfOk result (λ c. (fields_of c).has_globals ≡ false) }
@@ -588,7 +601,7 @@ fn diagnose_command<'a>(alloc: Global) -> Made<'a>
     with_help(command, Topic::Diagnose)
 }
 
-/// `mpdbg trace FILE --mode M`.
+/// `mpdbg trace FILE --ranks N --mode M`.
 fn trace_command<'a>(alloc: Global) -> Made<'a>
     ensures app { IfOk result (λ c. app_of c ≡ trace_app) }
     ensures own { IfOk result (λ c. (fields_of c).has_globals ≡ false) }
@@ -597,7 +610,7 @@ fn trace_command<'a>(alloc: Global) -> Made<'a>
     with_help(script_command(alloc, TRACE), Topic::Trace)
 }
 
-/// `mpdbg debug FILE --mode M --choices C --witness WITNESS --ends`.
+/// `mpdbg debug FILE --ranks N --mode M --choices C --witness WITNESS --ends`.
 fn debug_command<'a>(alloc: Global) -> Made<'a>
     ensures app { IfOk result (λ c. app_of c ≡ debug_app) }
     ensures own { IfOk result (λ c. (fields_of c).has_globals ≡ false) }
@@ -613,7 +626,7 @@ fn debug_command<'a>(alloc: Global) -> Made<'a>
     with_help(command, Topic::Debug)
 }
 
-/// `mpdbg run FILE --mode M`.
+/// `mpdbg run FILE --ranks N --mode M`.
 fn run_command<'a>(alloc: Global) -> Made<'a>
     ensures app { IfOk result (λ c. app_of c ≡ run_app) }
     ensures own { IfOk result (λ c. (fields_of c).has_globals ≡ false) }
@@ -622,7 +635,7 @@ fn run_command<'a>(alloc: Global) -> Made<'a>
     with_help(script_command(alloc, RUN), Topic::Run)
 }
 
-/// `mpdbg serve FILE --mode M --port P --clients N`.
+/// `mpdbg serve FILE --ranks N --mode M --port P --clients N`.
 fn serve_command<'a>(alloc: Global) -> Made<'a>
     ensures app { IfOk result (λ c. app_of c ≡ serve_app) }
     ensures own { IfOk result (λ c. (fields_of c).has_globals ≡ false) }
@@ -633,7 +646,7 @@ fn serve_command<'a>(alloc: Global) -> Made<'a>
     with_help(command, Topic::Serve)
 }
 
-/// `mpdbg check FILE --mode M --modes N --runs N --fuel N --split K --workers N`.
+/// `mpdbg check FILE --ranks N --mode M --modes N --runs N --fuel N --split K --workers N`.
 fn work_command<'a>(alloc: Global) -> Made<'a>
     ensures app { IfOk result (λ c. app_of c ≡ work_app) }
     ensures own { IfOk result (λ c. (fields_of c).has_globals ≡ false) }
@@ -680,7 +693,7 @@ fn check_command<'a>(alloc: Global, until: &'a [&'a str]) -> Made<'a>
     with_help(command, Topic::Check)
 }
 
-/// `mpdbg verify FILE WITNESS --mode M --leaf N`.
+/// `mpdbg verify FILE WITNESS --ranks N --mode M --leaf N`.
 fn verify_command<'a>(alloc: Global) -> Made<'a>
     ensures app { IfOk result (λ c. app_of c ≡ verify_app) }
     ensures own { IfOk result (λ c. (fields_of c).has_globals ≡ false) }
@@ -692,7 +705,7 @@ fn verify_command<'a>(alloc: Global) -> Made<'a>
     with_help(command, Topic::Verify)
 }
 
-/// `mpdbg words FILE --mode M --choices C --fuel N --ends`.
+/// `mpdbg words FILE --ranks N --mode M --choices C --fuel N --ends`.
 fn words_command<'a>(alloc: Global) -> Made<'a>
     ensures app { IfOk result (λ c. app_of c ≡ words_app) }
     ensures own { IfOk result (λ c. (fields_of c).has_globals ≡ false) }
@@ -704,7 +717,7 @@ fn words_command<'a>(alloc: Global) -> Made<'a>
     with_help(command, Topic::Words)
 }
 
-/// `mpdbg c FILE`.
+/// `mpdbg c FILE --ranks N`.
 fn translate_command<'a>(alloc: Global) -> Made<'a>
     ensures app { IfOk result (λ c. app_of c ≡ translate_app) }
     ensures own { IfOk result (λ c. (fields_of c).has_globals ≡ false) }
@@ -713,7 +726,7 @@ fn translate_command<'a>(alloc: Global) -> Made<'a>
     with_help(file_command(alloc, TRANSLATE), Topic::Translate)
 }
 
-/// `mpdbg picture FILE --mode M --choices C --witness WITNESS --words WORDS --fuel N --ends`.
+/// `mpdbg picture FILE --ranks N --mode M --choices C --witness WITNESS --words WORDS --fuel N --ends`.
 fn picture_command<'a>(alloc: Global) -> Made<'a>
     ensures app { IfOk result (λ c. app_of c ≡ picture_app) }
     ensures own { IfOk result (λ c. (fields_of c).has_globals ≡ false) }

@@ -6,6 +6,9 @@ pub(crate) const FILE: &str = "FILE";
 /// The option of the mode, without its hyphens.
 pub(crate) const MODE: &str = "mode";
 
+/// The option of for how many ranks a script is run, without its hyphens.
+pub(crate) const RANKS: &str = "ranks";
+
 /// The option of up to how many slots modes are tried, without its hyphens.
 pub(crate) const MODES: &str = "modes";
 
