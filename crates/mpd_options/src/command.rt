@@ -6,7 +6,7 @@ ghost use Rattle.clap.specs.Words.{App, Rule, app_of, rule_of, with_rule, with_s
 ghost use Rattle.clap.specs.declared.builder.command.Command.TheViews.{out-Command as fields_of};
 ghost use Rattle.mpd_options.specs.Help.{example_of};
 ghost use Rattle.mpd_options.specs.declared.command.Topic.TheVariants.{Check, Debug, Diagnose, Picture, Program, Run, Serve, Trace, Translate, Verify, Words};
-ghost use Rattle.mpd_options.specs.Program.{check_app, choices_rule, chosen_app, clients_rule, command_app, complete_rule, debug_app, diagnose_app, ends_rule, explain_rule, file_app, file_rule, flag_rule, fuel_rule, group_rule, laid_witness_rule, leaf_rule, mode_rule, modes_rule, mpdbg_app, named_app, number_rule, outcomes_rule, picture_app, piece_rule, pieces_rule, port_rule, ranks_rule, required_number_rule, run_app, runs_rule, sample_rule, script_app, seed_rule, serve_app, split_rule, states_rule, strict_rule, told_app, trace_app, translate_app, until_rule, valued_rule, verify_app, witness_rule, word_rule, words_app, work_app, workers_rule};
+ghost use Rattle.mpd_options.specs.Program.{check_app, choices_rule, chosen_app, clients_rule, command_app, complete_rule, debug_app, diagnose_app, ends_rule, explain_rule, file_app, file_rule, flag_rule, fuel_rule, group_rule, laid_witness_rule, leaf_rule, mode_rule, modes_rule, mpdbg_app, named_app, number_rule, outcomes_rule, picture_app, piece_rule, pieces_rule, port_rule, ranked_app, ranks_rule, required_number_rule, run_app, runs_rule, sample_rule, script_app, seed_rule, serve_app, split_rule, states_rule, strict_rule, told_app, trace_app, translate_app, until_rule, valued_rule, verify_app, witness_rule, word_rule, words_app, work_app, workers_rule};
 
 use crate::names::{
     CHECK, CHOICES, CLIENTS, COMPLETE, DEBUG, DIAGNOSE, ENDS, EXPLAIN, FILE, FUEL, GROUP,
@@ -573,22 +573,29 @@ fn with_arg<'a>(command: Made<'a>, arg: Arg<'a>) -> Made<'a>
     }
 }
 
-/// A command on the script of a file: `NAME FILE --ranks N`.
+/// A command on the script of a file: `NAME FILE`.
 fn file_command<'a>(alloc: Global, name: &'a str) -> Made<'a>
     ensures app { IfOk result (λ c. app_of c ≡ file_app name.entry.now) }
     ensures own { IfOk result (λ c. (fields_of c).has_globals ≡ false) }
 {
     let command = Command::new(alloc, name);
-    let command = command.arg(file_word(alloc, FILE, "The script"));
-    with_arg(command, ranks_option(alloc))
+    command.arg(file_word(alloc, FILE, "The script"))
 }
 
-/// A command on the script of a file, in a mode: `NAME FILE --ranks N --mode M`.
+/// A command on the script of a file, for a number of ranks: `NAME FILE --ranks N`.
+fn ranked_command<'a>(alloc: Global, name: &'a str) -> Made<'a>
+    ensures app { IfOk result (λ c. app_of c ≡ ranked_app name.entry.now) }
+    ensures own { IfOk result (λ c. (fields_of c).has_globals ≡ false) }
+{
+    with_arg(file_command(alloc, name), ranks_option(alloc))
+}
+
+/// And in a mode: `NAME FILE --ranks N --mode M`.
 fn script_command<'a>(alloc: Global, name: &'a str) -> Made<'a>
     ensures app { IfOk result (λ c. app_of c ≡ script_app name.entry.now) }
     ensures own { IfOk result (λ c. (fields_of c).has_globals ≡ false) }
 {
-    with_arg(file_command(alloc, name), mode_option(alloc))
+    with_arg(ranked_command(alloc, name), mode_option(alloc))
 }
 
 /// `mpdbg diagnose FILE --ranks N --mode M --strict`.
@@ -723,7 +730,7 @@ fn translate_command<'a>(alloc: Global) -> Made<'a>
     ensures own { IfOk result (λ c. (fields_of c).has_globals ≡ false) }
     ensures example { IfOk result (λ c. option_map (λ (t : Bor (List ℕ)). t.now) (fields_of c).after_help ≡ Some (example_of Translate)) }
 {
-    with_help(file_command(alloc, TRANSLATE), Topic::Translate)
+    with_help(ranked_command(alloc, TRANSLATE), Topic::Translate)
 }
 
 /// `mpdbg picture FILE --ranks N --mode M --choices C --witness WITNESS --words WORDS --fuel N --ends`.

@@ -1,7 +1,7 @@
 //! What the words of a command line ask for.
 ghost use Rattle.std.specs.Prelude.{◌≡◌, ◌<◌, IfOk, IfErr, Some, true, is_some, length, map, option_and_then};
 ghost use Rattle.clap.specs.Words.{first_of, found_of, one_of, rows_of, subcommand_rows_of};
-ghost use Rattle.mpd_options.specs.Asked.{IsFound, IsInRange, asked, checker, debugger, diagnoser, found_of_command, found_options, meant, most_seed, number_if_given, painter, ranks_of_command, runner, server, task_in, task_of, task_of_command, teller, text_in, tracer, translator, until_bad_in, verifier};
+ghost use Rattle.mpd_options.specs.Asked.{IsFound, IsLineInRange, asked, checker, debugger, diagnoser, found_of_command, found_options, meant, most_seed, number_if_given, painter, ranks_of_command, runner, server, task_in, task_of, task_of_command, teller, text_in, tracer, translator, until_bad_in, verifier};
 ghost use Rattle.mpd_options.specs.Numbers.{flag_in, most_usize, number_in};
 ghost use Rattle.mpd_options.specs.Refused.{IsRefused, is_answer, usage_of, usage_status, usage_text};
 
@@ -590,7 +590,7 @@ fn found_by_words<'a, S: AsStr>(alloc: Global, words: &'a [S]) -> Result<ArgMatc
 /// What words ask for, of which there are some.
 fn options_by_words<'a, S: AsStr>(alloc: Global, words: &'a [S]) -> Result<CommandLine<'a>, UsageFault>
     requires { 0 < length words.now }
-    ensures in_range { IfOk result IsInRange }
+    ensures in_range { IfOk result IsLineInRange }
     ensures ok { IfOk result (λ line. meant (map S.text words.entry.now) ≡ Some (asked line)) }
     ensures err { IfErr result (λ fault. IsRefused fault (map S.text words.entry.now)) }
 {
@@ -604,7 +604,7 @@ fn options_by_words<'a, S: AsStr>(alloc: Global, words: &'a [S]) -> Result<Comma
 /// for, with the words of files and mode as they were given. An `Err` is `Usage` exactly where they ask for nothing that can be
 /// done, with the kind of fault that `clap` has for these words, or `Memory`.
 pub fn read_options<'a, S: AsStr>(alloc: Global, words: &'a [S]) -> Result<CommandLine<'a>, UsageFault>
-    ensures in_range { IfOk result IsInRange }
+    ensures in_range { IfOk result IsLineInRange }
     ensures ok { IfOk result (λ line. meant (map S.text words.entry.now) ≡ Some (asked line)) }
     ensures err { IfErr result (λ fault. IsRefused fault (map S.text words.entry.now)) }
 {

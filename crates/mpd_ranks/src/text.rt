@@ -1,23 +1,39 @@
 //! The text of a script with another number in the place of the one behind `ranks`.
 
 ghost use Rattle.std.specs.Prelude.{◌≡◌, ◌≤◌, IfOk, false, length};
-ghost use Rattle.mpd_ranks.specs.Ranks.{before_digit, digits_at, number_at, text_with};
+ghost use Rattle.mpd_ranks.specs.Ranks.{before_digit, digits_at, is_comment_after, number_at, text_with};
 
 use itoa::Buffer;
 use std::alloc::{AllocError, Global};
+
+/// Whether what follows a byte is in a comment, by whether the byte is.
+fn is_comment_after(in_comment: bool, byte: u8) -> bool
+    ensures { result ≡ is_comment_after in_comment byte }
+{
+    if in_comment {
+        byte != b'\n'
+    } else {
+        byte == b'#'
+    }
+}
 
 /// How many bytes stand before the first digit that is in no comment.
 fn before_digit(text: &[u8]) -> usize
     ensures value { result ≡ before_digit false text.now }
     ensures within { result ≤ length text.now }
 {
+    let mut rest = text;
     let mut in_comment = false;
-    let mut at = 0;
-    while at < text.len() && (in_comment || !text[at].is_ascii_digit()) {
-        in_comment = if in_comment { text[at] != b'\n' } else { text[at] == b'#' };
-        at += 1;
+    let mut count = 0;
+    while let [byte, behind @ ..] = rest {
+        if !in_comment && byte.is_ascii_digit() {
+            return count;
+        }
+        in_comment = is_comment_after(in_comment, *byte);
+        count += 1;
+        rest = behind;
     }
-    at
+    count
 }
 
 /// How many digits stand at the front.
