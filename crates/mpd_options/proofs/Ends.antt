@@ -14,7 +14,7 @@ use Rattle.clap.specs.declared.builder.value_parser.Reading.{Reading}
 use Rattle.clap.specs.declared.error.kind.ErrorKind.TheVariants as kind
 use Rattle.clap.specs.declared.parser.matches.ValueSource.TheVariants.{DefaultValue}
 use Rattle.clap.proofs.OnLiterals.{clap_on_literals}
-use Rattle.mpd_options.specs.Asked.{Asked, Item, Said, Task, Tool, checker, debugger, default_of, diagnoser, fits, found, found_check, found_debug, found_diagnose, found_in, found_of_file, found_options, found_picture, found_ranks, found_serve, found_task, found_verify, found_words, most_clients, most_fuel, most_leaf, most_modes, most_piece, most_port, most_ranks, most_runs, most_sample, most_seed, most_split, most_states, most_workers, name_of, number_if_given, or_default, painter, run, runner, said_of, server, task_in, teller, text_in, text_of, the_choices, the_clients, the_complete, the_ends, the_explain, the_file, the_fuel, the_group, the_laid_witness, the_leaf, the_mode, the_modes, the_outcomes, the_piece, the_pieces, the_port, the_ranks, the_runs, the_sample, the_seed, the_split, the_states, the_strict, the_until, the_witness, the_witness_file, the_words, the_workers, trace, tracer, translate, translator, until_bad_in, verifier, with_ranks}
+use Rattle.mpd_options.specs.Asked.{Asked, Item, Said, Task, Tool, checker, debugger, default_of, diagnoser, fits, found, found_check, found_debug, found_diagnose, found_in, found_of_file, found_options, found_picture, found_ranks, found_serve, found_task, found_verify, found_words, most_clients, most_fuel, most_leaf, most_modes, most_piece, most_port, most_ranks, most_runs, most_sample, most_seed, most_split, most_states, most_workers, name_of, number_if_given, or_default, painter, run, runner, said_of, server, task_in, teller, text_in, text_of, the_choices, the_clients, the_complete, the_ends, the_explain, the_file, the_fuel, the_group, the_laid_witness, the_leaf, the_mode, the_modes, the_outcomes, the_piece, the_pieces, the_port, the_rank_span, the_ranks, the_runs, the_sample, the_seed, the_split, the_states, the_strict, the_until, the_witness, the_witness_file, the_words, the_workers, trace, tracer, translate, translator, until_bad_in, verifier, with_ranks}
 use Rattle.mpd_options.specs.Numbers.{flag_in, number_in}
 use Rattle.mpd_options.specs.declared.options.CheckOptions.{CheckOptions}
 use Rattle.mpd_options.specs.Program.{Lies}
@@ -159,6 +159,7 @@ checker_row lie the_laid_witness = refl
 checker_row lie the_words = refl
 checker_row lie the_strict = tt
 checker_row lie the_ranks = refl
+checker_row lie the_rank_span = refl
 
 verifier_file : (lie : Lies) → rules_row (name_of the_file) (rules lie verifier) ≡ default_row the_file
 unfolding clap_on_literals
@@ -276,6 +277,10 @@ diagnoser_ranks : (lie : Lies) → rules_row (name_of the_ranks) (rules lie diag
 unfolding clap_on_literals
 diagnoser_ranks lie = refl
 
+diagnoser_span : (lie : Lies) → rules_row (name_of the_rank_span) (rules lie diagnoser) ≡ default_row the_rank_span
+unfolding clap_on_literals
+diagnoser_span lie = refl
+
 -- ---- what is found at last
 
 abbrev ended : Lies → Tool → Said → List Row
@@ -342,6 +347,7 @@ text_ended lie the_laid_witness said h = first_ended lie checker the_laid_witnes
 text_ended lie the_words said h = first_ended lie checker the_words said (checker_row lie the_words) h
 text_ended lie the_strict said h = refl
 text_ended lie the_ranks said h = one_ended lie checker the_ranks said (checker_row lie the_ranks) h
+text_ended lie the_rank_span said h = first_ended lie checker the_rank_span said (checker_row lie the_rank_span) h
 
 verify_same : (f f' w w' m m' l l' : Option Text) → f ≡ f' → w ≡ w' → m ≡ m' → l ≡ l' → found_verify f w m (number_if_given 0 most_leaf l) ≡ found_verify f' w' m' (number_if_given 0 most_leaf l')
 verify_same f f' w w' m m' l l' a b c d = rw (a, b, c, d) refl
@@ -357,8 +363,8 @@ picture_same : (f f' m m' n n' s s' c c' w w' x x' : Option Text) → f ≡ f' �
     → found_picture f m (option_and_then (number_in 1 most_fuel) n) (option_and_then flag_in s) c w x ≡ found_picture f' m' (option_and_then (number_in 1 most_fuel) n') (option_and_then flag_in s') c' w' x'
 picture_same f f' m m' n n' s s' c c' w w' x x' a b d e g h i = rw (a, b, d, e, g, h, i) refl
 
-diagnose_same : (f f' m m' s s' : Option Text) → f ≡ f' → m ≡ m' → s ≡ s' → found_diagnose f m (option_and_then flag_in s) ≡ found_diagnose f' m' (option_and_then flag_in s')
-diagnose_same f f' m m' s s' a b c = rw (a, b, c) refl
+diagnose_same : (f f' m m' s s' r r' : Option Text) → f ≡ f' → m ≡ m' → s ≡ s' → r ≡ r' → found_diagnose f m (option_and_then flag_in s) r ≡ found_diagnose f' m' (option_and_then flag_in s') r'
+diagnose_same f f' m m' s s' r r' a b c d = rw (a, b, c, d) refl
 
 task_ended : (lie : Lies) (t : Tool) (said : Said) → Valid said → task_in t (ended lie t said) ≡ found_task t (text_of said)
 task_ended lie tracer said h = ap₂ (found_of_file trace) (first_ended lie tracer the_file said (tracer_file lie) h) (first_ended lie tracer the_mode said (tracer_mode lie) h)
@@ -380,7 +386,8 @@ task_ended lie painter said h =
     picture_same _ _ _ _ _ _ _ _ _ _ _ _ _ _ (first_ended lie painter the_file said (painter_file lie) h) (first_ended lie painter the_mode said (painter_mode lie) h) (one_ended lie painter the_fuel said (painter_fuel lie) h)
     (one_ended lie painter the_ends said (painter_ends lie) h) (first_ended lie painter the_choices said (painter_choices lie) h) (first_ended lie painter the_laid_witness said (painter_witness lie) h) (first_ended lie painter the_words said (painter_words lie) h)
 task_ended lie diagnoser said h =
-    diagnose_same _ _ _ _ _ _ (first_ended lie diagnoser the_file said (diagnoser_file lie) h) (first_ended lie diagnoser the_mode said (diagnoser_mode lie) h) (one_ended lie diagnoser the_strict said (diagnoser_strict lie) h)
+    diagnose_same _ _ _ _ _ _ _ _ (first_ended lie diagnoser the_file said (diagnoser_file lie) h) (first_ended lie diagnoser the_mode said (diagnoser_mode lie) h) (one_ended lie diagnoser the_strict said (diagnoser_strict lie) h)
+    (first_ended lie diagnoser the_rank_span said (diagnoser_span lie) h)
 
 ranks_owned : (lie : Lies) (t : Tool) → Owns lie t the_ranks
 ranks_owned lie tracer = tracer_ranks lie
@@ -425,7 +432,7 @@ item_named name =
     else (if bytes_eq name (codes "pieces") then Some the_pieces
     else (if bytes_eq name (codes "leaf") then Some the_leaf
     else (if bytes_eq name (codes "choices") then Some the_choices
-    else (if bytes_eq name (codes "laid_witness") then Some the_laid_witness else (if bytes_eq name (codes "words") then Some the_words else (if bytes_eq name (codes "strict") then Some the_strict else (if bytes_eq name (codes "ranks") then Some the_ranks else None)))))))))))))))))))))))))))
+    else (if bytes_eq name (codes "laid_witness") then Some the_laid_witness else (if bytes_eq name (codes "words") then Some the_words else (if bytes_eq name (codes "strict") then Some the_strict else (if bytes_eq name (codes "ranks") then Some the_ranks else (if bytes_eq name (codes "rank_span") then Some the_rank_span else None))))))))))))))))))))))))))))
 
 named_is : (i : Item) → item_named (name_of i) ≡ Some i
 named_is the_file = refl
@@ -456,6 +463,7 @@ named_is the_laid_witness = refl
 named_is the_words = refl
 named_is the_strict = refl
 named_is the_ranks = refl
+named_is the_rank_span = refl
 
 same_item : (i j : Item) → bytes_eq (name_of i) (name_of j) ≡ true → i ≡ j
 same_item i j e = (let same : Some i ≡ Some j = sym (named_is i) ∙ ap item_named ((bytes_eq-Decides (name_of i) (name_of j)).0 e) ∙ named_is j in cc)
@@ -565,11 +573,11 @@ is_debug (Some f) None d (Some s) c w e = refl
 is_debug (Some f) (Some m) d (Some s) c w e = refl
 is_debug (Some f) m d None c w e = cc
 
-is_diagnose : (f m : Option Text) (d : Text) (s : Option Bool) → is_some s ≡ true → is_some (found_diagnose (or_default f None) (or_default m (Some d)) s) ≡ is_some f
-is_diagnose None m d s e = refl
-is_diagnose (Some f) None d (Some s) e = refl
-is_diagnose (Some f) (Some m) d (Some s) e = refl
-is_diagnose (Some f) m d None e = cc
+is_diagnose : (f m : Option Text) (d : Text) (s : Option Bool) (r : Option Text) → is_some s ≡ true → is_some (found_diagnose (or_default f None) (or_default m (Some d)) s r) ≡ is_some f
+is_diagnose None m d s r e = refl
+is_diagnose (Some f) None d (Some s) r e = refl
+is_diagnose (Some f) (Some m) d (Some s) r e = refl
+is_diagnose (Some f) m d None r e = cc
 
 -- each item is there that must be: the files, and the options that have no default, where the command wants them
 abbrev has_needed : Tool → (Item → Bool) → Bool
@@ -612,7 +620,7 @@ tasks_if_needed painter said h =
     (read_said (number_in 1 most_fuel) (codes "100000") (said_of the_fuel said) refl (λ v e. said_fits the_fuel v said h e))
     (read_said flag_in (codes "false") (said_of the_ends said) refl (λ v e. said_fits the_ends v said h e))
 tasks_if_needed diagnoser said h =
-    is_diagnose (said_of the_file said) (said_of the_mode said) (codes "rendezvous") (option_and_then flag_in (text_of said the_strict))
+    is_diagnose (said_of the_file said) (said_of the_mode said) (codes "rendezvous") (option_and_then flag_in (text_of said the_strict)) (text_of said the_rank_span)
     (read_said flag_in (codes "false") (said_of the_strict said) refl (λ v e. said_fits the_strict v said h e))
 
 is_for_ranks : (task : Option Task) (ranks : Option (Option ℕ)) → is_some ranks ≡ true → is_some (with_ranks task ranks) ≡ is_some task

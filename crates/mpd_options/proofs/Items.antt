@@ -16,7 +16,7 @@ use Rattle.clap.specs.declared.error.kind.ErrorKind.TheVariants as kind
 use Rattle.clap.specs.declared.parser.matches.ValueSource.{ValueSource}
 use Rattle.clap.specs.declared.parser.matches.ValueSource.TheVariants.{CommandLine}
 use Rattle.clap.proofs.OnLiterals.{clap_on_literals}
-use Rattle.mpd_options.specs.Asked.{Item, Said, Tool, checker, debugger, diagnoser, fits, most_clients, most_fuel, most_leaf, most_modes, most_piece, most_port, most_ranks, most_runs, most_sample, most_seed, most_split, most_states, most_workers, name_of, painter, said_named, said_of, spelling_of, the_choices, the_clients, the_complete, the_ends, the_explain, the_file, the_fuel, the_group, the_laid_witness, the_leaf, the_mode, the_modes, the_outcomes, the_piece, the_pieces, the_port, the_ranks, the_runs, the_sample, the_seed, the_split, the_states, the_strict, the_until, the_witness, the_witness_file, the_words, the_workers, runner, server, teller, tracer, translator, verifier}
+use Rattle.mpd_options.specs.Asked.{Item, Said, Tool, checker, debugger, diagnoser, fits, most_clients, most_fuel, most_leaf, most_modes, most_piece, most_port, most_ranks, most_runs, most_sample, most_seed, most_split, most_states, most_workers, name_of, painter, said_named, said_of, spelling_of, the_choices, the_clients, the_complete, the_ends, the_explain, the_file, the_fuel, the_group, the_laid_witness, the_leaf, the_mode, the_modes, the_outcomes, the_piece, the_pieces, the_port, the_rank_span, the_ranks, the_runs, the_sample, the_seed, the_split, the_states, the_strict, the_until, the_witness, the_witness_file, the_words, the_workers, runner, server, teller, tracer, translator, verifier}
 use Rattle.mpd_options.specs.Program.{Lies, mpdbg_app, only_deadlock}
 use Rattle.mpd_options.proofs.NumberReads.{accepts_number}
 
@@ -126,7 +126,9 @@ asks painter the_words = true
 asks painter the_fuel = true
 asks painter the_ranks = true
 asks painter _ = false
-asks diagnoser i = is_common i
+asks diagnoser the_mode = true
+asks diagnoser the_rank_span = true
+asks diagnoser _ = false
 
 -- the witness has a word of its own
 abbrev pub reads_witness : Tool → Bool
@@ -163,6 +165,7 @@ keeps t the_choices = asks t the_choices
 keeps t the_laid_witness = asks t the_laid_witness
 keeps t the_words = asks t the_words
 keeps t the_ranks = asks t the_ranks
+keeps t the_rank_span = asks t the_rank_span
 keeps t _ = false
 
 common_alone : (Q : Item → Type 0) → Q the_mode × Q the_ranks → (i : Item) → is_common i ≡ true → Q i
@@ -181,7 +184,7 @@ EachAsks P verifier = P verifier the_mode × P verifier the_leaf × P verifier t
 EachAsks P teller = P teller the_mode × P teller the_choices × P teller the_fuel × P teller the_ranks
 EachAsks P translator = P translator the_ranks
 EachAsks P painter = P painter the_mode × P painter the_choices × P painter the_laid_witness × P painter the_words × P painter the_fuel × P painter the_ranks
-EachAsks P diagnoser = P diagnoser the_mode × P diagnoser the_ranks
+EachAsks P diagnoser = P diagnoser the_mode × P diagnoser the_rank_span
 
 pub each_asks : (P : Tool → Item → Type 0) → EachAsks P tracer → EachAsks P debugger → EachAsks P runner → EachAsks P server → EachAsks P checker → EachAsks P verifier → EachAsks P teller → EachAsks P translator → EachAsks P painter → EachAsks P diagnoser → (t : Tool) (i : Item) → asks t i ≡ true → P t i
 each_asks P a d r s c v w x q g tracer i e = common_alone (P tracer) a i e
@@ -227,7 +230,9 @@ each_asks P a d r s c v w x q g painter the_words e = q.3
 each_asks P a d r s c v w x q g painter the_fuel e = q.4
 each_asks P a d r s c v w x q g painter the_ranks e = q.5
 each_asks P a d r s c v w x q g painter _ e = cc
-each_asks P a d r s c v w x q g diagnoser i e = common_alone (P diagnoser) g i e
+each_asks P a d r s c v w x q g diagnoser the_mode e = g.0
+each_asks P a d r s c v w x q g diagnoser the_rank_span e = g.1
+each_asks P a d r s c v w x q g diagnoser _ e = cc
 
 -- each file
 abbrev pub EachFile : (P : Tool → Item → Type 0) → Type 0
@@ -293,7 +298,7 @@ each_keeps P f a d r s c v w x q g painter the_ranks e = q.5
 each_keeps P f a d r s c v w x q g painter _ e = cc
 each_keeps P f a d r s c v w x q g diagnoser the_file e = f.10
 each_keeps P f a d r s c v w x q g diagnoser the_mode e = g.0
-each_keeps P f a d r s c v w x q g diagnoser the_ranks e = g.1
+each_keeps P f a d r s c v w x q g diagnoser the_rank_span e = g.1
 each_keeps P f a d r s c v w x q g diagnoser _ e = cc
 
 pub asks_keeps : (t : Tool) (i : Item) → asks t i ≡ true → keeps t i ≡ true
@@ -400,7 +405,7 @@ accepted_fits t i v k =
       or_nothing (bytes_eq (codes "deadlock") v) ∙ same_either_way (codes "deadlock") v,
       accepts_number 0 most_piece v (omega arith),
       ranks,
-    ) (refl, accepts_number 0 most_leaf v (omega arith), ranks) (refl, refl, accepts_number 1 most_fuel v (omega arith), ranks) ranks (refl, refl, refl, refl, accepts_number 1 most_fuel v (omega arith), ranks) (refl, ranks) t i k
+    ) (refl, accepts_number 0 most_leaf v (omega arith), ranks) (refl, refl, accepts_number 1 most_fuel v (omega arith), ranks) ranks (refl, refl, refl, refl, accepts_number 1 most_fuel v (omega arith), ranks) (refl, refl) t i k
 
 -- the fault of a value, by whether it is taken
 abbrev value_fault : ErrorKind → Bool → Kinds

@@ -15,7 +15,7 @@ use Rattle.clap.specs.declared.parser.matches.ArgMatches.TheViews.{out-ArgMatche
 use Rattle.clap.specs.declared.parser.matches.Found.{Found}
 use Rattle.clap.proofs.OnLiterals.{clap_on_literals}
 use Rattle.clap.proofs.WalkLemmas.{first_value-rows, one_text-rows}
-use Rattle.mpd_options.specs.Asked.{AreInRange, Asked, IsFound, IsInRange, IsLineInRange, Item, Task, Tool, asked, check, checker, debug, debugger, diagnose, diagnoser, found, found_by, found_check, found_debug, found_diagnose, found_in, found_of_command, found_of_file, found_options, found_picture, found_ranks, found_serve, found_task, found_verify, found_words, given_word, meant, most_clients, most_fuel, most_leaf, most_modes, most_piece, most_port, most_ranks, most_runs, most_sample, most_seed, most_split, most_states, most_workers, number_if_given, paint, painter, ranks_of_command, run, runner, serve, server, task_by, task_in, task_of, task_of_command, tell, teller, text_in, the_choices, the_clients, the_ends, the_file, the_fuel, the_laid_witness, the_leaf, the_mode, the_modes, the_piece, the_port, the_ranks, the_runs, the_sample, the_seed, the_split, the_states, the_strict, the_witness_file, the_words, the_workers, tool_named, trace, tracer, translate, translator, until_bad_in, verifier, verify, with_ranks}
+use Rattle.mpd_options.specs.Asked.{AreInRange, Asked, IsFound, IsInRange, IsLineInRange, Item, Task, Tool, asked, check, checker, debug, debugger, diagnose, diagnoser, found, found_by, found_check, found_debug, found_diagnose, found_in, found_of_command, found_of_file, found_options, found_picture, found_ranks, found_serve, found_task, found_verify, found_words, given_word, meant, most_clients, most_fuel, most_leaf, most_modes, most_piece, most_port, most_ranks, most_runs, most_sample, most_seed, most_split, most_states, most_workers, number_if_given, paint, painter, ranks_of_command, run, runner, serve, server, task_by, task_in, task_of, task_of_command, tell, teller, text_in, the_choices, the_clients, the_ends, the_file, the_fuel, the_laid_witness, the_leaf, the_mode, the_modes, the_piece, the_port, the_rank_span, the_ranks, the_runs, the_sample, the_seed, the_split, the_states, the_strict, the_witness_file, the_words, the_workers, tool_named, trace, tracer, translate, translator, until_bad_in, verifier, verify, with_ranks}
 use Rattle.mpd_options.specs.Numbers.{flag_in, most_usize, number_in}
 use Rattle.mpd_options.specs.declared.options.CheckOptions.{CheckOptions}
 use Rattle.mpd_options.specs.declared.options.CommandLine.{CommandLine}
@@ -229,11 +229,11 @@ pub record HasDiagnosed (f m : Option Text) (s : Option Bool) : Type 0 where
   pub mode : is_some m ≡ true
   pub strict : is_some s ≡ true
 
-some_diagnosed : (f m : Option Text) (s : Option Bool) → is_some (found_diagnose f m s) ≡ true → HasDiagnosed f m s
-some_diagnosed None m s e = cc
-some_diagnosed (Some f) None s e = cc
-some_diagnosed (Some f) (Some m) None e = cc
-some_diagnosed (Some f) (Some m) (Some s) e = record { file = refl; mode = refl; strict = refl }
+some_diagnosed : (f m : Option Text) (s : Option Bool) (r : Option Text) → is_some (found_diagnose f m s r) ≡ true → HasDiagnosed f m s
+some_diagnosed None m s r e = cc
+some_diagnosed (Some f) None s r e = cc
+some_diagnosed (Some f) (Some m) None r e = cc
+some_diagnosed (Some f) (Some m) (Some s) r e = record { file = refl; mode = refl; strict = refl }
 
 pub has_file : (t : Tool) (rows : List Row) → is_some (task_in t rows) ≡ true → is_some (first_of (codes "FILE") rows) ≡ true
 has_file tracer rows e = (some_both trace _ _ e).0
@@ -245,7 +245,7 @@ has_file verifier rows e = (some_verified _ _ _ _ e).file
 has_file teller rows e = (some_words_found _ _ _ _ _ e).file
 has_file translator rows e = some_translated _ e
 has_file painter rows e = (some_picture _ _ _ _ _ _ _ e).file
-has_file diagnoser rows e = (some_diagnosed _ _ _ e).file
+has_file diagnoser rows e = (some_diagnosed _ _ _ _ e).file
 
 pub has_mode : (t : Tool) (rows : List Row) → asks t the_mode ≡ true → is_some (task_in t rows) ≡ true → is_some (first_of (codes "mode") rows) ≡ true
 has_mode tracer rows has e = (some_both trace _ _ e).1
@@ -257,7 +257,7 @@ has_mode verifier rows has e = (some_verified _ _ _ _ e).mode
 has_mode teller rows has e = (some_words_found _ _ _ _ _ e).mode
 has_mode translator rows has e = cc
 has_mode painter rows has e = (some_picture _ _ _ _ _ _ _ e).mode
-has_mode diagnoser rows has e = (some_diagnosed _ _ _ e).mode
+has_mode diagnoser rows has e = (some_diagnosed _ _ _ _ e).mode
 
 not_found : (r : Option (Bor Text)) (o : Option Text) → o ≡ text_at r → r ≡ None → is_some o ≡ true → ⊥
 not_found r o e none some = (let bad : false ≡ true = sym (ap is_some (e ∙ ap text_at none)) ∙ some in cc)
@@ -298,8 +298,13 @@ words_found file choices mode fuel ends a b c d e = rw (a, b, c, d, e) refl
 pub translate_found : {f : Option Text} (file : Text) → f ≡ Some file → Some (translate file) ≡ option_map translate f
 translate_found file a = rw a refl
 
-pub diagnose_found : {f m : Option Text} {s : Option Bool} (file mode : Text) (strict : Bool) → f ≡ Some file → m ≡ Some mode → s ≡ Some strict → Some (diagnose file mode strict) ≡ found_diagnose f m s
-diagnose_found file mode strict a b c = rw (a, b, c) refl
+diagnose_of : {f m : Option Text} {s : Option Bool} {r : Option Text} (file mode : Text) (strict : Bool) (ranks : Option Text) → f ≡ Some file → m ≡ Some mode → s ≡ Some strict → r ≡ ranks → Some (diagnose file mode strict ranks) ≡ found_diagnose f m s r
+diagnose_of file mode strict ranks a b c d = rw (a, b, c, d) refl
+
+-- with the word of several numbers of ranks, where there is one
+pub diagnose_found : (f : Found) (file mode : Text) (strict : Bool) (r : Option (Bor Text)) → first_of (codes "FILE") (rows_of f) ≡ Some file → first_of (codes "mode") (rows_of f) ≡ Some mode
+    → option_and_then flag_in (one_of (codes "strict") (rows_of f)) ≡ Some strict → text_at r ≡ first_value f (codes "rank_span") → Some (diagnose file mode strict (text_at r)) ≡ task_in diagnoser (rows_of f)
+diagnose_found f file mode strict r a b c d = diagnose_of file mode strict (text_at r) a b c (value_is f r (codes "rank_span") d)
 
 picture_of : {f m : Option Text} {n : Option ℕ} {s : Option Bool} {c w x : Option Text} (file mode : Text) (fuel : ℕ) (ends : Bool) (choices witness words : Option Text)
     → f ≡ Some file → m ≡ Some mode → n ≡ Some fuel → s ≡ Some ends → c ≡ choices → w ≡ witness → x ≡ words
@@ -425,7 +430,7 @@ pub has_picture_ends : (f : Found) → is_some (task_in painter (rows_of f)) ≡
 has_picture_ends f e = (some_picture _ _ _ _ _ _ _ e).ends
 
 pub has_strict : (f : Found) → is_some (task_in diagnoser (rows_of f)) ≡ true → is_some (flag_at (codes "strict") f) ≡ true
-has_strict f e = (some_diagnosed _ _ _ e).strict
+has_strict f e = (some_diagnosed _ _ _ _ e).strict
 
 pub has_options : (f : Found) → is_some (task_in checker (rows_of f)) ≡ true → is_some (found_options (text_in (rows_of f))) ≡ true
 has_options f e = (some_check _ _ _ e).2
@@ -495,7 +500,7 @@ HasRange _ = Unit {0}
 
 range_asked : (options : Options) → HasRange (task_of options) → IsInRange options
 range_asked Plain h = tt
-range_asked (Diagnose file mode strict) h = tt
+range_asked (Diagnose file mode strict ranks) h = tt
 range_asked (Trace file mode) h = tt
 range_asked (Debug file mode choices witness ends) h = tt
 range_asked (Run file mode) h = tt
@@ -565,11 +570,11 @@ debug_range (Some f) None s c w = tt
 debug_range (Some f) (Some m) None c w = tt
 debug_range (Some f) (Some m) (Some s) c w = tt
 
-diagnose_range : (f m : Option Text) (s : Option Bool) → RangeOf (found_diagnose f m s)
-diagnose_range None m s = tt
-diagnose_range (Some f) None s = tt
-diagnose_range (Some f) (Some m) None = tt
-diagnose_range (Some f) (Some m) (Some s) = tt
+diagnose_range : (f m : Option Text) (s : Option Bool) (r : Option Text) → RangeOf (found_diagnose f m s r)
+diagnose_range None m s r = tt
+diagnose_range (Some f) None s r = tt
+diagnose_range (Some f) (Some m) None r = tt
+diagnose_range (Some f) (Some m) (Some s) r = tt
 
 found_range : (t : Tool) (text : Item → Option Text) → RangeOf (found_task t text)
 found_range tracer text = file_range trace (text the_file) (text the_mode) (λ f m. tt)
@@ -584,7 +589,7 @@ found_range teller text =
 found_range translator text = translate_range (text the_file)
 found_range painter text =
     picture_range (text the_file) (text the_mode) (option_and_then (number_in 1 most_fuel) (text the_fuel)) (option_and_then flag_in (text the_ends)) (text the_choices) (text the_laid_witness) (text the_words) (read_within 1 most_fuel (text the_fuel))
-found_range diagnoser text = diagnose_range (text the_file) (text the_mode) (option_and_then flag_in (text the_strict))
+found_range diagnoser text = diagnose_range (text the_file) (text the_mode) (option_and_then flag_in (text the_strict)) (text the_rank_span)
 
 range_by : (o : Option Tool) (rows : List Row) → RangeOf (task_by o rows)
 range_by None rows = tt

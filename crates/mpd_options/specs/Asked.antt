@@ -14,11 +14,11 @@ use Rattle.mpd_options.specs.declared.options.Options.TheVariants.{Plain, Diagno
 -- what is asked for: a script and its trace on standard input, a diagnosis of a file, the trace of one, a console on one, with the choices of a run or
 -- none and a witness or none, answers to requests on one, of one or of several clients, a look for deadlocks in one, a check of a witness, the trace words of a run,
 -- a script in C, or a picture of a run, by its choices, a witness, or trace words, each given or not; with the words of files, mode and
--- choices, whether messages left over count, the port, how many clients, how deadlocks are looked for, the number of a leaf, the fuel, and
+-- choices, whether messages left over count, the word of several numbers of ranks, the port, how many clients, how deadlocks are looked for, the number of a leaf, the fuel, and
 -- whether choices are those of a report of `--ends` or `--sample`
 pub data Task : Type 0 where
   plain : Task
-  diagnose : List ℕ → List ℕ → Bool → Task
+  diagnose : List ℕ → List ℕ → Bool → Option (List ℕ) → Task
   trace : List ℕ → List ℕ → Task
   debug : List ℕ → List ℕ → Option (List ℕ) → Option (List ℕ) → Bool → Task
   run : List ℕ → List ℕ → Task
@@ -40,7 +40,7 @@ given_word = option_map (λ (text : Bor (List ℕ)). text.now)
 
 abbrev pub task_of : Options → Task
 task_of Plain = plain
-task_of (Diagnose file mode strict) = diagnose file.now mode.now strict
+task_of (Diagnose file mode strict ranks) = diagnose file.now mode.now strict (given_word ranks)
 task_of (Trace file mode) = trace file.now mode.now
 task_of (Debug file mode choices witness ends) = debug file.now mode.now (given_word choices) (given_word witness) ends
 task_of (Run file mode) = run file.now mode.now
@@ -114,7 +114,7 @@ AreInRange o =
 -- each number lies in its range
 abbrev pub IsInRange : Options → Type 0
 IsInRange Plain = ⊤
-IsInRange (Diagnose file mode strict) = ⊤
+IsInRange (Diagnose file mode strict ranks) = ⊤
 IsInRange (Trace file mode) = ⊤
 IsInRange (Debug file mode choices witness ends) = ⊤
 IsInRange (Run file mode) = ⊤
@@ -185,6 +185,7 @@ pub data Item : Type 0 where
   the_words : Item
   the_strict : Item
   the_ranks : Item
+  the_rank_span : Item
 
 abbrev pub name_of : Item → List ℕ
 name_of the_file = codes "FILE"
@@ -215,10 +216,13 @@ name_of the_laid_witness = codes "laid_witness"
 name_of the_words = codes "words"
 name_of the_strict = codes "strict"
 name_of the_ranks = codes "ranks"
+name_of the_rank_span = codes "rank_span"
 
--- how an option is spelled behind its hyphens: as it is named, but that of a witness's file is spelled as the flag of `check` is
+-- how an option is spelled behind its hyphens: as it is named, but that of a witness's file is spelled as the flag of `check` is, and that
+-- of several numbers of ranks as that of one
 abbrev pub spelling_of : Item → List ℕ
 spelling_of the_laid_witness = codes "witness"
+spelling_of the_rank_span = codes "ranks"
 spelling_of item = name_of item
 
 abbrev pub options_of : Tool → List Item
@@ -232,7 +236,7 @@ options_of verifier = the_mode ∷ the_leaf ∷ the_ranks ∷ []
 options_of teller = the_mode ∷ the_choices ∷ the_fuel ∷ the_ends ∷ the_ranks ∷ []
 options_of translator = the_ranks ∷ []
 options_of painter = the_mode ∷ the_choices ∷ the_laid_witness ∷ the_words ∷ the_fuel ∷ the_ends ∷ the_ranks ∷ []
-options_of diagnoser = the_mode ∷ the_strict ∷ the_ranks ∷ []
+options_of diagnoser = the_mode ∷ the_strict ∷ the_rank_span ∷ []
 
 -- what the words that are no options name, in this order
 abbrev pub files_of : Tool → List Item
@@ -292,6 +296,7 @@ fits the_laid_witness text = true
 fits the_words text = true
 fits the_strict text = is_some (flag_in text)
 fits the_ranks text = is_some (number_in 1 most_ranks text)
+fits the_rank_span text = true
 
 -- the value of an item of which nothing is said; where it has none, something must be said of the files, the port, how many clients and the choices of `words`, and need not of the others
 abbrev pub default_of : Item → Option (List ℕ)
@@ -323,6 +328,7 @@ default_of the_laid_witness = None
 default_of the_words = None
 default_of the_strict = Some (codes "false")
 default_of the_ranks = None
+default_of the_rank_span = None
 
 -- what a word behind a command is: `--`, `--NAME` or `--NAME=V` of an option, another option, or none
 pub data Word : Type 0 where
@@ -490,9 +496,9 @@ abbrev pub found_debug : Option (List ℕ) → Option (List ℕ) → Option Bool
 found_debug (Some file) (Some mode) (Some ends) choices witness = Some (debug file mode choices witness ends)
 found_debug _ _ _ _ _ = None
 
-abbrev pub found_diagnose : Option (List ℕ) → Option (List ℕ) → Option Bool → Option Task
-found_diagnose (Some file) (Some mode) (Some strict) = Some (diagnose file mode strict)
-found_diagnose _ _ _ = None
+abbrev pub found_diagnose : Option (List ℕ) → Option (List ℕ) → Option Bool → Option (List ℕ) → Option Task
+found_diagnose (Some file) (Some mode) (Some strict) ranks = Some (diagnose file mode strict ranks)
+found_diagnose _ _ _ _ = None
 
 -- what a command asks for, by the text of each of its items: each must have one, but those that need not be there, and each number lies in its range
 abbrev pub found_task : Tool → (Item → Option (List ℕ)) → Option Task
@@ -505,7 +511,7 @@ found_task verifier text = found_verify (text the_file) (text the_witness_file) 
 found_task teller text = found_words (text the_file) (text the_choices) (text the_mode) (option_and_then (number_in 1 most_fuel) (text the_fuel)) (option_and_then flag_in (text the_ends))
 found_task translator text = option_map translate (text the_file)
 found_task painter text = found_picture (text the_file) (text the_mode) (option_and_then (number_in 1 most_fuel) (text the_fuel)) (option_and_then flag_in (text the_ends)) (text the_choices) (text the_laid_witness) (text the_words)
-found_task diagnoser text = found_diagnose (text the_file) (text the_mode) (option_and_then flag_in (text the_strict))
+found_task diagnoser text = found_diagnose (text the_file) (text the_mode) (option_and_then flag_in (text the_strict)) (text the_rank_span)
 
 -- for how many ranks, by the text of that item
 abbrev pub found_ranks : (Item → Option (List ℕ)) → Option (Option ℕ)
@@ -575,6 +581,7 @@ text_in rows the_laid_witness = first_of (name_of the_laid_witness) rows
 text_in rows the_words = first_of (name_of the_words) rows
 text_in rows the_strict = one_of (name_of the_strict) rows
 text_in rows the_ranks = one_of (name_of the_ranks) rows
+text_in rows the_rank_span = first_of (name_of the_rank_span) rows
 
 abbrev pub task_in : Tool → List Row → Option Task
 task_in t rows = found_task t (text_in rows)

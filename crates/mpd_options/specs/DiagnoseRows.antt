@@ -16,11 +16,11 @@ Row = List (List ℕ) × Option Task
 
 -- words behind `diagnose`, and the file and the mode that they name, without `--strict`
 abbrev says : List (List ℕ) → List ℕ → List ℕ → Row
-says words file mode = (codes "diagnose" ∷ words, Some (diagnose file mode false))
+says words file mode = (codes "diagnose" ∷ words, Some (diagnose file mode false None))
 
 -- and with it
 abbrev says_strictly : List (List ℕ) → List ℕ → List ℕ → Row
-says_strictly words file mode = (codes "diagnose" ∷ words, Some (diagnose file mode true))
+says_strictly words file mode = (codes "diagnose" ∷ words, Some (diagnose file mode true None))
 
 -- words behind `diagnose a` that make them ask for nothing
 abbrev errs : List (List ℕ) → Row

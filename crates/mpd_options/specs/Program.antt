@@ -39,6 +39,10 @@ flag_rule name = record (new_rule name) { long = Some name; action = Some SetTru
 abbrev pub ranks_rule : Rule
 ranks_rule = valued_rule (codes "ranks") (Unsigned 1 most_ranks)
 
+-- the same option of `diagnose`, whose word is read behind the others
+abbrev pub span_rule : Rule
+span_rule = record (new_rule (codes "rank_span")) { long = Some (codes "ranks"); value_names = 1; action = Some Set }
+
 abbrev pub modes_rule : Rule
 modes_rule = valued_rule (codes "modes") (Unsigned 0 most_modes)
 
@@ -138,7 +142,7 @@ abbrev pub script_app : List ℕ → App
 script_app name = with_rule (ranked_app name) mode_rule
 
 abbrev pub diagnose_app : App
-diagnose_app = with_rule (script_app (codes "diagnose")) strict_rule
+diagnose_app = with_rule (with_rule (with_rule (file_app (codes "diagnose")) span_rule) mode_rule) strict_rule
 
 abbrev pub trace_app : App
 trace_app = script_app (codes "trace")

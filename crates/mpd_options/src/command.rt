@@ -6,13 +6,13 @@ ghost use Rattle.clap.specs.Words.{App, Rule, app_of, rule_of, with_rule, with_s
 ghost use Rattle.clap.specs.declared.builder.command.Command.TheViews.{out-Command as fields_of};
 ghost use Rattle.mpd_options.specs.Help.{example_of};
 ghost use Rattle.mpd_options.specs.declared.command.Topic.TheVariants.{Check, Debug, Diagnose, Picture, Program, Run, Serve, Trace, Translate, Verify, Words};
-ghost use Rattle.mpd_options.specs.Program.{check_app, choices_rule, chosen_app, clients_rule, command_app, complete_rule, debug_app, diagnose_app, ends_rule, explain_rule, file_app, file_rule, flag_rule, fuel_rule, group_rule, laid_witness_rule, leaf_rule, mode_rule, modes_rule, mpdbg_app, named_app, number_rule, outcomes_rule, picture_app, piece_rule, pieces_rule, port_rule, ranked_app, ranks_rule, required_number_rule, run_app, runs_rule, sample_rule, script_app, seed_rule, serve_app, split_rule, states_rule, strict_rule, told_app, trace_app, translate_app, until_rule, valued_rule, verify_app, witness_rule, word_rule, words_app, work_app, workers_rule};
+ghost use Rattle.mpd_options.specs.Program.{check_app, choices_rule, chosen_app, clients_rule, command_app, complete_rule, debug_app, diagnose_app, ends_rule, explain_rule, file_app, file_rule, flag_rule, fuel_rule, group_rule, laid_witness_rule, leaf_rule, mode_rule, modes_rule, mpdbg_app, named_app, number_rule, outcomes_rule, picture_app, piece_rule, pieces_rule, port_rule, ranked_app, ranks_rule, required_number_rule, run_app, runs_rule, sample_rule, script_app, seed_rule, serve_app, span_rule, split_rule, states_rule, strict_rule, told_app, trace_app, translate_app, until_rule, valued_rule, verify_app, witness_rule, word_rule, words_app, work_app, workers_rule};
 
 use crate::names::{
     CHECK, CHOICES, CLIENTS, COMPLETE, DEBUG, DIAGNOSE, ENDS, EXPLAIN, FILE, FUEL, GROUP,
-    LAID_WITNESS, LEAF, MODE, MODES, OUTCOMES, PICTURE, PIECE, PIECES, PORT, RANKS, RUN, RUNS,
-    SAMPLE, SEED, SERVE, SPLIT, STATES, STRICT, TRACE, TRANSLATE, UNTIL, VERIFY, WITNESS, WITNESS_FILE,
-    WORDS, WORDS_FILE, WORKERS,
+    LAID_WITNESS, LEAF, MODE, MODES, OUTCOMES, PICTURE, PIECE, PIECES, PORT, RANK_SPAN, RANKS, RUN,
+    RUNS, SAMPLE, SEED, SERVE, SPLIT, STATES, STRICT, TRACE, TRANSLATE, UNTIL, VERIFY, WITNESS,
+    WITNESS_FILE, WORDS, WORDS_FILE, WORKERS,
 };
 use clap::builder::ValueParser;
 use clap::{Arg, ArgAction, Command};
@@ -62,7 +62,8 @@ const DIAGNOSE_ABOUT: &str =
 
 const DIAGNOSE_EXAMPLE: &str = "Examples:
   ./mpdbg diagnose examples/race.mpd
-  ./mpdbg diagnose examples/exchange.mpd --mode buffered --strict";
+  ./mpdbg diagnose examples/exchange.mpd --mode buffered --strict
+  ./mpdbg diagnose examples/race.mpd --ranks 2-5";
 
 const TRACE_ABOUT: &str = "Trace the script of a file";
 
@@ -241,6 +242,20 @@ fn ranks_option<'a>(alloc: Global) -> Arg<'a>
     let numbers = ValueParser::unsigned(1, MOST_RANKS);
     let help = "How many ranks run the script, 1 to 16, in place of the number in it";
     valued_option(alloc, RANKS, "N", numbers, help)
+}
+
+/// `--ranks N` or `--ranks N-M` of `diagnose`.
+fn span_option<'a>(alloc: Global) -> Arg<'a>
+    ensures rule { rule_of result ≡ span_rule }
+    ensures own { result.global ≡ false }
+{
+    Arg::new(alloc, RANK_SPAN)
+        .long(RANKS)
+        .value_name("N[-M]")
+        .action(ArgAction::Set)
+        .help(
+            "How many ranks run the script, 1 to 16, in place of the number in it; N-M tells each number from N to M by a line",
+        )
 }
 
 /// An option with a value, which may be left out.
@@ -598,13 +613,15 @@ fn script_command<'a>(alloc: Global, name: &'a str) -> Made<'a>
     with_arg(ranked_command(alloc, name), mode_option(alloc))
 }
 
-/// `mpdbg diagnose FILE --ranks N --mode M --strict`.
+/// `mpdbg diagnose FILE --ranks N-M --mode M --strict`.
 fn diagnose_command<'a>(alloc: Global) -> Made<'a>
     ensures app { IfOk result (λ c. app_of c ≡ diagnose_app) }
     ensures own { IfOk result (λ c. (fields_of c).has_globals ≡ false) }
     ensures example { IfOk result (λ c. option_map (λ (t : Bor (List ℕ)). t.now) (fields_of c).after_help ≡ Some (example_of Diagnose)) }
 {
-    let command = with_arg(script_command(alloc, DIAGNOSE), strict_flag(alloc));
+    let command = with_arg(file_command(alloc, DIAGNOSE), span_option(alloc));
+    let command = with_arg(command, mode_option(alloc));
+    let command = with_arg(command, strict_flag(alloc));
     with_help(command, Topic::Diagnose)
 }
 

@@ -8,9 +8,9 @@ ghost use Rattle.mpd_options.specs.Refused.{IsRefused, is_answer, usage_of, usag
 use crate::command::{USUAL_RUNS, USUAL_SPLIT, only_deadlock, program};
 use crate::names::{
     CHECK, CHOICES, CLIENTS, COMPLETE, DEBUG, DIAGNOSE, ENDS, EXPLAIN, FILE, FUEL, GROUP,
-    LAID_WITNESS, LEAF, MODE, MODES, OUTCOMES, PICTURE, PIECE, PIECES, PORT, RANKS, RUN, RUNS,
-    SAMPLE, SEED, SERVE, SPLIT, STATES, STRICT, TRACE, TRANSLATE, UNTIL, VERIFY, WITNESS, WITNESS_FILE,
-    WORDS, WORDS_FILE, WORKERS,
+    LAID_WITNESS, LEAF, MODE, MODES, OUTCOMES, PICTURE, PIECE, PIECES, PORT, RANK_SPAN, RANKS, RUN,
+    RUNS, SAMPLE, SEED, SERVE, SPLIT, STATES, STRICT, TRACE, TRANSLATE, UNTIL, VERIFY, WITNESS,
+    WITNESS_FILE, WORDS, WORDS_FILE, WORKERS,
 };
 use clap::ArgMatches;
 use clap::error::ErrorKind;
@@ -79,6 +79,8 @@ pub enum Options<'a> {
         mode: &'a str,
         /// Whether the status is to tell that messages can be left over.
         strict: bool,
+        /// The word of how many ranks run the script, one number or several, whatever it is; there need be none.
+        ranks: Option<&'a str>,
     },
     /// Trace the script of a file, by trace words on standard input.
     Trace {
@@ -305,10 +307,12 @@ fn diagnose_in<'a>(diagnose: &ArgMatches<'a>) -> Options<'a>
     let file = word_in(diagnose, FILE);
     let mode = word_in(diagnose, MODE);
     let is_strict = flag_of(diagnose, STRICT);
+    let span_word = diagnose.get_str(RANK_SPAN);
     Options::Diagnose {
         file,
         mode,
         strict: is_strict,
+        ranks: span_word,
     }
 }
 
@@ -588,7 +592,10 @@ fn found_by_words<'a, S: AsStr>(alloc: Global, words: &'a [S]) -> Result<ArgMatc
 }
 
 /// What words ask for, of which there are some.
-fn options_by_words<'a, S: AsStr>(alloc: Global, words: &'a [S]) -> Result<CommandLine<'a>, UsageFault>
+fn options_by_words<'a, S: AsStr>(
+    alloc: Global,
+    words: &'a [S],
+) -> Result<CommandLine<'a>, UsageFault>
     requires { 0 < length words.now }
     ensures in_range { IfOk result IsLineInRange }
     ensures ok { IfOk result (λ line. meant (map S.text words.entry.now) ≡ Some (asked line)) }
@@ -603,7 +610,10 @@ fn options_by_words<'a, S: AsStr>(alloc: Global, words: &'a [S]) -> Result<Comma
 /// Reads the words of a command line, without the program's own name (docs/FORMATS.md, "The command line"): what they ask
 /// for, with the words of files and mode as they were given. An `Err` is `Usage` exactly where they ask for nothing that can be
 /// done, with the kind of fault that `clap` has for these words, or `Memory`.
-pub fn read_options<'a, S: AsStr>(alloc: Global, words: &'a [S]) -> Result<CommandLine<'a>, UsageFault>
+pub fn read_options<'a, S: AsStr>(
+    alloc: Global,
+    words: &'a [S],
+) -> Result<CommandLine<'a>, UsageFault>
     ensures in_range { IfOk result IsLineInRange }
     ensures ok { IfOk result (λ line. meant (map S.text words.entry.now) ≡ Some (asked line)) }
     ensures err { IfErr result (λ fault. IsRefused fault (map S.text words.entry.now)) }

@@ -1,11 +1,17 @@
 -- A script, and its text, for another number of ranks.
-use Rattle.std.specs.Prelude.{◌≡◌, ℕ, suc, ◌+◌, Bool, true, false, not, ◌&&◌, if◌then◌else◌, ◌==◌, List, [], ◌∷◌, ◌++◌, take, drop, Option, Some, None}
+use Rattle.std.specs.Prelude.{◌≡◌, ◌≤◌, IfSome, ℕ, suc, ◌+◌, Bool, true, false, not, ◌&&◌, if◌then◌else◌, ◌==◌, List, [], ◌∷◌, ◌++◌, take, drop, Option, Some, None, Ok}
 use Rattle.std.specs.Char.{is_ascii_digit}
 use Rattle.std.specs.Fmt.{decimal}
 use Rattle.std.specs.List.{prefix_len}
 use Rattle.mpd_device.specs.Seen.{SourceSeen}
+use Rattle.mpd_model.specs.declared.limits.TheConstants.{RANKS_MAX}
+use Rattle.mpd_model.specs.grammar.Grammar.{reading}
 use Rattle.mpd_model.specs.script.Program.{Program}
 use Rattle.mpd_trace.specs.FileText.{IsScriptOf}
+
+-- as many ranks as a script can have, where a number is given
+abbrev pub AreRanks : Option ℕ → Type 0
+AreRanks ranks = IfSome ranks (λ n. (1 ≤ n) × (n ≤ RANKS_MAX))
 
 -- the same script for this number of ranks
 abbrev pub program_with : ℕ → Program → Program
@@ -53,3 +59,7 @@ text_for (Some ranks) text = text_with ranks text
 -- the text that was read is that of a script, which is taken for so many ranks, as its text is
 abbrev pub IsScriptFor : Option ℕ → SourceSeen → SourceSeen → List ℕ → Program → Type 0
 IsScriptFor ranks s t text program = (own : List ℕ) × (script : Program) × IsScriptOf s t own script × (text ≡ text_for ranks own) × (program ≡ program_for ranks script)
+
+-- the text spells a script, which is taken for so many ranks
+abbrev pub IsSpelledFor : ℕ → List ℕ → Program → Type 0
+IsSpelledFor ranks text program = (script : Program) × (reading text ≡ Ok script) × (program ≡ program_with ranks script)

@@ -3,8 +3,10 @@
 
 pub mod reading;
 pub mod script;
+pub mod span;
 pub mod text;
 
-pub use reading::{read_code_for, read_script_for};
+pub use reading::{code_of_text, read_code_for, read_script_for};
 pub use script::with_ranks;
+pub use span::{RankSpan, more_text, ranks_line, span_of};
 pub use text::text_with_ranks;

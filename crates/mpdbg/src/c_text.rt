@@ -1,5 +1,7 @@
 //! `mpdbg c`: the script of a file as a C program with MPI calls.
 
+ghost use Rattle.mpd_ranks.specs.Ranks.{AreRanks};
+
 use crate::notes::Noted;
 use crate::tell::Fault;
 use mpd_c::write_c;
@@ -16,7 +18,9 @@ fn script_of<'a, R: Files + AllocGlobal>(
     file: &'a str,
     ranks: Option<usize>,
     text: &mut Vec<u8>,
-) -> Result<Script, Fault<'a>> {
+) -> Result<Script, Fault<'a>>
+    requires { AreRanks ranks }
+{
     let mut reader = match File::open(rt, file) {
         Ok(opened) => Noted::new(opened),
         Err(error) => return Err(Fault::File(file, Some(error))),
@@ -38,7 +42,9 @@ pub(crate) fn translate<'a, R: Files + AllocGlobal, W: Sink>(
     ranks: Option<usize>,
     text: &mut Vec<u8>,
     sink: &mut W,
-) -> Result<(), Fault<'a>> {
+) -> Result<(), Fault<'a>>
+    requires { AreRanks ranks }
+{
     let script = script_of(rt, file, ranks, text)?;
     write_c(rt.alloc(), &script, sink)?;
     Ok(())
