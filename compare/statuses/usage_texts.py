@@ -49,13 +49,15 @@ Arguments:
   <FILE>  The script
 
 Options:
-      --mode <M>  How standard sends behave: rendezvous, buffered, or slots:K with K from 0 to 65536 [default: rendezvous]
-      --strict    End with status 1 also where messages can be left over
-  -h, --help      Print help
+      --ranks <N[-M]>  How many ranks run the script, 1 to 16, in place of the number in it; N-M tells each number from N to M by a line
+      --mode <M>       How standard sends behave: rendezvous, buffered, or slots:K with K from 0 to 65536 [default: rendezvous]
+      --strict         End with status 1 also where messages can be left over
+  -h, --help           Print help
 
 Examples:
   ./mpdbg diagnose examples/race.mpd
   ./mpdbg diagnose examples/exchange.mpd --mode buffered --strict
+  ./mpdbg diagnose examples/race.mpd --ranks 2-5
 """
 
 TRACE = """\
@@ -67,8 +69,9 @@ Arguments:
   <FILE>  The script
 
 Options:
-      --mode <M>  How standard sends behave: rendezvous, buffered, or slots:K with K from 0 to 65536 [default: rendezvous]
-  -h, --help      Print help
+      --ranks <N>  How many ranks run the script, 1 to 16, in place of the number in it
+      --mode <M>   How standard sends behave: rendezvous, buffered, or slots:K with K from 0 to 65536 [default: rendezvous]
+  -h, --help       Print help
 
 Trace words stand on standard input, one a line:
   local P, match S R, wake P, release   take a step, such as match 0.0 1.0
@@ -89,6 +92,7 @@ Arguments:
   <FILE>  The script
 
 Options:
+      --ranks <N>          How many ranks run the script, 1 to 16, in place of the number in it
       --mode <M>           How standard sends behave: rendezvous, buffered, or slots:K with K from 0 to 65536 [default: rendezvous]
       --choices <C>        The choices of a run that is laid ahead, numbers from 0 with spaces between them
       --witness <WITNESS>  A witness or a report, whose deadlock is laid ahead
@@ -113,8 +117,9 @@ Arguments:
   <FILE>  The script
 
 Options:
-      --mode <M>  How standard sends behave: rendezvous, buffered, or slots:K with K from 0 to 65536 [default: rendezvous]
-  -h, --help      Print help
+      --ranks <N>  How many ranks run the script, 1 to 16, in place of the number in it
+      --mode <M>   How standard sends behave: rendezvous, buffered, or slots:K with K from 0 to 65536 [default: rendezvous]
+  -h, --help       Print help
 
 Requests stand on standard input, a JSON object on each line, and each is answered by one line:
   step, next, run, run-on            go forward
@@ -135,6 +140,7 @@ Arguments:
   <FILE>  The script
 
 Options:
+      --ranks <N>    How many ranks run the script, 1 to 16, in place of the number in it
       --mode <M>     How standard sends behave: rendezvous, buffered, or slots:K with K from 0 to 65536 [default: rendezvous]
       --port <P>     The port that it listens on, 1 to 65535
       --clients <N>  How many clients it answers, 1 to 16
@@ -157,6 +163,7 @@ Arguments:
   <FILE>  The script
 
 Options:
+      --ranks <N>    How many ranks run the script, 1 to 16, in place of the number in it
       --mode <M>     How standard sends behave: rendezvous, buffered, or slots:K with K from 0 to 65536 [default: rendezvous]
       --modes <N>    Try rendezvous, slots:1 to slots:N and buffered in place of one mode, 0 to 1000
       --runs <N>     How many runs of each piece are tried at most, 1 to 65536 [default: 1000]
@@ -193,9 +200,10 @@ Arguments:
   <WITNESS>  The file of the witness
 
 Options:
-      --mode <M>  How standard sends behave: rendezvous, buffered, or slots:K with K from 0 to 65536 [default: rendezvous]
-      --leaf <N>  Take the witness of leaf N of a whole report, 0 to 67108863
-  -h, --help      Print help
+      --ranks <N>  How many ranks run the script, 1 to 16, in place of the number in it
+      --mode <M>   How standard sends behave: rendezvous, buffered, or slots:K with K from 0 to 65536 [default: rendezvous]
+      --leaf <N>   Take the witness of leaf N of a whole report, 0 to 67108863
+  -h, --help       Print help
 
 Example:
   ./mpdbg check examples/race.mpd --witness | ./mpdbg verify examples/race.mpd /dev/stdin --leaf 0
@@ -210,6 +218,7 @@ Arguments:
   <FILE>  The script
 
 Options:
+      --ranks <N>    How many ranks run the script, 1 to 16, in place of the number in it
       --mode <M>     How standard sends behave: rendezvous, buffered, or slots:K with K from 0 to 65536 [default: rendezvous]
       --choices <C>  The choices of the run, numbers from 0 with spaces between them
       --fuel <N>     How many steps a run takes at most, 1 to 1000000 [default: 100000]
@@ -226,13 +235,14 @@ Example:
 C = """\
 Write the script of a file as a C program with MPI calls
 
-Usage: mpdbg c <FILE>
+Usage: mpdbg c [OPTIONS] <FILE>
 
 Arguments:
   <FILE>  The script
 
 Options:
-  -h, --help  Print help
+      --ranks <N>  How many ranks run the script, 1 to 16, in place of the number in it
+  -h, --help       Print help
 
 It is one file of C11, for as many processes as the script has ranks.
 
@@ -249,6 +259,7 @@ Arguments:
   <FILE>  The script
 
 Options:
+      --ranks <N>          How many ranks run the script, 1 to 16, in place of the number in it
       --mode <M>           How standard sends behave: rendezvous, buffered, or slots:K with K from 0 to 65536 [default: rendezvous]
       --choices <C>        Draw the run with these choices, numbers from 0 with spaces between them
       --witness <WITNESS>  Draw the run of a witness or a report
