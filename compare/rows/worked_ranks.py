@@ -10,6 +10,7 @@ TEXTS = (
     ('mpd 01;ranks 003;', 5, 'mpd 01;ranks 5;'),
     ('# 5 ranks 6\nmpd 1; # 7\nranks # 8;\n2; var x;', 3, '# 5 ranks 6\nmpd 1; # 7\nranks # 8;\n3; var x;'),
     ('mpd\n1\n;\nranks\n2;', 10, 'mpd\n1\n;\nranks\n10;'),
+    ('mpd 1;\nranks 2;\nprint size;\n', 3, 'mpd 1;\nranks 3;\nprint size;\n'), ('mpd 1;\nranks 1; # 2 of 4\nprint 1;\nprint 2;', 2, 'mpd 1;\nranks 2; # 2 of 4\nprint 1;\nprint 2;'),
     ('mpd 1; ranks2;', 9, 'mpd 1; ranks2;'), ('mpd 1;ranks 2#3\n;', 9, 'mpd 1;ranks 9#3\n;'),
     # refused as they stand, so nothing is put into them
     ('mpd 1; ranks 17;', 2, 'mpd 1; ranks 17;'), ('mpd 1; ranks 2; print', 3, 'mpd 1; ranks 2; print'), ('mpd 3; ranks 2;', 3, 'mpd 3; ranks 2;'))
@@ -17,6 +18,12 @@ TEXTS = (
 # Words of several numbers of ranks, and the first and the last that each names.
 WORDS = (('1', (1, 1)), ('16', (16, 16)), ('2-5', (2, 5)), ('1-16', (1, 16)), ('7-7', (7, 7)), ('002-000000016', (2, 16)), ('', None), ('0', None), ('17', None), ('x', None),
          ('+3', None), ('-3', None), ('3-', None), ('-', None), ('5-2', None), ('0-3', None), ('3-17', None), ('1-2-3', None), ('0000000001', None), ('3\n', None))
+# What is answered of some numbers, each first line and status with more behind it, and what is said of all.
+SEVERAL = (
+    (((2, b'well\n', 0), (3, b'it hangs\n\nmore\n', 1), (4, b'it traps\n', 1)), b'2 ranks: well\n3 ranks: it hangs\n4 ranks: it traps\n\n  see 3\n', 1),
+    (((1, b'well\nmore\n', 0), (2, b'not all\n', 4)), b'1 rank: well\n2 ranks: not all\n', 4),
+    (((5, b'not all\n', 4), (6, b'bad\n', 1), (7, b'well\n', 0)), b'5 ranks: not all\n6 ranks: bad\n7 ranks: well\n\n  see 6\n', 1),
+    (((15, b'well\n', 0), (16, b'well\n', 0)), b'15 ranks: well\n16 ranks: well\n', 0))
 HEADINGS = ((1, '1 rank: '), (2, '2 ranks: '), (16, '16 ranks: '))
 
 # Each even rank sends to the next one, each odd rank receives: the last of an odd number of ranks sends to rank 0, which never receives.

@@ -3,7 +3,7 @@
     python3 compare/runs/ranked.py PROGRAM                 worked rows (worked_ranks.py), and 300 random scripts of both versions, some of which are
                                                            refused, with each command; the same ones for the same seed and count
     python3 compare/runs/ranked.py PROGRAM --count 3000    more of them
-    python3 compare/runs/ranked.py PROGRAM --broken        and faults of the model (ranks_faults.py), each of which must be noticed
+    python3 compare/runs/ranked.py --broken                faults of the model (ranks_faults.py), each of which rows must show; with PROGRAM, beside it
 
 Standard output, standard error and the status must be the same, to the byte, but for the commands that `diagnose` names, which have ` --ranks N`
 where it was given. Of a script that is refused the answer must be that of the script as it stands. `diagnose --ranks N-M` must say of each number
@@ -40,6 +40,8 @@ MUST_MEET = (*COMMANDS, 'several numbers', 'serve', 'refused', 'more ranks', 'fe
 # One script of so many is diagnosed for several numbers, and one of so many is served.
 SEVERAL_EVERY, SERVE_EVERY = 4, 30
 SERVED = b'{"cmd":"run","max":9}\n{"cmd":"state"}\n'
+# What the model alone is asked.
+MODEL_ROWS = worked_ranks.TEXTS + worked_ranks.WORDS + worked_ranks.SEVERAL + worked_ranks.HEADINGS
 # The commands that a diagnosis names.
 NAMED = re.compile(rb'^(  \./mpdbg .*?) --ranks \d+', re.MULTILINE)
 
@@ -167,7 +169,7 @@ def row_wrong(chosen, row):
 
 
 def texts_wrong():
-    """The worked texts that the model makes otherwise, and the words of several numbers."""
+    """What the model makes otherwise than was worked out: texts, words of several numbers, and what is said of these."""
     for text, number, wanted in worked_ranks.TEXTS:
         made = ranks.with_ranks(text.encode(), number).decode()
         if made != wanted:
@@ -175,6 +177,11 @@ def texts_wrong():
     for word, wanted in worked_ranks.WORDS:
         if ranks.numbers_in(word) != wanted:
             yield f'{word!r} names {ranks.numbers_in(word)}, wanted {wanted}'
+    for told, *wanted in worked_ranks.SEVERAL:
+        answers = [Result(output, b'', status) for _, output, status in told]
+        said_of_all = ranks.several([number for number, _, _ in told], answers, lambda number: f'see {number}')
+        if list(said_of_all) != wanted:
+            yield f'{told} is told as {said_of_all}, wanted {wanted}'
     for number, wanted in worked_ranks.HEADINGS:
         if ranks.heading(number) != wanted:
             yield f'{number} is headed {ranks.heading(number)!r}, wanted {wanted!r}'
@@ -186,7 +193,7 @@ def compare(chosen, pool):
     if chosen.program:
         wrong += [problem for problem in (row_wrong(chosen, row) for row in worked_ranks.ROWS) if problem is not None]
     driving.tell(wrong)
-    print(f'{len(worked_ranks.TEXTS) + len(worked_ranks.ROWS) * bool(chosen.program)} rows, {len(wrong)} wrong')
+    print(f'{len(MODEL_ROWS) + len(worked_ranks.ROWS) * bool(chosen.program)} rows, {len(wrong)} wrong')
     if not chosen.program:
         return len(wrong)
     found, met = [], Counter()
@@ -201,18 +208,15 @@ def compare(chosen, pool):
     return len(wrong) + len(found) + missed
 
 
-def is_noticed(chosen, fault, cases):
-    """Whether something is wrong with a fault of the model."""
+def is_noticed(fault):
+    """Whether a row is wrong with a fault of the model."""
     with driving.broken(fault):
-        if any(texts_wrong()):
-            return True
-        return bool(chosen.program) and any(problem for case in cases for problem in case_wrong(chosen, case, Counter()))
+        return any(texts_wrong())
 
 
-def compare_broken(chosen, _):
-    """How many faults nothing shows."""
-    cases = [ranks_cases.random_case(chosen.seed, number) for number in range(min(chosen.count, MANY))]
-    left = [fault.name for fault in ranks_faults.FAULTS if not is_noticed(chosen, fault, cases)]
+def compare_broken(*_):
+    """How many faults no row shows."""
+    left = [fault.name for fault in ranks_faults.FAULTS if not is_noticed(fault)]
     return driving.count_left(left, len(ranks_faults.FAULTS))
 
 

@@ -311,7 +311,7 @@ NO_COMMAND = 'mpdbg <COMMAND>'
 OF_DIAGNOSE, OF_TRACE, OF_DEBUG, OF_RUN, OF_SERVE, OF_CHECK, OF_VERIFY, OF_WORDS, OF_C, OF_PICTURE = (
     f'mpdbg {rest}' for rest in ('diagnose [OPTIONS] <FILE>', 'trace [OPTIONS] <FILE>', 'debug [OPTIONS] <FILE>', 'run [OPTIONS] <FILE>',
                                  'serve [OPTIONS] --port <P> --clients <N> <FILE>', 'check [OPTIONS] <FILE>',
-                                 'verify [OPTIONS] <FILE> <WITNESS>', 'words [OPTIONS] --choices <C> <FILE>', 'c <FILE>', 'picture [OPTIONS] <FILE>'))
+                                 'verify [OPTIONS] <FILE> <WITNESS>', 'words [OPTIONS] --choices <C> <FILE>', 'c [OPTIONS] <FILE>', 'picture [OPTIONS] <FILE>'))
 # What `serve` wants, where something that was given is named.
 WANTED_OF_SERVE = 'mpdbg serve --port <P> --clients <N> <FILE>'
 # And what `words` wants, with another flag and without.
@@ -517,7 +517,7 @@ MISTAKES = (
     hyphened('words|a|--choices|-1', '-1', OF_WORDS),
     hyphened('words|a|-c|0', '-c', OF_WORDS),
     hyphened('words|a|--runs|5', '--runs', WANTED_OF_WORDS),
-    hyphened('c|a|--mode|buffered', '--mode', OF_C),
+    hyphened('c|a|--mode|buffered', '--mode', 'mpdbg c <FILE>'),
     hyphened('c|a|-c', '-c', OF_C),
     unknown('picture|a|--word|w', '--word', 'mpdbg picture --words <WORDS> <FILE>', "a similar argument exists: '--words'"),
     unknown('picture|a|--laid_witness|w', '--laid_witness', 'mpdbg picture --witness <WITNESS> <FILE>', "a similar argument exists: '--witness'"),
@@ -592,12 +592,31 @@ MISTAKES = (
     Mistake('diagnose|a|--mode=b|--mode|b', "the argument '--mode <M>' cannot be used multiple times", OF_DIAGNOSE),
     Mistake('check|a|--witness|--witness', "the argument '--witness' cannot be used multiple times", OF_CHECK),
     Mistake('check|a|--witness=true', "unexpected value 'true' for '--witness' found; no more were expected", 'mpdbg check --witness <FILE>'),
+    # ranks
+    missing('c|--ranks|2', ['<FILE>'], 'mpdbg c --ranks <N> <FILE>'),
+    missing('diagnose|--ranks|2-5', ['<FILE>'], 'mpdbg diagnose --ranks <N[-M]> <FILE>'),
+    unknown('trace|a|--rank|2', '--rank', 'mpdbg trace --ranks <N> <FILE>', "a similar argument exists: '--ranks'"),
+    unknown('c|a|--rank|2', '--rank', 'mpdbg c --ranks <N> <FILE>', "a similar argument exists: '--ranks'"),
+    Mistake('run|a|--ranks', "a value is required for '--ranks <N>' but none was supplied"),
+    Mistake('diagnose|a|--ranks', "a value is required for '--ranks <N[-M]>' but none was supplied"),
+    Mistake('c|a|--ranks|2|--ranks=2', "the argument '--ranks <N>' cannot be used multiple times", OF_C),
+    Mistake('diagnose|a|--ranks|2|--ranks=2', "the argument '--ranks <N[-M]>' cannot be used multiple times", OF_DIAGNOSE),
     # the words of --until
     bad_choice('check|a|--until|trap', "invalid value 'trap' for '--until <END>'"),
     bad_choice('check|a|--until=Deadlock', "invalid value 'Deadlock' for '--until <END>'", "a similar value exists: 'deadlock'"),
     bad_choice('check|a|--until', "a value is required for '--until <END>' but none was supplied"),
     bad_choice('check|a|--until=', "a value is required for '--until <END>' but none was supplied"),
     # numbers
+    bad_number('trace|a|--ranks|0', '0', 'ranks', '0 is not in 1..=16'),
+    bad_number('debug|a|--ranks=17', '17', 'ranks', '17 is not in 1..=16'),
+    bad_number('run|a|--ranks|x', 'x', 'ranks', NO_DIGIT),
+    bad_number('serve|a|--port|1|--clients|2|--ranks|0', '0', 'ranks', '0 is not in 1..=16'),
+    bad_number('check|a|--ranks=', '', 'ranks', 'cannot parse integer from empty string'),
+    bad_number('check|a|--ranks|2-5', '2-5', 'ranks', NO_DIGIT),
+    bad_number('verify|a|b|--ranks|17', '17', 'ranks', '17 is not in 1..=16'),
+    bad_number('words|a|--choices|0|--ranks|ten', 'ten', 'ranks', NO_DIGIT),
+    bad_number('c|a|--ranks|1.5', '1.5', 'ranks', NO_DIGIT),
+    bad_number('picture|a|--ranks|99999999999999999999', '99999999999999999999', 'ranks', TOO_LARGE),
     bad_number('serve|a|--port|0|--clients|2', '0', 'port', '0 is not in 1..=65535', 'P'),
     bad_number('serve|a|--port=65536|--clients|2', '65536', 'port', '65536 is not in 1..=65535', 'P'),
     bad_number('serve|a|--port|ten|--clients|2', 'ten', 'port', NO_DIGIT, 'P'),

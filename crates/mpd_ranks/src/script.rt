@@ -10,18 +10,5 @@ pub fn with_ranks(script: Script, ranks: usize) -> Script
     requires { (1 ≤ ranks) × (ranks ≤ RANKS_MAX) }
     ensures { result ≡ program_with ranks script }
 {
-    let Script {
-        version,
-        ranks: _,
-        decls,
-        body,
-        lines,
-    } = script;
-    Script {
-        version,
-        ranks,
-        decls,
-        body,
-        lines,
-    }
+    Script { ranks, ..script }
 }
