@@ -21,7 +21,7 @@ SMALL_COME_TO, SMALL_DRAWN = (1, 2, 2, 3, 3, 4, 5, 8, 12), (1, 2, 4, 8, 16)
 # In turn: what decides, several bugs, and the others.
 IN_TURN = 3
 WRONG_MODES = 'fast', '', 'Buffered', 'slots:', 'slots:65537', 'slots:-1', 'buffered '
-FILES = ('script.mpd', 'script.mpd', 'script.mpd', 'a b.mpd', f'{"long" * 20}.mpd')
+FILES = ('script.mpd', 'script.mpd', 'script.mpd', 'a b.mpd', f'{"long" * 20}.mpd', "it's.mpd", '-x.mpd', '-$(x);', "'", 'A_z.9+,:@%-.mpd')
 # What rank 0 does that has received a message: it ends badly, or is some steps longer, or leaves something over.
 BAD = ('recv y from 0 tag 9;', 'recv y from any tag 40;', 'assert 0;', 'assert y;', 'barrier;', 'y = 1 / 0;', 'y = 1 / 0;')
 LONG = 'print x;', 'print x; print x;', 'y = x; y = 0; print y;'

@@ -12,7 +12,7 @@ from faults.policy_faults import Breakage
 from model import diagnosed, explaining, outcomes, sampler, states
 from model.console_lines import all_folded
 from model.debugger import BAD_FILE, BAD_MODE, RENDEZVOUS, Debugger, Result
-from model.diagnosed import HANG, LEFT, NEVER, NOT_FOUND, TRAP, UNTRIED, Counting, Diagnosis
+from model.diagnosed import HANG, LEAVES, LEFT, NEVER, NOT_FOUND, TRAP, UNTRIED, Counting, Diagnosis
 from model.explorer import read_script
 from model.outcomes import count_text, is_bad, total
 from model.policy import Choice
@@ -20,9 +20,8 @@ from model.states import Found, Search, answered, decided, word_of
 from model.walks import CUT
 
 SOUND = {name: getattr(owner, name) for owner, names in (
-    (diagnosed, ('places', 'lines_of', 'ends_of', 'bug_of', 'bugs_of', 'several', 'of_runs', 'runs_of', 'file_of', 'verdict_lines', 'verdict',
-                 'heading',
-                 'commands', 'bug_lines', 'all_bug_lines', 'text_of', 'status', 'answer', 'drawn_of', 'drawn_lines', 'drawn_verdict')),
+    (diagnosed, ('places', 'lines_of', 'ends_of', 'bug_of', 'bugs_of', 'several', 'of_runs', 'runs_of', 'file_of', 'script_of', 'mode_of', 'word_for',
+                 'verdict_lines', 'always', 'well_line', 'tried_next', 'pictures', 'verdict', 'heading', 'commands', 'bug_lines', 'all_bug_lines', 'text_of', 'status', 'answer', 'drawn_of', 'drawn_lines', 'drawn_verdict')),
     (outcomes, ('explained', 'is_whole'))) for name in names}
 BEHIND, SEARCHED, DRAWN = Counting.behind, Diagnosis.searched, Diagnosis.drawn
 
@@ -128,13 +127,14 @@ def first(begins):
 
 def with_none_left(lines, found):
     """What is told of runs that leave something over, also where there are none."""
-    return lines if SOUND['runs_of'](found, LEFT) else [*lines, f'it can leave messages over: {SOUND["of_runs"](0, found)}']
+    return lines if SOUND['runs_of'](found, LEFT) else [*lines, f'{LEAVES}: {SOUND["of_runs"](0, found)}']
 
 
 def never_where(test):
     """What says that it never hangs where no hang was found, and something holds of what was found."""
     return told_lines(lambda lines, found: [
-        line.replace(f'{NOT_FOUND} ', f'{NEVER} (') + ', 1 state)' * line.startswith(NOT_FOUND) for line in lines] if test(found) else lines)
+        f'{NEVER} rendezvous, whatever is taken first (1 run, 1 state)' if line.startswith(NOT_FOUND) else line for line in lines]
+        if test(found) else lines)
 
 
 def by_ends(counted):
@@ -161,6 +161,18 @@ def of_told_runs(count, found):
     return f'{count_text(count)} of {SOUND["several"](sum(SOUND["runs_of"](found, kind) for kind in (HANG, TRAP, LEFT)), "run")}'
 
 
+def ends_alike(found, kind, *others):
+    """Whether some run ends in a kind of way, and all others end so, or in some other ones."""
+    there = {word_of(outcome) for outcome in found.ways}
+    return kind in there and there <= {kind, *others}
+
+
+def always_modes(asked, found, also):
+    """The command that is tried next, or that which tries other modes, where something holds."""
+    lines = list(SOUND['tried_next'](asked, found))
+    return lines or [diagnosed.modes_in_turn(asked)] * also
+
+
 def verdict_faults():
     """Those of what becomes of the runs."""
     lines = (
@@ -168,14 +180,16 @@ def verdict_faults():
         ('never hangs where a run is cut', never_where(lambda found: CUT in found.ways)),
         ('not that it can hang', without('it can hang')), ('not that it can trap', without('it can trap')),
         ('not that it never hangs', without(NEVER)),
-        ('not that none was found', without(NOT_FOUND)), ('not what is left over', without('it can leave')),
+        ('not that none was found', without(NOT_FOUND)), ('not what is left over', without('it can end')),
         ('not what is cut', without(f'{UNTRIED}: 1 of')),
         ('not that there are more', without(f'{UNTRIED}: there')), ('traps before hangs', first('it can trap')),
-        ('what is left over first', first('it can leave')),
+        ('what is left over first', first('it can end')),
         ('what is not tried first', first(UNTRIED)),
         ('never hangs nor traps beside what is bad', told_lines(lambda lines, found: [*lines, *[NEVER] * any(map(is_bad, found.ways))])),
         ('of no run, too', told_lines(with_none_left)),
-        ('what is left over hangs', changed(lambda line: line.replace('leave messages over', 'hang'))),
+        ('what is left over hangs', changed(lambda line: line.replace('end with calls left over', 'hang'))),
+        ('messages are left over', changed(lambda line: line.replace('end with calls left over', 'leave messages over'))),
+        ('no mode', changed(lambda line: re.sub(r' in (rendezvous|buffered|slots:[0-9]+)', '', line))),
         ('how many states there are is not told', changed(lambda line: re.sub(r', [0-9]+ states?\)', ')', line))),
         ('cut after other steps', changed(lambda line: line.replace(' steps', '0 steps'))))
     counts = (
@@ -188,6 +202,27 @@ def verdict_faults():
         ('2 run', lambda count, what: f'{count_text(count)} {what}'),
         ('1 states', lambda count, what: SOUND['several'](count, what) + 's' * (count == 1 and what == 'state')),
         ('counts of any size', lambda count, what: f'{count} {what}{"" if count == 1 else "s"}'))
+    always_so = (
+        ('never', lambda found, kind: False), ('though a run is cut', lambda found, kind: not found.more and ends_alike(found, kind, CUT)),
+        ('though there are more', lambda found, kind: CUT not in found.ways and ends_alike(found, kind)),
+        ('beside leftovers', lambda found, kind: outcomes.is_whole(found) and ends_alike(found, kind, LEFT)),
+        ('beside what is done', lambda found, kind: outcomes.is_whole(found) and ends_alike(found, kind, 'done')),
+        ('beside what hangs or traps, too', lambda found, kind: outcomes.is_whole(found) and ends_alike(found, kind, HANG, TRAP)))
+    modes = (
+        ('the usual mode', lambda asked, search, found: SOUND['well_line'](asked._replace(mode=None), search, found)),
+        ('the mode as it was given', lambda asked, search, found:
+            SOUND['well_line'](asked, search, found).replace(f' {SOUND["mode_of"](asked)}', f' {asked.mode or RENDEZVOUS}')))
+    following = (
+        ('no command that tries other modes', lambda asked, found: [line for line in SOUND['tried_next'](asked, found) if '--modes' not in line]),
+        ('a command that tries other modes where it is cut', lambda asked, found: always_modes(asked, found, CUT in found.ways)),
+        ('a command that tries other modes where there are more', lambda asked, found: always_modes(asked, found, found.more)),
+        ('a command that tries other modes beside a trap', lambda asked, found: always_modes(asked, found, not SOUND['runs_of'](found, HANG))),
+        ('a command that tries other modes beside a deadlock', lambda asked, found: always_modes(asked, found, not SOUND['runs_of'](found, TRAP))),
+        ('a command that tries other modes beside nothing that is left over', lambda asked, found:
+            [] if SOUND['runs_of'](found, LEFT) and not found.more else SOUND['tried_next'](asked, found)),
+        ('a command that tries other modes in a mode', lambda asked, found:
+            [line.replace(' --modes', f' --mode {asked.mode} --modes') for line in SOUND['tried_next'](asked, found)]),
+        ('a command that tries five modes', lambda asked, found: [line.replace('--modes 4', '--modes 5') for line in SOUND['tried_next'](asked, found)]))
     commands = (
         ('no command that tries others', lambda *told: [line for line in SOUND['verdict'](*told) if './mpdbg' not in line]),
         ('a command that tries others though there are none', lambda asked, search,
@@ -196,7 +231,9 @@ def verdict_faults():
         ('a command that tries others first', lambda *told: sorted(SOUND['verdict'](*told), key=lambda line: './mpdbg' not in line)))
     return [*named('verdict', diagnosed, 'verdict_lines', lines), *named('verdict', diagnosed, 'runs_of', counts),
             *named('verdict', diagnosed, 'of_runs', (('of as many ends', of_as_many_ends), ('of bad runs alone', of_told_runs))),
-            *named('verdict', diagnosed, 'several', words), *named('verdict', diagnosed, 'verdict', commands)]
+            *named('verdict', diagnosed, 'several', words), *named('verdict', diagnosed, 'verdict', commands),
+            *named('always', diagnosed, 'always', always_so), *named('verdict', diagnosed, 'well_line', modes),
+            *named('verdict', diagnosed, 'tried_next', following)]
 
 
 # ---- which ends are one bug, and which is explained
@@ -226,6 +263,12 @@ def leftovers_together(ends):
 def sorted_by(place):
     """What has bugs in another order."""
     return lambda ends: sorted(SOUND['bugs_of'](ends), key=place)
+
+
+def by_first_runs(ends):
+    """Bugs in the order of the first of each, whatever their kind."""
+    ends = list(ends)
+    return sorted(SOUND['bugs_of'](ends), key=lambda bug: ends.index(bug[0]))
 
 
 def neighbours(ends):
@@ -265,7 +308,8 @@ def bug_faults():
         ('by ranks and not by lines', by_ranks), ('by kinds and how many lines', lambda end: (end.kind, len(end.lines))),
         ('by lengths, too', lambda end: (*SOUND['bug_of'](end), steps_of(end))), ('of a trap by its name, too', by_trap))
     bugs = (
-        ('leftovers are one bug', leftovers_together), ('by their lines', sorted_by(lambda bug: bug[0].lines)),
+        ('leftovers are one bug', leftovers_together), ('in the order of their first runs', by_first_runs),
+        ('leftovers first', sorted_by(lambda bug: bug[0].kind != LEFT)), ('by their lines', sorted_by(lambda bug: bug[0].lines)),
         ('hangs first', sorted_by(lambda bug: (HANG, TRAP, LEFT).index(bug[0].kind))),
         ('by their runs', sorted_by(lambda bug: -sum(end.runs for end in bug))),
         ('from the last to the first', lambda ends: SOUND['bugs_of'](ends)[::-1]), ('the first alone', lambda ends: SOUND['bugs_of'](ends)[:1]),
@@ -377,51 +421,111 @@ def explanation_faults():
 
 def commanded(change):
     """What writes each command otherwise."""
-    return lambda asked, leaf: [change(line) for line in SOUND['commands'](asked, leaf)]
+    return lambda asked, leaf, picture: [change(line) for line in SOUND['commands'](asked, leaf, picture)]
 
 
 def with_commas(line):
     """A command with commas between its choices."""
-    begins, choices, ends = line.split("'")
-    return f"{begins}'{choices.replace(' ', ',')}'{ends}"
+    begins, between, choices = line.partition(" --choices '")
+    choices, quote, ends = choices.partition("'")
+    return f"{begins}{between}{choices.replace(' ', ',')}{quote}{ends}"
 
 
-def of_two_runs(asked, leaf):
+def of_two_runs(asked, leaf, picture):
     """The commands, of which the second has another run."""
-    return [SOUND['commands'](asked, leaf)[0], SOUND['commands'](asked, leaf._replace(choices=(*leaf.choices, 0)))[1]]
+    return [SOUND['commands'](asked, leaf, picture)[0], SOUND['commands'](asked, leaf._replace(choices=(*leaf.choices, 0)), picture)[1]]
 
 
 def mode_first(asked):
     """What has the mode in front of the file."""
-    return ' '.join([*SOUND['file_of'](asked).removeprefix(asked.file).split(), asked.file])
+    there = SOUND['script_of'](asked)
+    return ' '.join([*SOUND['file_of'](asked).removeprefix(there).split(), there])
 
 
-def of_first(asked, ends, found):
+def ranks_last(asked):
+    """What has how many ranks there are behind the mode."""
+    words = SOUND['file_of'](asked._replace(ranks=None))
+    return words if asked.ranks is None else f'{words} --ranks {asked.ranks}'
+
+
+def of_first(asked, ends, found, picture):
     """What is written with the commands of the first end, in the place of that which is explained."""
-    return [*SOUND['bug_lines'](asked, ends, found)[:-2], *SOUND['commands'](asked, ends[0].leaf)]
+    return [*SOUND['bug_lines'](asked, ends, found, picture)[:-2], *SOUND['commands'](asked, ends[0].leaf, picture)]
+
+
+def word_by(plain, quoted=lambda path: f"'{path}'"):
+    """What writes a name as it stands where a pattern fits it, and else in quotes in some way."""
+    def word_for(name):
+        path = f'./{name}' if name.startswith('-') else name
+        return path if re.fullmatch(plain, name, re.ASCII) else quoted(path)
+    return word_for
+
+
+def escaped(path, quote):
+    """What stands in quotes, each quote in it in another way."""
+    return "'" + path.replace("'", quote) + "'"
+
+
+def word_faults():
+    """Those of the word for a file."""
+    plain, here = '[A-Za-z0-9_./+,:@%-]+', SOUND['word_for']
+    words = [
+        ('as it was given', lambda name: name), ('in quotes always', lambda name: here(f'{name} ').replace(" '", "'")),
+        ('no ./ in front of -', lambda name: here(f'x{name}').replace('x', '', 1)),
+        ('./ in front always', lambda name: here(name if name.startswith('-') else f'./{name}')),
+        ('./ in front of the quotes', lambda name: f'./{here(f"x{name}").replace("x", "", 1)}' if name.startswith('-') else here(name)),
+        ('quotes as they are', word_by(plain, lambda path: escaped(path, "'"))), ('quotes are left out', word_by(plain, lambda path: escaped(path, ''))),
+        ('two quotes for one', word_by(plain, lambda path: escaped(path, "''"))), ('backslashes before quotes', word_by(plain, lambda path: escaped(path, "\\'"))),
+        ('the first quote alone', word_by(plain, lambda path: "'" + path.replace("'", "'\\''", 1) + "'")),
+        ('in other quotes', lambda name: here(name) if re.fullmatch(plain, name) else f'"{name}"'),
+        ('by the first byte', lambda name: here(name) if re.match('[A-Za-z0-9_./+,:@%-]', name) is None else name)]
+    sound = re.compile(plain)
+    others = [(f'as it stands with {byte!r}', lambda name, byte=byte: name if sound.fullmatch(name.replace(byte, '')) else here(name)) for byte in " ';$~=("]
+    lacking = [(f'in quotes with {byte!r}', lambda name, byte=byte: f"'{name}'" if byte in name and here(name) == name else here(name)) for byte in 'a._/+,:@%-09AZz']
+    return named('word', diagnosed, 'word_for', [*words, *others, *lacking])
+
+
+def picture_faults():
+    """Those of the files of pictures."""
+    files = (
+        ('no numbers', lambda kind, count: [f'{kind}.svg'] * count), ('always a number', lambda kind, count: [f'{kind}-{place + 1}.svg' for place in range(count)]),
+        ('from 0', lambda kind, count: [name.replace(f'-{place + 1}', f'-{place}') for place, name in enumerate(SOUND['pictures'](kind, count))]),
+        ('none for the first', lambda kind, count: [f'{kind}.svg', *SOUND['pictures'](kind, count)][:1] + SOUND['pictures'](kind, count)[1:]),
+        ('run though it was drawn', lambda kind, count: SOUND['pictures']('run', count)), ('from the last to the first', lambda kind, count:
+            SOUND['pictures'](kind, count)[::-1]))
+    return named('pictures', diagnosed, 'pictures', files)
+
+
+def in_mode(asked, mode):
+    """The file, with a mode where there is one."""
+    return SOUND['script_of'](asked) if mode is None else f'{SOUND["script_of"](asked)} --mode {mode}'
 
 
 def command_faults():
     """Those of commands."""
     lines = (
         ('without --ends', lambda line: line.replace(' --ends', '')), ('no choices', lambda line: line.partition(' --choices')[0]),
-        ('choices without quotes', lambda line: line.replace("'", '')), ('choices with commas', with_commas),
-        ('no picture is kept', lambda line: line.removesuffix(' > run.svg')), ('no blanks in front', str.strip),
+        ('choices without quotes', lambda line: re.sub("--choices '([0-9 ]*)'", r'--choices \1', line)), ('choices with commas', with_commas),
+        ('no picture is kept', lambda line: line.partition(' > ')[0]), ('no blanks in front', str.strip),
         ('no ./ in front', lambda line: line.replace('./', '')))
     both = (
-        ('the picture first', lambda asked, leaf: SOUND['commands'](asked, leaf)[::-1]),
-        ('no picture', lambda asked, leaf: SOUND['commands'](asked, leaf)[:1]),
+        ('the picture first', lambda *told: SOUND['commands'](*told)[::-1]),
+        ('no picture', lambda *told: SOUND['commands'](*told)[:1]),
         ('the picture of another run', of_two_runs),
-        ('of all choices but the last', lambda asked, leaf: SOUND['commands'](asked, leaf._replace(choices=leaf.choices[:-1]))))
+        ('of all choices but the last', lambda asked, leaf, picture: SOUND['commands'](asked, leaf._replace(choices=leaf.choices[:-1]), picture)))
     files = (
-        ('without a mode', lambda asked: asked.file), ('with a mode that is usual', lambda asked: f'{asked.file} --mode {asked.mode or RENDEZVOUS}'),
-        ('with a mode that is usual, where it is given', lambda asked: asked.file if asked.mode is None else f'{asked.file} --mode {asked.mode}'),
-        ('the mode as it was given', lambda asked: asked.file if asked.mode in (None, RENDEZVOUS) else f'{asked.file} --mode {asked.mode}'),
-        ('the mode first', mode_first),
-        ('another file', lambda asked: SOUND['file_of'](asked).replace(asked.file, 'FILE')))
+        ('without a mode', SOUND['script_of']), ('with a mode that is usual', lambda asked: in_mode(asked, asked.mode or RENDEZVOUS)),
+        ('with a mode that is usual, where it is given', lambda asked: in_mode(asked, asked.mode)),
+        ('the mode as it was given', lambda asked: in_mode(asked, None if asked.mode == RENDEZVOUS else asked.mode)),
+        ('the mode first', mode_first), ('how many ranks there are comes last', ranks_last),
+        ('another file', lambda asked: SOUND['file_of'](asked._replace(file='FILE'))))
+    scripts = (
+        ('without its ranks', lambda asked: SOUND['script_of'](asked._replace(ranks=None))),
+        ('with a rank more', lambda asked: SOUND['script_of'](asked._replace(ranks=asked.ranks and asked.ranks + 1))),
+        ('with ranks though none are asked for', lambda asked: SOUND['script_of'](asked._replace(ranks=asked.ranks or 2))))
     return [*named('commands', diagnosed, 'commands', [(name, commanded(change)) for name, change in lines]),
             *named('commands', diagnosed, 'commands', both), *named('commands', diagnosed, 'file_of', files),
-            Breakage('commands: of another end', diagnosed, 'bug_lines', of_first)]
+            *named('commands', diagnosed, 'script_of', scripts), *word_faults(), *picture_faults(), Breakage('commands: of another end', diagnosed, 'bug_lines', of_first)]
 
 
 # ---- long lines
@@ -511,7 +615,7 @@ def any_mode(asked):
 def never_silent(asked):
     """What writes of what it refuses, too."""
     said = SOUND['answer'](asked)
-    return Result(said.output or b'no hang and no trap was found in 0 runs\n', said.errors, said.status)
+    return Result(said.output or b'no hang and no trap was found in 0 runs in rendezvous\n', said.errors, said.status)
 
 
 def status_faults():
@@ -605,10 +709,10 @@ def with_cut(drawn):
 
 
 def one_that_hangs(lines):
-    """What says of one run that it hangs, traps, or leaves messages over."""
+    """What says of one run that it hangs, traps, or ends with calls left over."""
     for line in lines:
-        one = re.fullmatch('(drawn at random: 1 of .* )(hang|trap|leave messages over)', line)
-        yield line if one is None else one[1] + {'hang': 'hangs', 'trap': 'traps'}.get(one[2], 'leaves messages over')
+        one = re.fullmatch('(drawn at random: 1 of .* )(hang|trap|end with calls left over)', line)
+        yield line if one is None else one[1] + {'hang': 'hangs', 'trap': 'traps'}.get(one[2], 'ends with calls left over')
 
 
 def always_others(asked, drawn):
@@ -640,7 +744,7 @@ def by_parts(*parts):
         if drawn is None:
             return SOUND['text_of'](asked, search, found, drawn)
         texts = (diagnosed.verdict(asked, search, found), diagnosed.all_bug_lines(asked, found), diagnosed.drawn_verdict(asked, drawn),
-                 diagnosed.all_bug_lines(asked, drawn))
+                 diagnosed.all_bug_lines(asked, drawn, diagnosed.OF_DRAWN))
         return ''.join(f'{line}\n' for part in parts for line in texts[part])
     return text_of
 
@@ -651,7 +755,7 @@ def told_once(asked, search, found, drawn):
         return SOUND['text_of'](asked, search, found, drawn)
     there = {(end.kind, end.lines) for end in SOUND['ends_of'](asked, found)}
     lines = [line for ends in SOUND['bugs_of'](SOUND['ends_of'](asked, drawn)) if SOUND['bug_of'](ends[0]) not in there
-             for line in SOUND['bug_lines'](asked, ends, drawn)]
+             for line in SOUND['bug_lines'](asked, ends, drawn, 'drawn.svg')]
     return by_parts(0, 1, 2)(asked, search, found, drawn) + ''.join(f'{line}\n' for line in lines)
 
 
@@ -660,7 +764,7 @@ def of_all_that_was_found(asked, search, found, drawn):
     if drawn is None:
         return SOUND['text_of'](asked, search, found, drawn)
     both = found._replace(ways=added(found.ways, drawn.ways))
-    lines = [line for ends in SOUND['bugs_of'](SOUND['ends_of'](asked, drawn)) for line in SOUND['bug_lines'](asked, ends, both)]
+    lines = [line for ends in SOUND['bugs_of'](SOUND['ends_of'](asked, drawn)) for line in SOUND['bug_lines'](asked, ends, both, 'drawn.svg')]
     return by_parts(0, 1, 2)(asked, search, found, drawn) + ''.join(f'{line}\n' for line in lines)
 
 
@@ -738,9 +842,15 @@ BY_TEXT = {
                 'never hangs nor traps beside what is bad', 'of no run, too', 'ends that hang', 'hangs are traps', 'the first end alone',
                 'of as many ends', '1 runs',
                 '1 states',
-                'a command that tries others though there are none'),
-    'bugs': ('by kinds alone', 'by lines alone', 'by outcomes', 'by the first line', 'by ranks and not by lines', 'by their lines', 'hangs first',
-             'from the last to the first', 'the first alone', 'of ends beside each other', 'without the last end of one'),
+                'a command that tries others though there are none', 'messages are left over', 'no mode', 'the usual mode',
+                'no command that tries other modes', 'a command that tries other modes beside a deadlock',
+                'a command that tries other modes where there are more', 'a command that tries five modes'),
+    'always': ('never', 'though there are more', 'beside what is done', 'beside leftovers'),
+    'word': ('as it was given', 'no ./ in front of -', './ in front of the quotes', 'quotes are left out', 'two quotes for one', 'backslashes before quotes',
+             'by the first byte', "as it stands with ' '"),
+    'pictures': ('no numbers', 'always a number', 'from 0', 'run though it was drawn', 'from the last to the first'),
+    'bugs': ('by kinds alone', 'by lines alone', 'by outcomes', 'by the first line', 'by ranks and not by lines', 'by their lines', 'hangs first', 'in the order of their first runs',
+             'leftovers first', 'from the last to the first', 'the first alone', 'of ends beside each other', 'without the last end of one'),
     'explained': ('the first', 'the longest', 'the last of equals', 'that with the most runs'),
     'ends': ('no leftovers', 'no traps', 'the first run of another end', 'no end of one run'),
     'lines': ('not sorted', 'repeated', 'as texts', 'the first alone', 'from 0', 'of all calls', 'of calls that are left over, too'),

@@ -3,12 +3,13 @@
 By definition an end is an outcome of `check --outcomes`, which has its first run and how many runs end so (outcomes.py). Ends of one kind whose first
 runs stand at the same lines of the script are told together, and of these the one with the shortest first run is explained (explaining.py,
 deciding.py). Where the search has stopped and none of its runs hangs or traps, runs are drawn as `check --sample` draws them (sampler.py), and what
-becomes of these is told after the rest. Lines are folded as in the console, but for commands.
+becomes of these is told after the rest. Lines are folded as in the console, but for commands. Commands name the file by a word that a shell reads as it.
 
 compare/rows/worked_diagnosed.py has rows of it, and compare/runs/diagnosed.py compares a program with it.
 """
 
 import math
+import re
 from typing import NamedTuple, Optional
 
 from model import explaining, explorer, outcomes, sampler, states
@@ -27,8 +28,12 @@ from model.walks import CUT, Leaf, Run
 # The kinds of ends that are told, and how it is told where one stands.
 HANG, TRAP, LEFT = 'deadlock', 'trap', 'leftovers'
 STANDS = {HANG: 'deadlock at', TRAP: 'trap at', LEFT: 'left over from'}
-NEVER, NOT_FOUND = 'it never hangs or traps, whatever is taken first', 'no hang and no trap was found in'
-UNTRIED, AT_RANDOM = 'not everything was tried', 'drawn at random'
+NEVER, TAKEN, NOT_FOUND = 'it never hangs or traps in', 'whatever is taken first', 'no hang and no trap was found in'
+LEAVES, UNTRIED, AT_RANDOM = 'it can end with calls left over', 'not everything was tried', 'drawn at random'
+# What pictures are called of runs that were found, and of those that were drawn.
+RUN, OF_DRAWN = 'run', 'drawn'
+# What a shell takes as it stands.
+PLAIN = re.compile('[A-Za-z0-9_./+,:@%-]+')
 # What seeds the generator that runs are drawn by.
 SEED = 0
 
@@ -45,18 +50,20 @@ class Limits(NamedTuple):
 
 class Diagnosis(NamedTuple):
     """What is asked of a script (None: there is no such file), with the name of its file; a mode that is None is left out. A program has the limits
-    that stand here; others are asked of the model alone."""
+    that stand here, and no number of ranks; others are asked of the model alone."""
     name: str
     script: Optional[bytes]
     mode: Optional[str] = None
     strict: bool = False
     file: str = 'script.mpd'
     limits: Limits = Limits()
+    ranks: Optional[int] = None
 
     def words(self, folder):
         """The words that ask a program, with the file in a folder, or where the program is run."""
         mode = () if self.mode is None else ('--mode', self.mode)
-        return ('diagnose', held(folder, self.file, self.script), *mode, *['--strict'] * self.strict)
+        path = held(folder, self.file, self.script)
+        return ('diagnose', *mode, *['--strict'] * self.strict, *['--'] * path.startswith('-'), path)
 
     def begun(self):
         """The run at the start of the script."""
@@ -154,12 +161,17 @@ def bug_of(end):
     return end.kind, end.lines
 
 
+def is_left(ends):
+    """Whether ends that are told together are neither deadlocks nor traps."""
+    return ends[0].kind == LEFT
+
+
 def bugs_of(ends):
-    """The ends that are told together, in the order of the first of each."""
+    """The ends that are told together, deadlocks and traps first, and of each in the order of the first."""
     found = {}
     for end in ends:
         found.setdefault(bug_of(end), []).append(end)
-    return list(found.values())
+    return sorted(found.values(), key=is_left)
 
 
 def explained_of(ends):
@@ -184,26 +196,60 @@ def runs_of(found, kind):
     return sum(way.runs for outcome, way in found.ways.items() if word_of(outcome) == kind)
 
 
+def word_for(name):
+    """A file's name as a word that a shell reads as it, and no command as an option."""
+    path = f'./{name}' if name.startswith('-') else name
+    quoted = path.replace("'", r"'\''")
+    return path if PLAIN.fullmatch(name) else f"'{quoted}'"
+
+
+def script_of(asked):
+    """The file as commands have it, with how many ranks there are where that is asked for."""
+    return word_for(asked.file) if asked.ranks is None else f'{word_for(asked.file)} --ranks {asked.ranks}'
+
+
+def mode_of(asked):
+    """The mode, whose number has no leading zeros."""
+    slots = slots_of(asked.mode or RENDEZVOUS)
+    return asked.mode or RENDEZVOUS if slots is None else f'slots:{slots}'
+
+
 def file_of(asked):
-    """The file as commands have it, with its mode, whose number has no leading zeros."""
-    if asked.mode in (None, RENDEZVOUS):
-        return asked.file
-    slots = slots_of(asked.mode)
-    return f'{asked.file} --mode {asked.mode if slots is None else f"slots:{slots}"}'
+    """The file as commands have it, with its mode, if that isn't the usual one."""
+    return script_of(asked) if mode_of(asked) == RENDEZVOUS else f'{script_of(asked)} --mode {mode_of(asked)}'
+
+
+def always(found, kind):
+    """Whether every run ends in a kind of way."""
+    return is_whole(found) and {word_of(outcome) for outcome in found.ways} == {kind}
+
+
+def bad_lines(found):
+    """How many runs hang, and how many trap."""
+    runs = several(outcomes.total(found), 'run')
+    for kind, word in ((HANG, 'hang'), (TRAP, 'trap')):
+        if always(found, kind):
+            yield f'it always {word}s ({runs})'
+        elif count := runs_of(found, kind):
+            yield f'it can {word}: {of_runs(count, found)}'
+
+
+def well_line(asked, search, found):
+    """That no run does."""
+    runs = several(outcomes.total(found), 'run')
+    if is_whole(found):
+        return f'{NEVER} {mode_of(asked)}, {TAKEN} ({runs}, {several(search.counted, "state")})'
+    return f'{NOT_FOUND} {runs} in {mode_of(asked)}'
 
 
 def verdict_lines(asked, search, found):
     """What becomes of the runs."""
-    hang, trap, left, cut = (runs_of(found, kind) for kind in (HANG, TRAP, LEFT, CUT))
-    if hang:
-        yield f'it can hang: {of_runs(hang, found)}'
-    if trap:
-        yield f'it can trap: {of_runs(trap, found)}'
-    if not hang and not trap:
-        runs = several(outcomes.total(found), 'run')
-        yield f'{NEVER} ({runs}, {several(search.counted, "state")})' if is_whole(found) else f'{NOT_FOUND} {runs}'
+    left, cut = (runs_of(found, kind) for kind in (LEFT, CUT))
+    yield from bad_lines(found)
+    if not any(map(is_bad, found.ways)):
+        yield well_line(asked, search, found)
     if left:
-        yield f'it can leave messages over: {of_runs(left, found)}'
+        yield f'{LEAVES}: {of_runs(left, found)}'
     if cut:
         yield f'{UNTRIED}: {of_runs(cut, found)} were cut after {asked.limits.fuel} steps'
     if found.more:
@@ -215,10 +261,22 @@ def others(asked):
     return f'  ./mpdbg check {file_of(asked)} --sample 65536 --group --explain'
 
 
+def modes_in_turn(asked):
+    """The command that tries the modes in turn."""
+    return f'  ./mpdbg check {script_of(asked)} --modes 4 --outcomes'
+
+
+def tried_next(asked, found):
+    """The command that is tried next: other modes where no run hangs or traps, and others where there are more and none are drawn."""
+    if is_whole(found) and not any(map(is_bad, found.ways)):
+        yield modes_in_turn(asked)
+    if found.more and not is_drawn(found):
+        yield others(asked)
+
+
 def verdict(asked, search, found):
-    """The same, as it is written, with the command that tries others where there are more and none are drawn."""
-    lines = all_folded(verdict_lines(asked, search, found))
-    return [*lines, others(asked)] if found.more and not is_drawn(found) else lines
+    """The same, as it is written, with the command that is tried next."""
+    return [*all_folded(verdict_lines(asked, search, found)), *tried_next(asked, found)]
 
 
 def drawn_lines(drawn):
@@ -231,7 +289,7 @@ def drawn_lines(drawn):
     if not hang and not trap:
         yield f'{AT_RANDOM}: none of {several(outcomes.total(drawn), "run")} hangs or traps'
     if left:
-        yield f'{AT_RANDOM}: {of_runs(left, drawn)} leave messages over'
+        yield f'{AT_RANDOM}: {of_runs(left, drawn)} end with calls left over'
 
 
 def drawn_verdict(asked, drawn):
@@ -247,28 +305,34 @@ def heading(ends, found):
     return f'{STANDS[ends[0].kind]} {where}: {of_runs(sum(end.runs for end in ends), found)}'
 
 
-def commands(asked, leaf):
-    """The commands that debug a run, and draw it."""
+def commands(asked, leaf, picture):
+    """The commands that debug a run, and draw it to a file."""
     run = f"{file_of(asked)} --ends --choices '{' '.join(map(str, leaf.choices))}'"
-    return [f'  ./mpdbg debug {run}', f'  ./mpdbg picture {run} > run.svg']
+    return [f'  ./mpdbg debug {run}', f'  ./mpdbg picture {run} > {picture}']
 
 
-def bug_lines(asked, ends, found):
+def bug_lines(asked, ends, found, picture):
     """What is written of ends that are told together, behind an empty line."""
     leaf = explained_of(ends).leaf
-    return ['', *all_folded([heading(ends, found), *outcomes.explained(asked, leaf)]), *commands(asked, leaf)]
+    return ['', *all_folded([heading(ends, found), *outcomes.explained(asked, leaf)]), *commands(asked, leaf, picture)]
 
 
-def all_bug_lines(asked, found):
+def pictures(kind, count):
+    """The files of so many pictures, which have numbers where they are several."""
+    return [f'{kind}.svg'] if count == 1 else [f'{kind}-{number}.svg' for number in range(1, count + 1)]
+
+
+def all_bug_lines(asked, found, kind=RUN):
     """What is written of all ends of what was found, or drawn."""
-    return [line for ends in bugs_of(ends_of(asked, found)) for line in bug_lines(asked, ends, found)]
+    bugs = bugs_of(ends_of(asked, found))
+    return [line for ends, picture in zip(bugs, pictures(kind, len(bugs))) for line in bug_lines(asked, ends, found, picture)]
 
 
 def text_of(asked, search, found, drawn):
     """What is written of what a search found, and of what was drawn, if that was."""
     lines = [*verdict(asked, search, found), *all_bug_lines(asked, found)]
     if drawn is not None:
-        lines += [*drawn_verdict(asked, drawn), *all_bug_lines(asked, drawn)]
+        lines += [*drawn_verdict(asked, drawn), *all_bug_lines(asked, drawn, OF_DRAWN)]
     return ''.join(f'{line}\n' for line in lines)
 
 

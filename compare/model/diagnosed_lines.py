@@ -3,6 +3,7 @@ lines, its explanation, and the run that its commands have. What can be told of 
 diagnosed.py, and folds nothing."""
 
 import re
+import shlex
 from typing import NamedTuple, Optional
 
 from model.outcomes import MOST_COUNTED
@@ -11,24 +12,38 @@ from model.report_lines import choices_of, must_be
 COMMAND, GOES_ON, WIDTH = '  ./mpdbg ', ' ' * 8, 80
 COUNT = '((?:at least )?[0-9]+)'
 RUNS = f'{COUNT} (runs?)'
-# What becomes of the runs, in the order of the lines.
-VERDICT = tuple((name, re.compile(line)) for name, line in (
-    ('hang', f'it can hang: {COUNT} of {RUNS}'), ('trap', f'it can trap: {COUNT} of {RUNS}'),
-    ('never', rf'it never hangs or traps, whatever is taken first \({RUNS}, ([0-9]+) (states?)\)'),
-    ('none found', f'no hang and no trap was found in {RUNS}'), ('left', f'it can leave messages over: {COUNT} of {RUNS}'),
+RENDEZVOUS = 'rendezvous'
+# What becomes of the runs in a mode, in the order of the lines.
+VERDICT = (
+    ('hang', f'it can hang: {COUNT} of {RUNS}'), ('always hangs', rf'it always hangs \({RUNS}\)'),
+    ('trap', f'it can trap: {COUNT} of {RUNS}'), ('always traps', rf'it always traps \({RUNS}\)'),
+    ('never', rf'it never hangs or traps in MODE, whatever is taken first \({RUNS}, ([0-9]+) (states?)\)'),
+    ('none found', f'no hang and no trap was found in {RUNS} in MODE'), ('left', f'it can end with calls left over: {COUNT} of {RUNS}'),
     ('cut', f'not everything was tried: {COUNT} of {RUNS} were cut after 100000 steps'),
-    ('more', 'not everything was tried: there are more runs than these')))
+    ('more', 'not everything was tried: there are more runs than these'))
+ALWAYS = {'always hangs': 'hang', 'always traps': 'trap'}
 # What becomes of runs that are drawn, in the order of the lines.
 AT_RANDOM = 'drawn at random: '
 DRAWN = tuple((name, re.compile(f'{AT_RANDOM}{line}')) for name, line in (
     ('hang', f'{COUNT} of {RUNS} hang'), ('trap', f'{COUNT} of {RUNS} trap'), ('none drawn', f'none of {RUNS} hangs or traps'),
-    ('left', f'{COUNT} of {RUNS} leave messages over')))
+    ('left', f'{COUNT} of {RUNS} end with calls left over')))
 HEADING = re.compile(f'(deadlock at|trap at|left over from) (lines?) ([0-9]+(?:, [0-9]+)*): {COUNT} of {RUNS}')
 KINDS = {'deadlock at': 'hang', 'trap at': 'trap', 'left over from': 'left'}
 CHOICES = re.compile('(?:[0-9]+(?: [0-9]+)*)?')
 # Where the script stands, in the lines of an explanation.
 PLACES = {'hang': re.compile('  rank [0-9]+ waits at line ([0-9]+), '), 'trap': re.compile('  rank [0-9]+, line ([0-9]+): trap '),
           'left': re.compile('  left over: line ([0-9]+), ')}
+
+
+class Named(NamedTuple):
+    """A script as its commands must name it: the name of its file, the words for it, which may have more behind the file, and its mode."""
+    file: str
+    script: str
+    mode: str = RENDEZVOUS
+
+    def words(self):
+        """The words for it in its mode."""
+        return self.script if self.mode == RENDEZVOUS else f'{self.script} --mode {self.mode}'
 
 
 class Bug(NamedTuple):
@@ -104,7 +119,7 @@ def blocks(text):
 # ---- what becomes of the runs
 
 def verdict_of(lines, patterns):
-    """What is told by each line of a verdict, by its name; they stand in the order of their patterns."""
+    """What is told by each line of a verdict, by its name; they stand in the order of their patterns, and one of what always is so alone."""
     found, names = {}, iter(patterns)
     for line in lines:
         name, told = next(((name, told) for name, pattern in names if (told := pattern.fullmatch(line))), (None, None))
@@ -118,9 +133,13 @@ def counts_in(verdict):
     counts = {name: count_of(verdict[name][0]) if name in verdict else 0 for name in ('hang', 'trap', 'left', 'cut')}
     must_be(all(counts[name] for name in counts if name in verdict), 'a line of no run')
     told = [runs_in(*verdict[name][-2:]) for name in counts if name in verdict]
-    told += [runs_in(*verdict[name][:2]) for name in ('never', 'none found') if name in verdict]
+    told += [runs_in(*verdict[name][:2]) for name in ('never', 'none found', *ALWAYS) if name in verdict]
     must_be(len(set(told)) == 1, f'there are {told} runs')
+    counts.update({kind: told[0] for name, kind in ALWAYS.items() if name in verdict})
     must_be(sum(counts.values()) <= told[0] or told[0] > MOST_COUNTED, f'{counts} of {told[0]} runs')
+    must_be(not set(ALWAYS) & set(verdict) or set(verdict) < set(ALWAYS), f'{sorted(verdict)} is told of what always is so')
+    can = [kind for kind in ('hang', 'trap') if kind in verdict and counts[kind] == told[0] <= MOST_COUNTED]
+    must_be(not can or 'more' in verdict, f'{can} is told of every run')
     is_bad, is_part = counts['hang'] or counts['trap'], counts['cut'] or 'more' in verdict
     wanted = set() if is_bad else {'none found' if is_part else 'never'}
     must_be({'never', 'none found'} & set(verdict) == wanted, f'{sorted(verdict)} is told')
@@ -139,23 +158,33 @@ def counts_drawn(verdict):
 
 # ---- commands, and bugs
 
-def choices_in(line, front, behind):
+def names_file(line, file):
+    """Whether a shell reads the third word of a command as the name of a file, which is no option."""
+    try:
+        words = shlex.split(line)
+    except ValueError:
+        return False
+    return len(words) > 2 and words[2] == (f'./{file}' if file.startswith('-') else file)
+
+
+def choices_in(line, named, front, behind):
     """The choices that a command has, of which this stands in front and behind."""
+    must_be(names_file(line, named.file), f'{line!r} is not of the file {named.file!r}')
     must_be(line.startswith(front) and line.endswith(behind), f'{line!r} is not {front}..{behind}')
     told = line.removeprefix(front).removesuffix(behind)
     must_be(CHOICES.fullmatch(told) is not None, f'{told!r} are no choices')
     return choices_of(told)
 
 
-def bug_in(lines, file, runs):
-    """A bug, by its lines."""
+def bug_in(lines, named, runs, picture):
+    """A bug, by its lines, and the file of its picture."""
     told = HEADING.fullmatch(lines[0])
     must_be(told is not None and len(lines) > 3, f'ends are told by {lines[:4]}')
     kind, places = KINDS[told[1]], tuple(map(int, told[3].split(', ')))
     must_be(places == tuple(sorted(set(places))) and (told[2] == 'line') == (len(places) == 1), f'{told[2]} {places}')
     must_be(runs_in(told[5], told[6]) == runs, f'{told[0]} of {runs} runs')
-    choices = [choices_in(line, f"{COMMAND}{word} {file} --ends --choices '", behind)
-               for line, word, behind in zip(lines[-2:], ('debug', 'picture'), ("'", "' > run.svg"))]
+    choices = [choices_in(line, named, f"{COMMAND}{word} {named.words()} --ends --choices '", behind)
+               for line, word, behind in zip(lines[-2:], ('debug', 'picture'), ("'", f"' > {picture}"))]
     must_be(choices[0] == choices[1], f'commands of two runs, {choices}')
     explained, decided = lines[1:-2], None
     if kind != 'left':
@@ -166,9 +195,12 @@ def bug_in(lines, file, runs):
     return Bug(kind, places, count_of(told[4]), tuple(explained), decided, choices[0])
 
 
-def bugs_in(blocks_of_bugs, file, counts, runs):
-    """The bugs of some blocks, each another, which add up to how many runs become what."""
-    bugs = tuple(bug_in(lines, file, runs) for lines in blocks_of_bugs)
+def bugs_in(blocks_of_bugs, named, counts, runs, picture):
+    """The bugs of some blocks, each another, which add up to how many runs become what; those that hang or trap come first, and each has a picture."""
+    numbers = [''] if len(blocks_of_bugs) == 1 else [f'-{place}' for place in range(1, len(blocks_of_bugs) + 1)]
+    bugs = tuple(bug_in(lines, named, runs, f'{picture}{number}.svg') for lines, number in zip(blocks_of_bugs, numbers))
+    left = [bug.kind == 'left' for bug in bugs]
+    must_be(left == sorted(left), 'what is left over comes before what hangs or traps')
     must_be(len({(bug.kind, bug.lines) for bug in bugs}) == len(bugs), 'a bug twice')
     for kind in ('hang', 'trap', 'left'):
         there = sum(bug.runs for bug in bugs if bug.kind == kind)
@@ -176,33 +208,38 @@ def bugs_in(blocks_of_bugs, file, counts, runs):
     return bugs
 
 
-def told_and_others(lines, patterns, file):
-    """What is told by the lines of a verdict, and whether the command that tries others stands behind them."""
-    has_command = lines[-1] == f'{COMMAND}check {file} --sample 65536 --group --explain'
-    return verdict_of(lines[:-1] if has_command else lines, patterns), has_command
+def told_and_next(lines, patterns, named):
+    """What is told by the lines of a verdict, and the command that is tried next, which stands behind them: None, `others` or `modes`."""
+    known = {f'{COMMAND}check {named.words()} --sample 65536 --group --explain': 'others',
+             f'{COMMAND}check {named.script} --modes 4 --outcomes': 'modes'}
+    command = known.get(lines[-1])
+    must_be(command is None or names_file(lines[-1], named.file), f'{lines[-1]!r} is not of the file {named.file!r}')
+    return verdict_of(lines[:-1] if command else lines, patterns), command
 
 
-def drawn_in(verdict, others, file):
+def drawn_in(verdict, others, named):
     """What is told of runs that were drawn, by the lines of their verdict, and the blocks behind it."""
-    told, has_command = told_and_others(verdict, DRAWN, file)
+    told, command = told_and_next(verdict, DRAWN, named)
     counts, runs = counts_drawn(told)
-    must_be(has_command == ('none drawn' in told), 'a command that tries others, behind what was drawn')
-    return Drawn(counts, runs, bugs_in(others, file, counts, runs))
+    must_be(command == ('others' if 'none drawn' in told else None), f'the command {command}, behind what was drawn')
+    return Drawn(counts, runs, bugs_in(others, named, counts, runs, 'drawn'))
 
 
-def read_diagnosis(text, file):
-    """What is told of the script of a file, which has its mode behind it; raises why it is none."""
+def read_diagnosis(text, named):
+    """What is told of a script that is named so; raises why it is none."""
     verdict, *others = blocks(text.decode())
-    told, has_command = told_and_others(verdict, VERDICT, file)
+    patterns = tuple((name, re.compile(line.replace('MODE', named.mode))) for name, line in VERDICT)
+    told, command = told_and_next(verdict, patterns, named)
     counts, runs = counts_in(told)
     place = next((place for place, lines in enumerate(others) if lines[0].startswith(AT_RANDOM)), len(others))
     is_drawn = 'more' in told and not counts['hang'] and not counts['trap']
     must_be((place < len(others)) == is_drawn, f'{"nothing" if is_drawn else "something"} is told of runs that were drawn')
-    must_be(has_command == ('more' in told and not is_drawn), 'a command that tries others')
-    bugs = bugs_in(others[:place], file, counts, runs)
+    wanted = 'modes' if 'never' in told else 'others' if 'more' in told and not is_drawn else None
+    must_be(command == wanted, f'the command {command}, and not {wanted}')
+    bugs = bugs_in(others[:place], named, counts, runs, 'run')
     if 'never' in told:
         must_be((told['never'][2] == '1') == (told['never'][3] == 'state'), 'states')
-    drawn = drawn_in(others[place], others[place + 1:], file) if is_drawn else None
+    drawn = drawn_in(others[place], others[place + 1:], named) if is_drawn else None
     return Told(counts, runs, int(told['never'][2]) if 'never' in told else None, 'more' in told, bugs, drawn)
 
 

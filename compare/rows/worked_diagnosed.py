@@ -48,9 +48,9 @@ def refused(script, errors, status, **options):
     return DiagnosedRow(script, asked(**options), '', status, f'mpdbg: {errors}\n')
 
 
-def runs_of(choices, file='script.mpd'):
-    """The commands of the run with some choices."""
-    return f"  ./mpdbg debug {file} --ends --choices '{choices}'\n  ./mpdbg picture {file} --ends --choices '{choices}' > run.svg"
+def runs_of(choices, file='script.mpd', picture='run'):
+    """The commands of the run with some choices, and what its picture is called."""
+    return f"  ./mpdbg debug {file} --ends --choices '{choices}'\n  ./mpdbg picture {file} --ends --choices '{choices}' > {picture}.svg"
 
 
 SLOTTED, WITH_BUFFERS = 'script.mpd --mode slots:1', 'script.mpd --mode buffered'
@@ -63,22 +63,35 @@ def others(file='script.mpd'):
     return f'  ./mpdbg check {file} --sample 65536 --group --explain'
 
 
+def in_turn(file='script.mpd'):
+    """The command that tries the modes in turn."""
+    return f'  ./mpdbg check {file} --modes 4 --outcomes'
+
+
 # ---- never
 
-NEVER = 'it never hangs or traps, whatever is taken first'
-ONE_RUN = f'{NEVER} (1 run, 1 state)'
+def never(counts, mode=RENDEZVOUS):
+    """What is told of a script that never hangs, by how many runs and states it has."""
+    return f'it never hangs or traps in {mode}, whatever is taken first ({counts})'
+
+
+# 79 bytes: 37 up to the mode rendezvous, 27 that follow, and 15
+ONE_RUN = never('1 run, 1 state')
 # Three messages in any order. Of which ones are left nothing else tells states apart: one choice of three, three of two, three of one, and each
 # candidate comes to a state, 3 + 3 * 2 + 3 * 1; with the first it is 13.
-SIX_RUNS = f'{NEVER} (6 runs, 13 states)'
+# (64 bytes stand before the counts, and 18 are left: two too many; in the mode buffered they are 80.)
+SIX_RUNS, SIX_BUFFERED = never('6 runs, 13\n        states'), never('6 runs, 13 states', BUFFERED)
 # Of each race both messages are left, one or the other, or none, which have 2, 1, 1 and 0 candidates: 4 in all, beside 4 * 4 * 4 states of the
 # others, four times, and the first state.
-RACES = f'{NEVER} (40320 runs, 1025 states)'
+# (80 bytes stand before the last blank.)
+RACES = never('40320 runs, 1025\n        states')
 # Of each of 64 rounds one of two requests is taken, and nothing tells which any more as the next is begun: 64 choices of two, and the first state.
-# 79 bytes stand before the last blank at which it can be cut
-MANY_RUNS = f'{NEVER} (at least {MOST_COUNTED}\n        runs, 129 states)'
+# 70 bytes stand before the last blank at which it can be cut
+MANY_RUNS = never(f'at least\n        {MOST_COUNTED} runs, 129 states', BUFFERED)
 WELL = (
-    row(EMPTY, 0, ONE_RUN), row(EMPTY, 0, ONE_RUN, mode=RENDEZVOUS, strict=True), row(EMPTY, 0, ONE_RUN, mode='slots:1'),
-    row(THREE_SENDERS, 0, SIX_RUNS), row(THREE_SENDERS, 0, SIX_RUNS, mode=BUFFERED, strict=True))
+    row(EMPTY, 0, ONE_RUN, in_turn()), row(EMPTY, 0, ONE_RUN, in_turn(), mode=RENDEZVOUS, strict=True),
+    row(EMPTY, 0, never('1 run, 1 state', 'slots:1'), in_turn(), mode='slots:1'),
+    row(THREE_SENDERS, 0, SIX_RUNS, in_turn()), row(THREE_SENDERS, 0, SIX_BUFFERED, in_turn(), mode=BUFFERED, strict=True))
 
 # ---- deadlocks
 
@@ -100,7 +113,7 @@ BY_MESSAGE = '''\
         still end well'''
 # Always, in one run.
 OF_SWAPPED = '''\
-it can hang: 1 of 1 run
+it always hangs (1 run)
 
 deadlock at lines 7, 10: 1 of 1 run
   rank 0 waits at line 7, 0.0 send to 1 tag 1 value 640: for a receive of rank 1
@@ -199,7 +212,7 @@ LONGER_LAST, AS_LONG = LONGER_FIRST.replace('x == 1', 'x == 2'), LONGER_FIRST.re
 
 def of_longer(rank, taken_by):
     """What is told of both, by the one in which a sender is left."""
-    return ('it can hang: 2 of 2 runs\n', 'deadlock at lines 5, 6: 2 of 2 runs', waits_for_itself(5, '0.1', 9), left_waiting(rank, 6, taken_by),
+    return ('it always hangs (2 runs)\n', 'deadlock at lines 5, 6: 2 of 2 runs', waits_for_itself(5, '0.1', 9), left_waiting(rank, 6, taken_by),
             f'  rank 0 waits for rank 0\n  rank {rank} waits for rank 0\n  a cycle, where each waits for the next: rank 0, rank 0', FROM_START,
             runs_of(taken_by - 1))
 
@@ -215,7 +228,7 @@ def one_left(rank, line, other, other_line):
     """What is told of that, by the sender that is left and its line, and the other one."""
     return (f'deadlock at lines 2, {line}: 1 of 2 runs', waits_for_itself(2, '0.1', 9), left_waiting(rank, line, other, other_line, 2),
             f'  rank 0 waits for rank 0\n  rank {rank} waits for rank 0\n  a cycle, where each waits for the next: rank 0, rank 0', FROM_START,
-            runs_of(other - 1))
+            runs_of(other - 1, picture=f'run-{other}'))
 
 
 # Rank 0 waits at a later line than rank 1.
@@ -224,7 +237,7 @@ if rank == 1 {
   recv x from 1 tag 0;
 } else { recv x from 0 tag 0; }'''
 OF_LATER_LINE = '''\
-it can hang: 1 of 1 run
+it always hangs (1 run)
 
 deadlock at lines 3, 4: 1 of 1 run
   rank 0 waits at line 4, 0.0 recv from 0 tag 0: for a send of rank 0 with tag 0
@@ -246,32 +259,37 @@ if rank == 0 {
 ALONE = ('mpd 1; ranks 12; var x;' + '\n' * 100
          + ''.join(f'if rank == {rank} {{ recv x from rank tag 0; }}\n' for rank in range(12)))
 OF_ALONE = (
-    'it can hang: 1 of 1 run\n', 'deadlock at lines 101, 102, 103, 104, 105, 106, 107, 108, 109, 110, 111, 112: 1\n        of 1 run',
+    'it always hangs (1 run)\n', 'deadlock at lines 101, 102, 103, 104, 105, 106, 107, 108, 109, 110, 111, 112: 1\n        of 1 run',
     *(f'  rank {rank} waits at line {101 + rank}, {rank}.0 recv from {rank} tag 0: for a send of rank {rank} with{last}'
       for ranks, last in ((range(10), ' tag\n        0'), ((10, 11), '\n        tag 0')) for rank in ranks),
     *(f'  rank {rank} waits for rank {rank}' for rank in range(12)),
     *(f'  a cycle, where each waits for the next: rank {rank}, rank {rank}' for rank in range(12)), FROM_START, runs_of(''))
 LONG_NAME = 'a name of a file by which each command is longer than eighty bytes, by itself.mpd'
+# Names that a shell reads otherwise, or a command, and the words for them.
+WORDS = (('a b.mpd', "'a b.mpd'"), ("it's.mpd", r"'it'\''s.mpd'"), ('$(x);', "'$(x);'"), ('-x.mpd', './-x.mpd'), ('-x y', "'./-x y'"),
+         ("'", r"''\'''"), ("'a'b'", r"''\''a'\''b'\'''"), ('-', './-'), ('~/x', "'~/x'"), ('a=b', "'a=b'"), ('é.mpd', "'é.mpd'"), ('A-Z_az.09/+,:@%', 'A-Z_az.09/+,:@%'))
 STUCK_ONCE = 'it can hang: 1 of 2 runs\n', 'deadlock at lines 9, 13: 1 of 2 runs', OF_STOLEN, BY_MESSAGE
 HANGS = (
     row(STOLEN, 1, *STUCK_ONCE, runs_of(0)), row(STOLEN, 1, *STUCK_ONCE, runs_of(0), mode=RENDEZVOUS, strict=True),
-    row(STOLEN, 1, *STUCK_ONCE, runs_of(0, LONG_NAME), file=LONG_NAME),
+    row(STOLEN, 1, *STUCK_ONCE, runs_of(0, f"'{LONG_NAME}'"), file=LONG_NAME),
+    *(row(STOLEN, 1, *STUCK_ONCE, runs_of(0, word), file=name) for name, word in WORDS if '/' not in name),
+    row(THREE_SENDERS, 0, SIX_BUFFERED, in_turn(r"'it'\''s.mpd'"), mode=BUFFERED, file="it's.mpd"),
     row(SWAPPED_TAGS, 1, OF_SWAPPED, FROM_START, runs_of('')),
-    row(TWO_HANGS, 1, 'it can hang: 2 of 2 runs\n', 'deadlock at line 4: 1 of 2 runs', waits_for_itself(4, '0.1', 9), TO_ITSELF, FROM_START,
-        runs_of(0),
-        '\ndeadlock at line 6: 1 of 2 runs', waits_for_itself(6, '0.2', 8), TO_ITSELF, FROM_START, runs_of('1 0')),
-    row(FIRST_AND_LAST, 1, 'it can hang: 3 of 3 runs\n', 'deadlock at lines 6, 7: 2 of 3 runs', waits_for_itself(6, '0.1', 8),
-        left_waiting_of(2, 3, 1),
-        runs_of(0), '\ndeadlock at lines 5, 7: 1 of 3 runs', waits_for_itself(5, '0.1', 9), left_waiting_of(1, 3, 2), runs_of(1)),
+    row(TWO_HANGS, 1, 'it always hangs (2 runs)\n', 'deadlock at line 4: 1 of 2 runs', waits_for_itself(4, '0.1', 9), TO_ITSELF, FROM_START,
+        runs_of(0, picture='run-1'),
+        '\ndeadlock at line 6: 1 of 2 runs', waits_for_itself(6, '0.2', 8), TO_ITSELF, FROM_START, runs_of('1 0', picture='run-2')),
+    row(FIRST_AND_LAST, 1, 'it always hangs (3 runs)\n', 'deadlock at lines 6, 7: 2 of 3 runs', waits_for_itself(6, '0.1', 8),
+        left_waiting_of(2, 3, 1), runs_of(0, picture='run-1'),
+        '\ndeadlock at lines 5, 7: 1 of 3 runs', waits_for_itself(5, '0.1', 9), left_waiting_of(1, 3, 2), runs_of(1, picture='run-2')),
     # the second bug has more runs
-    row(FIRST_AND_LAST.replace('x == 2', 'x == 1'), 1, 'it can hang: 3 of 3 runs\n', 'deadlock at lines 5, 7: 1 of 3 runs',
+    row(FIRST_AND_LAST.replace('x == 2', 'x == 1'), 1, 'it always hangs (3 runs)\n', 'deadlock at lines 5, 7: 1 of 3 runs',
         waits_for_itself(5, '0.1', 9),
-        left_waiting_of(2, 3, 1), runs_of(0), '\ndeadlock at lines 6, 7: 2 of 3 runs', waits_for_itself(6, '0.1', 8), left_waiting_of(1, 3, 2),
-        runs_of(1)),
-    row(ONE_SENDER_LEFT, 1, 'it can hang: 2 of 2 runs\n', *one_left(2, 4, 1, 3), '', *one_left(1, 3, 2, 4)),
+        left_waiting_of(2, 3, 1), runs_of(0, picture='run-1'),
+        '\ndeadlock at lines 6, 7: 2 of 3 runs', waits_for_itself(6, '0.1', 8), left_waiting_of(1, 3, 2), runs_of(1, picture='run-2')),
+    row(ONE_SENDER_LEFT, 1, 'it always hangs (2 runs)\n', *one_left(2, 4, 1, 3), '', *one_left(1, 3, 2, 4)),
     row(LATER_LINE_FIRST, 1, OF_LATER_LINE, FROM_START, runs_of('')),
     row(LONGER_FIRST, 1, *of_longer(1, 2)), row(LONGER_LAST, 1, *of_longer(2, 1)), row(AS_LONG, 1, *of_longer(2, 1)),
-    row(SAME_CALL, 1, 'it can hang: 2 of 2 runs\n', 'deadlock at line 5: 2 of 2 runs', waits_for_itself(5, '0.1', 9), TO_ITSELF, FROM_START,
+    row(SAME_CALL, 1, 'it always hangs (2 runs)\n', 'deadlock at line 5: 2 of 2 runs', waits_for_itself(5, '0.1', 9), TO_ITSELF, FROM_START,
         runs_of(0)))
 
 # ---- traps
@@ -305,7 +323,7 @@ trap at line 2: 1 of 2 runs
   rank 0, line 2: trap assert
   decided from the start: no run ends well
   ./mpdbg debug script.mpd --ends --choices '0'
-  ./mpdbg picture script.mpd --ends --choices '0' > run.svg
+  ./mpdbg picture script.mpd --ends --choices '0' > run-1.svg
 
 deadlock at line 2: 1 of 2 runs
   rank 1 waits at line 2, 1.0 send to 0 tag 0 value 1: for a receive of rank 0
@@ -324,44 +342,46 @@ TRAPPED = (
     *(row(WAITED_TWICE, 1, 'it can trap: 1 of 2 runs\n', 'trap at line 12: 1 of 2 runs', '  rank 0, line 12: trap assert', BY_REQUEST,
           runs_of(1, file),
           mode=mode) for mode, file in ((None, 'script.mpd'), (BUFFERED, WITH_BUFFERS))),
-    row(THREE_TRAPS, 1, 'it can trap: 1 of 1 run\n', *OF_THREE_TRAPS, FROM_START, runs_of('')),
+    row(THREE_TRAPS, 1, 'it always traps (1 run)\n', *OF_THREE_TRAPS, FROM_START, runs_of('')),
     # by two traps of other names, at one line
-    row(TRAPS, 1, 'it can trap: 2 of 2 runs\n', 'trap at line 3: 2 of 2 runs', '  rank 0, line 3: trap bad-tag', FROM_START, runs_of(0, WITH_BUFFERS),
+    row(TRAPS, 1, 'it always traps (2 runs)\n', 'trap at line 3: 2 of 2 runs', '  rank 0, line 3: trap bad-tag', FROM_START, runs_of(0, WITH_BUFFERS),
         mode=BUFFERED),
-    row(LOW_WANTED, 1, OF_LOW_WANTED, FROM_START, runs_of(0), '\ntrap at line 2: 1 of 2 runs', '  rank 0, line 2: trap assert', FROM_START,
-        runs_of(1)),
-    row(HIGH_WANTED, 1, OF_HIGH_WANTED, FROM_START, runs_of(1)))
+    row(LOW_WANTED, 1, OF_LOW_WANTED, FROM_START, runs_of(0, picture='run-1'),
+        '\ntrap at line 2: 1 of 2 runs', '  rank 0, line 2: trap assert', FROM_START, runs_of(1, picture='run-2')),
+    row(HIGH_WANTED, 1, OF_HIGH_WANTED, FROM_START, runs_of(1, picture='run-2')))
 
 # ---- leftovers
 
-ONE_LEFT = (ONE_RUN, 'it can leave messages over: 1 of 1 run\n', 'left over from line 2: 1 of 1 run',
+LEAVES = 'it can end with calls left over:'
+ONE_LEFT = (never('1 run, 1 state', BUFFERED), f'{LEAVES} 1 of 1 run', f'{in_turn()}\n', 'left over from line 2: 1 of 1 run',
             '  left over: line 2, 0.0 send to 0 tag 0 value 1',
             runs_of('', WITH_BUFFERS))
 THREE_LEFT = 'mpd 1; ranks 1; var x; req r[2];\nirecv r[1] x from 0 tag 5;\nisend r[0] 7 to 0 tag 1; isend r[0] 8 to 0 tag 2;'
-OF_THREE_LEFT = (ONE_RUN, 'it can leave messages over: 1 of 1 run\n', 'left over from lines 2, 3: 1 of 1 run',
+OF_THREE_LEFT = (ONE_RUN, f'{LEAVES} 1 of 1 run', f'{in_turn()}\n', 'left over from lines 2, 3: 1 of 1 run',
                  '  left over: line 2, 0.0 irecv from 0 tag 5',
                  '  left over: line 3, 0.1 isend to 0 tag 1 value 7', '  left over: line 3, 0.2 isend to 0 tag 2 value 8', runs_of(''))
 # One of three messages is received, and each end leaves two of them over, which one line sends: one choice of three, and their ends.
 ONE_OF_THREE = gathering(4, 1)
 TWO_LEFT = ('  left over: line 2, 2.0 isend to 0 tag 0 value 2', '  left over: line 2, 3.0 isend to 0 tag 0 value 3', runs_of(0))
-OF_GATHERING = (f'{NEVER} (3 runs, 4 states)', 'it can leave messages over: 3 of 3 runs\n', 'left over from line 2: 3 of 3 runs',
+# (The line is 81 bytes long.)
+OF_GATHERING = (never('3 runs, 4\n        states'), f'{LEAVES} 3 of 3 runs', f'{in_turn()}\n', 'left over from line 2: 3 of 3 runs',
                 *TWO_LEFT)
 # The messages are sent by lines 3 and 4, and the one that comes second is left.
 TWO_LINES = '''mpd 1; ranks 3; var x; req r;
 if rank == 0 { recv x from any tag 0; }
 if rank == 1 { isend r 1 to 0 tag 0; }
 if rank == 2 { isend r 2 to 0 tag 0; }'''
-OF_TWO_LINES = (f'{NEVER} (2 runs, 3 states)', 'it can leave messages over: 2 of 2 runs\n', 'left over from line 4: 1 of 2 runs',
-                '  left over: line 4, 2.0 isend to 0 tag 0 value 2', runs_of(0), '\nleft over from line 3: 1 of 2 runs',
-                '  left over: line 3, 1.0 isend to 0 tag 0 value 1', runs_of(1))
+OF_TWO_LINES = (never('2 runs, 3\n        states'), f'{LEAVES} 2 of 2 runs', f'{in_turn()}\n', 'left over from line 4: 1 of 2 runs',
+                '  left over: line 4, 2.0 isend to 0 tag 0 value 2', runs_of(0, picture='run-1'), '\nleft over from line 3: 1 of 2 runs',
+                '  left over: line 3, 1.0 isend to 0 tag 0 value 1', runs_of(1, picture='run-2'))
 # One end of both runs: a choice of two, and by each a choice of one, and its end.
 BOTH_LEFT = '  left over: line 2, 0.0 isend to 0 tag 0 value 1', '  left over: line 2, 0.1 isend to 0 tag 0 value 2'
-OF_TWO_REQUESTS = (f'{NEVER} (2 runs, 5 states)', 'it can leave messages over: 2 of 2 runs\n', 'left over from line 2: 2 of 2 runs', *BOTH_LEFT,
+OF_TWO_REQUESTS = (never('2 runs, 5 states', BUFFERED), f'{LEAVES} 2 of 2 runs', f'{in_turn()}\n', 'left over from line 2: 2 of 2 runs', *BOTH_LEFT,
                    runs_of('0 0', WITH_BUFFERS))
 # In slots:1 it hangs where the second send comes before the match that frees the slot, and else a message is left over.
 OF_FREED_SLOT = '''\
 it can hang: 1 of 2 runs
-it can leave messages over: 1 of 2 runs
+it can end with calls left over: 1 of 2 runs
 
 deadlock at line 9: 1 of 2 runs
   rank 0 waits at line 9, 0.2 wait 1: for this request
@@ -375,13 +395,14 @@ SECOND_LEFT = '  left over: line 8, 0.1 isend to 1 tag 1 value 2'
 LEFT = (
     *(row(UNRECEIVED, int(strict), *ONE_LEFT, mode=BUFFERED, strict=strict) for strict in (False, True)),
     *(row(THREE_LEFT, int(strict), *OF_THREE_LEFT, strict=strict) for strict in (False, True)),
-    *(row(FREED_SLOT, 1, OF_FREED_SLOT, runs_of('0 0', SLOTTED), '\nleft over from line 8: 1 of 2 runs', SECOND_LEFT, runs_of(1, SLOTTED),
+    *(row(FREED_SLOT, 1, OF_FREED_SLOT, runs_of('0 0', SLOTTED, 'run-1'), '\nleft over from line 8: 1 of 2 runs', SECOND_LEFT,
+          runs_of(1, SLOTTED, 'run-2'),
           mode='slots:1',
           strict=strict) for strict in (False, True)),
     row(TWO_LINES, 0, *OF_TWO_LINES), row(TWO_REQUESTS, 0, *OF_TWO_REQUESTS, mode=BUFFERED), row(ONE_OF_THREE, 0, *OF_GATHERING),
     row(ONE_OF_THREE, 1, *OF_GATHERING, strict=True),
     # a number of slots has no leading zeros in commands; in a mode of slots the match is a choice of one
-    row(FREED_SLOT, 0, f'{NEVER} (1 run, 2 states)', 'it can leave messages over: 1 of 1 run\n',
+    row(FREED_SLOT, 0, never('1 run, 2 states', 'slots:2'), f'{LEAVES} 1 of 1 run', f'{in_turn()}\n',
         'left over from line 8: 1 of 1 run', SECOND_LEFT,
         runs_of(0, 'script.mpd --mode slots:2'), mode='slots:00002'))
 
@@ -392,16 +413,16 @@ REFUSED = (
     refused(BAD_SCRIPT, 'bad mode', 2, mode='', strict=True),
     refused(None, 'device', 3), refused(None, 'device', 3, mode=BUFFERED, strict=True),
     refused(BAD_SCRIPT, 'script refused 4 expected at 19 line 1', 2))
-CUT_ONCE = 'no hang and no trap was found in 1 run', 'not everything was tried: 1 of 1 run were cut after 100000 steps'
+CUT_ONCE = 'no hang and no trap was found in 1 run in rendezvous', 'not everything was tried: 1 of 1 run were cut after 100000 steps'
 CUT = (row(ON_AND_ON, 4, *CUT_ONCE),)
 
 # Those of many states, or of many lines: they take the model longer than all others.
 LARGE = (
-    row(taken(2, 'i < 64'), 0, MANY_RUNS, mode=BUFFERED),
+    row(taken(2, 'i < 64'), 0, MANY_RUNS, in_turn(), mode=BUFFERED),
     row(taken(2, 'i < 64', LAST_OF_ALL), 1, f'it can trap: {2 ** 63} of {AT_LEAST} runs\n', f'trap at line 3: {2 ** 63} of {AT_LEAST} runs',
         '  rank 0, line 3: trap assert', BY_LAST, runs_of(' '.join('0' * 63 + '1'), WITH_BUFFERS), mode=BUFFERED),
     row(ALONE, 1, *OF_ALONE), row(TWO_EACH, 1, OF_TWO_EACH, runs_of('0 0', 'two_each.mpd'), file='two_each.mpd'),
-    row(open_example('four_races.mpd').decode(), 0, RACES))
+    row(open_example('four_races.mpd').decode(), 0, RACES, in_turn()))
 
 ROWS = WELL + HANGS + TRAPPED + LEFT + REFUSED + LARGE + CUT
 
@@ -418,9 +439,9 @@ TREE = ('mpd 2; ranks 1; var i; var w; var x; req r[2];\n'
         'recv x from 0 tag 0; recv x from 0 tag 0; }\nprint w;')
 
 
-def none_found(runs):
-    """What is told of so many runs, where there are more."""
-    return f'no hang and no trap was found in {runs}', MORE
+def none_found(runs, mode=RENDEZVOUS):
+    """What is told of so many runs in a mode, where there are more."""
+    return f'no hang and no trap was found in {runs} in {mode}', MORE
 
 
 def none_drawn(runs, file='script.mpd'):
@@ -428,7 +449,7 @@ def none_drawn(runs, file='script.mpd'):
     return f'\ndrawn at random: none of {runs} hangs or traps', others(file)
 
 
-LONG_ROWS = (row(TREE.replace('ROUNDS', '22'), 4, *none_found('1999995 runs'), *none_drawn('4094 runs', WITH_BUFFERS), mode=BUFFERED),)
+LONG_ROWS = (row(TREE.replace('ROUNDS', '22'), 4, *none_found('1999995 runs', BUFFERED), *none_drawn('4094 runs', WITH_BUFFERS), mode=BUFFERED),)
 
 # ---- smaller limits, of the model alone
 
@@ -465,24 +486,24 @@ OF_THE_FIRST = 'it can hang: 1 of 1 run', MORE, others(), '\ndeadlock at lines 9
 SENDERS_FOUND = ((3, '0 runs', 1, '1 run'), (4, '1 run', 2, '2 runs'), (5, '1 run', 4, '4 runs'), (7, '2 runs', 5, '4 runs'),
                  (8, '3 runs', 6, '5 runs'), (11, '4 runs', 7, '5 runs'), (12, '5 runs', 8, '6 runs'))
 LIMITED = (
-    *(row(ON_AND_ON, 4, 'no hang and no trap was found in 1 run', f'not everything was tried: 1 of 1 run were cut after {fuel} steps',
+    *(row(ON_AND_ON, 4, 'no hang and no trap was found in 1 run in rendezvous', f'not everything was tried: 1 of 1 run were cut after {fuel} steps',
           limits=few(fuel=fuel),
           strict=strict) for fuel in (1, 5) for strict in (False, True)),
     row(THREE, 1, CUT_AND_HANG, runs_of(1), limits=few(fuel=12)),
-    row(THREE, 4, 'no hang and no trap was found in 2 runs', 'not everything was tried: 2 of 2 runs were cut after 9 steps', limits=few(fuel=9)),
+    row(THREE, 4, 'no hang and no trap was found in 2 runs in rendezvous', 'not everything was tried: 2 of 2 runs were cut after 9 steps', limits=few(fuel=9)),
     row(UNRECEIVED, 0, *ONE_LEFT, mode=BUFFERED, limits=few(fuel=2)),
     # states that are come to; where a hang was found nothing is drawn
     row(STOLEN, 1, *OF_THE_FIRST, limits=few(come_to=2)), row(STOLEN, 1, *STUCK_ONCE, runs_of(0), limits=few(come_to=3)),
     *(row(THREE_SENDERS, 4, *none_found(runs), *none_drawn(there), limits=Limits(come_to=come_to, drawn=drawn))
       for come_to, runs, drawn, there in SENDERS_FOUND),
-    row(THREE_SENDERS, 4, *none_found('5 runs'), *none_drawn('6 runs', WITH_BUFFERS), mode=BUFFERED, strict=True, limits=few(come_to=12)),
-    row(THREE_SENDERS, 0, SIX_RUNS, limits=few(come_to=13)),
+    row(THREE_SENDERS, 4, *none_found('5 runs', BUFFERED), *none_drawn('6 runs', WITH_BUFFERS), mode=BUFFERED, strict=True, limits=few(come_to=12)),
+    row(THREE_SENDERS, 0, SIX_RUNS, in_turn(), limits=few(come_to=13)),
     # of a tree that is 4 high, one of 3 and one of 0 are come to by 20 states, beside the choices above; drawn are 1001 twice, 0001, 0010, 1000, 1101,
     # 1111 and 1010
-    *(row(TREE.replace('ROUNDS', '4'), 4, *none_found('9 runs'), *none_drawn(there, WITH_BUFFERS), mode=BUFFERED,
+    *(row(TREE.replace('ROUNDS', '4'), 4, *none_found('9 runs', BUFFERED), *none_drawn(there, WITH_BUFFERS), mode=BUFFERED,
           limits=Limits(come_to=20, drawn=drawn)) for drawn, there in ((2, '1 run'), (8, '7 runs'))),
     # where one state is kept, it is the last that was: 3, none, 2, none and so on, so that 3, 2 and 1 are looked at each time: three more, at the end
-    row(THREE_SENDERS, 0, f'{NEVER} (6 runs, 16 states)', limits=few(kept=1)),
+    row(THREE_SENDERS, 0, never('6 runs, 16\n        states'), in_turn(), limits=few(kept=1)),
     # states that the search for the step that decides comes to
     *(row(STOLEN, 1, *STUCK_ONCE[:-1], OR_EARLIER.format(depth), runs_of(0), limits=Limits(deciding=most))
       for most, depth in ((1, 10), (2, 9), (3, 9), (4, 9))),
@@ -494,16 +515,17 @@ LIMITED = (
 STOLEN_DRAWN = ('\ndrawn at random: 1 of 2 runs hang', '\ndeadlock at lines 9, 13: 1 of 2 runs', OF_STOLEN)
 # The first run ends well, and the second hangs or traps.
 CUT_THEN_HANG = CUT_AND_HANG.partition('\n\n')[2]
-SECOND_TRAPS = ('\ndrawn at random: 1 of 2 runs trap', '\ntrap at line 12: 1 of 2 runs', '  rank 0, line 12: trap assert', BY_REQUEST, runs_of(1))
+SECOND_TRAPS = ('\ndrawn at random: 1 of 2 runs trap', '\ntrap at line 12: 1 of 2 runs', '  rank 0, line 12: trap assert', BY_REQUEST,
+                runs_of(1, picture='drawn'))
 # Numbers below 3: 2, 0, 0, 2, 2, 0, 1. Each run of ONE_OF_THREE leaves the two others over, which are one bug by three ends.
-FIRST_LEFT = ('it can leave messages over: 1 of 1 run', MORE, '\nleft over from line 2: 1 of 1 run', *TWO_LEFT)
+FIRST_LEFT = (f'{LEAVES} 1 of 1 run', MORE, '\nleft over from line 2: 1 of 1 run', *TWO_LEFT)
 
 
 def left_of_drawn(runs, others_left, choices):
     """What is told of runs that were drawn of ONE_OF_THREE, by how many there are, whose messages the first one leaves over, and its choices."""
-    return (*none_drawn(runs)[:1], f'drawn at random: {runs.split()[0]} of {runs} leave messages over', others(),
+    return (*none_drawn(runs)[:1], f'drawn at random: {runs.split()[0]} of {runs} end with calls left over', others(),
             f'\nleft over from line 2: {runs.split()[0]} of {runs}',
-            *(f'  left over: line 2, {rank}.0 isend to 0 tag 0 value {rank}' for rank in others_left), runs_of(choices))
+            *(f'  left over: line 2, {rank}.0 isend to 0 tag 0 value {rank}' for rank in others_left), runs_of(choices, picture='drawn'))
 
 
 # Rank 0 goes on in one of four ways, by who comes first: well, into a deadlock, into a trap, and well. Numbers below 4: 3, 0, 0, 2, 3, 0, 1. Ten steps
@@ -516,25 +538,26 @@ if rank == 0 {
 } else { isend r rank to 0 tag 0; }'''
 
 
-def left_of_four(choice, runs):
-    """What is told of the messages that a run leaves over where it takes one of the four, by that choice, and how many of how many runs leave some."""
+def left_of_four(choice, runs, picture='drawn'):
+    """What is told of the messages that a run leaves over where it takes one of the four, by that choice, how many of how many runs leave some, and
+    its picture."""
     there = [f'  left over: line 6, {rank}.0 isend to 0 tag 0 value {rank}' for rank in range(1, 5) if rank != choice + 1]
-    return f'\nleft over from line 6: {runs}', *there, runs_of(choice)
+    return f'\nleft over from line 6: {runs}', *there, runs_of(choice, picture=picture)
 
 
-FOUR_FOUND = (none_found('1 run')[0], 'it can leave messages over: 1 of 1 run', MORE, *left_of_four(0, '1 of 1 run'))
+FOUR_FOUND = (none_found('1 run')[0], f'{LEAVES} 1 of 1 run', MORE, *left_of_four(0, '1 of 1 run', 'run'))
 
 
 BY_MESSAGE_OF = '''\
   decided at depth 10: rank 0, line 3, takes the message of rank {0} (line 6,
         value {0}, tag 0); with that of rank 1 (line 6, value 1, tag 0) it can
         still end well'''
-FOUR_HANG = ('\ndeadlock at line 4: 1 of 4 runs', waits_for_itself(4, '0.1', 9), TO_ITSELF, BY_MESSAGE_OF.format(2), runs_of(1))
+FOUR_HANG = ('\ndeadlock at line 4: 1 of 4 runs', waits_for_itself(4, '0.1', 9), TO_ITSELF, BY_MESSAGE_OF.format(2), runs_of(1, picture='drawn-1'))
 
 
-def four_trap(runs):
-    """The trap of FOUR_WAYS, in one of so many runs."""
-    return f'\ntrap at line 5: 1 of {runs}', '  rank 0, line 5: trap assert', BY_MESSAGE_OF.format(3), runs_of(2)
+def four_trap(runs, picture):
+    """The trap of FOUR_WAYS, in one of so many runs, and its picture."""
+    return f'\ntrap at line 5: 1 of {runs}', '  rank 0, line 5: trap assert', BY_MESSAGE_OF.format(3), runs_of(2, picture=picture)
 
 
 # One end of two runs that stand at two lines: it stands at that of the first that was drawn.
@@ -550,18 +573,19 @@ AT_A_LINE = '''\
         well'''
 
 
-def left_at_six(count):
-    """What is told of the messages of ranks 2 and 3, which the first run leaves over, and how many of how many do."""
+def left_at_six(count, picture='drawn-2'):
+    """What is told of the messages of ranks 2 and 3, which the first run leaves over, how many of how many do, and its picture."""
     return (f'\nleft over from line 6: {count}', '  left over: line 6, 2.0 isend to 0 tag 0 value 2',
-            '  left over: line 6, 3.0 isend to 0 tag 0 value 3', runs_of(0))
+            '  left over: line 6, 3.0 isend to 0 tag 0 value 3', runs_of(0, picture=picture))
 
 
-def at_a_line(line, rank, count):
-    """Where its end stands, by whose message is taken, and how many of how many runs come to it."""
-    return (f'\ndeadlock at line {line}: {count}', waits_for_itself(line, '0.1', 9), TO_ITSELF, AT_A_LINE.format(rank), runs_of(rank - 1))
+def at_a_line(line, rank, count, picture='drawn-1'):
+    """Where its end stands, by whose message is taken, how many of how many runs come to it, and its picture."""
+    return (f'\ndeadlock at line {line}: {count}', waits_for_itself(line, '0.1', 9), TO_ITSELF, AT_A_LINE.format(rank),
+            runs_of(rank - 1, picture=picture))
 
 
-TWO_LINES_FOUND = (none_found('1 run')[0], 'it can leave messages over: 1 of 1 run', MORE, *left_at_six('1 of 1 run'))
+TWO_LINES_FOUND = (none_found('1 run')[0], f'{LEAVES} 1 of 1 run', MORE, *left_at_six('1 of 1 run', 'run'))
 # Nothing is left over where rank 1 comes first, and a message of rank 0 to itself where rank 2 does.
 LEFT_BY_SECOND = '''mpd 1; ranks 3; var x; req r;
 if rank == 0 {
@@ -569,20 +593,27 @@ if rank == 0 {
   if x == 2 { isend r 7 to 0 tag 5; }
   recv x from any tag 0;
 } else { send rank to 0 tag 0; }'''
-DRAWN_LEFT = ('\ndrawn at random: none of 2 runs hangs or traps', 'drawn at random: 1 of 2 runs leave messages over', others(),
-              '\nleft over from line 4: 1 of 2 runs', '  left over: line 4, 0.1 isend to 0 tag 5 value 7', runs_of('1 0'))
+DRAWN_LEFT = ('\ndrawn at random: none of 2 runs hangs or traps', 'drawn at random: 1 of 2 runs end with calls left over', others(),
+              '\nleft over from line 4: 1 of 2 runs', '  left over: line 4, 0.1 isend to 0 tag 5 value 7', runs_of('1 0', picture='drawn'))
 
 DRAWN = (
     # nothing is found, and a hang, or none, is drawn
     row(STOLEN, 4, *none_found('0 runs'), *none_drawn('1 run'), limits=Limits(come_to=1, drawn=1)),
-    *(row(STOLEN, 1, *none_found('0 runs'), *STOLEN_DRAWN, BY_MESSAGE, runs_of(0), limits=Limits(come_to=1, drawn=drawn)) for drawn in (2, 3)),
-    row(STOLEN, 1, *none_found('0 runs'), *STOLEN_DRAWN, BY_MESSAGE, runs_of(0, LONG_NAME), file=LONG_NAME, limits=few(come_to=1)),
-    row(STOLEN, 1, *none_found('0 runs'), *STOLEN_DRAWN, OR_EARLIER.format(9), runs_of(0), limits=few(come_to=1, deciding=4)),
+    *(row(STOLEN, 1, *none_found('0 runs'), *STOLEN_DRAWN, BY_MESSAGE, runs_of(0, picture='drawn'), limits=Limits(come_to=1, drawn=drawn)) for drawn in (2, 3)),
+    row(STOLEN, 1, *none_found('0 runs'), *STOLEN_DRAWN, BY_MESSAGE, runs_of(0, f"'{LONG_NAME}'", 'drawn'), file=LONG_NAME, limits=few(come_to=1)),
+    # how many ranks there are stands behind the file, and before the mode
+    *(row(STOLEN, 1, *STUCK_ONCE, runs_of(0, f'{word} --ranks 3'), file=name, ranks=3) for name, word in WORDS),
+    row(THREE_SENDERS, 0, SIX_BUFFERED, in_turn('./-x --ranks 4'), mode=BUFFERED, file='-x', ranks=4),
+    row(TRAPS, 1, 'it always traps (2 runs)\n', 'trap at line 3: 2 of 2 runs', '  rank 0, line 3: trap bad-tag', FROM_START,
+        runs_of(0, 'script.mpd --ranks 12 --mode buffered'), mode=BUFFERED, ranks=12),
+    row(STOLEN, 4, *none_found('0 runs'), *none_drawn('1 run', 'script.mpd --ranks 3'), limits=Limits(come_to=1, drawn=1), ranks=3),
+    row(STOLEN, 1, *none_found('0 runs'), *STOLEN_DRAWN, OR_EARLIER.format(9), runs_of(0, picture='drawn'),
+        limits=few(come_to=1, deciding=4)),
     # the first run is well, and the other traps
     row(WAITED_TWICE, 1, *none_found('1 run'), *SECOND_TRAPS, limits=few(come_to=2)),
     row(WAITED_TWICE, 1, *none_found('1 run'), *SECOND_TRAPS, limits=few(come_to=2), strict=True),
-    row(WAITED_TWICE, 1, *none_found('1 run'), '\ndrawn at random: 1 of 1 run trap', '\ntrap at line 12: 1 of 1 run', '  rank 0, line 12: trap assert',
-        BY_REQUEST, runs_of(1, WITH_BUFFERS), mode=BUFFERED, limits=few(1, come_to=2)),
+    row(WAITED_TWICE, 1, *none_found('1 run', BUFFERED), '\ndrawn at random: 1 of 1 run trap', '\ntrap at line 12: 1 of 1 run', '  rank 0, line 12: trap assert',
+        BY_REQUEST, runs_of(1, WITH_BUFFERS, 'drawn'), mode=BUFFERED, limits=few(1, come_to=2)),
     # a trap is found, and nothing is drawn
     row(TRAPS, 1, 'it can trap: 1 of 1 run', MORE, others(WITH_BUFFERS), '\ntrap at line 3: 1 of 1 run', '  rank 0, line 3: trap bad-tag', FROM_START,
         runs_of(0, WITH_BUFFERS), mode=BUFFERED, limits=few(come_to=2)),
@@ -590,7 +621,7 @@ DRAWN = (
         runs_of(0), limits=few(come_to=2)),
     # by 10 to 12 steps the first run is cut, and the other hangs; by 9 steps both are cut
     *(row(THREE, 1, none_found('1 run')[0], f'not everything was tried: 1 of 1 run were cut after {fuel} steps', MORE,
-          '\ndrawn at random: 1 of 2 runs hang\n', CUT_THEN_HANG, runs_of(1), limits=few(come_to=2, fuel=fuel)) for fuel in (10, 12)),
+          '\ndrawn at random: 1 of 2 runs hang\n', CUT_THEN_HANG, runs_of(1, picture='drawn'), limits=few(come_to=2, fuel=fuel)) for fuel in (10, 12)),
     row(THREE, 4, none_found('1 run')[0], 'not everything was tried: 1 of 1 run were cut after 9 steps', MORE, *none_drawn('2 runs'),
         limits=few(come_to=2, fuel=9)),
     # messages that are left over, by what was found and what was drawn
@@ -601,26 +632,27 @@ DRAWN = (
     *(row(LEFT_BY_SECOND, status, *none_found('1 run'), *DRAWN_LEFT, strict=strict, limits=few(come_to=3))
       for strict, status in ((False, 4), (True, 1))),
     # they are left over by the first run that was found, and not by that which was drawn
-    row(LEFT_BY_SECOND.replace('x == 2', 'x == 1'), 1, none_found('1 run')[0], 'it can leave messages over: 1 of 1 run', MORE,
+    row(LEFT_BY_SECOND.replace('x == 2', 'x == 1'), 1, none_found('1 run')[0], f'{LEAVES} 1 of 1 run', MORE,
         '\nleft over from line 4: 1 of 1 run', '  left over: line 4, 0.1 isend to 0 tag 5 value 7', runs_of('0 0'), *none_drawn('1 run'), strict=True,
         limits=few(1, come_to=3)),
     # both runs end alike: one is found, and the other drawn
-    row(TWO_REQUESTS, 4, none_found('1 run')[0], 'it can leave messages over: 1 of 1 run', MORE, '\nleft over from line 2: 1 of 1 run', *BOTH_LEFT,
-        runs_of('0 0', WITH_BUFFERS), *none_drawn('1 run')[:1], 'drawn at random: 1 of 1 run leave messages over', others(WITH_BUFFERS),
-        '\nleft over from line 2: 1 of 1 run', *BOTH_LEFT, runs_of('1 0', WITH_BUFFERS), mode=BUFFERED, limits=few(1, come_to=3)),
+    row(TWO_REQUESTS, 4, none_found('1 run', BUFFERED)[0], f'{LEAVES} 1 of 1 run', MORE, '\nleft over from line 2: 1 of 1 run', *BOTH_LEFT,
+        runs_of('0 0', WITH_BUFFERS), *none_drawn('1 run')[:1], 'drawn at random: 1 of 1 run end with calls left over', others(WITH_BUFFERS),
+        '\nleft over from line 2: 1 of 1 run', *BOTH_LEFT, runs_of('1 0', WITH_BUFFERS, 'drawn'), mode=BUFFERED, limits=few(1, come_to=3)),
     # beside a trap, and beside a deadlock and a trap
-    *(row(FOUR_WAYS, status, *FOUR_FOUND, *none_drawn('1 run')[:1], 'drawn at random: 1 of 1 run leave messages over', others(),
+    *(row(FOUR_WAYS, status, *FOUR_FOUND, *none_drawn('1 run')[:1], 'drawn at random: 1 of 1 run end with calls left over', others(),
           *left_of_four(3, '1 of 1 run'), strict=strict, limits=few(1, come_to=2)) for strict, status in ((False, 4), (True, 1))),
-    row(FOUR_WAYS, 1, *FOUR_FOUND, '\ndrawn at random: 1 of 3 runs trap\ndrawn at random: 2 of 3 runs leave messages over',
-        *left_of_four(0, '2 of 3 runs'), *four_trap('3 runs'), limits=few(4, come_to=2)),
+    row(FOUR_WAYS, 1, *FOUR_FOUND, '\ndrawn at random: 1 of 3 runs trap\ndrawn at random: 2 of 3 runs end with calls left over',
+        *four_trap('3 runs', 'drawn-1'), *left_of_four(0, '2 of 3 runs', 'drawn-2'), limits=few(4, come_to=2)),
     row(FOUR_WAYS, 1, *FOUR_FOUND, '\ndrawn at random: 1 of 4 runs hang\ndrawn at random: 1 of 4 runs trap',
-        'drawn at random: 2 of 4 runs leave messages over', *left_of_four(0, '2 of 4 runs'), *FOUR_HANG, *four_trap('4 runs'), limits=few(come_to=2)),
+        'drawn at random: 2 of 4 runs end with calls left over', *FOUR_HANG, *four_trap('4 runs', 'drawn-2'),
+        *left_of_four(0, '2 of 4 runs', 'drawn-3'), limits=few(come_to=2)),
     # where an end stands that has runs at two lines
-    row(AT_TWO_LINES, 1, *TWO_LINES_FOUND, '\ndrawn at random: 1 of 1 run hang', *at_a_line(5, 3, '1 of 1 run'), limits=few(1, come_to=2)),
-    row(AT_TWO_LINES, 1, *TWO_LINES_FOUND, '\ndrawn at random: 1 of 2 runs hang\ndrawn at random: 1 of 2 runs leave messages over',
-        *left_at_six('1 of 2 runs'), *at_a_line(5, 3, '1 of 2 runs'), limits=few(2, come_to=2)),
-    row(AT_TWO_LINES, 1, *TWO_LINES_FOUND, '\ndrawn at random: 2 of 3 runs hang\ndrawn at random: 1 of 3 runs leave messages over',
-        *left_at_six('1 of 3 runs'), *at_a_line(4, 2, '2 of 3 runs'), limits=few(7, come_to=2)))
+    row(AT_TWO_LINES, 1, *TWO_LINES_FOUND, '\ndrawn at random: 1 of 1 run hang', *at_a_line(5, 3, '1 of 1 run', 'drawn'), limits=few(1, come_to=2)),
+    row(AT_TWO_LINES, 1, *TWO_LINES_FOUND, '\ndrawn at random: 1 of 2 runs hang\ndrawn at random: 1 of 2 runs end with calls left over',
+        *at_a_line(5, 3, '1 of 2 runs'), *left_at_six('1 of 2 runs'), limits=few(2, come_to=2)),
+    row(AT_TWO_LINES, 1, *TWO_LINES_FOUND, '\ndrawn at random: 2 of 3 runs hang\ndrawn at random: 1 of 3 runs end with calls left over',
+        *at_a_line(4, 2, '2 of 3 runs'), *left_at_six('1 of 3 runs'), limits=few(7, come_to=2)))
 LIMITED += DRAWN
 
 

@@ -67,18 +67,18 @@ ROWS = (
     Row(REFUSED, 2, 'check --ranks 3 --mode fast', '', 2, 'mpdbg: bad mode\n'),
     Row(REFUSED, 17, 'check --ranks 3', '', 2, 'mpdbg: script refused 9 bad-ranks at 13 line 2\n'),
     # several numbers of ranks
-    Row(RING, 2, 'diagnose --ranks 2-5', '2 ranks: it never hangs or traps, whatever is taken first (1 run, 1 state)\n3 ranks: it can hang: 1 of 1 run\n'
-        '4 ranks: it never hangs or traps, whatever is taken first (1 run, 1 state)\n5 ranks: it can hang: 1 of 1 run\n\n  ./mpdbg diagnose FILE --ranks 3\n', 1),
-    Row(RING, 7, 'diagnose --ranks 2-3 --mode slots:00000', '2 ranks: it never hangs or traps, whatever is taken first (1 run, 1 state)\n3 ranks: it can hang: 1 of 1 run\n\n'
+    Row(RING, 2, 'diagnose --ranks 2-5', '2 ranks: it never hangs or traps in rendezvous, whatever is taken first (1 run, 1 state)\n3 ranks: it always hangs (1 run)\n'
+        '4 ranks: it never hangs or traps in rendezvous, whatever is taken first (1 run, 1 state)\n5 ranks: it always hangs (1 run)\n\n  ./mpdbg diagnose FILE --ranks 3\n', 1),
+    Row(RING, 7, 'diagnose --ranks 2-3 --mode slots:00000', '2 ranks: it never hangs or traps in slots:0, whatever is taken first (1 run, 1 state)\n3 ranks: it always hangs (1 run)\n\n'
         '  ./mpdbg diagnose FILE --ranks 3 --mode slots:0\n', 1),
-    Row(RING, 7, 'diagnose --ranks 3-4 --mode buffered', '3 ranks: it never hangs or traps, whatever is taken first (1 run, 1 state)\n'
-        '4 ranks: it never hangs or traps, whatever is taken first (1 run, 1 state)\n'),
-    Row(RING, 7, 'diagnose --ranks 3-4 --mode buffered --strict', '3 ranks: it never hangs or traps, whatever is taken first (1 run, 1 state)\n'
-        '4 ranks: it never hangs or traps, whatever is taken first (1 run, 1 state)\n\n  ./mpdbg diagnose FILE --ranks 3 --mode buffered\n', 1),
-    Row(TO_RANK_2, 3, 'diagnose --ranks=1-3', '1 rank: it can trap: 1 of 1 run\n2 ranks: it can trap: 1 of 1 run\n3 ranks: it never hangs or traps, whatever is taken first (1 run, 1 state)\n\n'
+    Row(RING, 7, 'diagnose --ranks 3-4 --mode buffered', '3 ranks: it never hangs or traps in buffered, whatever is taken first (1 run, 1 state)\n'
+        '4 ranks: it never hangs or traps in buffered, whatever is taken first (1 run, 1 state)\n'),
+    Row(RING, 7, 'diagnose --ranks 3-4 --mode buffered --strict', '3 ranks: it never hangs or traps in buffered, whatever is taken first (1 run, 1 state)\n'
+        '4 ranks: it never hangs or traps in buffered, whatever is taken first (1 run, 1 state)\n\n  ./mpdbg diagnose FILE --ranks 3 --mode buffered\n', 1),
+    Row(TO_RANK_2, 3, 'diagnose --ranks=1-3', '1 rank: it always traps (1 run)\n2 ranks: it always traps (1 run)\n3 ranks: it never hangs or traps in rendezvous, whatever is taken first (1 run, 1 state)\n\n'
         '  ./mpdbg diagnose FILE --ranks 1\n', 1),
-    Row(RING, 3, 'diagnose --ranks 2-2', 'it never hangs or traps, whatever is taken first (1 run, 1 state)\n'),
-    Row(RING, 3, 'diagnose --ranks 4', 'it never hangs or traps, whatever is taken first (1 run, 1 state)\n'),
+    Row(RING, 3, 'diagnose --ranks 2-2', 'it never hangs or traps in rendezvous, whatever is taken first (1 run, 1 state)\n  ./mpdbg check FILE --ranks 2 --modes 4 --outcomes\n'),
+    Row(RING, 3, 'diagnose --ranks 4 --mode buffered', 'it never hangs or traps in buffered, whatever is taken first (1 run, 1 state)\n  ./mpdbg check FILE --ranks 4 --modes 4 --outcomes\n'),
     Row(REFUSED, 2, 'diagnose --ranks 2-3', '', 2, 'mpdbg: script refused 4 expected at 22 line 4\n'),
     Row(REFUSED, 2, 'diagnose --ranks 2-3 --mode fast', '', 2, 'mpdbg: bad mode\n'),
     *(Row(REFUSED, 2, f'diagnose --ranks={word} --mode fast', '', 2, 'mpdbg: bad ranks\n') for word in (

@@ -7,7 +7,8 @@
                                                               must be noticed; with PROGRAM, beside it
 
 Each text is read (diagnosed_lines.py): lines are folded where they must be, what is told of bugs adds up to what becomes of the runs, the lines of a
-bug are those of its explanation, and the status is that of what is told. The run of its commands must end so, and be explained so. Where the runs
+bug are those of its explanation, its commands name the file as a shell reads it, and the status is that of what is told. The run of its commands must
+end so, and be explained so. Commands of files with names that a shell reads otherwise are run by one, beside the program. Where the runs
 of a script are few, all of them, one after another, say how many there are of each kind, how many states they come to, which ends are one bug, which
 of these has the shortest run, and which step decided. The model alone answers each script with small limits, too: there the first runs, and those that
 are drawn by going down the runs that are listed, say the same of what was found and what was drawn. The status is 0 where scripts were compared,
@@ -16,6 +17,7 @@ nothing was wrong, and all was met that must be.
 
 import contextlib
 import os
+import subprocess
 import sys
 import tempfile
 from collections import Counter
@@ -26,9 +28,10 @@ from cases import diagnosed_cases
 from faults import diagnosed_faults
 from model import deciding, diagnosed_lines, explaining, sampler, states
 from model.complete import TooMany
-from model.diagnosed import Limits, file_of
-from model.diagnosed_lines import PLACES, read_diagnosis
+from model.diagnosed import Limits, file_of, mode_of, script_of
+from model.diagnosed_lines import COMMAND, PLACES, Named, read_diagnosis
 from model.explorer import has_waitany, read_script
+from model.files import held
 from model.modes import RENDEZVOUS, slots_of
 from model.outcomes import count_text
 from model.policy import Choice
@@ -58,7 +61,14 @@ MUST_MEET = (
     'decided from the start', 'drawn', 'nothing is drawn behind what is bad', 'no run is found', 'hang drawn', 'trap drawn', 'left drawn', 'none drawn',
     'hang drawn beside trap', 'left drawn beside hang', 'left found and drawn', 'left drawn alone', 'status 1 by --strict and what is drawn alone',
     'one run is drawn', 'a run is drawn twice', 'all runs are drawn', 'fewer runs than all are drawn', 'a bug of several ends is drawn',
-    'an end that is drawn elsewhere', 'a bug is found and drawn')
+    'an end that is drawn elsewhere', 'a bug is found and drawn', 'it always hangs', 'it always traps', 'always bad, and in two ways',
+    'left before what is bad, by its first run', 'a name in quotes', 'a quote in a name', 'a name that begins as an option', 'other modes')
+# Names of files that a shell reads otherwise where they stand without quotes, or a command takes for options.
+NAMES = ('a b.mpd', "it's.mpd", 'a;b.mpd', '$(x).mpd', '`x`.mpd', '"a".mpd', 'a&b.mpd', 'a|b.mpd', 'a>b.mpd', '*.mpd', '~', '#a', 'a\\b.mpd', "'", '\u00e9.mpd',
+         '-x.mpd', '-x y.mpd', '--help', '-')
+# Of a script that hangs, and of one that never does, the words of each command, in their order, but for the file.
+IN_A_SHELL = ((worked_diagnosed.STOLEN, (('debug', '--ends', '--choices', '0'), ('picture', '--ends', '--choices', '0'))),
+              (worked_diagnosed.THREE_SENDERS, (('check', '--modes', '4', '--outcomes'),)))
 
 
 def said(chosen, asked):
@@ -67,6 +77,51 @@ def said(chosen, asked):
         return asked.wanted()
     with tempfile.TemporaryDirectory(prefix='diagnosed-') as folder, contextlib.chdir(folder):
         return run_at_once(chosen.program, b'', chosen.seconds, words=asked.words(''))
+
+
+def named(asked):
+    """How commands must name a script, by the model."""
+    return Named(asked.file, script_of(asked), mode_of(asked))
+
+
+# ---- commands that a shell runs
+
+def ran(chosen, folder, *words):
+    """What words answer that are run in a folder: the status, standard output and standard error."""
+    done = subprocess.run(words, cwd=folder, stdin=subprocess.DEVNULL, capture_output=True, timeout=chosen.seconds, check=False)
+    return done.returncode, done.stdout, done.stderr
+
+
+def by_shell(chosen, folder, line):
+    """What a command answers that a shell runs; what it writes to a file is its standard output."""
+    status, output, errors = ran(chosen, folder, 'sh', '-c', line)
+    picture = os.path.join(folder, 'run.svg')
+    if os.path.exists(picture):
+        with open(picture, 'rb') as file:
+            output += file.read()
+        os.remove(picture)
+    return status, output, errors
+
+
+def name_wrong(chosen, name):
+    """What is wrong with the commands that are told of scripts whose file has a name, as a shell runs them; None where nothing is."""
+    for script, wanted in IN_A_SHELL:
+        with tempfile.TemporaryDirectory(prefix='named-') as folder:
+            os.symlink(os.path.abspath(chosen.program), os.path.join(folder, 'mpdbg'))
+            held(folder, name, script.encode())
+            _, output, _ = ran(chosen, folder, './mpdbg', 'diagnose', '--', name)
+            lines = [line for line in output.decode().splitlines() if line.startswith(COMMAND)]
+            answers = [by_shell(chosen, folder, line) for line in lines]
+            if answers != [ran(chosen, folder, './mpdbg', *words, '--', name) for words in wanted]:
+                return f'{lines} of the file {name!r} answer {answers}'
+    return None
+
+
+def names_wrong(chosen, pool):
+    """What is wrong with the commands of files with such names."""
+    wrong = [how for how in pool.map(name_wrong, [chosen] * len(NAMES), NAMES) if how is not None] if chosen.program else []
+    print(f'{len(NAMES) if chosen.program else 0} names of files in a shell, {len(wrong)} wrong', flush=True)
+    return wrong
 
 
 # ---- what is wrong with a text by itself
@@ -129,7 +184,7 @@ def told_by_runs(asked, leaves):
     for end in ended(asked, leaves):
         if end.kind in PLACES:
             found.setdefault((end.kind, end.lines), []).append(end)
-    for (kind, lines), ends in found.items():
+    for (kind, lines), ends in sorted(found.items(), key=lambda bug: bug[0][0] == 'left'):
         least = min(len(end.leaf.steps) for end in ends)
         yield (kind, lines, sum(end.runs for end in ends)), next(end.leaf for end in ends if len(end.leaf.steps) == least)
 
@@ -202,7 +257,7 @@ def text_wrong(asked, result, leaves):
     is."""
     try:
         must_be(result.errors == b'', f'standard error has {result.errors[:80]!r}')
-        told = read_diagnosis(result.output, file_of(asked))
+        told = read_diagnosis(result.output, named(asked))
         must_be(result.status == diagnosed_lines.status_of(told, asked.strict), f'status {result.status}')
         must_be(told.drawn is None or told.drawn.runs <= asked.limits.drawn, f'more than {asked.limits.drawn} runs were drawn')
     except NoReport as why:
@@ -225,6 +280,8 @@ def met_of_ends(asked, told, leaves):
         between = set(range(of_bug[0], of_bug[-1])) - set(of_bug)
         lengths = [len(ends[place].leaf.steps) for place in of_bug]
         yield from ['several ends of one bug'] * (len(of_bug) > 1)
+        is_before = bug.kind == 'left' and any(end.kind in ('hang', 'trap') for end in ends[of_bug[0]:])
+        yield from ['left before what is bad, by its first run'] * is_before
         yield from ['ends of one bug behind others'] * any(ends[place].kind in PLACES for place in between)
         yield from ['a shorter run that is not the first'] * (min(lengths) < lengths[0])
         yield from ['runs that are as long'] * (lengths.count(min(lengths)) > 1)
@@ -257,7 +314,7 @@ def met_in(asked, result):
     yield f'status {result.status}'
     if result.errors:
         return
-    told = read_diagnosis(result.output, file_of(asked))
+    told = read_diagnosis(result.output, named(asked))
     kinds = [kind for kind in PLACES if told.counts[kind]]
     yield from kinds + ['never'] * (told.states is not None) + [f'{one} beside {other}' for one in kinds for other in kinds if one != other]
     yield from ['left alone'] * (kinds == ['left']) + ['status 1 by --strict alone'] * (asked.strict and kinds == ['left'])
@@ -269,9 +326,21 @@ def met_in(asked, result):
         yield from ['lines that texts have in another order'] * (sorted(bug.lines, key=str) != list(bug.lines)) + ['no choice'] * (not bug.choices)
         yield from [name for name, part in HOW_DECIDED if bug.decided is not None and part in bug.decided]
     yield from met_in_lines(result.output.decode().splitlines())
+    yield from met_of_words(asked, result.output.decode())
     yield from ['no mode in commands' if file_of(asked) == asked.file else 'a mode in commands'] * bool(told.bugs)
     yield from ['slots'] * (slots_of(asked.mode or '') is not None) + ['buffered'] * (asked.mode == 'buffered')
     yield from ['version 2'] * asked.script.startswith(b'mpd 2') + ['waitany'] * has_waitany(read_script(asked.script).body)
+
+
+def met_of_words(asked, text):
+    """What is met of how the script is named, and of what always is so."""
+    yield from [f'it always {word}s' for word in ('hang', 'trap') if text.startswith(f'it always {word}s ')]
+    told = read_diagnosis(text.encode(), named(asked))
+    is_always = told.counts['hang'] and told.counts['trap'] and told.counts['hang'] + told.counts['trap'] == told.runs
+    yield from ['always bad, and in two ways'] * bool(is_always and not told.more)
+    yield from ['other modes'] * ('--modes 4' in text)
+    yield from ['a name in quotes'] * (f"'{asked.file}'" in text) + ['a quote in a name'] * ("'\\''" in text)
+    yield from ['a name that begins as an option'] * asked.file.startswith('-')
 
 
 def met_in_lines(lines):
@@ -299,7 +368,7 @@ def compare_one(chosen, asked, met):
     if wanted.errors:
         return None
     leaves = listed(asked)
-    met.update([*met_of_states(asked), *met_of_ends(asked, read_diagnosis(wanted.output, file_of(asked)), leaves)])
+    met.update([*met_of_states(asked), *met_of_ends(asked, read_diagnosis(wanted.output, named(asked)), leaves)])
     return text_wrong(asked, result, leaves)
 
 
@@ -311,7 +380,7 @@ def compare_limited(asked, met):
     leaves = listed(asked)
     wrong = text_wrong(asked, result, leaves)
     if wrong is None:
-        met.update(['with small limits', *met_of_drawn(asked, read_diagnosis(result.output, file_of(asked)), leaves)])
+        met.update(['with small limits', *met_of_drawn(asked, read_diagnosis(result.output, named(asked)), leaves)])
     return wrong
 
 
@@ -339,7 +408,7 @@ def row_unread(row):
     if row.errors:
         return None
     try:
-        told = read_diagnosis(row.wanted().output, file_of(row.case()))
+        told = read_diagnosis(row.wanted().output, named(row.case()))
         must_be(diagnosed_lines.status_of(told, row.asked.strict) == row.status, f'status {row.status}')
     except NoReport as why:
         return f'{row.script} {row.asked}: {why}'
@@ -360,7 +429,7 @@ def rows_wrong(chosen, pool):
 
 def compare(chosen, pool):
     """Compares so many scripts; gives how much differed, or was not met that must be."""
-    differing, met, files = driving.tell(rows_wrong(chosen, pool)), Counter(), driving.Kept('diagnosed-')
+    differing, met, files = driving.tell([*rows_wrong(chosen, pool), *names_wrong(chosen, pool)]), Counter(), driving.Kept('diagnosed-')
     for found, there in driving.by_chunks(pool, compare_chunk, chosen):
         met += there
         for asked, how in found:

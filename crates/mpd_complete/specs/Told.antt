@@ -1,5 +1,5 @@
 -- What commands say of all runs of a script, in the words of what they answer: `check`, a sample, and the console's search.
-use Rattle.std.specs.Prelude.{◌≡◌, ℕ, Bool, true, List, [], Some}
+use Rattle.std.specs.Prelude.{◌≡◌, ℕ, Bool, true, List, [], Option, Some}
 use Rattle.mpd_model.specs.declared.call.Mode.{Mode}
 use Rattle.mpd_model.specs.script.Program.{Program}
 use Rattle.mpd_model.specs.steps.World.{World, start}
@@ -55,7 +55,7 @@ NoneEndsBadly u =
 -- Where the verdict on a diagnosis is good, that holds of all runs of the script.
 abbrev pub GoodDiagnosesAreOfAllRuns : Type 0
 GoodDiagnosesAreOfAllRuns =
-    (file : List ℕ) (limits : StateLimits) (most runs : ℕ) (s : Program) (mode : Mode) (told : Diagnosis) (strict : Bool) → IsDiagnosis file limits most runs (first_standing s mode) told
+    (file : List ℕ) (ranks : Option ℕ) (limits : StateLimits) (most runs : ℕ) (s : Program) (mode : Mode) (told : Diagnosis) (strict : Bool) → IsDiagnosis file ranks limits most runs (first_standing s mode) told
     → verdict_of strict told.counts told.drawn ≡ Good → NoneEndsBadly (start s mode) × BoundsAllRuns limits.fuel (start s mode)
 
 -- And of the runs that the console looks at from where it stands, where it says that there is no deadlock or trap from there: by states, or

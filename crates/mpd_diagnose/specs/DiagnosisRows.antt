@@ -1,12 +1,15 @@
 -- Worked rows of what a diagnosis tells. What is wanted was worked out by hand.
 use Rattle.std.specs.Prelude.{◌≡◌, true, false, [], ◌∷◌, ◌++◌, Some, None, codes, refl}
 use Rattle.std.specs.Fmt.{digits}
+use Rattle.mpd_model.specs.declared.call.Mode.TheVariants.{Rendezvous, Buffered}
 use Rattle.mpd_lines.specs.declared.verdict.Verdict.TheVariants.{Good, Bad, NotWhole}
 use Rattle.mpd_outcomes.specs.declared.report.Count.TheVariants.{Exactly, More}
 use Rattle.mpd_runs.specs.declared.counts.WayCounts.{WayCounts}
 use Rattle.mpd_diagnose.specs.Headings.{with_numbers, lines_text}
 use Rattle.mpd_diagnose.specs.Groups.{groups, shortest}
-use Rattle.mpd_diagnose.specs.Told.{draws, share}
+use Rattle.mpd_diagnose.specs.Words.{named}
+use Rattle.mpd_diagnose.specs.Commands.{picture_file}
+use Rattle.mpd_diagnose.specs.Told.{always_hangs, always_traps, draws, never_fails, share}
 use Rattle.mpd_diagnose.specs.Verdicts.{verdict_of}
 
 -- each line once, the least first
@@ -44,6 +47,22 @@ untidy = record { done = Exactly 2; leftovers = Exactly 1; deadlock = Exactly 0;
 abbrev trapped : WayCounts
 trapped = record { done = Exactly 2; leftovers = Exactly 0; deadlock = Exactly 0; trap = Exactly 1; cut = Exactly 0; total = Exactly 3; more = false }
 
+-- all hang
+abbrev stuck : WayCounts
+stuck = record { done = Exactly 0; leftovers = Exactly 0; deadlock = Exactly 3; trap = Exactly 0; cut = Exactly 0; total = Exactly 3; more = false }
+
+-- two hang, and one traps
+abbrev both : WayCounts
+both = record { done = Exactly 0; leftovers = Exactly 0; deadlock = Exactly 2; trap = Exactly 1; cut = Exactly 0; total = Exactly 3; more = false }
+
+-- all that were come to trap, and there are more
+abbrev trapping : WayCounts
+trapping = record { done = Exactly 0; leftovers = Exactly 0; deadlock = Exactly 0; trap = Exactly 3; cut = Exactly 0; total = Exactly 3; more = true }
+
+-- and there are none
+abbrev trapping_all : WayCounts
+trapping_all = record { done = Exactly 0; leftovers = Exactly 0; deadlock = Exactly 0; trap = Exactly 3; cut = Exactly 0; total = Exactly 3; more = false }
+
 abbrev cut_short : WayCounts
 cut_short = record { done = Exactly 2; leftovers = Exactly 0; deadlock = Exactly 0; trap = Exactly 0; cut = Exactly 1; total = Exactly 3; more = false }
 
@@ -57,3 +76,23 @@ row_verdicts = refl
 -- runs are drawn only where there are more, and none of these hangs or traps
 pub row_draws : draws tidy ∷ draws trapped ∷ draws cut_short ∷ draws stopped ∷ [] ≡ false ∷ false ∷ false ∷ true ∷ []
 row_draws = refl
+
+-- every run hangs, or traps, only where none ends otherwise and there are no more
+pub row_always_hangs : always_hangs stuck ∷ always_hangs both ∷ always_hangs trapped ∷ always_hangs tidy ∷ [] ≡ true ∷ false ∷ false ∷ false ∷ []
+row_always_hangs = refl
+
+pub row_always_traps : always_traps trapping ∷ always_traps trapping_all ∷ always_traps both ∷ always_traps trapped ∷ [] ≡ false ∷ true ∷ false ∷ false ∷ []
+row_always_traps = refl
+
+pub row_never : never_fails tidy ∷ never_fails untidy ∷ never_fails trapped ∷ never_fails cut_short ∷ never_fails stopped ∷ [] ≡ true ∷ true ∷ false ∷ false ∷ false ∷ []
+row_never = refl
+
+-- names as a shell reads them, the last with a number of ranks and a mode
+pub row_words : named (codes "a/B_9.mpd") None Rendezvous ∷ named (codes "a b") None Rendezvous ∷ named (codes "it's") None Rendezvous ∷ named [] None Rendezvous ∷ named (codes "-x") None Rendezvous ∷ named (codes "-x y") None Rendezvous ∷ named (codes "$x") (Some 4) Buffered ∷ []
+    ≡ codes "a/B_9.mpd" ∷ codes "'a b'" ∷ codes "'it'\\''s'" ∷ codes "''" ∷ codes "./-x" ∷ codes "'./-x y'" ∷ codes "'$x' --ranks 4 --mode buffered" ∷ []
+unfolding digits
+row_words = refl
+
+pub row_pictures : picture_file (codes "run") false 1 ∷ picture_file (codes "run") true 12 ∷ [] ≡ codes "run.svg" ∷ codes "run-12.svg" ∷ []
+unfolding digits
+row_pictures = refl

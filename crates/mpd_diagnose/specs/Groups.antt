@@ -1,6 +1,8 @@
 -- Ends that are told together, since they are called the same.
-use Rattle.std.specs.Prelude.{ℕ, Bool, nat_lt, if◌then◌else◌, List, [], ◌∷◌, length, map, slice_get, slice_index_or}
+use Rattle.std.specs.Prelude.{ℕ, Bool, true, false, not, nat_lt, if◌then◌else◌, List, [], ◌∷◌, ◌++◌, Option, Some, None, length, map, slice_get, slice_index_or}
 use Rattle.std.specs.List.{filter, range_with_len}
+use Rattle.mpd_explore.specs.declared.report.Leaf.{Leaf}
+use Rattle.mpd_explore.specs.Report.{is_bad}
 use Rattle.mpd_outcomes.specs.declared.report.Count.{Count}
 use Rattle.mpd_outcomes.specs.declared.report.Count.TheVariants.{Exactly}
 use Rattle.mpd_outcomes.specs.Outcomes.{plus}
@@ -42,3 +44,22 @@ is_told headings n = nat_lt 0 (length (text_at (slice_get headings n)))
 -- the ends that are called anything, in the order of the first of each kind
 abbrev pub groups : List (List ℕ) → List Count → List ℕ → List Group
 groups headings counts steps = map (group_of headings counts steps) (filter (is_told headings) (firsts headings))
+
+-- ---- their order
+
+abbrev pub is_bad_leaf : Option Leaf → Bool
+is_bad_leaf None = false
+is_bad_leaf (Some l) = is_bad l.ending
+
+-- whether ends that are told together are deadlocks or traps
+abbrev pub is_bad_at : List Leaf → Group → Bool
+is_bad_at leaves g = is_bad_leaf (slice_get leaves g.first)
+
+-- whether they are, or whether they are neither
+abbrev pub is_of : Bool → List Leaf → Group → Bool
+is_of true leaves g = is_bad_at leaves g
+is_of false leaves g = not (is_bad_at leaves g)
+
+-- those that are, and then those that are neither
+abbrev pub bad_first : List Leaf → List Group → List Group
+bad_first leaves gs = filter (is_of true leaves) gs ++ filter (is_of false leaves) gs

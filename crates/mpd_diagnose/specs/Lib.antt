@@ -1,6 +1,8 @@
 pub mod Headings
 pub mod Groups
 pub mod Details
+pub mod Words
+pub mod Commands
 pub mod Told
 pub mod Verdicts
 pub mod Diagnosed

@@ -1,12 +1,10 @@
 -- What is told of a script by the ends that its runs come to.
-use Rattle.std.specs.Prelude.{ℕ, Bool, true, false, not, ◌&&◌, ◌==◌, if◌then◌else◌, List, [], ◌∷◌, ◌++◌, Option, Some, None, slice_get, codes}
+use Rattle.std.specs.Prelude.{ℕ, Bool, true, false, not, nat_lt, ◌+◌, ◌&&◌, ◌==◌, if◌then◌else◌, List, [], ◌∷◌, ◌++◌, Option, Some, None, length, slice_get, codes}
 use Rattle.std.specs.Fmt.{decimal}
 use Rattle.mpd_model.specs.declared.call.Mode.{Mode}
-use Rattle.mpd_model.specs.declared.call.Mode.TheVariants.{Rendezvous, Buffered, Slots}
 use Rattle.mpd_model.specs.texts.Modes.{mode_word}
 use Rattle.mpd_model.specs.texts.Texts.{line}
 use Rattle.mpd_explore.specs.declared.report.Leaf.{Leaf}
-use Rattle.mpd_explore.specs.ReportText.{choices_text}
 use Rattle.mpd_outcomes.specs.declared.report.Count.{Count}
 use Rattle.mpd_outcomes.specs.CountText.{count_text}
 use Rattle.mpd_runs.specs.declared.counts.WayCounts.{WayCounts}
@@ -15,6 +13,7 @@ use Rattle.mpd_runs.specs.Runs.{sees_all}
 use Rattle.mpd_explain.specs.Told.{text_at}
 use Rattle.mpd_fold.specs.Folding.{folded}
 use Rattle.mpd_diagnose.specs.declared.groups.Group.{Group}
+use Rattle.mpd_diagnose.specs.Commands.{sample_command, modes_command, run_commands, picture_file}
 
 -- ---- what becomes of the runs
 
@@ -38,26 +37,54 @@ line_if before n total after = if is_count 0 n then [] else line (before ++ shar
 abbrev pub ends_well : WayCounts → Bool
 ends_well c = is_count 0 c.deadlock && is_count 0 c.trap
 
+-- no run does, of all there are
+abbrev pub never_fails : WayCounts → Bool
+never_fails c = ends_well c && sees_all c
+
+-- ` in rendezvous`
+abbrev pub in_mode : Mode → List ℕ
+in_mode m = codes " in " ++ mode_word m
+
 -- that no run hangs or traps, of all there are
-unfoldable pub never_text : Count → ℕ → List ℕ
-never_text total states = codes "it never hangs or traps, whatever is taken first (" ++ runs_text total ++ codes ", " ++ states_text states ++ codes ")"
+unfoldable pub never_text : Mode → Count → ℕ → List ℕ
+never_text m total states = codes "it never hangs or traps" ++ in_mode m ++ codes ", whatever is taken first (" ++ runs_text total ++ codes ", " ++ states_text states ++ codes ")"
 
 -- that of those that were looked at none does
-unfoldable pub none_found_text : Count → List ℕ
-none_found_text total = codes "no hang and no trap was found in " ++ runs_text total
+unfoldable pub none_found_text : Mode → Count → List ℕ
+none_found_text m total = codes "no hang and no trap was found in " ++ runs_text total ++ in_mode m
 
-abbrev pub well_text : WayCounts → ℕ → List ℕ
-well_text c states = if sees_all c then never_text c.total states else none_found_text c.total
+abbrev pub well_text : Mode → WayCounts → ℕ → List ℕ
+well_text m c states = if sees_all c then never_text m c.total states else none_found_text m c.total
 
-abbrev pub well_line : WayCounts → ℕ → List ℕ
-well_line c states = if ends_well c then line (well_text c states) else []
+abbrev pub well_line : Mode → WayCounts → ℕ → List ℕ
+well_line m c states = if ends_well c then line (well_text m c states) else []
+
+-- every run hangs or traps: none ends otherwise, and there are no more
+abbrev pub always_fails : WayCounts → Bool
+always_fails c = sees_all c && is_count 0 c.done && is_count 0 c.leftovers
+
+abbrev pub always_hangs : WayCounts → Bool
+always_hangs c = always_fails c && is_count 0 c.trap && not (is_count 0 c.deadlock)
+
+abbrev pub always_traps : WayCounts → Bool
+always_traps c = always_fails c && is_count 0 c.deadlock && not (is_count 0 c.trap)
+
+-- `it always hangs (2 runs)`
+abbrev pub always_line : List ℕ → Count → List ℕ
+always_line does total = line (does ++ codes " (" ++ runs_text total ++ codes ")")
+
+unfoldable pub hang_line : WayCounts → List ℕ
+hang_line c = if always_hangs c then always_line (codes "it always hangs") c.total else line_if (codes "it can hang: ") c.deadlock c.total []
+
+unfoldable pub trap_line : WayCounts → List ℕ
+trap_line c = if always_traps c then always_line (codes "it always traps") c.total else line_if (codes "it can trap: ") c.trap c.total []
 
 -- how many runs hang, and how many trap
-unfoldable pub bad_text : WayCounts → List ℕ
-bad_text c = line_if (codes "it can hang: ") c.deadlock c.total [] ++ line_if (codes "it can trap: ") c.trap c.total []
+abbrev pub bad_text : WayCounts → List ℕ
+bad_text c = hang_line c ++ trap_line c
 
 unfoldable pub left_line : WayCounts → List ℕ
-left_line c = line_if (codes "it can leave messages over: ") c.leftovers c.total []
+left_line c = line_if (codes "it can end with calls left over: ") c.leftovers c.total []
 
 abbrev pub more_line : Bool → List ℕ
 more_line false = []
@@ -71,43 +98,10 @@ cut_after fuel = codes " were cut after " ++ decimal fuel ++ codes " steps"
 unfoldable pub untried_text : WayCounts → ℕ → List ℕ
 untried_text c fuel = line_if (codes "not everything was tried: ") c.cut c.total (cut_after fuel) ++ more_line c.more
 
--- what becomes of the runs, which have so many steps at most, as was found by coming to so many states
-abbrev pub verdict_text : WayCounts → ℕ → ℕ → List ℕ
-verdict_text c fuel states =
-    bad_text c ++ well_line c states ++ left_line c ++ untried_text c fuel
-
--- ---- commands
-
--- ` --mode buffered`, and nothing for the mode that is the usual one
-abbrev pub mode_words : Mode → List ℕ
-mode_words Rendezvous = []
-mode_words Buffered = codes " --mode " ++ mode_word Buffered
-mode_words (Slots k) = codes " --mode " ++ mode_word (Slots k)
-
--- the script as words name it
-abbrev pub named : List ℕ → Mode → List ℕ
-named file mode = file ++ mode_words mode
-
--- `  ./mpdbg check race.mpd --sample 65536 --group --explain`
-unfoldable pub sample_command : List ℕ → Mode → List ℕ
-sample_command file mode = line (codes "  ./mpdbg check " ++ named file mode ++ codes " --sample 65536 --group --explain")
-
--- the command that tries other runs, where there are more
-abbrev pub others_command : Bool → List ℕ → Mode → List ℕ
-others_command false file mode = []
-others_command true file mode = sample_command file mode
-
--- ` --ends --choices '0 2'`
-unfoldable pub choices_words : List ℕ → List ℕ
-choices_words choices = codes " --ends --choices '" ++ choices_text choices ++ codes "'"
-
--- a command that names a run by its choices
-abbrev pub run_command : List ℕ → List ℕ → Mode → List ℕ → List ℕ → List ℕ
-run_command before file mode choices after = line (before ++ named file mode ++ choices_words choices ++ after)
-
--- the commands that debug and draw the run with these choices
-unfoldable pub run_commands : List ℕ → Mode → List ℕ → List ℕ
-run_commands file mode choices = run_command (codes "  ./mpdbg debug ") file mode choices [] ++ run_command (codes "  ./mpdbg picture ") file mode choices (codes " > run.svg")
+-- what becomes of the runs in a mode, which have so many steps at most, as was found by coming to so many states
+abbrev pub verdict_text : Mode → WayCounts → ℕ → ℕ → List ℕ
+verdict_text m c fuel states =
+    bad_text c ++ well_line m c states ++ left_line c ++ untried_text c fuel
 
 -- ---- ends that are told together
 
@@ -119,16 +113,26 @@ choices_of (Some l) = l.choices
 abbrev pub group_said : List ℕ → Count → Count → List ℕ → List ℕ
 group_said heading n total details = line (heading ++ codes ": " ++ share n total) ++ details
 
-abbrev pub group_text : List ℕ → Mode → List ℕ → List ℕ → List ℕ
-group_text file mode said choices = 10 ∷ folded said ++ run_commands file mode choices
+-- the picture of one of them is written to a file
+abbrev pub group_text : List ℕ → Option ℕ → Mode → List ℕ → List ℕ → List ℕ → List ℕ
+group_text file ranks mode said choices picture = 10 ∷ folded said ++ run_commands file ranks mode choices picture
 
--- those of a report's leaves, which are called so
-abbrev pub groups_text : List ℕ → Mode → Count → List (List ℕ) → List Leaf → List Group → List (List ℕ) → List ℕ
-groups_text file mode total headings leaves [] ts = []
-groups_text file mode total headings leaves (g ∷ gs) [] = []
-groups_text file mode total headings leaves (g ∷ gs) (t ∷ ts) =
-    group_text file mode (group_said (text_at (slice_get headings g.first)) g.count total t) (choices_of (slice_get leaves g.shown))
-    ++ groups_text file mode total headings leaves gs ts
+-- Those of a report's leaves, which are called so. Their pictures are of a kind, and n stand before them.
+abbrev pub groups_text : List ℕ → Option ℕ → Mode → List ℕ → Bool → ℕ → Count → List (List ℕ) → List Leaf → List Group → List (List ℕ) → List ℕ
+groups_text file ranks mode kind several n total headings leaves [] ts = []
+groups_text file ranks mode kind several n total headings leaves (g ∷ gs) [] = []
+groups_text file ranks mode kind several n total headings leaves (g ∷ gs) (t ∷ ts) =
+    group_text file ranks mode (group_said (text_at (slice_get headings g.first)) g.count total t) (choices_of (slice_get leaves g.shown)) (picture_file kind several (n + 1))
+    ++ groups_text file ranks mode kind several (n + 1) total headings leaves gs ts
+
+-- all of them
+abbrev pub all_groups_text : List ℕ → Option ℕ → Mode → List ℕ → Count → List (List ℕ) → List Leaf → List Group → List (List ℕ) → List ℕ
+all_groups_text file ranks mode kind total headings leaves gs ts = groups_text file ranks mode kind (nat_lt 1 (length gs)) 0 total headings leaves gs ts
+
+-- the command that tries other runs, where there are more
+abbrev pub others_command : Bool → List ℕ → Option ℕ → Mode → List ℕ
+others_command false file ranks mode = []
+others_command true file ranks mode = sample_command file ranks mode
 
 -- ---- the whole
 
@@ -136,9 +140,13 @@ groups_text file mode total headings leaves (g ∷ gs) (t ∷ ts) =
 abbrev pub draws : WayCounts → Bool
 draws c = c.more && ends_well c
 
--- what becomes of the runs that were come to, and the command that tries others, where there are more and none are drawn
-abbrev pub opening : List ℕ → Mode → WayCounts → ℕ → ℕ → List ℕ
-opening file mode c fuel states = folded (verdict_text c fuel states) ++ others_command (c.more && not (ends_well c)) file mode
+-- the command that is tried next: where no run hangs or traps, other modes; where there are more and none are drawn, other runs
+abbrev pub next_command : List ℕ → Option ℕ → Mode → WayCounts → List ℕ
+next_command file ranks mode c = if never_fails c then modes_command file ranks else others_command (c.more && not (ends_well c)) file ranks mode
+
+-- what becomes of the runs that were come to, and that command
+abbrev pub opening : List ℕ → Option ℕ → Mode → WayCounts → ℕ → ℕ → List ℕ
+opening file ranks mode c fuel states = folded (verdict_text mode c fuel states) ++ next_command file ranks mode c
 
 -- ---- runs that are drawn
 
@@ -154,11 +162,11 @@ abbrev pub drawn_well_line : WayCounts → List ℕ
 drawn_well_line c = if ends_well c then drawn_well c.total else []
 
 unfoldable pub drawn_left : WayCounts → List ℕ
-drawn_left c = line_if (codes "drawn at random: ") c.leftovers c.total (codes " leave messages over")
+drawn_left c = line_if (codes "drawn at random: ") c.leftovers c.total (codes " end with calls left over")
 
 abbrev pub drawn_verdict : WayCounts → List ℕ
 drawn_verdict c = drawn_bad c ++ drawn_well_line c ++ drawn_left c
 
 -- what becomes of them, and the command that tries others, where none of them hangs or traps
-abbrev pub drawn_opening : List ℕ → Mode → WayCounts → List ℕ
-drawn_opening file mode c = 10 ∷ folded (drawn_verdict c) ++ others_command (ends_well c) file mode
+abbrev pub drawn_opening : List ℕ → Option ℕ → Mode → WayCounts → List ℕ
+drawn_opening file ranks mode c = 10 ∷ folded (drawn_verdict c) ++ others_command (ends_well c) file ranks mode

@@ -12,8 +12,9 @@ ghost use Rattle.mpd_diagnose.specs.Diagnosed as spec;
 
 use crate::along::{Ends, ends_of};
 use crate::details::details_of;
-use crate::groups::groups_of;
-use crate::told::{Named, ToldEnds, drawn_opening, draws, push_groups, push_opening};
+use crate::groups::{bad_first, groups_of};
+use crate::told::{ToldEnds, drawn_opening, draws, push_groups, push_opening};
+use crate::words::Named;
 use mpd_code::Subject;
 use mpd_explore::{Leaf, Limits, Unwatched};
 use mpd_model::{Mode, STEPS_MAX};
@@ -32,8 +33,10 @@ pub struct DiagnosisPlan<'a> {
     pub blamed: usize,
     /// How many runs are drawn, where there are more than were come to, and none of these hangs or traps.
     pub drawn: usize,
-    /// The script's file, as the commands name it.
+    /// The script's file, as it was given.
     pub file: &'a str,
+    /// How many ranks it has, where that was asked for, as the commands name it.
+    pub ranks: Option<usize>,
 }
 
 /// What was found.
@@ -85,6 +88,7 @@ fn told_ends(
     let leaves = &outcomes.firsts.leaves;
     let Ends { headings, steps } = ends_of(alloc, debugger, limits.fuel, leaves)?;
     let groups = groups_of(alloc, &headings, &outcomes.counts, &steps)?;
+    let groups = bad_first(alloc, leaves, &groups)?;
     let limits = blaming(limits, blamed);
     let details = details_of(alloc, debugger, limits, &outcomes.firsts, &groups)?;
     Ok(ToldEnds {
@@ -94,6 +98,13 @@ fn told_ends(
     })
 }
 
+/// A text that is begun, and what the pictures of the ends that are told after it are called.
+#[derive(Drop)]
+struct Begun<'a> {
+    text: Vec<u8>,
+    kind: &'a str,
+}
+
 /// A text with a beginning, and what is told after it of the ways to end that were found. The debugger is left as found.
 fn tell(
     alloc: Global,
@@ -101,28 +112,21 @@ fn tell(
     named: Named<'_>,
     plan: DiagnosisPlan<'_>,
     outcomes: &Outcomes,
-    begun: Vec<u8>,
+    begun: Begun<'_>,
 ) -> Result<Part, AllocError>
     requires clean { length debugger.old.trail.steps ≡ debugger.old.trail.depth }
     requires at_start { debugger.old.trail.depth ≡ 0 }
     requires mode { debugger.old.trail.mode ≡ named.mode }
     requires few { plan.limits.fuel ≤ STEPS_MAX }
     requires listed { AllByRecursion (HasWitness wide_decision debugger.old.trail.program debugger.old.trail.mode (done_steps debugger.old.trail) plan.limits.fuel debugger.old.world) outcomes.now.firsts.leaves.items }
-    ensures told { IfOk result (λ p. IsTold named.entry.file.now plan.entry.limits plan.entry.blamed (standing_of debugger.old) outcomes.now begun.items p.text.items p.counts) }
+    ensures told { IfOk result (λ p. IsTold named.entry.file.now named.entry.ranks begun.entry.kind.now plan.entry.limits plan.entry.blamed (standing_of debugger.old) outcomes.now begun.entry.text.items p.text.items p.counts) }
     ensures as_found { AsFound (standing_of debugger.old) (standing_of debugger.new) }
 {
     debugger.state_is_reached();
     let told = told_ends(alloc, debugger, plan.limits, plan.blamed, outcomes)?;
     let counts = counts_told(outcomes);
-    let mut text = begun;
-    push_groups(
-        alloc,
-        &mut text,
-        named,
-        outcomes.total,
-        &outcomes.firsts.leaves,
-        &told,
-    )?;
+    let Begun { mut text, kind } = begun;
+    push_groups(alloc, &mut text, named, outcomes, &told, kind)?;
     Ok(Part { text, counts })
 }
 
@@ -137,15 +141,16 @@ fn first_part(
     requires at_start { debugger.old.trail.depth ≡ 0 }
     requires mode { debugger.old.trail.mode ≡ named.mode }
     requires few { plan.limits.fuel ≤ STEPS_MAX }
-    ensures first { IfOk result (λ p. IsFirst named.entry.file.now plan.entry.limits plan.entry.blamed (standing_of debugger.old) p.text.items p.counts) }
+    ensures first { IfOk result (λ p. IsFirst named.entry.file.now named.entry.ranks plan.entry.limits plan.entry.blamed (standing_of debugger.old) p.text.items p.counts) }
     ensures as_found { AsFound (standing_of debugger.old) (standing_of debugger.new) }
 {
     debugger.state_is_reached();
     let outcomes = explore_outcomes(alloc, debugger, plan.limits)?;
     let counts = counts_told(&outcomes);
     let fuel = plan.limits.fuel;
-    let mut begun = Vec::new(alloc);
-    push_opening(alloc, &mut begun, named, counts, fuel, outcomes.visited)?;
+    let mut text = Vec::new(alloc);
+    push_opening(alloc, &mut text, named, counts, fuel, outcomes.visited)?;
+    let begun = Begun { text, kind: "run" };
     tell(alloc, debugger, named, plan, &outcomes, begun)
 }
 
@@ -204,12 +209,16 @@ fn drawn_part(
     requires at_start { debugger.old.trail.depth ≡ 0 }
     requires mode { debugger.old.trail.mode ≡ named.mode }
     requires few { plan.limits.fuel ≤ STEPS_MAX }
-    ensures drawn { IfOk result (λ p. IsDrawn named.entry.file.now plan.entry.limits plan.entry.blamed plan.entry.drawn (standing_of debugger.old) p.text.items p.counts) }
+    ensures drawn { IfOk result (λ p. IsDrawn named.entry.file.now named.entry.ranks plan.entry.limits plan.entry.blamed plan.entry.drawn (standing_of debugger.old) p.text.items p.counts) }
     ensures as_found { AsFound (standing_of debugger.old) (standing_of debugger.new) }
 {
     debugger.state_is_reached();
     let outcomes = drawn_runs(alloc, debugger, plan.limits.fuel, plan.drawn)?;
-    let begun = drawn_opening(alloc, named, counts_told(&outcomes))?;
+    let text = drawn_opening(alloc, named, counts_told(&outcomes))?;
+    let begun = Begun {
+        text,
+        kind: "drawn",
+    };
     tell(alloc, debugger, named, plan, &outcomes, begun)
 }
 
@@ -224,10 +233,11 @@ fn diagnose_there(
     requires at_start { debugger.old.trail.depth ≡ 0 }
     requires mode { debugger.old.trail.mode ≡ mode }
     requires few { plan.limits.fuel ≤ STEPS_MAX }
-    ensures { IfOk result (IsDiagnosis plan.entry.file.now plan.entry.limits plan.entry.blamed plan.entry.drawn (standing_of debugger.old)) }
+    ensures { IfOk result (IsDiagnosis plan.entry.file.now plan.entry.ranks plan.entry.limits plan.entry.blamed plan.entry.drawn (standing_of debugger.old)) }
 {
     let named = Named {
         file: plan.file,
+        ranks: plan.ranks,
         mode,
     };
     let Part { mut text, counts } = first_part(alloc, debugger, named, plan)?;
@@ -256,7 +266,7 @@ pub fn diagnose(
     plan: DiagnosisPlan<'_>,
 ) -> Result<Diagnosis, AllocError>
     requires { plan.limits.fuel ≤ STEPS_MAX }
-    ensures { IfOk result (IsDiagnosis plan.entry.file.now plan.entry.limits plan.entry.blamed plan.entry.drawn (first_standing subject.entry.code.now.program subject.entry.mode)) }
+    ensures { IfOk result (IsDiagnosis plan.entry.file.now plan.entry.ranks plan.entry.limits plan.entry.blamed plan.entry.drawn (first_standing subject.entry.code.now.program subject.entry.mode)) }
 {
     let mut debugger = Debugger::start(alloc, subject.code, subject.mode)?;
     let told = diagnose_there(alloc, &mut debugger, subject.mode, plan);

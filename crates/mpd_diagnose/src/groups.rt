@@ -7,6 +7,7 @@ ghost use Rattle.mpd_explain.specs.Told.{same_at};
 ghost use Rattle.mpd_diagnose.specs.Groups as spec;
 
 use mpd_explain::{firsts, text_at};
+use mpd_explore::Leaf;
 use mpd_outcomes::Count;
 use std::alloc::{AllocError, Global};
 
@@ -142,4 +143,55 @@ pub(crate) fn groups_of(
     let kinds = firsts(alloc, headings)?;
     let numbers = told(alloc, headings, &kinds)?;
     groups_by(alloc, headings, counts, steps, &numbers)
+}
+
+// ---- their order
+
+/// Whether ends that are told together are deadlocks or traps.
+fn is_bad_group(leaves: &[Leaf], group: Group) -> bool
+    ensures { result ≡ spec.is_bad_at leaves.now group }
+{
+    match leaves.get(group.first) {
+        None => false,
+        Some(leaf) => leaf.is_bad(),
+    }
+}
+
+/// Adds what is told together, where it is chosen.
+fn push_group_if(chosen: &mut Vec<Group>, group: Group, is_chosen: bool) -> Result<(), AllocError>
+    ensures { OnOk result (chosen.new.items ≡ chosen.old.items ++ (if is_chosen then group ∷ [] else [])) }
+{
+    if is_chosen {
+        chosen.push(group)?;
+    }
+    Ok(())
+}
+
+/// Adds those groups that are deadlocks or traps, or those that are neither.
+fn push_those(
+    chosen: &mut Vec<Group>,
+    leaves: &[Leaf],
+    groups: &[Group],
+    bad: bool,
+) -> Result<(), AllocError>
+    ensures { OnOk result (chosen.new.items ≡ chosen.old.items ++ filter (spec.is_of bad leaves.now) groups.now) }
+{
+    for group in groups {
+        push_group_if(chosen, *group, is_bad_group(leaves, *group) == bad)?;
+    }
+    Ok(())
+}
+
+/// The groups, those that are deadlocks or traps before all others.
+pub(crate) fn bad_first(
+    alloc: Global,
+    leaves: &[Leaf],
+    groups: &[Group],
+) -> Result<Vec<Group>, AllocError>
+    ensures { IfOk result (λ gs. gs.items ≡ spec.bad_first leaves.now groups.now) }
+{
+    let mut ordered = Vec::new(alloc);
+    push_those(&mut ordered, leaves, groups, true)?;
+    push_those(&mut ordered, leaves, groups, false)?;
+    Ok(ordered)
 }

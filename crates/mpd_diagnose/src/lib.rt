@@ -2,12 +2,15 @@
 #![tactic(auto)]
 
 mod along;
+mod commands;
 mod details;
 mod diagnosis;
 mod groups;
 mod heading;
 mod told;
 mod verdict;
+mod words;
 
+pub use commands::ranks_command;
 pub use diagnosis::{Diagnosis, DiagnosisPlan, diagnose};
 pub use verdict::verdict_of;

@@ -4,21 +4,16 @@ ghost use Rattle.std.specs.Prelude.{◌≡◌, ◌++◌, ◌&&◌, IfOk, OnOk, s
 ghost use Rattle.std.specs.Option.{option_map};
 ghost use Rattle.mpd_diagnose.specs.Told as spec;
 
+use crate::commands::{modes_command, picture_file, run_commands, sample_command};
 use crate::groups::Group;
+use crate::words::Named;
 use mpd_explain::text_at;
-use mpd_explore::{Leaf, push_choices};
+use mpd_explore::Leaf;
 use mpd_fold::push_folded;
 use mpd_model::Mode;
-use mpd_outcomes::{Count, push_count};
+use mpd_outcomes::{Count, Outcomes, push_count};
 use mpd_runs::{WayCounts, is_count, sees_all};
 use std::alloc::{AllocError, Global};
-
-/// A script as words name it: its file, and the mode that it runs in.
-#[derive(Clone, Copy)]
-pub(crate) struct Named<'a> {
-    pub(crate) file: &'a str,
-    pub(crate) mode: Mode,
-}
 
 /// Adds how many runs there are.
 fn push_runs(out: &mut String, count: Count) -> Result<(), AllocError>
@@ -71,11 +66,27 @@ pub(crate) fn ends_well(counts: WayCounts) -> bool
     is_count(counts.deadlock, 0) && is_count(counts.trap, 0)
 }
 
-/// Adds that no run hangs or traps, of all there are.
-fn push_never(out: &mut String, total: Count, states: usize) -> Result<(), AllocError>
-    ensures { OnOk result (string_bytes out.new ≡ string_bytes out.old ++ spec.never_text total states) }
+/// Whether no run hangs or traps, of all there are.
+fn never_fails(counts: WayCounts) -> bool
+    ensures { result ≡ spec.never_fails counts }
 {
-    out.push_str("it never hangs or traps, whatever is taken first (")?;
+    ends_well(counts) && sees_all(counts)
+}
+
+/// Adds the mode.
+fn push_in_mode(out: &mut String, mode: Mode) -> Result<(), AllocError>
+    ensures { OnOk result (string_bytes out.new ≡ string_bytes out.old ++ spec.in_mode mode) }
+{
+    write!(out, " in {mode}")
+}
+
+/// Adds that no run hangs or traps, of all there are.
+fn push_never(out: &mut String, mode: Mode, total: Count, states: usize) -> Result<(), AllocError>
+    ensures { OnOk result (string_bytes out.new ≡ string_bytes out.old ++ spec.never_text mode total states) }
+{
+    out.push_str("it never hangs or traps")?;
+    push_in_mode(out, mode)?;
+    out.push_str(", whatever is taken first (")?;
     push_runs(out, total)?;
     out.push_str(", ")?;
     push_states(out, states)?;
@@ -84,33 +95,44 @@ fn push_never(out: &mut String, total: Count, states: usize) -> Result<(), Alloc
 }
 
 /// Adds that of the runs that were looked at none does.
-fn push_none_found(out: &mut String, total: Count) -> Result<(), AllocError>
-    ensures { OnOk result (string_bytes out.new ≡ string_bytes out.old ++ spec.none_found_text total) }
+fn push_none_found(out: &mut String, mode: Mode, total: Count) -> Result<(), AllocError>
+    ensures { OnOk result (string_bytes out.new ≡ string_bytes out.old ++ spec.none_found_text mode total) }
 {
     out.push_str("no hang and no trap was found in ")?;
     push_runs(out, total)?;
+    push_in_mode(out, mode)?;
     Ok(())
 }
 
 /// Adds that no run hangs or traps, of all there are or of those that were looked at.
-fn push_well(out: &mut String, counts: WayCounts, states: usize) -> Result<(), AllocError>
-    ensures { OnOk result (string_bytes out.new ≡ string_bytes out.old ++ spec.well_text counts states) }
+fn push_well(
+    out: &mut String,
+    mode: Mode,
+    counts: WayCounts,
+    states: usize,
+) -> Result<(), AllocError>
+    ensures { OnOk result (string_bytes out.new ≡ string_bytes out.old ++ spec.well_text mode counts states) }
 {
     if sees_all(counts) {
-        push_never(out, counts.total, states)
+        push_never(out, mode, counts.total, states)
     } else {
-        push_none_found(out, counts.total)
+        push_none_found(out, mode, counts.total)
     }
 }
 
 /// Adds the line of it, where it is so.
-fn push_well_line(out: &mut String, counts: WayCounts, states: usize) -> Result<(), AllocError>
-    ensures { OnOk result (string_bytes out.new ≡ string_bytes out.old ++ spec.well_line counts states) }
+fn push_well_line(
+    out: &mut String,
+    mode: Mode,
+    counts: WayCounts,
+    states: usize,
+) -> Result<(), AllocError>
+    ensures { OnOk result (string_bytes out.new ≡ string_bytes out.old ++ spec.well_line mode counts states) }
 {
     if !ends_well(counts) {
         return Ok(());
     }
-    push_well(out, counts, states)?;
+    push_well(out, mode, counts, states)?;
     out.push('\n')
 }
 
@@ -133,12 +155,17 @@ fn push_more(out: &mut String, more: bool) -> Result<(), AllocError>
     out.push_str("not everything was tried: there are more runs than these\n")
 }
 
-/// Adds how many runs leave messages over.
+/// Adds how many runs end with calls left over.
 fn push_left(out: &mut String, counts: WayCounts) -> Result<(), AllocError>
     ensures { OnOk result (string_bytes out.new ≡ string_bytes out.old ++ spec.left_line counts) }
 {
-    let left = counts.leftovers;
-    push_line_if(out, "it can leave messages over: ", left, counts.total, "")
+    push_line_if(
+        out,
+        "it can end with calls left over: ",
+        counts.leftovers,
+        counts.total,
+        "",
+    )
 }
 
 /// Adds the lines of what was not tried: runs that are cut after so many steps, and others.
@@ -162,105 +189,85 @@ fn push_untried(
     Ok(())
 }
 
+/// Whether every run hangs or traps.
+fn always_fails(counts: WayCounts) -> bool
+    ensures { result ≡ spec.always_fails counts }
+{
+    sees_all(counts) && is_count(counts.done, 0) && is_count(counts.leftovers, 0)
+}
+
+/// Whether every run hangs.
+fn always_hangs(counts: WayCounts) -> bool
+    ensures { result ≡ spec.always_hangs counts }
+{
+    always_fails(counts) && is_count(counts.trap, 0) && !is_count(counts.deadlock, 0)
+}
+
+/// Whether every run traps.
+fn always_traps(counts: WayCounts) -> bool
+    ensures { result ≡ spec.always_traps counts }
+{
+    always_fails(counts) && is_count(counts.deadlock, 0) && !is_count(counts.trap, 0)
+}
+
+/// Adds the line of what every run does.
+fn push_always(out: &mut String, does: &str, total: Count) -> Result<(), AllocError>
+    ensures { OnOk result (string_bytes out.new ≡ string_bytes out.old ++ spec.always_line does.now total) }
+{
+    out.push_str(does)?;
+    out.push_str(" (")?;
+    push_runs(out, total)?;
+    out.push_str(")")?;
+    out.push_str("\n")?;
+    Ok(())
+}
+
+/// Adds how many runs hang.
+fn push_hang(out: &mut String, counts: WayCounts) -> Result<(), AllocError>
+    ensures { OnOk result (string_bytes out.new ≡ string_bytes out.old ++ spec.hang_line counts) }
+{
+    if always_hangs(counts) {
+        push_always(out, "it always hangs", counts.total)
+    } else {
+        push_line_if(out, "it can hang: ", counts.deadlock, counts.total, "")
+    }
+}
+
+/// Adds how many runs trap.
+fn push_trap(out: &mut String, counts: WayCounts) -> Result<(), AllocError>
+    ensures { OnOk result (string_bytes out.new ≡ string_bytes out.old ++ spec.trap_line counts) }
+{
+    if always_traps(counts) {
+        push_always(out, "it always traps", counts.total)
+    } else {
+        push_line_if(out, "it can trap: ", counts.trap, counts.total, "")
+    }
+}
+
 /// Adds how many runs hang, and how many trap.
 fn push_bad(out: &mut String, counts: WayCounts) -> Result<(), AllocError>
     ensures { OnOk result (string_bytes out.new ≡ string_bytes out.old ++ spec.bad_text counts) }
 {
-    let total = counts.total;
-    push_line_if(out, "it can hang: ", counts.deadlock, total, "")?;
-    push_line_if(out, "it can trap: ", counts.trap, total, "")?;
+    push_hang(out, counts)?;
+    push_trap(out, counts)?;
     Ok(())
 }
 
-/// What becomes of the runs, which have so many steps at most, as was found by coming to so many states.
+/// What becomes of the runs in a mode, which have so many steps at most, as was found by coming to so many states.
 fn verdict_text(
     alloc: Global,
+    mode: Mode,
     counts: WayCounts,
     fuel: usize,
     states: usize,
 ) -> Result<String, AllocError>
-    ensures { IfOk result (λ t. string_bytes t ≡ spec.verdict_text counts fuel states) }
+    ensures { IfOk result (λ t. string_bytes t ≡ spec.verdict_text mode counts fuel states) }
 {
     let mut out = String::new(alloc);
     push_bad(&mut out, counts)?;
-    push_well_line(&mut out, counts, states)?;
+    push_well_line(&mut out, mode, counts, states)?;
     push_left(&mut out, counts)?;
     push_untried(alloc, &mut out, counts, fuel)?;
-    Ok(out)
-}
-
-// ---- commands
-
-/// Adds the script as words name it.
-fn push_named(out: &mut String, named: Named<'_>) -> Result<(), AllocError>
-    ensures { OnOk result (string_bytes out.new ≡ string_bytes out.old ++ spec.named named.entry.file.now named.entry.mode) }
-{
-    let Named { file, mode } = named;
-    out.push_str(file)?;
-    match mode {
-        Mode::Rendezvous => Ok(()),
-        Mode::Buffered => write!(out, " --mode {mode}"),
-        Mode::Slots(_) => write!(out, " --mode {mode}"),
-    }
-}
-
-/// The command that draws runs.
-fn sample_command(alloc: Global, named: Named<'_>) -> Result<String, AllocError>
-    ensures { IfOk result (λ t. string_bytes t ≡ spec.sample_command named.entry.file.now named.entry.mode) }
-{
-    let mut out = String::new(alloc);
-    out.push_str("  ./mpdbg check ")?;
-    push_named(&mut out, named)?;
-    out.push_str(" --sample 65536 --group --explain")?;
-    out.push_str("\n")?;
-    Ok(out)
-}
-
-/// The command that tries other runs, where there are more.
-fn others_command(alloc: Global, more: bool, named: Named<'_>) -> Result<String, AllocError>
-    ensures { IfOk result (λ t. string_bytes t ≡ spec.others_command more named.entry.file.now named.entry.mode) }
-{
-    if more {
-        return sample_command(alloc, named);
-    }
-    Ok(String::new(alloc))
-}
-
-/// Adds the words that name the choices of a run.
-fn push_choices_words(out: &mut String, choices: &[usize]) -> Result<(), AllocError>
-    ensures { OnOk result (string_bytes out.new ≡ string_bytes out.old ++ spec.choices_words choices.now) }
-{
-    out.push_str(" --ends --choices '")?;
-    push_choices(out, choices)?;
-    out.push_str("'")?;
-    Ok(())
-}
-
-/// Adds a command that names a run by its choices, with these words before the script and after the choices.
-fn push_command(
-    out: &mut String,
-    before: &str,
-    named: Named<'_>,
-    choices: &[usize],
-    after: &str,
-) -> Result<(), AllocError>
-    ensures { OnOk result (string_bytes out.new ≡ string_bytes out.old ++ spec.run_command before.now named.entry.file.now named.entry.mode choices.now after.now) }
-{
-    out.push_str(before)?;
-    push_named(out, named)?;
-    push_choices_words(out, choices)?;
-    out.push_str(after)?;
-    out.push_str("\n")?;
-    Ok(())
-}
-
-/// The commands that debug and draw the run with these choices.
-fn run_commands(alloc: Global, named: Named<'_>, choices: &[usize]) -> Result<String, AllocError>
-    ensures { IfOk result (λ t. string_bytes t ≡ spec.run_commands named.entry.file.now named.entry.mode choices.now) }
-{
-    let mut out = String::new(alloc);
-    push_command(&mut out, "  ./mpdbg debug ", named, choices, "")?;
-    push_command(&mut out, "  ./mpdbg picture ", named, choices, " > run.svg")?;
     Ok(out)
 }
 
@@ -285,20 +292,21 @@ fn group_said(
     Ok(out)
 }
 
-/// Adds what is told of ends together, and the commands that go to one of them.
+/// Adds what is told of ends together, and the commands that go to one of them, whose picture is written to this file.
 fn push_group(
     alloc: Global,
     out: &mut Vec<u8>,
     named: Named<'_>,
     said: &str,
     choices: &[usize],
+    picture: &str,
 ) -> Result<(), AllocError>
-    ensures { OnOk result (out.new.items ≡ out.old.items ++ spec.group_text named.entry.file.now named.entry.mode said.now choices.now) }
+    ensures { OnOk result (out.new.items ≡ out.old.items ++ spec.group_text named.entry.file.now named.entry.ranks named.entry.mode said.now choices.now picture.now) }
 {
-    let commands = run_commands(alloc, named, choices)?;
+    let commands = run_commands(alloc, named, choices, picture)?;
     out.push(b'\n')?;
     push_folded(out, said.as_bytes())?;
-    out.extend_from_slice(commands.as_bytes())?;
+    out.extend_from_slice(&commands)?;
     Ok(())
 }
 
@@ -312,6 +320,16 @@ fn choices_at(leaves: &[Leaf], number: usize) -> &[usize]
     }
 }
 
+/// The command that tries other runs, where there are more.
+fn others_command(alloc: Global, more: bool, named: Named<'_>) -> Result<Vec<u8>, AllocError>
+    ensures { IfOk result (λ t. t.items ≡ spec.others_command more named.entry.file.now named.entry.ranks named.entry.mode) }
+{
+    if more {
+        return sample_command(alloc, named);
+    }
+    Ok(Vec::new(alloc))
+}
+
 /// What is told of ends: what each is called, which are told together, and what is told of one of these.
 #[derive(Drop)]
 pub(crate) struct ToldEnds {
@@ -320,21 +338,27 @@ pub(crate) struct ToldEnds {
     pub(crate) details: Vec<String>,
 }
 
-/// Adds what is told of the ends of leaves, of which all runs are so many.
+/// Adds what is told of the ways to end that were found, whose pictures are of a kind.
 pub(crate) fn push_groups(
     alloc: Global,
     out: &mut Vec<u8>,
     named: Named<'_>,
-    total: Count,
-    leaves: &[Leaf],
+    outcomes: &Outcomes,
     told: &ToldEnds,
+    kind: &str,
 ) -> Result<(), AllocError>
-    ensures { OnOk result (out.new.items ≡ out.old.items ++ spec.groups_text named.entry.file.now named.entry.mode total (map string_bytes told.now.headings.items) leaves.now told.now.groups.items (map string_bytes told.now.details.items)) }
+    ensures { OnOk result (out.new.items ≡ out.old.items ++ spec.all_groups_text named.entry.file.now named.entry.ranks named.entry.mode kind.now outcomes.now.total (map string_bytes told.now.headings.items) outcomes.now.firsts.leaves.items told.now.groups.items (map string_bytes told.now.details.items)) }
 {
+    let leaves = &outcomes.firsts.leaves;
+    let several = told.groups.len() > 1;
+    let mut number = 0;
     for (group, details) in told.groups.iter().zip(told.details.iter()) {
         let heading = text_at(&told.headings, group.first);
-        let said = group_said(alloc, heading, group.count, total, details)?;
-        push_group(alloc, out, named, &said, choices_at(leaves, group.shown))?;
+        let said = group_said(alloc, heading, group.count, outcomes.total, details)?;
+        number += 1;
+        let picture = picture_file(alloc, kind, several, number)?;
+        let choices = choices_at(leaves, group.shown);
+        push_group(alloc, out, named, &said, choices, &picture)?;
     }
     Ok(())
 }
@@ -346,8 +370,19 @@ pub(crate) fn draws(counts: WayCounts) -> bool
     counts.more && ends_well(counts)
 }
 
-/// Adds what becomes of the runs, which have so many steps at most, as was found by coming to so many states; and the command that tries
-/// others, where there are more and none are drawn.
+/// The command that is tried next: one that tries other runs, where there are more and none are drawn; or other modes, where no run of this
+/// one hangs or traps.
+fn next_command(alloc: Global, named: Named<'_>, counts: WayCounts) -> Result<Vec<u8>, AllocError>
+    ensures { IfOk result (λ t. t.items ≡ spec.next_command named.entry.file.now named.entry.ranks named.entry.mode counts) }
+{
+    if never_fails(counts) {
+        return modes_command(alloc, named);
+    }
+    others_command(alloc, counts.more && !ends_well(counts), named)
+}
+
+/// Adds what becomes of the runs, which have so many steps at most, as was found by coming to so many states; and the command that is tried
+/// next.
 pub(crate) fn push_opening(
     alloc: Global,
     out: &mut Vec<u8>,
@@ -356,12 +391,12 @@ pub(crate) fn push_opening(
     fuel: usize,
     states: usize,
 ) -> Result<(), AllocError>
-    ensures { OnOk result (out.new.items ≡ out.old.items ++ spec.opening named.entry.file.now named.entry.mode counts fuel states) }
+    ensures { OnOk result (out.new.items ≡ out.old.items ++ spec.opening named.entry.file.now named.entry.ranks named.entry.mode counts fuel states) }
 {
-    let verdict = verdict_text(alloc, counts, fuel, states)?;
-    let others = others_command(alloc, counts.more && !ends_well(counts), named)?;
+    let verdict = verdict_text(alloc, named.mode, counts, fuel, states)?;
+    let next = next_command(alloc, named, counts)?;
     push_folded(out, verdict.as_bytes())?;
-    out.extend_from_slice(others.as_bytes())?;
+    out.extend_from_slice(&next)?;
     Ok(())
 }
 
@@ -399,7 +434,7 @@ fn push_drawn_well_line(out: &mut String, counts: WayCounts) -> Result<(), Alloc
     }
 }
 
-/// Adds how many of them leave messages over.
+/// Adds how many of them end with calls left over.
 fn push_drawn_left(out: &mut String, counts: WayCounts) -> Result<(), AllocError>
     ensures { OnOk result (string_bytes out.new ≡ string_bytes out.old ++ spec.drawn_left counts) }
 {
@@ -409,7 +444,7 @@ fn push_drawn_left(out: &mut String, counts: WayCounts) -> Result<(), AllocError
         "drawn at random: ",
         left,
         counts.total,
-        " leave messages over",
+        " end with calls left over",
     )
 }
 
@@ -430,13 +465,13 @@ pub(crate) fn drawn_opening(
     named: Named<'_>,
     counts: WayCounts,
 ) -> Result<Vec<u8>, AllocError>
-    ensures { IfOk result (λ text. text.items ≡ spec.drawn_opening named.entry.file.now named.entry.mode counts) }
+    ensures { IfOk result (λ text. text.items ≡ spec.drawn_opening named.entry.file.now named.entry.ranks named.entry.mode counts) }
 {
     let verdict = drawn_verdict(alloc, counts)?;
     let others = others_command(alloc, ends_well(counts), named)?;
     let mut out = Vec::new(alloc);
     out.push(b'\n')?;
     push_folded(&mut out, verdict.as_bytes())?;
-    out.extend_from_slice(others.as_bytes())?;
+    out.extend_from_slice(&others)?;
     Ok(out)
 }

@@ -1,9 +1,8 @@
 -- Worked rows of the numbers of ranks that words name, and of the line of one.
 use Rattle.std.specs.Prelude.{◌≡◌, ℕ, List, [], ◌∷◌, ◌++◌, map, Option, Some, None, codes, refl}
 use Rattle.std.specs.Fmt.{digits}
-use Rattle.mpd_model.specs.declared.call.Mode.TheVariants.{Rendezvous, Slots}
 use Rattle.mpd_ranks.specs.declared.span.RankSpan.{RankSpan}
-use Rattle.mpd_ranks.specs.Spans.{more_text, ranks_line, span_of}
+use Rattle.mpd_ranks.specs.Spans.{ranks_line, span_of}
 
 abbrev Row : Type 0
 Row = List ℕ × Option RankSpan
@@ -42,8 +41,3 @@ pub worked_lines : ranks_line 3 (codes "it can hang: all" ++ 10 ∷ codes "more"
     ≡ codes "3 ranks: it can hang: all" ++ 10 ∷ codes "1 rank: all end well" ++ 10 ∷ codes "16 ranks: " ++ 10 ∷ []
 unfolding digits
 worked_lines = refl
-
-pub worked_more : more_text (codes "a.mpd") Rendezvous 3 ++ more_text (codes "b") (Slots 12) 16
-    ≡ 10 ∷ codes "  ./mpdbg diagnose a.mpd --ranks 3" ++ 10 ∷ 10 ∷ codes "  ./mpdbg diagnose b --ranks 16 --mode slots:12" ++ 10 ∷ []
-unfolding digits
-worked_more = refl

@@ -2,9 +2,6 @@
 use Rattle.std.specs.Prelude.{◌≤◌, ℕ, suc, ◌+◌, ◌&&◌, if◌then◌else◌, ◌==◌, nat_le, List, [], ◌∷◌, ◌++◌, length, take, drop, Option, Some, None, option_and_then, codes}
 use Rattle.std.specs.Fmt.{decimal}
 use Rattle.mpd_model.specs.declared.limits.TheConstants.{RANKS_MAX}
-use Rattle.mpd_model.specs.declared.call.Mode.{Mode}
-use Rattle.mpd_model.specs.declared.call.Mode.TheVariants.{Rendezvous, Buffered, Slots}
-use Rattle.mpd_model.specs.texts.Modes.{mode_word}
 use Rattle.mpd_model.specs.texts.Words.{number_of}
 use Rattle.mpd_ranks.specs.declared.span.RankSpan.{RankSpan}
 
@@ -42,13 +39,3 @@ heading ranks = if ranks == 1 then codes " rank: " else codes " ranks: "
 -- `3 ranks: it can hang: 1 of 2 runs`, the first line of what is told of that number
 abbrev pub ranks_line : ℕ → List ℕ → List ℕ
 ranks_line ranks told = decimal ranks ++ heading ranks ++ take (length_before 10 told) told ++ 10 ∷ []
-
--- ` --mode buffered`; the usual mode isn't named
-abbrev pub mode_words : Mode → List ℕ
-mode_words Rendezvous = []
-mode_words Buffered = codes " --mode " ++ mode_word Buffered
-mode_words (Slots count) = codes " --mode " ++ mode_word (Slots count)
-
--- `  ./mpdbg diagnose FILE --ranks 3`
-abbrev pub more_text : List ℕ → Mode → ℕ → List ℕ
-more_text file mode ranks = 10 ∷ codes "  ./mpdbg diagnose " ++ file ++ codes " --ranks " ++ decimal ranks ++ mode_words mode ++ 10 ∷ []

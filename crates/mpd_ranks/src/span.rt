@@ -1,10 +1,10 @@
 //! Several numbers of ranks, as a word of the command line names them, and what is told of each (docs/FORMATS.md, "Several numbers of ranks").
 
-ghost use Rattle.std.specs.Prelude.{◌≡◌, ◌≤◌, ◌++◌, IfOk, IfSome, OnOk, length, string_bytes};
+ghost use Rattle.std.specs.Prelude.{◌≡◌, ◌≤◌, IfOk, IfSome, length};
 ghost use Rattle.mpd_ranks.specs.Spans as spec;
 
 use itoa::Buffer;
-use mpd_model::{Mode, RANKS_MAX, number_of};
+use mpd_model::{RANKS_MAX, number_of};
 use std::alloc::{AllocError, Global};
 
 /// The numbers of ranks from one to another.
@@ -88,28 +88,4 @@ pub fn ranks_line(alloc: Global, ranks: usize, told: &[u8]) -> Result<Vec<u8>, A
     line.extend_from_slice(first)?;
     line.push(b'\n')?;
     Ok(line)
-}
-
-/// The command that tells more of one number of ranks, in a mode, after an empty line. The file is as words name it.
-pub fn more_text(alloc: Global, file: &str, mode: Mode, ranks: usize) -> Result<String, AllocError>
-    ensures { IfOk result (λ told. string_bytes told ≡ spec.more_text file.now mode ranks) }
-{
-    let mut told = String::new(alloc);
-    told.push_str("\n  ./mpdbg diagnose ")?;
-    told.push_str(file)?;
-    write!(&mut told, " --ranks {ranks}")?;
-    push_mode(&mut told, mode)?;
-    told.push('\n')?;
-    Ok(told)
-}
-
-/// Adds the mode as words name it, but the usual one.
-fn push_mode(out: &mut String, mode: Mode) -> Result<(), AllocError>
-    ensures { OnOk result (string_bytes out.new ≡ string_bytes out.old ++ spec.mode_words mode) }
-{
-    match mode {
-        Mode::Rendezvous => Ok(()),
-        Mode::Buffered => write!(out, " --mode {mode}"),
-        Mode::Slots(_) => write!(out, " --mode {mode}"),
-    }
 }

@@ -7,11 +7,11 @@ ghost use Rattle.mpd_ranks.specs.Spans.{IsSpan};
 use crate::tell::Fault;
 use mpd_code::Subject;
 use mpd_device::Sink;
-use mpd_diagnose::{DiagnosisPlan, diagnose, verdict_of};
+use mpd_diagnose::{DiagnosisPlan, diagnose, ranks_command, verdict_of};
 use mpd_lines::{EngineFault, Verdict, write_all};
 use mpd_model::Mode;
 use mpd_outcomes::StateLimits;
-use mpd_ranks::{RankSpan, code_of_text, more_text, ranks_line};
+use mpd_ranks::{RankSpan, code_of_text, ranks_line};
 use mpd_runs::{FUEL, STATES_KEPT, STATES_VISITED};
 use std::alloc::Global;
 
@@ -21,8 +21,8 @@ const VISITED_MAX: usize = 4_000_000;
 /// How many runs are drawn, where there are more than that search comes to.
 const DRAWN: usize = 4_096;
 
-/// How the script of a file is diagnosed: by limits that nobody has to know.
-fn plan_of(file: &str) -> DiagnosisPlan<'_>
+/// How the script of a file is diagnosed, with how many ranks where that is asked for: by limits that nobody has to know.
+fn plan_of(file: &str, ranks: Option<usize>) -> DiagnosisPlan<'_>
     ensures { result.limits.fuel ≡ FUEL }
 {
     DiagnosisPlan {
@@ -36,6 +36,7 @@ fn plan_of(file: &str) -> DiagnosisPlan<'_>
         blamed: STATES_VISITED,
         drawn: DRAWN,
         file,
+        ranks,
     }
 }
 
@@ -45,10 +46,11 @@ pub(crate) fn diagnose_script<'a, W: Sink>(
     alloc: Global,
     subject: Subject<'_>,
     file: &str,
+    ranks: Option<usize>,
     strict: bool,
     sink: &mut W,
 ) -> Result<Verdict, Fault<'a>> {
-    let told = diagnose(alloc, subject, plan_of(file))?;
+    let told = diagnose(alloc, subject, plan_of(file, ranks))?;
     write_told(sink, &told.text)?;
     Ok(verdict_of(&told, strict))
 }
@@ -87,7 +89,7 @@ fn diagnose_number<'a, W: Sink>(
         code: &code,
         mode: script.mode,
     };
-    let told = diagnose(alloc, subject, plan_of(script.file))?;
+    let told = diagnose(alloc, subject, plan_of(script.file, Some(ranks)))?;
     let line = ranks_line(alloc, ranks, &told.text)?;
     write_told(sink, &line)?;
     Ok(verdict_of(&told, script.strict))
@@ -122,8 +124,9 @@ pub(crate) fn diagnose_each<'a, W: Sink>(
         worst = joined(worst, verdict);
     }
     if let Some(ranks) = first_bad {
-        let more = more_text(alloc, script.file, script.mode, ranks)?;
-        write_told(sink, more.as_bytes())?;
+        let more = ranks_command(alloc, script.file, ranks, script.mode)?;
+        write_told(sink, b"\n")?;
+        write_told(sink, &more)?;
     }
     Ok(worst)
 }

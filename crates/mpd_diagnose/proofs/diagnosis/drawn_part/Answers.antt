@@ -1,4 +1,4 @@
-use Rattle.std.proofs.Common.{◌≡◌, ℕ, List, sym, subst, ◌∙◌}
+use Rattle.std.proofs.Common.{◌≡◌, ℕ, List, codes, sym, subst, ◌∙◌}
 use Rattle.mpd_core.proofs.RangeLemmas.{if_ok}
 use Rattle.mpd_model.specs.runs.Trail.{Standing}
 use Rattle.mpd_trail.specs.Views.{standing_of}
@@ -15,15 +15,17 @@ returns-clause-drawn c =
     let limits = c.args.plan.limits in
     let most = c.args.plan.blamed in
     let file = c.args.named.file.now in
+    let ranks = c.args.named.ranks in
+    let kind = codes "drawn" in
     let d = standing_of c.args.debugger.now in
     let mode = c.requires.mode in
     let same = standing_same c.args.debugger.now c.drawn_runs.new.debugger found.trail found.world in
     let counts_are : c.counts_told.result ≡ told_counts o = c.counts_told.ensures.told in
-    let begun : c.in_ok-begun.begun.items ≡ drawn_opening file d.trail.mode (told_counts o) = c.in_ok-begun.ensures ∙ (λ i. drawn_opening file (sym mode i) (counts_are i)) in
+    let begun : c.in_ok-text.text.items ≡ drawn_opening file ranks d.trail.mode (told_counts o) = c.in_ok-text.ensures ∙ (λ i. drawn_opening file ranks (sym mode i) (counts_are i)) in
     if_ok c.tell.result
     (λ p h. (
       o,
       c.in_ok-outcomes.ensures.drawn,
-      subst (λ (b : List ℕ). IsTold file limits most d o b p.text.items p.counts) begun (subst (λ (s : Standing). IsTold file limits most s o c.in_ok-begun.begun.items p.text.items p.counts) same h),
+      subst (λ (b : List ℕ). IsTold file ranks kind limits most d o b p.text.items p.counts) begun (subst (λ (s : Standing). IsTold file ranks kind limits most s o c.in_ok-text.text.items p.text.items p.counts) same h),
     ))
     c.tell.ensures.told

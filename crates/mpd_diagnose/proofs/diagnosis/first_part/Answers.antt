@@ -1,4 +1,4 @@
-use Rattle.std.proofs.Common.{◌≡◌, ℕ, List, ◌++◌, sym, ap, subst, ◌∙◌}
+use Rattle.std.proofs.Common.{◌≡◌, ℕ, List, ◌++◌, codes, sym, ap, subst, ◌∙◌}
 use Rattle.mpd_core.proofs.RangeLemmas.{if_ok}
 use Rattle.mpd_model.specs.runs.Trail.{Standing}
 use Rattle.mpd_trail.specs.Views.{standing_of}
@@ -16,16 +16,18 @@ returns-clause-first c =
     let most = c.args.plan.blamed in
     let fuel = limits.fuel in
     let file = c.args.named.file.now in
+    let ranks = c.args.named.ranks in
+    let kind = codes "run" in
     let d = standing_of c.args.debugger.now in
     let mode = c.requires.mode in
     let same = standing_same c.args.debugger.now c.explore_outcomes.new.debugger found.trail found.world in
     let counts_are : c.counts_told-counts.result ≡ told_counts o = c.counts_told-counts.ensures.told in
-    let begun : c.push_opening.new.out.items ≡ opening file d.trail.mode (told_counts o) fuel o.visited =
-    c.in_ok-push_opening.ensures ∙ ap (λ (x : List ℕ). x ++ opening file c.args.named.mode c.counts_told-counts.result fuel o.visited) c.new-begun.ensures.items ∙ (λ i. opening file (sym mode i) (counts_are i) fuel o.visited) in
+    let begun : c.push_opening.new.out.items ≡ opening file ranks d.trail.mode (told_counts o) fuel o.visited =
+    c.in_ok-push_opening.ensures ∙ ap (λ (x : List ℕ). x ++ opening file ranks c.args.named.mode c.counts_told-counts.result fuel o.visited) c.new-text.ensures.items ∙ (λ i. opening file ranks (sym mode i) (counts_are i) fuel o.visited) in
     if_ok c.tell.result
     (λ p h. (
       o,
       (c.in_ok-outcomes.ensures.last, c.in_ok-outcomes.ensures.stops, c.in_ok-outcomes.ensures.limit),
-      subst (λ (b : List ℕ). IsTold file limits most d o b p.text.items p.counts) begun (subst (λ (s : Standing). IsTold file limits most s o c.push_opening.new.out.items p.text.items p.counts) same h),
+      subst (λ (b : List ℕ). IsTold file ranks kind limits most d o b p.text.items p.counts) begun (subst (λ (s : Standing). IsTold file ranks kind limits most s o c.push_opening.new.out.items p.text.items p.counts) same h),
     ))
     c.tell.ensures.told

@@ -2,7 +2,7 @@ use Rattle.std.proofs.Common.{◌≡◌, List, ◌++◌, map, string_bytes, sym,
 use Rattle.mpd_trail.specs.Views.{standing_of}
 use Rattle.mpd_diagnose.specs.declared.groups.Group.{Group}
 use Rattle.mpd_diagnose.specs.Details.{AreDetailed}
-use Rattle.mpd_diagnose.specs.Told.{groups_text}
+use Rattle.mpd_diagnose.specs.Told.{all_groups_text}
 use Rattle.mpd_diagnose.specs.Diagnosed.{blaming, groups_in, headings_of}
 use Rattle.mpd_diagnose.proofs.diagnosis.tell.Goals as goal
 
@@ -12,6 +12,8 @@ returns-clause-told c =
     let limits = c.args.plan.limits in
     let fuel = limits.fuel in
     let file = c.args.named.file.now in
+    let ranks = c.args.named.ranks in
+    let kind = c.args.begun.kind.now in
     let d = standing_of c.args.debugger.now in
     let mode = c.requires.mode in
     let told = c.in_ok-told.told in
@@ -19,12 +21,11 @@ returns-clause-told c =
     let texts = map string_bytes told.details.items in
     let groups_are : told.groups.items ≡ groups_in fuel d o = c.in_ok-told.ensures.groups in
     let headings_are : map string_bytes told.headings.items ≡ headings_of fuel d leaves = c.in_ok-told.ensures.headings in
-    let leaves_are : c.deref.result.now ≡ leaves = c.deref.ensures.value in
-    let ended : groups_text file c.args.named.mode o.total (map string_bytes told.headings.items) c.deref.result.now told.groups.items texts ≡ groups_text file d.trail.mode o.total (headings_of fuel d leaves) leaves (groups_in fuel d o) texts =
-    λ i. groups_text file (sym mode i) o.total (headings_are i) (leaves_are i) (groups_are i) texts in
+    let ended : all_groups_text file ranks c.args.named.mode kind o.total (map string_bytes told.headings.items) leaves told.groups.items texts ≡ all_groups_text file ranks d.trail.mode kind o.total (headings_of fuel d leaves) leaves (groups_in fuel d o) texts =
+    λ i. all_groups_text file ranks (sym mode i) kind o.total (headings_are i) leaves (groups_are i) texts in
     record {
       details = texts;
       detailed = subst (λ (gs : List Group). AreDetailed (blaming limits c.args.plan.blamed) d leaves gs texts) groups_are c.in_ok-told.ensures.details;
-      text_is = c.in_ok-push_groups.ensures ∙ (λ i. c.args.begun.items ++ ended i);
+      text_is = c.in_ok-push_groups.ensures ∙ (λ i. c.args.begun.text.items ++ ended i);
       counts_are = c.counts_told-counts.ensures.told;
     }

@@ -1,0 +1,129 @@
+//! The commands that a diagnosis names.
+
+ghost use Rattle.std.specs.Prelude.{◌≡◌, ◌++◌, IfOk, OnOk, string_bytes};
+ghost use Rattle.mpd_diagnose.specs.Commands as spec;
+
+use crate::words::{Named, push_named, push_script, push_text};
+use mpd_explore::push_choices;
+use mpd_model::Mode;
+use std::alloc::{AllocError, Global};
+
+/// The command that draws runs.
+pub(crate) fn sample_command(alloc: Global, named: Named<'_>) -> Result<Vec<u8>, AllocError>
+    ensures { IfOk result (λ t. t.items ≡ spec.sample_command named.entry.file.now named.entry.ranks named.entry.mode) }
+{
+    let mut out = Vec::new(alloc);
+    push_text(&mut out, "  ./mpdbg check ")?;
+    push_named(alloc, &mut out, named)?;
+    push_text(&mut out, " --sample 65536 --group --explain")?;
+    push_text(&mut out, "\n")?;
+    Ok(out)
+}
+
+/// The command that tries other modes.
+pub(crate) fn modes_command(alloc: Global, named: Named<'_>) -> Result<Vec<u8>, AllocError>
+    ensures { IfOk result (λ t. t.items ≡ spec.modes_command named.entry.file.now named.entry.ranks) }
+{
+    let mut out = Vec::new(alloc);
+    push_text(&mut out, "  ./mpdbg check ")?;
+    push_script(alloc, &mut out, named)?;
+    push_text(&mut out, " --modes 4 --outcomes")?;
+    push_text(&mut out, "\n")?;
+    Ok(out)
+}
+
+/// The command that diagnoses the script of a file for so many ranks.
+pub fn ranks_command(
+    alloc: Global,
+    file: &str,
+    ranks: usize,
+    mode: Mode,
+) -> Result<Vec<u8>, AllocError>
+    ensures { IfOk result (λ t. t.items ≡ spec.ranks_command file.now ranks mode) }
+{
+    let named = Named {
+        file,
+        ranks: Some(ranks),
+        mode,
+    };
+    let mut out = Vec::new(alloc);
+    push_text(&mut out, "  ./mpdbg diagnose ")?;
+    push_named(alloc, &mut out, named)?;
+    push_text(&mut out, "\n")?;
+    Ok(out)
+}
+
+/// The words that name the choices of a run.
+fn choices_words(alloc: Global, choices: &[usize]) -> Result<String, AllocError>
+    ensures { IfOk result (λ t. string_bytes t ≡ spec.choices_words choices.now) }
+{
+    let mut out = String::new(alloc);
+    out.push_str(" --ends --choices '")?;
+    push_choices(&mut out, choices)?;
+    out.push_str("'")?;
+    Ok(out)
+}
+
+/// Adds a command that names a run by its choices, with these words before the script and after the choices.
+fn push_command(
+    alloc: Global,
+    out: &mut Vec<u8>,
+    before: &str,
+    named: Named<'_>,
+    choices: &str,
+    after: &str,
+) -> Result<(), AllocError>
+    ensures { OnOk result (out.new.items ≡ out.old.items ++ spec.run_command before.now named.entry.file.now named.entry.ranks named.entry.mode choices.now after.now) }
+{
+    push_text(out, before)?;
+    push_named(alloc, out, named)?;
+    push_text(out, choices)?;
+    push_text(out, after)?;
+    push_text(out, "\n")?;
+    Ok(())
+}
+
+/// The words that write to a file.
+fn to_file(alloc: Global, file: &str) -> Result<String, AllocError>
+    ensures { IfOk result (λ t. string_bytes t ≡ spec.to_file file.now) }
+{
+    let mut out = String::new(alloc);
+    out.push_str(" > ")?;
+    out.push_str(file)?;
+    Ok(out)
+}
+
+/// The commands that debug and draw the run with these choices; the picture is written to this file.
+pub(crate) fn run_commands(
+    alloc: Global,
+    named: Named<'_>,
+    choices: &[usize],
+    picture: &str,
+) -> Result<Vec<u8>, AllocError>
+    ensures { IfOk result (λ t. t.items ≡ spec.run_commands named.entry.file.now named.entry.ranks named.entry.mode choices.now picture.now) }
+{
+    let words = choices_words(alloc, choices)?;
+    let after = to_file(alloc, picture)?;
+    let mut out = Vec::new(alloc);
+    push_command(alloc, &mut out, "  ./mpdbg debug ", named, &words, "")?;
+    push_command(alloc, &mut out, "  ./mpdbg picture ", named, &words, &after)?;
+    Ok(out)
+}
+
+/// The file that a picture is written to: what its kind is called, and its number where there are several.
+pub(crate) fn picture_file(
+    alloc: Global,
+    kind: &str,
+    several: bool,
+    number: usize,
+) -> Result<String, AllocError>
+    ensures { IfOk result (λ t. string_bytes t ≡ spec.picture_file kind.now several number) }
+{
+    let mut out = String::new(alloc);
+    out.push_str(kind)?;
+    if several {
+        write!(out, "-{number}")?;
+    }
+    out.push_str(".svg")?;
+    Ok(out)
+}
