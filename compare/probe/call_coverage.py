@@ -36,6 +36,7 @@ LEFT_OUT = {
                                'push_why', 'push_why_rank', 'push_why_ranks', 'push_words', 'push_lost', 'push_all_lost', 'push_lost_line',
                                'lost_calls'), BY_WORDS),
     'mpd_moves': dict.fromkeys(('doing_of', 'goto_command', 'known_for', 'lead_of', 'lead_text', 'push_break_line', 'push_reply'), BY_WORDS),
+    'mpd_diagnose': {'ranks_command': 'called by the program with --ranks'},
     'mpd_ranks': {'with_ranks': 'takes no memory', 'span_of': 'takes no memory', **dict.fromkeys(
         ('read_script_for', 'read_code_for', 'code_of_text', 'text_with_ranks', 'ranks_line'), 'called by the program with --ranks')},
     'mpd_fold': {'push_folded': BY_WORDS, **dict.fromkeys(('long_lines_keep_their_words', 'long_lines_can_nowhere_be_cut'), 'a law')},

@@ -64,6 +64,12 @@ def without_ranks(result):
     return result._replace(output=NAMED.sub(rb'\1', result.output))
 
 
+def all_named(result, case):
+    """Whether each command of a diagnosis names how many ranks there are, once."""
+    commands = [line for line in result.output.split(b'\n') if line.startswith(b'  ./mpdbg ')]
+    return all(re.findall(rb' --ranks (\d+)', line) == [b'%d' % case.ranks] for line in commands)
+
+
 def served(chosen, script, more):
     """What a client of `serve` hears, and what `serve` says in the end but for its port."""
     class Ranked(Tried):
@@ -125,6 +131,8 @@ def case_wrong(chosen, case, met):
             result, wanted = said(chosen, folder, case.script, question, ('--ranks', str(case.ranks))), said(chosen, folder, other, question)
             met.update(met_in(case, question, result, said(chosen, folder, case.script, question) if question.command == 'check' else wanted))
             if question.command == 'diagnose':
+                if not all_named(result, case):
+                    yield f'{shlex.join(question.words)} --ranks {case.ranks}: a command has another number of ranks, or none'
                 result = without_ranks(result)
             if result != wanted:
                 yield f'{shlex.join(question.words)} --ranks {case.ranks}: {first_different(result, wanted)}'
