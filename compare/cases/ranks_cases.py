@@ -28,7 +28,7 @@ WITNESSES = (b'deadlock 0.0 1.0\nlocal 0, local 1\n', b'deadlock 0.0\nlocal 0\n'
 
 
 class Question(NamedTuple):
-    """Words of a command behind which options follow, with FILE and WITNESS for the names of files, what stands on standard input, and a witness."""
+    """Words of a command after which options follow, with FILE and WITNESS for the names of files, what stands on standard input, and a witness."""
     words: tuple
     data: bytes = b''
     witness: bytes = b''

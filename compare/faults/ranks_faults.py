@@ -33,7 +33,7 @@ FAULTS = (
     texts('leading zeros stay', lambda made, data, number: re.sub(rb'(\branks(?:\s|#.*\n)*)(\d+)', rb'\g<1>0\g<2>', made, count=1) if made != data else made),
     put('the first number', 'number_place', lambda text: place_of(re.search(r'\d+', text))),
     put('the last number', 'number_place', lambda text: place_of(list(re.finditer(r'\d+', text))[-1])),
-    put('the first number behind ranks', 'number_place', lambda text: place_of(re.search(r'ranks[^\d]*(\d+)', text))),
+    put('the first number after ranks', 'number_place', lambda text: place_of(re.search(r'ranks[^\d]*(\d+)', text))),
     put('one number alone', 'numbers_in', lambda word: None if '-' in word else SOUND['numbers_in'](word)),
     put('the first of several alone', 'numbers_in', lambda word: SOUND['numbers_in'](word) and (SOUND['numbers_in'](word)[0],) * 2),
     put('any order', 'numbers_in', lambda word: SOUND['numbers_in'](word) or SOUND['numbers_in']('-'.join(reversed(word.split('-'))))),

@@ -22,7 +22,7 @@ def number_place(text):
 
 
 def with_ranks(data, ranks):
-    """The text of a script with this number in the place of the one behind `ranks`; one that is refused stays."""
+    """The text of a script with this number in the place of the one after `ranks`; one that is refused stays."""
     try:
         read_script(data)
     except Fault:

@@ -18,7 +18,7 @@ TEXTS = (
 # Words of several numbers of ranks, and the first and the last that each names.
 WORDS = (('1', (1, 1)), ('16', (16, 16)), ('2-5', (2, 5)), ('1-16', (1, 16)), ('7-7', (7, 7)), ('002-000000016', (2, 16)), ('', None), ('0', None), ('17', None), ('x', None),
          ('+3', None), ('-3', None), ('3-', None), ('-', None), ('5-2', None), ('0-3', None), ('3-17', None), ('1-2-3', None), ('0000000001', None), ('3\n', None))
-# What is answered of some numbers, each first line and status with more behind it, and what is said of all.
+# What is answered of some numbers, each first line and status with more after it, and what is said of all.
 SEVERAL = (
     (((2, b'well\n', 0), (3, b'it hangs\n\nmore\n', 1), (4, b'it traps\n', 1)), b'2 ranks: well\n3 ranks: it hangs\n4 ranks: it traps\n\n  see 3\n', 1),
     (((1, b'well\nmore\n', 0), (2, b'not all\n', 4)), b'1 rank: well\n2 ranks: not all\n', 4),
@@ -36,7 +36,7 @@ SIZES = 'mpd 1;\nranks {};\nprint size;\n'
 
 
 class Row(NamedTuple):
-    """A script, whose number is left open, the number that it has, words behind `FILE`, standard input, and what is answered: standard output,
+    """A script, whose number is left open, the number that it has, words after `FILE`, standard input, and what is answered: standard output,
     standard error and status."""
     script: str
     own: int
