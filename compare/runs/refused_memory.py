@@ -102,6 +102,9 @@ ANSWERED = ('--help', 'trace --help', 'run --help', 'run a --mode b', '--version
             'serve a --port 0', 'check --help', 'check a --runs 0', 'check a --workers 0 --mode b', 'check a --split 9', 'check a --mode b',
             'verify --help', 'verify a', 'verify a b --mode c')
 
+# Words with another number of ranks.
+RANKED = ('trace FILE --ranks 2', 'c FILE --ranks 16', 'diagnose FILE --ranks 2-4')
+
 
 def inputs():
     for name in ('first.trace', 'primes.trace', 'requests.trace', 'wildcards.trace'):
@@ -308,6 +311,18 @@ def try_report(program, name, case, shim, is_same=True):
         return try_whole(program, name, words, shim, is_same)
 
 
+def try_ranks(program, words, shim):
+    """Words with another number of ranks: where memory is refused the first lines of the answer may stand, whole, or none."""
+    with tempfile.TemporaryDirectory() as folder:
+        path = held(folder, 'script.mpd', DECIDED)
+        words = [path if word == 'FILE' else word for word in words.split()]
+        right = shim.run(program, b'', words)[0]
+        lines = right.output.splitlines(keepends=True)
+        allowed = (right, *(Result(b''.join(lines[:count]), b'mpdbg: memory\n', 3) for count in range(len(lines) + 1)))
+        return refuse_each(' '.join(words), lambda **refused: shim.run(program, b'', words, **refused),
+                           lambda result, _: None if result in allowed else f'status {result.status}, {result.output + result.errors}', is_same=False)
+
+
 def main():
     parser = argparse.ArgumentParser(description=__doc__, formatter_class=argparse.RawDescriptionHelpFormatter)
     parser.add_argument('program', metavar='PROGRAM')
@@ -325,6 +340,7 @@ def main():
         wrong += [try_dialogue(program, typed, shim) for typed in console_memory.dialogues()]
         wrong += [try_report(program, name, case, shim) for name, case in (*reports(), *diagnoses())]
         wrong += [try_report(program, name, case, shim, is_same=False) for name, case in reports_by_workers()]
+        wrong += [try_ranks(program, words, shim) for words in RANKED]
         wrong += [try_whole(program, f'words {words}', words.split(), shim) for words in ANSWERED]
     return 1 if any(wrong) else 0
 

@@ -49,13 +49,15 @@ Arguments:
   <FILE>  The script
 
 Options:
-      --mode <M>  How standard sends behave: rendezvous, buffered, or slots:K with K from 0 to 65536 [default: rendezvous]
-      --strict    End with status 1 also where messages can be left over
-  -h, --help      Print help
+      --ranks <N[-M]>  How many ranks run the script, 1 to 16, in place of the number in it; N-M tells each number from N to M by a line
+      --mode <M>       How standard sends behave: rendezvous, buffered, or slots:K with K from 0 to 65536 [default: rendezvous]
+      --strict         End with status 1 also where messages can be left over
+  -h, --help           Print help
 
 Examples:
   ./mpdbg diagnose examples/race.mpd
   ./mpdbg diagnose examples/exchange.mpd --mode buffered --strict
+  ./mpdbg diagnose examples/race.mpd --ranks 2-5
 """
 
 TRACE = """\
@@ -67,8 +69,9 @@ Arguments:
   <FILE>  The script
 
 Options:
-      --mode <M>  How standard sends behave: rendezvous, buffered, or slots:K with K from 0 to 65536 [default: rendezvous]
-  -h, --help      Print help
+      --ranks <N>  How many ranks run the script, 1 to 16, in place of the number in it
+      --mode <M>   How standard sends behave: rendezvous, buffered, or slots:K with K from 0 to 65536 [default: rendezvous]
+  -h, --help       Print help
 
 Trace words stand on standard input, one a line:
   local P, match S R, wake P, release   take a step, such as match 0.0 1.0
@@ -89,6 +92,7 @@ Arguments:
   <FILE>  The script
 
 Options:
+      --ranks <N>          How many ranks run the script, 1 to 16, in place of the number in it
       --mode <M>           How standard sends behave: rendezvous, buffered, or slots:K with K from 0 to 65536 [default: rendezvous]
       --choices <C>        The choices of a run that is laid ahead, numbers from 0 with spaces between them
       --witness <WITNESS>  A witness or a report, whose deadlock is laid ahead
@@ -113,8 +117,9 @@ Arguments:
   <FILE>  The script
 
 Options:
-      --mode <M>  How standard sends behave: rendezvous, buffered, or slots:K with K from 0 to 65536 [default: rendezvous]
-  -h, --help      Print help
+      --ranks <N>  How many ranks run the script, 1 to 16, in place of the number in it
+      --mode <M>   How standard sends behave: rendezvous, buffered, or slots:K with K from 0 to 65536 [default: rendezvous]
+  -h, --help       Print help
 
 Requests stand on standard input, a JSON object on each line, and each is answered by one line:
   step, next, run, run-on            go forward
@@ -135,6 +140,7 @@ Arguments:
   <FILE>  The script
 
 Options:
+      --ranks <N>    How many ranks run the script, 1 to 16, in place of the number in it
       --mode <M>     How standard sends behave: rendezvous, buffered, or slots:K with K from 0 to 65536 [default: rendezvous]
       --port <P>     The port that it listens on, 1 to 65535
       --clients <N>  How many clients it answers, 1 to 16
@@ -157,6 +163,7 @@ Arguments:
   <FILE>  The script
 
 Options:
+      --ranks <N>    How many ranks run the script, 1 to 16, in place of the number in it
       --mode <M>     How standard sends behave: rendezvous, buffered, or slots:K with K from 0 to 65536 [default: rendezvous]
       --modes <N>    Try rendezvous, slots:1 to slots:N and buffered in place of one mode, 0 to 1000
       --runs <N>     How many runs of each piece are tried at most, 1 to 65536 [default: 1000]
@@ -193,9 +200,10 @@ Arguments:
   <WITNESS>  The file of the witness
 
 Options:
-      --mode <M>  How standard sends behave: rendezvous, buffered, or slots:K with K from 0 to 65536 [default: rendezvous]
-      --leaf <N>  Take the witness of leaf N of a whole report, 0 to 67108863
-  -h, --help      Print help
+      --ranks <N>  How many ranks run the script, 1 to 16, in place of the number in it
+      --mode <M>   How standard sends behave: rendezvous, buffered, or slots:K with K from 0 to 65536 [default: rendezvous]
+      --leaf <N>   Take the witness of leaf N of a whole report, 0 to 67108863
+  -h, --help       Print help
 
 Example:
   ./mpdbg check examples/race.mpd --witness | ./mpdbg verify examples/race.mpd /dev/stdin --leaf 0
@@ -210,6 +218,7 @@ Arguments:
   <FILE>  The script
 
 Options:
+      --ranks <N>    How many ranks run the script, 1 to 16, in place of the number in it
       --mode <M>     How standard sends behave: rendezvous, buffered, or slots:K with K from 0 to 65536 [default: rendezvous]
       --choices <C>  The choices of the run, numbers from 0 with spaces between them
       --fuel <N>     How many steps a run takes at most, 1 to 1000000 [default: 100000]
@@ -226,13 +235,14 @@ Example:
 C = """\
 Write the script of a file as a C program with MPI calls
 
-Usage: mpdbg c <FILE>
+Usage: mpdbg c [OPTIONS] <FILE>
 
 Arguments:
   <FILE>  The script
 
 Options:
-  -h, --help  Print help
+      --ranks <N>  How many ranks run the script, 1 to 16, in place of the number in it
+  -h, --help       Print help
 
 It is one file of C11, for as many processes as the script has ranks.
 
@@ -249,6 +259,7 @@ Arguments:
   <FILE>  The script
 
 Options:
+      --ranks <N>          How many ranks run the script, 1 to 16, in place of the number in it
       --mode <M>           How standard sends behave: rendezvous, buffered, or slots:K with K from 0 to 65536 [default: rendezvous]
       --choices <C>        Draw the run with these choices, numbers from 0 with spaces between them
       --witness <WITNESS>  Draw the run of a witness or a report
@@ -300,7 +311,7 @@ NO_COMMAND = 'mpdbg <COMMAND>'
 OF_DIAGNOSE, OF_TRACE, OF_DEBUG, OF_RUN, OF_SERVE, OF_CHECK, OF_VERIFY, OF_WORDS, OF_C, OF_PICTURE = (
     f'mpdbg {rest}' for rest in ('diagnose [OPTIONS] <FILE>', 'trace [OPTIONS] <FILE>', 'debug [OPTIONS] <FILE>', 'run [OPTIONS] <FILE>',
                                  'serve [OPTIONS] --port <P> --clients <N> <FILE>', 'check [OPTIONS] <FILE>',
-                                 'verify [OPTIONS] <FILE> <WITNESS>', 'words [OPTIONS] --choices <C> <FILE>', 'c <FILE>', 'picture [OPTIONS] <FILE>'))
+                                 'verify [OPTIONS] <FILE> <WITNESS>', 'words [OPTIONS] --choices <C> <FILE>', 'c [OPTIONS] <FILE>', 'picture [OPTIONS] <FILE>'))
 # What `serve` wants, where something that was given is named.
 WANTED_OF_SERVE = 'mpdbg serve --port <P> --clients <N> <FILE>'
 # And what `words` wants, with another flag and without.
@@ -418,7 +429,7 @@ MISTAKES = (
     missing('words|a|--fuel|5', ['--choices <C>'], 'mpdbg words --choices <C> --fuel <N> <FILE>'),
     missing('words|a|--ends', ['--choices <C>'], ENDS_OF_WORDS),
     missing('words|--ends|--choices|0', ['<FILE>'], ENDS_OF_WORDS),
-    missing('c', ['<FILE>'], OF_C),
+    missing('c', ['<FILE>'], 'mpdbg c <FILE>'),
     missing('picture', ['<FILE>'], 'mpdbg picture <FILE>'),
     missing('picture|--words|w', ['<FILE>'], 'mpdbg picture --words <WORDS> <FILE>'),
     missing('picture|--choices|0|--fuel|5', ['<FILE>'], 'mpdbg picture --choices <C> --fuel <N> <FILE>'),
@@ -444,7 +455,7 @@ MISTAKES = (
     # options
     unknown('trace|a|--mod|buffered', '--mod', 'mpdbg trace --mode <M> <FILE>', "a similar argument exists: '--mode'"),
     unknown('diagnose|a|--stric', '--stric', 'mpdbg diagnose --strict <FILE>', "a similar argument exists: '--strict'"),
-    hyphened('diagnose|a|--runs|5', '--runs', 'mpdbg diagnose <FILE>'),
+    unknown('diagnose|a|--runs|5', '--runs', 'mpdbg diagnose --ranks <N[-M]> <FILE>', "a similar argument exists: '--ranks'"),
     hyphened('diagnose|a|-s', '-s', OF_DIAGNOSE),
     hyphened('trace|a|--strict', '--strict', 'mpdbg trace <FILE>'),
     unknown('debug|a|--witnes|w', '--witnes', 'mpdbg debug --witness <WITNESS> <FILE>', "a similar argument exists: '--witness'"),
@@ -472,7 +483,7 @@ MISTAKES = (
     unknown('words|a|--choices|0|--end', '--end', ENDS_OF_WORDS, "a similar argument exists: '--ends'"),
     unknown('picture|a|--end', '--end', ENDS_OF_PICTURE, "a similar argument exists: '--ends'"),
     unknown('run|a|--mod|buffered', '--mod', 'mpdbg run --mode <M> <FILE>', "a similar argument exists: '--mode'"),
-    hyphened('debug|a|--runs|5', '--runs', 'mpdbg debug <FILE>'),
+    unknown('debug|a|--runs|5', '--runs', 'mpdbg debug --ranks <N> <FILE>', "a similar argument exists: '--ranks'"),
     hyphened('debug|a|--laid=w', '--laid', 'mpdbg debug <FILE>'),
     hyphened('debug|a|-w|w', '-w', OF_DEBUG),
     hyphened('debug|a|--witness|-1', '-1', OF_DEBUG),
@@ -483,7 +494,7 @@ MISTAKES = (
     hyphened('run|a|-m', '-m', OF_RUN),
     unknown('serve|a|--prot|4000|--clients|2', '--prot', WANTED_OF_SERVE, "a similar argument exists: '--port'"),
     unknown('serve|--port|4000|a|--client|2', '--client', WANTED_OF_SERVE, "a similar argument exists: '--clients'"),
-    hyphened('serve|a|--runs|5', '--runs', WANTED_OF_SERVE),
+    unknown('serve|a|--runs|5', '--runs', 'mpdbg serve --port <P> --clients <N> --ranks <N> <FILE>', "a similar argument exists: '--ranks'"),
     hyphened('serve|a|-p|4000', '-p', OF_SERVE),
     hyphened('serve|a|--port|-1', '-1', OF_SERVE),
     hyphened('check|a|--clients|2', '--clients', 'mpdbg check <FILE>'),
@@ -495,7 +506,7 @@ MISTAKES = (
     hyphened('trace|a|--pieces', '--pieces', 'mpdbg trace <FILE>'),
     hyphened('run|a|--workers|2', '--workers', 'mpdbg run <FILE>'),
     hyphened('verify|a|b|--split|2', '--split', 'mpdbg verify <FILE> <WITNESS>'),
-    hyphened('verify|a|b|--runs|1', '--runs', 'mpdbg verify <FILE> <WITNESS>'),
+    unknown('verify|a|b|--runs|1', '--runs', 'mpdbg verify --ranks <N> <FILE> <WITNESS>', "a similar argument exists: '--ranks'"),
     hyphened('check|a|--runs|-1', '-1', OF_CHECK),
     hyphened('check|a|--split|-1', '-1', OF_CHECK),
     hyphened('check|a|--modes|-1', '-1', OF_CHECK),
@@ -505,12 +516,12 @@ MISTAKES = (
     hyphened('verify|a|b|--leaf|-1', '-1', OF_VERIFY),
     hyphened('words|a|--choices|-1', '-1', OF_WORDS),
     hyphened('words|a|-c|0', '-c', OF_WORDS),
-    hyphened('words|a|--runs|5', '--runs', WANTED_OF_WORDS),
-    hyphened('c|a|--mode|buffered', '--mode', OF_C),
+    unknown('words|a|--runs|5', '--runs', 'mpdbg words --choices <C> --ranks <N> <FILE>', "a similar argument exists: '--ranks'"),
+    hyphened('c|a|--mode|buffered', '--mode', 'mpdbg c <FILE>'),
     hyphened('c|a|-c', '-c', OF_C),
     unknown('picture|a|--word|w', '--word', 'mpdbg picture --words <WORDS> <FILE>', "a similar argument exists: '--words'"),
     unknown('picture|a|--laid_witness|w', '--laid_witness', 'mpdbg picture --witness <WITNESS> <FILE>', "a similar argument exists: '--witness'"),
-    hyphened('picture|a|--runs|5', '--runs', 'mpdbg picture <FILE>'),
+    unknown('picture|a|--runs|5', '--runs', 'mpdbg picture --ranks <N> <FILE>', "a similar argument exists: '--ranks'"),
     hyphened('picture|a|-c|0', '-c', OF_PICTURE),
     hyphened('trace|a|--ends', '--ends', 'mpdbg trace <FILE>'),
     Mistake('trace|a|--mode', "a value is required for '--mode <M>' but none was supplied"),
@@ -581,12 +592,31 @@ MISTAKES = (
     Mistake('diagnose|a|--mode=b|--mode|b', "the argument '--mode <M>' cannot be used multiple times", OF_DIAGNOSE),
     Mistake('check|a|--witness|--witness', "the argument '--witness' cannot be used multiple times", OF_CHECK),
     Mistake('check|a|--witness=true', "unexpected value 'true' for '--witness' found; no more were expected", 'mpdbg check --witness <FILE>'),
+    # ranks
+    missing('c|--ranks|2', ['<FILE>'], 'mpdbg c --ranks <N> <FILE>'),
+    missing('diagnose|--ranks|2-5', ['<FILE>'], 'mpdbg diagnose --ranks <N[-M]> <FILE>'),
+    unknown('trace|a|--rank|2', '--rank', 'mpdbg trace --ranks <N> <FILE>', "a similar argument exists: '--ranks'"),
+    unknown('c|a|--rank|2', '--rank', 'mpdbg c --ranks <N> <FILE>', "a similar argument exists: '--ranks'"),
+    Mistake('run|a|--ranks', "a value is required for '--ranks <N>' but none was supplied"),
+    Mistake('diagnose|a|--ranks', "a value is required for '--ranks <N[-M]>' but none was supplied"),
+    Mistake('c|a|--ranks|2|--ranks=2', "the argument '--ranks <N>' cannot be used multiple times", OF_C),
+    Mistake('diagnose|a|--ranks|2|--ranks=2', "the argument '--ranks <N[-M]>' cannot be used multiple times", OF_DIAGNOSE),
     # the words of --until
     bad_choice('check|a|--until|trap', "invalid value 'trap' for '--until <END>'"),
     bad_choice('check|a|--until=Deadlock', "invalid value 'Deadlock' for '--until <END>'", "a similar value exists: 'deadlock'"),
     bad_choice('check|a|--until', "a value is required for '--until <END>' but none was supplied"),
     bad_choice('check|a|--until=', "a value is required for '--until <END>' but none was supplied"),
     # numbers
+    bad_number('trace|a|--ranks|0', '0', 'ranks', '0 is not in 1..=16'),
+    bad_number('debug|a|--ranks=17', '17', 'ranks', '17 is not in 1..=16'),
+    bad_number('run|a|--ranks|x', 'x', 'ranks', NO_DIGIT),
+    bad_number('serve|a|--port|1|--clients|2|--ranks|0', '0', 'ranks', '0 is not in 1..=16'),
+    bad_number('check|a|--ranks=', '', 'ranks', 'cannot parse integer from empty string'),
+    bad_number('check|a|--ranks|2-5', '2-5', 'ranks', NO_DIGIT),
+    bad_number('verify|a|b|--ranks|17', '17', 'ranks', '17 is not in 1..=16'),
+    bad_number('words|a|--choices|0|--ranks|ten', 'ten', 'ranks', NO_DIGIT),
+    bad_number('c|a|--ranks|1.5', '1.5', 'ranks', NO_DIGIT),
+    bad_number('picture|a|--ranks|99999999999999999999', '99999999999999999999', 'ranks', TOO_LARGE),
     bad_number('serve|a|--port|0|--clients|2', '0', 'port', '0 is not in 1..=65535', 'P'),
     bad_number('serve|a|--port=65536|--clients|2', '65536', 'port', '65536 is not in 1..=65535', 'P'),
     bad_number('serve|a|--port|ten|--clients|2', 'ten', 'port', NO_DIGIT, 'P'),

@@ -1,5 +1,5 @@
 -- The commands that a diagnosis names.
-use Rattle.std.specs.Prelude.{ℕ, Bool, if◌then◌else◌, List, [], ◌∷◌, ◌++◌, Option, codes}
+use Rattle.std.specs.Prelude.{ℕ, Bool, if◌then◌else◌, List, [], ◌∷◌, ◌++◌, Option, Some, codes}
 use Rattle.std.specs.Fmt.{decimal}
 use Rattle.mpd_model.specs.declared.call.Mode.{Mode}
 use Rattle.mpd_model.specs.texts.Texts.{line}
@@ -13,6 +13,10 @@ sample_command file ranks mode = line (codes "  ./mpdbg check " ++ named file ra
 -- `  ./mpdbg check race.mpd --modes 4 --outcomes`
 unfoldable pub modes_command : List ℕ → Option ℕ → List ℕ
 modes_command file ranks = line (codes "  ./mpdbg check " ++ script file ranks ++ codes " --modes 4 --outcomes")
+
+-- `  ./mpdbg diagnose race.mpd --ranks 3`
+unfoldable pub ranks_command : List ℕ → ℕ → Mode → List ℕ
+ranks_command file ranks mode = line (codes "  ./mpdbg diagnose " ++ named file (Some ranks) mode)
 
 -- ` --ends --choices '0 2'`
 unfoldable pub choices_words : List ℕ → List ℕ

@@ -5,6 +5,7 @@ ghost use Rattle.mpd_diagnose.specs.Commands as spec;
 
 use crate::words::{Named, push_named, push_script, push_text};
 use mpd_explore::push_choices;
+use mpd_model::Mode;
 use std::alloc::{AllocError, Global};
 
 /// The command that draws runs.
@@ -27,6 +28,27 @@ pub(crate) fn modes_command(alloc: Global, named: Named<'_>) -> Result<Vec<u8>, 
     push_text(&mut out, "  ./mpdbg check ")?;
     push_script(alloc, &mut out, named)?;
     push_text(&mut out, " --modes 4 --outcomes")?;
+    push_text(&mut out, "\n")?;
+    Ok(out)
+}
+
+/// The command that diagnoses the script of a file for so many ranks.
+pub fn ranks_command(
+    alloc: Global,
+    file: &str,
+    ranks: usize,
+    mode: Mode,
+) -> Result<Vec<u8>, AllocError>
+    ensures { IfOk result (λ t. t.items ≡ spec.ranks_command file.now ranks mode) }
+{
+    let named = Named {
+        file,
+        ranks: Some(ranks),
+        mode,
+    };
+    let mut out = Vec::new(alloc);
+    push_text(&mut out, "  ./mpdbg diagnose ")?;
+    push_named(alloc, &mut out, named)?;
     push_text(&mut out, "\n")?;
     Ok(out)
 }

@@ -12,5 +12,6 @@ mod told;
 mod verdict;
 mod words;
 
+pub use commands::ranks_command;
 pub use diagnosis::{Diagnosis, DiagnosisPlan, diagnose};
 pub use verdict::verdict_of;

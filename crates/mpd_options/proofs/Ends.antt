@@ -14,7 +14,7 @@ use Rattle.clap.specs.declared.builder.value_parser.Reading.{Reading}
 use Rattle.clap.specs.declared.error.kind.ErrorKind.TheVariants as kind
 use Rattle.clap.specs.declared.parser.matches.ValueSource.TheVariants.{DefaultValue}
 use Rattle.clap.proofs.OnLiterals.{clap_on_literals}
-use Rattle.mpd_options.specs.Asked.{Asked, Item, Said, Tool, checker, debugger, default_of, diagnoser, fits, found, found_check, found_debug, found_diagnose, found_in, found_of_file, found_options, found_picture, found_serve, found_verify, found_words, most_clients, most_fuel, most_leaf, most_modes, most_piece, most_port, most_runs, most_sample, most_seed, most_split, most_states, most_workers, name_of, number_if_given, or_default, painter, said_of, text_in, text_of, the_choices, the_clients, the_complete, the_ends, the_explain, the_file, the_fuel, the_group, the_laid_witness, the_leaf, the_mode, the_modes, the_outcomes, the_piece, the_pieces, the_port, the_runs, the_sample, the_seed, the_split, the_states, the_strict, the_until, the_witness, the_witness_file, the_words, the_workers, run, runner, server, teller, trace, tracer, translate, translator, until_bad_in, verifier}
+use Rattle.mpd_options.specs.Asked.{Asked, Item, Said, Task, Tool, checker, debugger, default_of, diagnoser, fits, found, found_check, found_debug, found_diagnose, found_in, found_of_file, found_options, found_picture, found_ranks, found_serve, found_task, found_verify, found_words, most_clients, most_fuel, most_leaf, most_modes, most_piece, most_port, most_ranks, most_runs, most_sample, most_seed, most_split, most_states, most_workers, name_of, number_if_given, or_default, painter, run, runner, said_of, server, task_in, teller, text_in, text_of, the_choices, the_clients, the_complete, the_ends, the_explain, the_file, the_fuel, the_group, the_laid_witness, the_leaf, the_mode, the_modes, the_outcomes, the_piece, the_pieces, the_port, the_rank_span, the_ranks, the_runs, the_sample, the_seed, the_split, the_states, the_strict, the_until, the_witness, the_witness_file, the_words, the_workers, trace, tracer, translate, translator, until_bad_in, verifier, with_ranks}
 use Rattle.mpd_options.specs.Numbers.{flag_in, number_in}
 use Rattle.mpd_options.specs.declared.options.CheckOptions.{CheckOptions}
 use Rattle.mpd_options.specs.Program.{Lies}
@@ -158,6 +158,8 @@ checker_row lie the_choices = refl
 checker_row lie the_laid_witness = refl
 checker_row lie the_words = refl
 checker_row lie the_strict = tt
+checker_row lie the_ranks = refl
+checker_row lie the_rank_span = refl
 
 verifier_file : (lie : Lies) → rules_row (name_of the_file) (rules lie verifier) ≡ default_row the_file
 unfolding clap_on_literals
@@ -239,6 +241,46 @@ diagnoser_strict : (lie : Lies) → rules_row (name_of the_strict) (rules lie di
 unfolding clap_on_literals
 diagnoser_strict lie = refl
 
+tracer_ranks : (lie : Lies) → rules_row (name_of the_ranks) (rules lie tracer) ≡ default_row the_ranks
+unfolding clap_on_literals
+tracer_ranks lie = refl
+
+debugger_ranks : (lie : Lies) → rules_row (name_of the_ranks) (rules lie debugger) ≡ default_row the_ranks
+unfolding clap_on_literals
+debugger_ranks lie = refl
+
+runner_ranks : (lie : Lies) → rules_row (name_of the_ranks) (rules lie runner) ≡ default_row the_ranks
+unfolding clap_on_literals
+runner_ranks lie = refl
+
+server_ranks : (lie : Lies) → rules_row (name_of the_ranks) (rules lie server) ≡ default_row the_ranks
+unfolding clap_on_literals
+server_ranks lie = refl
+
+verifier_ranks : (lie : Lies) → rules_row (name_of the_ranks) (rules lie verifier) ≡ default_row the_ranks
+unfolding clap_on_literals
+verifier_ranks lie = refl
+
+teller_ranks : (lie : Lies) → rules_row (name_of the_ranks) (rules lie teller) ≡ default_row the_ranks
+unfolding clap_on_literals
+teller_ranks lie = refl
+
+translator_ranks : (lie : Lies) → rules_row (name_of the_ranks) (rules lie translator) ≡ default_row the_ranks
+unfolding clap_on_literals
+translator_ranks lie = refl
+
+painter_ranks : (lie : Lies) → rules_row (name_of the_ranks) (rules lie painter) ≡ default_row the_ranks
+unfolding clap_on_literals
+painter_ranks lie = refl
+
+diagnoser_ranks : (lie : Lies) → rules_row (name_of the_ranks) (rules lie diagnoser) ≡ default_row the_ranks
+unfolding clap_on_literals
+diagnoser_ranks lie = refl
+
+diagnoser_span : (lie : Lies) → rules_row (name_of the_rank_span) (rules lie diagnoser) ≡ default_row the_rank_span
+unfolding clap_on_literals
+diagnoser_span lie = refl
+
 -- ---- what is found at last
 
 abbrev ended : Lies → Tool → Said → List Row
@@ -304,6 +346,8 @@ text_ended lie the_choices said h = first_ended lie checker the_choices said (ch
 text_ended lie the_laid_witness said h = first_ended lie checker the_laid_witness said (checker_row lie the_laid_witness) h
 text_ended lie the_words said h = first_ended lie checker the_words said (checker_row lie the_words) h
 text_ended lie the_strict said h = refl
+text_ended lie the_ranks said h = one_ended lie checker the_ranks said (checker_row lie the_ranks) h
+text_ended lie the_rank_span said h = first_ended lie checker the_rank_span said (checker_row lie the_rank_span) h
 
 verify_same : (f f' w w' m m' l l' : Option Text) → f ≡ f' → w ≡ w' → m ≡ m' → l ≡ l' → found_verify f w m (number_if_given 0 most_leaf l) ≡ found_verify f' w' m' (number_if_given 0 most_leaf l')
 verify_same f f' w w' m m' l l' a b c d = rw (a, b, c, d) refl
@@ -319,30 +363,46 @@ picture_same : (f f' m m' n n' s s' c c' w w' x x' : Option Text) → f ≡ f' �
     → found_picture f m (option_and_then (number_in 1 most_fuel) n) (option_and_then flag_in s) c w x ≡ found_picture f' m' (option_and_then (number_in 1 most_fuel) n') (option_and_then flag_in s') c' w' x'
 picture_same f f' m m' n n' s s' c c' w w' x x' a b d e g h i = rw (a, b, d, e, g, h, i) refl
 
-diagnose_same : (f f' m m' s s' : Option Text) → f ≡ f' → m ≡ m' → s ≡ s' → found_diagnose f m (option_and_then flag_in s) ≡ found_diagnose f' m' (option_and_then flag_in s')
-diagnose_same f f' m m' s s' a b c = rw (a, b, c) refl
+diagnose_same : (f f' m m' s s' r r' : Option Text) → f ≡ f' → m ≡ m' → s ≡ s' → r ≡ r' → found_diagnose f m (option_and_then flag_in s) r ≡ found_diagnose f' m' (option_and_then flag_in s') r'
+diagnose_same f f' m m' s s' r r' a b c d = rw (a, b, c, d) refl
 
-pub found_ended : (lie : Lies) (t : Tool) (said : Said) → Valid said → found_in t (ended lie t said) ≡ found t (text_of said)
-found_ended lie tracer said h = ap₂ (found_of_file trace) (first_ended lie tracer the_file said (tracer_file lie) h) (first_ended lie tracer the_mode said (tracer_mode lie) h)
-found_ended lie debugger said h =
+task_ended : (lie : Lies) (t : Tool) (said : Said) → Valid said → task_in t (ended lie t said) ≡ found_task t (text_of said)
+task_ended lie tracer said h = ap₂ (found_of_file trace) (first_ended lie tracer the_file said (tracer_file lie) h) (first_ended lie tracer the_mode said (tracer_mode lie) h)
+task_ended lie debugger said h =
     debug_same _ _ _ _ _ _ _ _ _ _ (first_ended lie debugger the_file said (debugger_file lie) h) (first_ended lie debugger the_mode said (debugger_mode lie) h) (one_ended lie debugger the_ends said (debugger_ends lie) h)
     (first_ended lie debugger the_choices said (debugger_choices lie) h) (first_ended lie debugger the_laid_witness said (debugger_witness lie) h)
-found_ended lie runner said h = ap₂ (found_of_file run) (first_ended lie runner the_file said (runner_file lie) h) (first_ended lie runner the_mode said (runner_mode lie) h)
-found_ended lie server said h =
+task_ended lie runner said h = ap₂ (found_of_file run) (first_ended lie runner the_file said (runner_file lie) h) (first_ended lie runner the_mode said (runner_mode lie) h)
+task_ended lie server said h =
     four_same _ _ _ _ _ _ _ _ (first_ended lie server the_file said (server_file lie) h) (first_ended lie server the_mode said (server_mode lie) h) (one_ended lie server the_port said (server_port lie) h) (one_ended lie server the_clients said (server_clients lie) h)
-found_ended lie checker said h = let texts : checked (text_in (ended lie checker said)) ≡ checked (text_of said) = λ j i. text_ended lie i said h j in ap (found checker) texts
-found_ended lie verifier said h =
+task_ended lie checker said h = let texts : checked (text_in (ended lie checker said)) ≡ checked (text_of said) = λ j i. text_ended lie i said h j in ap (found_task checker) texts
+task_ended lie verifier said h =
     verify_same _ _ _ _ _ _ _ _ (first_ended lie verifier the_file said (verifier_file lie) h) (first_ended lie verifier the_witness_file said (verifier_witness lie) h) (first_ended lie verifier the_mode said (verifier_mode lie) h)
     (one_ended lie verifier the_leaf said (verifier_leaf lie) h)
-found_ended lie teller said h =
+task_ended lie teller said h =
     words_same _ _ _ _ _ _ _ _ _ _ (first_ended lie teller the_file said (teller_file lie) h) (first_ended lie teller the_choices said (teller_choices lie) h) (first_ended lie teller the_mode said (teller_mode lie) h)
     (one_ended lie teller the_fuel said (teller_fuel lie) h) (one_ended lie teller the_ends said (teller_ends lie) h)
-found_ended lie translator said h = ap (option_map translate) (first_ended lie translator the_file said (translator_file lie) h)
-found_ended lie painter said h =
+task_ended lie translator said h = ap (option_map translate) (first_ended lie translator the_file said (translator_file lie) h)
+task_ended lie painter said h =
     picture_same _ _ _ _ _ _ _ _ _ _ _ _ _ _ (first_ended lie painter the_file said (painter_file lie) h) (first_ended lie painter the_mode said (painter_mode lie) h) (one_ended lie painter the_fuel said (painter_fuel lie) h)
     (one_ended lie painter the_ends said (painter_ends lie) h) (first_ended lie painter the_choices said (painter_choices lie) h) (first_ended lie painter the_laid_witness said (painter_witness lie) h) (first_ended lie painter the_words said (painter_words lie) h)
-found_ended lie diagnoser said h =
-    diagnose_same _ _ _ _ _ _ (first_ended lie diagnoser the_file said (diagnoser_file lie) h) (first_ended lie diagnoser the_mode said (diagnoser_mode lie) h) (one_ended lie diagnoser the_strict said (diagnoser_strict lie) h)
+task_ended lie diagnoser said h =
+    diagnose_same _ _ _ _ _ _ _ _ (first_ended lie diagnoser the_file said (diagnoser_file lie) h) (first_ended lie diagnoser the_mode said (diagnoser_mode lie) h) (one_ended lie diagnoser the_strict said (diagnoser_strict lie) h)
+    (first_ended lie diagnoser the_rank_span said (diagnoser_span lie) h)
+
+ranks_owned : (lie : Lies) (t : Tool) → Owns lie t the_ranks
+ranks_owned lie tracer = tracer_ranks lie
+ranks_owned lie debugger = debugger_ranks lie
+ranks_owned lie runner = runner_ranks lie
+ranks_owned lie server = server_ranks lie
+ranks_owned lie checker = checker_row lie the_ranks
+ranks_owned lie verifier = verifier_ranks lie
+ranks_owned lie teller = teller_ranks lie
+ranks_owned lie translator = translator_ranks lie
+ranks_owned lie painter = painter_ranks lie
+ranks_owned lie diagnoser = diagnoser_ranks lie
+
+pub found_ended : (lie : Lies) (t : Tool) (said : Said) → Valid said → found_in t (ended lie t said) ≡ found t (text_of said)
+found_ended lie t said h = ap₂ with_ranks (task_ended lie t said h) (ap (number_if_given 1 most_ranks) (one_ended lie t the_ranks said (ranks_owned lie t) h))
 
 -- ---- something is asked for where all was said that must be
 
@@ -372,7 +432,7 @@ item_named name =
     else (if bytes_eq name (codes "pieces") then Some the_pieces
     else (if bytes_eq name (codes "leaf") then Some the_leaf
     else (if bytes_eq name (codes "choices") then Some the_choices
-    else (if bytes_eq name (codes "laid_witness") then Some the_laid_witness else (if bytes_eq name (codes "words") then Some the_words else (if bytes_eq name (codes "strict") then Some the_strict else None))))))))))))))))))))))))))
+    else (if bytes_eq name (codes "laid_witness") then Some the_laid_witness else (if bytes_eq name (codes "words") then Some the_words else (if bytes_eq name (codes "strict") then Some the_strict else (if bytes_eq name (codes "ranks") then Some the_ranks else (if bytes_eq name (codes "rank_span") then Some the_rank_span else None))))))))))))))))))))))))))))
 
 named_is : (i : Item) → item_named (name_of i) ≡ Some i
 named_is the_file = refl
@@ -402,6 +462,8 @@ named_is the_choices = refl
 named_is the_laid_witness = refl
 named_is the_words = refl
 named_is the_strict = refl
+named_is the_ranks = refl
+named_is the_rank_span = refl
 
 same_item : (i j : Item) → bytes_eq (name_of i) (name_of j) ≡ true → i ≡ j
 same_item i j e = (let same : Some i ≡ Some j = sym (named_is i) ∙ ap item_named ((bytes_eq-Decides (name_of i) (name_of j)).0 e) ∙ named_is j in cc)
@@ -424,7 +486,7 @@ read_needed : {A : Type 0} (read : Text → Option A) (said : Option Text) → (
 read_needed read None h = refl
 read_needed read (Some v) h = h v refl
 
-is_of_file : (asks : Text → Text → Asked) (f m : Option Text) (d : Text) → is_some (found_of_file asks (or_default f None) (or_default m (Some d))) ≡ is_some f
+is_of_file : (asks : Text → Text → Task) (f m : Option Text) (d : Text) → is_some (found_of_file asks (or_default f None) (or_default m (Some d))) ≡ is_some f
 is_of_file asks None m d = refl
 is_of_file asks (Some f) None d = refl
 is_of_file asks (Some f) (Some m) d = refl
@@ -511,11 +573,11 @@ is_debug (Some f) None d (Some s) c w e = refl
 is_debug (Some f) (Some m) d (Some s) c w e = refl
 is_debug (Some f) m d None c w e = cc
 
-is_diagnose : (f m : Option Text) (d : Text) (s : Option Bool) → is_some s ≡ true → is_some (found_diagnose (or_default f None) (or_default m (Some d)) s) ≡ is_some f
-is_diagnose None m d s e = refl
-is_diagnose (Some f) None d (Some s) e = refl
-is_diagnose (Some f) (Some m) d (Some s) e = refl
-is_diagnose (Some f) m d None e = cc
+is_diagnose : (f m : Option Text) (d : Text) (s : Option Bool) (r : Option Text) → is_some s ≡ true → is_some (found_diagnose (or_default f None) (or_default m (Some d)) s r) ≡ is_some f
+is_diagnose None m d s r e = refl
+is_diagnose (Some f) None d (Some s) r e = refl
+is_diagnose (Some f) (Some m) d (Some s) r e = refl
+is_diagnose (Some f) m d None r e = cc
 
 -- each item is there that must be: the files, and the options that have no default, where the command wants them
 abbrev has_needed : Tool → (Item → Bool) → Bool
@@ -534,32 +596,41 @@ has_needed diagnoser has = has the_file
 abbrev is_said : Said → Item → Bool
 is_said said i = is_some (said_of i said)
 
-asks_if_needed : (t : Tool) (said : Said) → Valid said → is_some (found t (text_of said)) ≡ has_needed t (is_said said)
-asks_if_needed tracer said h = is_of_file trace (said_of the_file said) (said_of the_mode said) (codes "rendezvous")
-asks_if_needed debugger said h =
+tasks_if_needed : (t : Tool) (said : Said) → Valid said → is_some (found_task t (text_of said)) ≡ has_needed t (is_said said)
+tasks_if_needed tracer said h = is_of_file trace (said_of the_file said) (said_of the_mode said) (codes "rendezvous")
+tasks_if_needed debugger said h =
     is_debug (said_of the_file said) (said_of the_mode said) (codes "rendezvous") (option_and_then flag_in (text_of said the_ends)) (text_of said the_choices) (text_of said the_laid_witness)
     (read_said flag_in (codes "false") (said_of the_ends said) refl (λ v e. said_fits the_ends v said h e))
-asks_if_needed runner said h = is_of_file run (said_of the_file said) (said_of the_mode said) (codes "rendezvous")
-asks_if_needed server said h =
+tasks_if_needed runner said h = is_of_file run (said_of the_file said) (said_of the_mode said) (codes "rendezvous")
+tasks_if_needed server said h =
     is_serve (said_of the_file said) (said_of the_mode said) (codes "rendezvous") (option_and_then (number_in 1 most_port) (text_of said the_port)) (option_and_then (number_in 1 most_clients) (text_of said the_clients))
     ∙ ap₂ (λ p c. is_said said the_file && (p && c)) (read_needed (number_in 1 most_port) (said_of the_port said) (λ v e. said_fits the_port v said h e))
     (read_needed (number_in 1 most_clients) (said_of the_clients said) (λ v e. said_fits the_clients v said h e))
-asks_if_needed checker said h = is_check (said_of the_file said) (said_of the_mode said) (codes "rendezvous") (found_options (text_of said)) (options_there said h)
-asks_if_needed verifier said h =
+tasks_if_needed checker said h = is_check (said_of the_file said) (said_of the_mode said) (codes "rendezvous") (found_options (text_of said)) (options_there said h)
+tasks_if_needed verifier said h =
     is_verify (said_of the_file said) (said_of the_witness_file said) (said_of the_mode said) (codes "rendezvous") (number_if_given 0 most_leaf (text_of said the_leaf))
     (given_number 0 most_leaf (said_of the_leaf said) (λ v e. said_fits the_leaf v said h e))
-asks_if_needed teller said h =
+tasks_if_needed teller said h =
     is_words (said_of the_file said) (said_of the_choices said) (said_of the_mode said) (codes "rendezvous") (option_and_then (number_in 1 most_fuel) (text_of said the_fuel)) (option_and_then flag_in (text_of said the_ends))
     (read_said (number_in 1 most_fuel) (codes "100000") (said_of the_fuel said) refl (λ v e. said_fits the_fuel v said h e))
     (read_said flag_in (codes "false") (said_of the_ends said) refl (λ v e. said_fits the_ends v said h e))
-asks_if_needed translator said h = is_translate (said_of the_file said)
-asks_if_needed painter said h =
+tasks_if_needed translator said h = is_translate (said_of the_file said)
+tasks_if_needed painter said h =
     is_picture (said_of the_file said) (said_of the_mode said) (codes "rendezvous") (option_and_then (number_in 1 most_fuel) (text_of said the_fuel)) (option_and_then flag_in (text_of said the_ends)) (text_of said the_choices) (text_of said the_laid_witness) (text_of said the_words)
     (read_said (number_in 1 most_fuel) (codes "100000") (said_of the_fuel said) refl (λ v e. said_fits the_fuel v said h e))
     (read_said flag_in (codes "false") (said_of the_ends said) refl (λ v e. said_fits the_ends v said h e))
-asks_if_needed diagnoser said h =
-    is_diagnose (said_of the_file said) (said_of the_mode said) (codes "rendezvous") (option_and_then flag_in (text_of said the_strict))
+tasks_if_needed diagnoser said h =
+    is_diagnose (said_of the_file said) (said_of the_mode said) (codes "rendezvous") (option_and_then flag_in (text_of said the_strict)) (text_of said the_rank_span)
     (read_said flag_in (codes "false") (said_of the_strict said) refl (λ v e. said_fits the_strict v said h e))
+
+is_for_ranks : (task : Option Task) (ranks : Option (Option ℕ)) → is_some ranks ≡ true → is_some (with_ranks task ranks) ≡ is_some task
+is_for_ranks None ranks e = refl
+is_for_ranks (Some task) None e = cc
+is_for_ranks (Some task) (Some ranks) e = refl
+
+asks_if_needed : (t : Tool) (said : Said) → Valid said → is_some (found t (text_of said)) ≡ has_needed t (is_said said)
+asks_if_needed t said h =
+    is_for_ranks (found_task t (text_of said)) (found_ranks (text_of said)) (given_number 1 most_ranks (said_of the_ranks said) (λ v e. said_fits the_ranks v said h e)) ∙ tasks_if_needed t said h
 
 -- ---- faults at the end
 
@@ -644,16 +715,16 @@ no_defaults_fault (a ∷ rest) rows h = ap (λ ks. or_else ks (defaults_fault (w
 
 pub takes_defaults : (lie : Lies) (t : Tool) → Takes (rules lie t)
 unfolding clap_on_literals
-takes_defaults lie tracer = (refl, (refl, (refl, tt)))
-takes_defaults lie debugger = (refl, (refl, (refl, (refl, (refl, (refl, tt))))))
-takes_defaults lie runner = (refl, (refl, (refl, tt)))
-takes_defaults lie server = (refl, (refl, (refl, (refl, (refl, tt)))))
-takes_defaults lie checker = (refl, (refl, (refl, (refl, (refl, (refl, (refl, (refl, (refl, (refl, (refl, (refl, (refl, (refl, (refl, (refl, (refl, (refl, (refl, (refl, tt))))))))))))))))))))
-takes_defaults lie verifier = (refl, (refl, (refl, (refl, (refl, tt)))))
-takes_defaults lie teller = (refl, (refl, (refl, (refl, (refl, (refl, tt))))))
-takes_defaults lie translator = (refl, (refl, tt))
-takes_defaults lie painter = (refl, (refl, (refl, (refl, (refl, (refl, (refl, (refl, tt))))))))
-takes_defaults lie diagnoser = (refl, (refl, (refl, (refl, tt))))
+takes_defaults lie tracer = (refl, (refl, (refl, (refl, tt))))
+takes_defaults lie debugger = (refl, (refl, (refl, (refl, (refl, (refl, (refl, tt)))))))
+takes_defaults lie runner = (refl, (refl, (refl, (refl, tt))))
+takes_defaults lie server = (refl, (refl, (refl, (refl, (refl, (refl, tt))))))
+takes_defaults lie checker = (refl, (refl, (refl, (refl, (refl, (refl, (refl, (refl, (refl, (refl, (refl, (refl, (refl, (refl, (refl, (refl, (refl, (refl, (refl, (refl, (refl, tt)))))))))))))))))))))
+takes_defaults lie verifier = (refl, (refl, (refl, (refl, (refl, (refl, tt))))))
+takes_defaults lie teller = (refl, (refl, (refl, (refl, (refl, (refl, (refl, tt)))))))
+takes_defaults lie translator = (refl, (refl, (refl, tt)))
+takes_defaults lie painter = (refl, (refl, (refl, (refl, (refl, (refl, (refl, (refl, (refl, tt)))))))))
+takes_defaults lie diagnoser = (refl, (refl, (refl, (refl, (refl, tt)))))
 
 -- ---- what is held is settled
 

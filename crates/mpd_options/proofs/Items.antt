@@ -16,7 +16,7 @@ use Rattle.clap.specs.declared.error.kind.ErrorKind.TheVariants as kind
 use Rattle.clap.specs.declared.parser.matches.ValueSource.{ValueSource}
 use Rattle.clap.specs.declared.parser.matches.ValueSource.TheVariants.{CommandLine}
 use Rattle.clap.proofs.OnLiterals.{clap_on_literals}
-use Rattle.mpd_options.specs.Asked.{Item, Said, Tool, checker, debugger, diagnoser, fits, most_clients, most_fuel, most_leaf, most_modes, most_piece, most_port, most_runs, most_sample, most_seed, most_split, most_states, most_workers, name_of, painter, said_named, said_of, spelling_of, the_choices, the_clients, the_complete, the_ends, the_explain, the_file, the_fuel, the_group, the_laid_witness, the_leaf, the_mode, the_modes, the_outcomes, the_piece, the_pieces, the_port, the_runs, the_sample, the_seed, the_split, the_states, the_strict, the_until, the_witness, the_witness_file, the_words, the_workers, runner, server, teller, tracer, translator, verifier}
+use Rattle.mpd_options.specs.Asked.{Item, Said, Tool, checker, debugger, diagnoser, fits, most_clients, most_fuel, most_leaf, most_modes, most_piece, most_port, most_ranks, most_runs, most_sample, most_seed, most_split, most_states, most_workers, name_of, painter, said_named, said_of, spelling_of, the_choices, the_clients, the_complete, the_ends, the_explain, the_file, the_fuel, the_group, the_laid_witness, the_leaf, the_mode, the_modes, the_outcomes, the_piece, the_pieces, the_port, the_rank_span, the_ranks, the_runs, the_sample, the_seed, the_split, the_states, the_strict, the_until, the_witness, the_witness_file, the_words, the_workers, runner, server, teller, tracer, translator, verifier}
 use Rattle.mpd_options.specs.Program.{Lies, mpdbg_app, only_deadlock}
 use Rattle.mpd_options.proofs.NumberReads.{accepts_number}
 
@@ -76,21 +76,24 @@ help_arg lie t = unwrap_or (arg_by_id (rules lie t) (codes "help")) (new_rule []
 
 -- ---- the items that take a value in words
 
-abbrev pub is_mode : Item → Bool
-is_mode the_mode = true
-is_mode _ = false
+abbrev pub is_common : Item → Bool
+is_common the_mode = true
+is_common the_ranks = true
+is_common _ = false
 
 -- options that want a value
 abbrev pub asks : Tool → Item → Bool
-asks tracer i = is_mode i
+asks tracer i = is_common i
 asks debugger the_mode = true
 asks debugger the_choices = true
 asks debugger the_laid_witness = true
+asks debugger the_ranks = true
 asks debugger _ = false
-asks runner i = is_mode i
+asks runner i = is_common i
 asks server the_mode = true
 asks server the_port = true
 asks server the_clients = true
+asks server the_ranks = true
 asks server _ = false
 asks checker the_mode = true
 asks checker the_modes = true
@@ -103,22 +106,29 @@ asks checker the_sample = true
 asks checker the_seed = true
 asks checker the_until = true
 asks checker the_piece = true
+asks checker the_ranks = true
 asks checker _ = false
 asks verifier the_mode = true
 asks verifier the_leaf = true
+asks verifier the_ranks = true
 asks verifier _ = false
 asks teller the_mode = true
 asks teller the_choices = true
 asks teller the_fuel = true
+asks teller the_ranks = true
 asks teller _ = false
+asks translator the_ranks = true
 asks translator _ = false
 asks painter the_mode = true
 asks painter the_choices = true
 asks painter the_laid_witness = true
 asks painter the_words = true
 asks painter the_fuel = true
+asks painter the_ranks = true
 asks painter _ = false
-asks diagnoser i = is_mode i
+asks diagnoser the_mode = true
+asks diagnoser the_rank_span = true
+asks diagnoser _ = false
 
 -- the witness has a word of its own
 abbrev pub reads_witness : Tool → Bool
@@ -154,131 +164,153 @@ keeps t the_leaf = asks t the_leaf
 keeps t the_choices = asks t the_choices
 keeps t the_laid_witness = asks t the_laid_witness
 keeps t the_words = asks t the_words
+keeps t the_ranks = asks t the_ranks
+keeps t the_rank_span = asks t the_rank_span
 keeps t _ = false
 
-mode_alone : (Q : Item → Type 0) → Q the_mode → (i : Item) → is_mode i ≡ true → Q i
-mode_alone Q m the_mode e = m
-mode_alone Q m _ e = cc
+common_alone : (Q : Item → Type 0) → Q the_mode × Q the_ranks → (i : Item) → is_common i ≡ true → Q i
+common_alone Q m the_mode e = m.0
+common_alone Q m the_ranks e = m.1
+common_alone Q m _ e = cc
 
 -- each option that wants a value
 abbrev pub EachAsks : (P : Tool → Item → Type 0) → Tool → Type 0
-EachAsks P tracer = P tracer the_mode
-EachAsks P debugger = P debugger the_mode × P debugger the_choices × P debugger the_laid_witness
-EachAsks P runner = P runner the_mode
-EachAsks P server = P server the_mode × P server the_port × P server the_clients
-EachAsks P checker = P checker the_mode × P checker the_modes × P checker the_runs × P checker the_fuel × P checker the_split × P checker the_workers × P checker the_states × P checker the_sample × P checker the_seed × P checker the_until × P checker the_piece
-EachAsks P verifier = P verifier the_mode × P verifier the_leaf
-EachAsks P teller = P teller the_mode × P teller the_choices × P teller the_fuel
-EachAsks P translator = Unit {0}
-EachAsks P painter = P painter the_mode × P painter the_choices × P painter the_laid_witness × P painter the_words × P painter the_fuel
-EachAsks P diagnoser = P diagnoser the_mode
+EachAsks P tracer = P tracer the_mode × P tracer the_ranks
+EachAsks P debugger = P debugger the_mode × P debugger the_choices × P debugger the_laid_witness × P debugger the_ranks
+EachAsks P runner = P runner the_mode × P runner the_ranks
+EachAsks P server = P server the_mode × P server the_port × P server the_clients × P server the_ranks
+EachAsks P checker = P checker the_mode × P checker the_modes × P checker the_runs × P checker the_fuel × P checker the_split × P checker the_workers × P checker the_states × P checker the_sample × P checker the_seed × P checker the_until × P checker the_piece × P checker the_ranks
+EachAsks P verifier = P verifier the_mode × P verifier the_leaf × P verifier the_ranks
+EachAsks P teller = P teller the_mode × P teller the_choices × P teller the_fuel × P teller the_ranks
+EachAsks P translator = P translator the_ranks
+EachAsks P painter = P painter the_mode × P painter the_choices × P painter the_laid_witness × P painter the_words × P painter the_fuel × P painter the_ranks
+EachAsks P diagnoser = P diagnoser the_mode × P diagnoser the_rank_span
 
-pub each_asks : (P : Tool → Item → Type 0) → EachAsks P tracer → EachAsks P debugger → EachAsks P runner → EachAsks P server → EachAsks P checker → EachAsks P verifier → EachAsks P teller → EachAsks P painter → EachAsks P diagnoser → (t : Tool) (i : Item) → asks t i ≡ true → P t i
-each_asks P a d r s c v w q g tracer i e = mode_alone (P tracer) a i e
-each_asks P a d r s c v w q g debugger the_mode e = d.0
-each_asks P a d r s c v w q g debugger the_choices e = d.1
-each_asks P a d r s c v w q g debugger the_laid_witness e = d.2
-each_asks P a d r s c v w q g debugger _ e = cc
-each_asks P a d r s c v w q g runner i e = mode_alone (P runner) r i e
-each_asks P a d r s c v w q g server the_mode e = s.0
-each_asks P a d r s c v w q g server the_port e = s.1
-each_asks P a d r s c v w q g server the_clients e = s.2
-each_asks P a d r s c v w q g server _ e = cc
-each_asks P a d r s c v w q g checker the_mode e = c.0
-each_asks P a d r s c v w q g checker the_modes e = c.1
-each_asks P a d r s c v w q g checker the_runs e = c.2
-each_asks P a d r s c v w q g checker the_fuel e = c.3
-each_asks P a d r s c v w q g checker the_split e = c.4
-each_asks P a d r s c v w q g checker the_workers e = c.5
-each_asks P a d r s c v w q g checker the_states e = c.6
-each_asks P a d r s c v w q g checker the_sample e = c.7
-each_asks P a d r s c v w q g checker the_seed e = c.8
-each_asks P a d r s c v w q g checker the_until e = c.9
-each_asks P a d r s c v w q g checker the_piece e = c.10
-each_asks P a d r s c v w q g checker _ e = cc
-each_asks P a d r s c v w q g verifier the_mode e = v.0
-each_asks P a d r s c v w q g verifier the_leaf e = v.1
-each_asks P a d r s c v w q g verifier _ e = cc
-each_asks P a d r s c v w q g teller the_mode e = w.0
-each_asks P a d r s c v w q g teller the_choices e = w.1
-each_asks P a d r s c v w q g teller the_fuel e = w.2
-each_asks P a d r s c v w q g teller _ e = cc
-each_asks P a d r s c v w q g translator i e = cc
-each_asks P a d r s c v w q g painter the_mode e = q.0
-each_asks P a d r s c v w q g painter the_choices e = q.1
-each_asks P a d r s c v w q g painter the_laid_witness e = q.2
-each_asks P a d r s c v w q g painter the_words e = q.3
-each_asks P a d r s c v w q g painter the_fuel e = q.4
-each_asks P a d r s c v w q g painter _ e = cc
-each_asks P a d r s c v w q g diagnoser i e = mode_alone (P diagnoser) g i e
+pub each_asks : (P : Tool → Item → Type 0) → EachAsks P tracer → EachAsks P debugger → EachAsks P runner → EachAsks P server → EachAsks P checker → EachAsks P verifier → EachAsks P teller → EachAsks P translator → EachAsks P painter → EachAsks P diagnoser → (t : Tool) (i : Item) → asks t i ≡ true → P t i
+each_asks P a d r s c v w x q g tracer i e = common_alone (P tracer) a i e
+each_asks P a d r s c v w x q g debugger the_mode e = d.0
+each_asks P a d r s c v w x q g debugger the_choices e = d.1
+each_asks P a d r s c v w x q g debugger the_laid_witness e = d.2
+each_asks P a d r s c v w x q g debugger the_ranks e = d.3
+each_asks P a d r s c v w x q g debugger _ e = cc
+each_asks P a d r s c v w x q g runner i e = common_alone (P runner) r i e
+each_asks P a d r s c v w x q g server the_mode e = s.0
+each_asks P a d r s c v w x q g server the_port e = s.1
+each_asks P a d r s c v w x q g server the_clients e = s.2
+each_asks P a d r s c v w x q g server the_ranks e = s.3
+each_asks P a d r s c v w x q g server _ e = cc
+each_asks P a d r s c v w x q g checker the_mode e = c.0
+each_asks P a d r s c v w x q g checker the_modes e = c.1
+each_asks P a d r s c v w x q g checker the_runs e = c.2
+each_asks P a d r s c v w x q g checker the_fuel e = c.3
+each_asks P a d r s c v w x q g checker the_split e = c.4
+each_asks P a d r s c v w x q g checker the_workers e = c.5
+each_asks P a d r s c v w x q g checker the_states e = c.6
+each_asks P a d r s c v w x q g checker the_sample e = c.7
+each_asks P a d r s c v w x q g checker the_seed e = c.8
+each_asks P a d r s c v w x q g checker the_until e = c.9
+each_asks P a d r s c v w x q g checker the_piece e = c.10
+each_asks P a d r s c v w x q g checker the_ranks e = c.11
+each_asks P a d r s c v w x q g checker _ e = cc
+each_asks P a d r s c v w x q g verifier the_mode e = v.0
+each_asks P a d r s c v w x q g verifier the_leaf e = v.1
+each_asks P a d r s c v w x q g verifier the_ranks e = v.2
+each_asks P a d r s c v w x q g verifier _ e = cc
+each_asks P a d r s c v w x q g teller the_mode e = w.0
+each_asks P a d r s c v w x q g teller the_choices e = w.1
+each_asks P a d r s c v w x q g teller the_fuel e = w.2
+each_asks P a d r s c v w x q g teller the_ranks e = w.3
+each_asks P a d r s c v w x q g teller _ e = cc
+each_asks P a d r s c v w x q g translator the_ranks e = x
+each_asks P a d r s c v w x q g translator _ e = cc
+each_asks P a d r s c v w x q g painter the_mode e = q.0
+each_asks P a d r s c v w x q g painter the_choices e = q.1
+each_asks P a d r s c v w x q g painter the_laid_witness e = q.2
+each_asks P a d r s c v w x q g painter the_words e = q.3
+each_asks P a d r s c v w x q g painter the_fuel e = q.4
+each_asks P a d r s c v w x q g painter the_ranks e = q.5
+each_asks P a d r s c v w x q g painter _ e = cc
+each_asks P a d r s c v w x q g diagnoser the_mode e = g.0
+each_asks P a d r s c v w x q g diagnoser the_rank_span e = g.1
+each_asks P a d r s c v w x q g diagnoser _ e = cc
 
 -- each file
 abbrev pub EachFile : (P : Tool → Item → Type 0) → Type 0
 EachFile P = P tracer the_file × P debugger the_file × P runner the_file × P server the_file × P checker the_file × P verifier the_file × P verifier the_witness_file × P teller the_file × P translator the_file × P painter the_file × P diagnoser the_file
 
-pub each_keeps : (P : Tool → Item → Type 0) → EachFile P → EachAsks P tracer → EachAsks P debugger → EachAsks P runner → EachAsks P server → EachAsks P checker → EachAsks P verifier → EachAsks P teller → EachAsks P painter → EachAsks P diagnoser → (t : Tool) (i : Item) → keeps t i ≡ true → P t i
-each_keeps P f a d r s c v w q g tracer the_file e = f.0
-each_keeps P f a d r s c v w q g tracer the_mode e = a
-each_keeps P f a d r s c v w q g tracer _ e = cc
-each_keeps P f a d r s c v w q g debugger the_file e = f.1
-each_keeps P f a d r s c v w q g debugger the_mode e = d.0
-each_keeps P f a d r s c v w q g debugger the_choices e = d.1
-each_keeps P f a d r s c v w q g debugger the_laid_witness e = d.2
-each_keeps P f a d r s c v w q g debugger _ e = cc
-each_keeps P f a d r s c v w q g runner the_file e = f.2
-each_keeps P f a d r s c v w q g runner the_mode e = r
-each_keeps P f a d r s c v w q g runner _ e = cc
-each_keeps P f a d r s c v w q g server the_file e = f.3
-each_keeps P f a d r s c v w q g server the_mode e = s.0
-each_keeps P f a d r s c v w q g server the_port e = s.1
-each_keeps P f a d r s c v w q g server the_clients e = s.2
-each_keeps P f a d r s c v w q g server _ e = cc
-each_keeps P f a d r s c v w q g checker the_file e = f.4
-each_keeps P f a d r s c v w q g checker the_mode e = c.0
-each_keeps P f a d r s c v w q g checker the_modes e = c.1
-each_keeps P f a d r s c v w q g checker the_runs e = c.2
-each_keeps P f a d r s c v w q g checker the_fuel e = c.3
-each_keeps P f a d r s c v w q g checker the_split e = c.4
-each_keeps P f a d r s c v w q g checker the_workers e = c.5
-each_keeps P f a d r s c v w q g checker the_states e = c.6
-each_keeps P f a d r s c v w q g checker the_sample e = c.7
-each_keeps P f a d r s c v w q g checker the_seed e = c.8
-each_keeps P f a d r s c v w q g checker the_until e = c.9
-each_keeps P f a d r s c v w q g checker the_piece e = c.10
-each_keeps P f a d r s c v w q g checker _ e = cc
-each_keeps P f a d r s c v w q g verifier the_file e = f.5
-each_keeps P f a d r s c v w q g verifier the_witness_file e = f.6
-each_keeps P f a d r s c v w q g verifier the_mode e = v.0
-each_keeps P f a d r s c v w q g verifier the_leaf e = v.1
-each_keeps P f a d r s c v w q g verifier _ e = cc
-each_keeps P f a d r s c v w q g teller the_file e = f.7
-each_keeps P f a d r s c v w q g teller the_mode e = w.0
-each_keeps P f a d r s c v w q g teller the_choices e = w.1
-each_keeps P f a d r s c v w q g teller the_fuel e = w.2
-each_keeps P f a d r s c v w q g teller _ e = cc
-each_keeps P f a d r s c v w q g translator the_file e = f.8
-each_keeps P f a d r s c v w q g translator _ e = cc
-each_keeps P f a d r s c v w q g painter the_file e = f.9
-each_keeps P f a d r s c v w q g painter the_mode e = q.0
-each_keeps P f a d r s c v w q g painter the_choices e = q.1
-each_keeps P f a d r s c v w q g painter the_laid_witness e = q.2
-each_keeps P f a d r s c v w q g painter the_words e = q.3
-each_keeps P f a d r s c v w q g painter the_fuel e = q.4
-each_keeps P f a d r s c v w q g painter _ e = cc
-each_keeps P f a d r s c v w q g diagnoser the_file e = f.10
-each_keeps P f a d r s c v w q g diagnoser the_mode e = g
-each_keeps P f a d r s c v w q g diagnoser _ e = cc
+pub each_keeps : (P : Tool → Item → Type 0) → EachFile P → EachAsks P tracer → EachAsks P debugger → EachAsks P runner → EachAsks P server → EachAsks P checker → EachAsks P verifier → EachAsks P teller → EachAsks P translator → EachAsks P painter → EachAsks P diagnoser → (t : Tool) (i : Item) → keeps t i ≡ true → P t i
+each_keeps P f a d r s c v w x q g tracer the_file e = f.0
+each_keeps P f a d r s c v w x q g tracer the_mode e = a.0
+each_keeps P f a d r s c v w x q g tracer the_ranks e = a.1
+each_keeps P f a d r s c v w x q g tracer _ e = cc
+each_keeps P f a d r s c v w x q g debugger the_file e = f.1
+each_keeps P f a d r s c v w x q g debugger the_mode e = d.0
+each_keeps P f a d r s c v w x q g debugger the_choices e = d.1
+each_keeps P f a d r s c v w x q g debugger the_laid_witness e = d.2
+each_keeps P f a d r s c v w x q g debugger the_ranks e = d.3
+each_keeps P f a d r s c v w x q g debugger _ e = cc
+each_keeps P f a d r s c v w x q g runner the_file e = f.2
+each_keeps P f a d r s c v w x q g runner the_mode e = r.0
+each_keeps P f a d r s c v w x q g runner the_ranks e = r.1
+each_keeps P f a d r s c v w x q g runner _ e = cc
+each_keeps P f a d r s c v w x q g server the_file e = f.3
+each_keeps P f a d r s c v w x q g server the_mode e = s.0
+each_keeps P f a d r s c v w x q g server the_port e = s.1
+each_keeps P f a d r s c v w x q g server the_clients e = s.2
+each_keeps P f a d r s c v w x q g server the_ranks e = s.3
+each_keeps P f a d r s c v w x q g server _ e = cc
+each_keeps P f a d r s c v w x q g checker the_file e = f.4
+each_keeps P f a d r s c v w x q g checker the_mode e = c.0
+each_keeps P f a d r s c v w x q g checker the_modes e = c.1
+each_keeps P f a d r s c v w x q g checker the_runs e = c.2
+each_keeps P f a d r s c v w x q g checker the_fuel e = c.3
+each_keeps P f a d r s c v w x q g checker the_split e = c.4
+each_keeps P f a d r s c v w x q g checker the_workers e = c.5
+each_keeps P f a d r s c v w x q g checker the_states e = c.6
+each_keeps P f a d r s c v w x q g checker the_sample e = c.7
+each_keeps P f a d r s c v w x q g checker the_seed e = c.8
+each_keeps P f a d r s c v w x q g checker the_until e = c.9
+each_keeps P f a d r s c v w x q g checker the_piece e = c.10
+each_keeps P f a d r s c v w x q g checker the_ranks e = c.11
+each_keeps P f a d r s c v w x q g checker _ e = cc
+each_keeps P f a d r s c v w x q g verifier the_file e = f.5
+each_keeps P f a d r s c v w x q g verifier the_witness_file e = f.6
+each_keeps P f a d r s c v w x q g verifier the_mode e = v.0
+each_keeps P f a d r s c v w x q g verifier the_leaf e = v.1
+each_keeps P f a d r s c v w x q g verifier the_ranks e = v.2
+each_keeps P f a d r s c v w x q g verifier _ e = cc
+each_keeps P f a d r s c v w x q g teller the_file e = f.7
+each_keeps P f a d r s c v w x q g teller the_mode e = w.0
+each_keeps P f a d r s c v w x q g teller the_choices e = w.1
+each_keeps P f a d r s c v w x q g teller the_fuel e = w.2
+each_keeps P f a d r s c v w x q g teller the_ranks e = w.3
+each_keeps P f a d r s c v w x q g teller _ e = cc
+each_keeps P f a d r s c v w x q g translator the_file e = f.8
+each_keeps P f a d r s c v w x q g translator the_ranks e = x
+each_keeps P f a d r s c v w x q g translator _ e = cc
+each_keeps P f a d r s c v w x q g painter the_file e = f.9
+each_keeps P f a d r s c v w x q g painter the_mode e = q.0
+each_keeps P f a d r s c v w x q g painter the_choices e = q.1
+each_keeps P f a d r s c v w x q g painter the_laid_witness e = q.2
+each_keeps P f a d r s c v w x q g painter the_words e = q.3
+each_keeps P f a d r s c v w x q g painter the_fuel e = q.4
+each_keeps P f a d r s c v w x q g painter the_ranks e = q.5
+each_keeps P f a d r s c v w x q g painter _ e = cc
+each_keeps P f a d r s c v w x q g diagnoser the_file e = f.10
+each_keeps P f a d r s c v w x q g diagnoser the_mode e = g.0
+each_keeps P f a d r s c v w x q g diagnoser the_rank_span e = g.1
+each_keeps P f a d r s c v w x q g diagnoser _ e = cc
 
 pub asks_keeps : (t : Tool) (i : Item) → asks t i ≡ true → keeps t i ≡ true
-asks_keeps = each_asks (λ t i. keeps t i ≡ true) refl (refl, refl, refl) refl (refl, refl, refl) (refl, refl, refl, refl, refl, refl, refl, refl, refl, refl, refl) (refl, refl) (refl, refl, refl) (refl, refl, refl, refl, refl) refl
+asks_keeps = each_asks (λ t i. keeps t i ≡ true) (refl, refl) (refl, refl, refl, refl) (refl, refl) (refl, refl, refl, refl) (refl, refl, refl, refl, refl, refl, refl, refl, refl, refl, refl, refl) (refl, refl, refl) (refl, refl, refl, refl) refl (refl, refl, refl, refl, refl, refl) (refl, refl)
 
 pub by_id : (lie : Lies) (t : Tool) (i : Item) → keeps t i ≡ true → arg_by_id (rules lie t) (name_of i) ≡ Some (arg lie t i)
 unfolding clap_on_literals
-by_id lie = each_keeps (λ t i. arg_by_id (rules lie t) (name_of i) ≡ Some (arg lie t i)) (refl, refl, refl, refl, refl, refl, refl, refl, refl, refl, refl) refl (refl, refl, refl) refl (refl, refl, refl) (refl, refl, refl, refl, refl, refl, refl, refl, refl, refl, refl) (refl, refl) (refl, refl, refl) (refl, refl, refl, refl, refl) refl
+by_id lie = each_keeps (λ t i. arg_by_id (rules lie t) (name_of i) ≡ Some (arg lie t i)) (refl, refl, refl, refl, refl, refl, refl, refl, refl, refl, refl) (refl, refl) (refl, refl, refl, refl) (refl, refl) (refl, refl, refl, refl) (refl, refl, refl, refl, refl, refl, refl, refl, refl, refl, refl, refl) (refl, refl, refl) (refl, refl, refl, refl) refl (refl, refl, refl, refl, refl, refl) (refl, refl)
 
 pub by_long : (lie : Lies) (t : Tool) (i : Item) → asks t i ≡ true → arg_by_long (rules lie t) (spelling_of i) ≡ Some (arg lie t i)
 unfolding clap_on_literals
-by_long lie = each_asks (λ t i. arg_by_long (rules lie t) (spelling_of i) ≡ Some (arg lie t i)) refl (refl, refl, refl) refl (refl, refl, refl) (refl, refl, refl, refl, refl, refl, refl, refl, refl, refl, refl) (refl, refl) (refl, refl, refl) (refl, refl, refl, refl, refl) refl
+by_long lie = each_asks (λ t i. arg_by_long (rules lie t) (spelling_of i) ≡ Some (arg lie t i)) (refl, refl) (refl, refl, refl, refl) (refl, refl) (refl, refl, refl, refl) (refl, refl, refl, refl, refl, refl, refl, refl, refl, refl, refl, refl) (refl, refl, refl) (refl, refl, refl, refl) refl (refl, refl, refl, refl, refl, refl) (refl, refl)
 
 -- the flags, which have no value
 abbrev pub flags : Tool → Item → Bool
@@ -341,6 +373,7 @@ accepted the_seed text = is_unsigned_in 0 most_seed text
 accepted the_until text = bytes_eq (codes "deadlock") text || false
 accepted the_piece text = is_unsigned_in 0 most_piece text
 accepted the_leaf text = is_unsigned_in 0 most_leaf text
+accepted the_ranks text = is_unsigned_in 1 most_ranks text
 accepted _ text = true
 
 same_either_way : (a b : Text) → bytes_eq a b ≡ bytes_eq b a
@@ -358,7 +391,8 @@ or_nothing false = refl
 
 accepted_fits : (t : Tool) (i : Item) (v : Text) → keeps t i ≡ true → accepted i v ≡ fits i v
 accepted_fits t i v k =
-    each_keeps (λ t i. accepted i v ≡ fits i v) (refl, refl, refl, refl, refl, refl, refl, refl, refl, refl, refl) refl (refl, refl, refl) refl (refl, accepts_number 1 most_port v (omega arith), accepts_number 1 most_clients v (omega arith)) (
+    let ranks = accepts_number 1 most_ranks v (omega arith) in
+    each_keeps (λ t i. accepted i v ≡ fits i v) (refl, refl, refl, refl, refl, refl, refl, refl, refl, refl, refl) (refl, ranks) (refl, refl, refl, ranks) (refl, ranks) (refl, accepts_number 1 most_port v (omega arith), accepts_number 1 most_clients v (omega arith), ranks) (
       refl,
       accepts_number 0 most_modes v (omega arith),
       accepts_number 1 most_runs v (omega arith),
@@ -370,7 +404,8 @@ accepted_fits t i v k =
       accepts_number 0 most_seed v (omega arith),
       or_nothing (bytes_eq (codes "deadlock") v) ∙ same_either_way (codes "deadlock") v,
       accepts_number 0 most_piece v (omega arith),
-    ) (refl, accepts_number 0 most_leaf v (omega arith)) (refl, refl, accepts_number 1 most_fuel v (omega arith)) (refl, refl, refl, refl, accepts_number 1 most_fuel v (omega arith)) refl t i k
+      ranks,
+    ) (refl, accepts_number 0 most_leaf v (omega arith), ranks) (refl, refl, accepts_number 1 most_fuel v (omega arith), ranks) ranks (refl, refl, refl, refl, accepts_number 1 most_fuel v (omega arith), ranks) (refl, refl) t i k
 
 -- the fault of a value, by whether it is taken
 abbrev value_fault : ErrorKind → Bool → Kinds
@@ -388,7 +423,7 @@ again_fault again = if again && not false then kind.ArgumentConflict ∷ [] else
 use_is : (lie : Lies) (v : Text) (rows : List Row) (t : Tool) (i : Item) → keeps t i ≡ true
     → use_fault false (arg lie t i) (v ∷ []) rows ≡ or_else (again_fault (has_row (name_of i) rows)) (value_fault (refused_as i) (accepted i v))
 unfolding clap_on_literals
-use_is lie v rows = each_keeps (λ t i. use_fault false (arg lie t i) (v ∷ []) rows ≡ or_else (again_fault (has_row (name_of i) rows)) (value_fault (refused_as i) (accepted i v))) (refl, refl, refl, refl, refl, refl, refl, refl, refl, refl, refl) refl (refl, refl, refl) refl (refl, refl, refl) (refl, refl, refl, refl, refl, refl, refl, refl, refl, refl, refl) (refl, refl) (refl, refl, refl) (refl, refl, refl, refl, refl) refl
+use_is lie v rows = each_keeps (λ t i. use_fault false (arg lie t i) (v ∷ []) rows ≡ or_else (again_fault (has_row (name_of i) rows)) (value_fault (refused_as i) (accepted i v))) (refl, refl, refl, refl, refl, refl, refl, refl, refl, refl, refl) (refl, refl) (refl, refl, refl, refl) (refl, refl) (refl, refl, refl, refl) (refl, refl, refl, refl, refl, refl, refl, refl, refl, refl, refl, refl) (refl, refl, refl) (refl, refl, refl, refl) refl (refl, refl, refl, refl, refl, refl) (refl, refl)
 
 flag_use_is : (lie : Lies) (rows : List Row) (t : Tool) (i : Item) → flags t i ≡ true → use_fault false (arg lie t i) [] rows ≡ or_else (again_fault (has_row (name_of i) rows)) []
 unfolding clap_on_literals
@@ -441,7 +476,7 @@ some_fault (k ∷ ks) e = λ z. cc
 -- an option that waits for its value still
 pub no_value : (lie : Lies) (rows : List Row) (t : Tool) (i : Item) → asks t i ≡ true → use_fault false (arg lie t i) [] rows ≢ []
 unfolding clap_on_literals
-no_value lie rows = each_asks (λ t i. use_fault false (arg lie t i) [] rows ≢ []) (some_fault _ refl) (some_fault _ refl, some_fault _ refl, some_fault _ refl) (some_fault _ refl) (some_fault _ refl, some_fault _ refl, some_fault _ refl) (some_fault _ refl, some_fault _ refl, some_fault _ refl, some_fault _ refl, some_fault _ refl, some_fault _ refl, some_fault _ refl, some_fault _ refl, some_fault _ refl, some_fault _ refl, some_fault _ refl) (some_fault _ refl, some_fault _ refl) (some_fault _ refl, some_fault _ refl, some_fault _ refl) (some_fault _ refl, some_fault _ refl, some_fault _ refl, some_fault _ refl, some_fault _ refl) (some_fault _ refl)
+no_value lie rows = each_asks (λ t i. use_fault false (arg lie t i) [] rows ≢ []) (some_fault _ refl, some_fault _ refl) (some_fault _ refl, some_fault _ refl, some_fault _ refl, some_fault _ refl) (some_fault _ refl, some_fault _ refl) (some_fault _ refl, some_fault _ refl, some_fault _ refl, some_fault _ refl) (some_fault _ refl, some_fault _ refl, some_fault _ refl, some_fault _ refl, some_fault _ refl, some_fault _ refl, some_fault _ refl, some_fault _ refl, some_fault _ refl, some_fault _ refl, some_fault _ refl, some_fault _ refl) (some_fault _ refl, some_fault _ refl, some_fault _ refl) (some_fault _ refl, some_fault _ refl, some_fault _ refl, some_fault _ refl) (some_fault _ refl) (some_fault _ refl, some_fault _ refl, some_fault _ refl, some_fault _ refl, some_fault _ refl, some_fault _ refl) (some_fault _ refl, some_fault _ refl)
 
 -- ---- rows
 
@@ -472,7 +507,7 @@ values_at_end id how source values (r ∷ rs) h =
 
 used_is : (lie : Lies) (v : Text) (rows : List Row) (t : Tool) (i : Item) → keeps t i ≡ true → used (arg lie t i) (v ∷ []) rows ≡ with_values (name_of i) AsWritten CommandLine (v ∷ []) (without (name_of i) rows)
 unfolding clap_on_literals
-used_is lie v rows = each_keeps (λ t i. used (arg lie t i) (v ∷ []) rows ≡ with_values (name_of i) AsWritten CommandLine (v ∷ []) (without (name_of i) rows)) (refl, refl, refl, refl, refl, refl, refl, refl, refl, refl, refl) refl (refl, refl, refl) refl (refl, refl, refl) (refl, refl, refl, refl, refl, refl, refl, refl, refl, refl, refl) (refl, refl) (refl, refl, refl) (refl, refl, refl, refl, refl) refl
+used_is lie v rows = each_keeps (λ t i. used (arg lie t i) (v ∷ []) rows ≡ with_values (name_of i) AsWritten CommandLine (v ∷ []) (without (name_of i) rows)) (refl, refl, refl, refl, refl, refl, refl, refl, refl, refl, refl) (refl, refl) (refl, refl, refl, refl) (refl, refl) (refl, refl, refl, refl) (refl, refl, refl, refl, refl, refl, refl, refl, refl, refl, refl, refl) (refl, refl, refl) (refl, refl, refl, refl) refl (refl, refl, refl, refl, refl, refl) (refl, refl)
 
 at_end_of : (i : Item) (v : Text) (rows : List Row) → has_row (name_of i) rows ≡ false → with_values (name_of i) AsWritten CommandLine (v ∷ []) (without (name_of i) rows) ≡ rows ++ row_for i v CommandLine ∷ []
 at_end_of i v rows h = ap (λ rs. with_values (name_of i) AsWritten CommandLine (v ∷ []) rs) (without_none (name_of i) rows h) ∙ values_at_end (name_of i) AsWritten CommandLine (v ∷ []) rows h

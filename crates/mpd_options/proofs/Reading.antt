@@ -15,9 +15,10 @@ use Rattle.clap.specs.declared.parser.matches.ArgMatches.TheViews.{out-ArgMatche
 use Rattle.clap.specs.declared.parser.matches.Found.{Found}
 use Rattle.clap.proofs.OnLiterals.{clap_on_literals}
 use Rattle.clap.proofs.WalkLemmas.{first_value-rows, one_text-rows}
-use Rattle.mpd_options.specs.Asked.{Asked, IsFound, IsInRange, AreInRange, Item, Tool, asked, check, checker, debug, debugger, diagnose, diagnoser, found, found_by, found_check, found_debug, found_diagnose, found_in, found_of_command, found_of_file, found_options, found_picture, found_serve, found_verify, found_words, given_word, meant, most_clients, most_fuel, most_leaf, most_modes, most_piece, most_port, most_runs, most_sample, most_seed, most_split, most_states, most_workers, number_if_given, paint, painter, text_in, the_choices, the_clients, the_ends, the_file, the_fuel, the_laid_witness, the_leaf, the_mode, the_modes, the_piece, the_port, the_runs, the_sample, the_seed, the_split, the_states, the_strict, the_witness_file, the_words, the_workers, tell, teller, tool_named, run, runner, serve, server, trace, tracer, translate, translator, until_bad_in, verifier, verify}
+use Rattle.mpd_options.specs.Asked.{AreInRange, Asked, IsFound, IsInRange, IsLineInRange, Item, Task, Tool, asked, check, checker, debug, debugger, diagnose, diagnoser, found, found_by, found_check, found_debug, found_diagnose, found_in, found_of_command, found_of_file, found_options, found_picture, found_ranks, found_serve, found_task, found_verify, found_words, given_word, meant, most_clients, most_fuel, most_leaf, most_modes, most_piece, most_port, most_ranks, most_runs, most_sample, most_seed, most_split, most_states, most_workers, number_if_given, paint, painter, ranks_of_command, run, runner, serve, server, task_by, task_in, task_of, task_of_command, tell, teller, text_in, the_choices, the_clients, the_ends, the_file, the_fuel, the_laid_witness, the_leaf, the_mode, the_modes, the_piece, the_port, the_rank_span, the_ranks, the_runs, the_sample, the_seed, the_split, the_states, the_strict, the_witness_file, the_words, the_workers, tool_named, trace, tracer, translate, translator, until_bad_in, verifier, verify, with_ranks}
 use Rattle.mpd_options.specs.Numbers.{flag_in, most_usize, number_in}
 use Rattle.mpd_options.specs.declared.options.CheckOptions.{CheckOptions}
+use Rattle.mpd_options.specs.declared.options.CommandLine.{CommandLine}
 use Rattle.mpd_options.specs.declared.options.Options.{Options}
 use Rattle.mpd_options.specs.declared.options.Options.TheVariants.{Plain, Diagnose, Trace, Debug, Run, Serve, Check, Verify, Words, Translate, Picture}
 use Rattle.mpd_options.specs.Program.{Choices, Lies, mpdbg_app, only_deadlock}
@@ -116,7 +117,7 @@ named n r None t rows name is = cc
 named n r (Some b) t rows name is = (let e : n b ≡ t = cc in let f : r b ≡ rows = cc in cc)
 
 -- the command that was found
-named_tool : (t : Tool) (rows : List Row) → found_of_command (Some (called t, rows)) ≡ found_in t rows
+named_tool : (t : Tool) (rows : List Row) → task_of_command (Some (called t, rows)) ≡ task_in t rows
 named_tool tracer rows = refl
 named_tool debugger rows = refl
 named_tool runner rows = refl
@@ -129,9 +130,9 @@ named_tool painter rows = refl
 named_tool diagnoser rows = refl
 
 pub command_is : (t : Tool) (m : ArgMatches) (rows : List Row) → subcommand_name_of m ≡ Some (called t) → option_map (λ (p : Text × List Row). p.1) (subcommand_rows_of m) ≡ Some rows
-    → found_of_command (subcommand_rows_of m) ≡ found_in t rows
+    → task_of_command (subcommand_rows_of m) ≡ task_in t rows
 command_is t m rows name is =
-    ap found_of_command (named (λ b. (out-SubCommand (box_value b)).name.now) (λ b. rows_of (found_of (out-SubCommand (box_value b)).matches)) (out-ArgMatches m).subcommand (called t) rows name is)
+    ap task_of_command (named (λ b. (out-SubCommand (box_value b)).name.now) (λ b. rows_of (found_of (out-SubCommand (box_value b)).matches)) (out-ArgMatches m).subcommand (called t) rows name is)
     ∙ named_tool t rows
 
 -- ---- texts
@@ -143,7 +144,7 @@ text_at = given_word
 pub value_is : (f : Found) (r : Option (Bor Text)) (id : Text) → text_at r ≡ first_value f id → first_of id (rows_of f) ≡ text_at r
 value_is f r id e = sym (e ∙ first_value-rows f id)
 
-some_both : (asks : Text → Text → Asked) (f m : Option Text) → is_some (found_of_file asks f m) ≡ true → (is_some f ≡ true) × (is_some m ≡ true)
+some_both : (asks : Text → Text → Task) (f m : Option Text) → is_some (found_of_file asks f m) ≡ true → (is_some f ≡ true) × (is_some m ≡ true)
 some_both asks None m e = cc
 some_both asks (Some f) None e = cc
 some_both asks (Some f) (Some m) e = (refl, refl)
@@ -228,13 +229,13 @@ pub record HasDiagnosed (f m : Option Text) (s : Option Bool) : Type 0 where
   pub mode : is_some m ≡ true
   pub strict : is_some s ≡ true
 
-some_diagnosed : (f m : Option Text) (s : Option Bool) → is_some (found_diagnose f m s) ≡ true → HasDiagnosed f m s
-some_diagnosed None m s e = cc
-some_diagnosed (Some f) None s e = cc
-some_diagnosed (Some f) (Some m) None e = cc
-some_diagnosed (Some f) (Some m) (Some s) e = record { file = refl; mode = refl; strict = refl }
+some_diagnosed : (f m : Option Text) (s : Option Bool) (r : Option Text) → is_some (found_diagnose f m s r) ≡ true → HasDiagnosed f m s
+some_diagnosed None m s r e = cc
+some_diagnosed (Some f) None s r e = cc
+some_diagnosed (Some f) (Some m) None r e = cc
+some_diagnosed (Some f) (Some m) (Some s) r e = record { file = refl; mode = refl; strict = refl }
 
-pub has_file : (t : Tool) (rows : List Row) → is_some (found_in t rows) ≡ true → is_some (first_of (codes "FILE") rows) ≡ true
+pub has_file : (t : Tool) (rows : List Row) → is_some (task_in t rows) ≡ true → is_some (first_of (codes "FILE") rows) ≡ true
 has_file tracer rows e = (some_both trace _ _ e).0
 has_file debugger rows e = (some_debug _ _ _ _ _ e).file
 has_file runner rows e = (some_both run _ _ e).0
@@ -244,9 +245,9 @@ has_file verifier rows e = (some_verified _ _ _ _ e).file
 has_file teller rows e = (some_words_found _ _ _ _ _ e).file
 has_file translator rows e = some_translated _ e
 has_file painter rows e = (some_picture _ _ _ _ _ _ _ e).file
-has_file diagnoser rows e = (some_diagnosed _ _ _ e).file
+has_file diagnoser rows e = (some_diagnosed _ _ _ _ e).file
 
-pub has_mode : (t : Tool) (rows : List Row) → asks t the_mode ≡ true → is_some (found_in t rows) ≡ true → is_some (first_of (codes "mode") rows) ≡ true
+pub has_mode : (t : Tool) (rows : List Row) → asks t the_mode ≡ true → is_some (task_in t rows) ≡ true → is_some (first_of (codes "mode") rows) ≡ true
 has_mode tracer rows has e = (some_both trace _ _ e).1
 has_mode debugger rows has e = (some_debug _ _ _ _ _ e).mode
 has_mode runner rows has e = (some_both run _ _ e).1
@@ -256,15 +257,15 @@ has_mode verifier rows has e = (some_verified _ _ _ _ e).mode
 has_mode teller rows has e = (some_words_found _ _ _ _ _ e).mode
 has_mode translator rows has e = cc
 has_mode painter rows has e = (some_picture _ _ _ _ _ _ _ e).mode
-has_mode diagnoser rows has e = (some_diagnosed _ _ _ e).mode
+has_mode diagnoser rows has e = (some_diagnosed _ _ _ _ e).mode
 
 not_found : (r : Option (Bor Text)) (o : Option Text) → o ≡ text_at r → r ≡ None → is_some o ≡ true → ⊥
 not_found r o e none some = (let bad : false ≡ true = sym (ap is_some (e ∙ ap text_at none)) ∙ some in cc)
 
-pub has_witness : (rows : List Row) → is_some (found_in verifier rows) ≡ true → is_some (first_of (codes "WITNESS") rows) ≡ true
+pub has_witness : (rows : List Row) → is_some (task_in verifier rows) ≡ true → is_some (first_of (codes "WITNESS") rows) ≡ true
 has_witness rows e = (some_verified _ _ _ _ e).witness
 
-pub has_choices : (rows : List Row) → is_some (found_in teller rows) ≡ true → is_some (first_of (codes "choices") rows) ≡ true
+pub has_choices : (rows : List Row) → is_some (task_in teller rows) ≡ true → is_some (first_of (codes "choices") rows) ≡ true
 has_choices rows e = (some_words_found _ _ _ _ _ e).choices
 
 pub no_word : (f : Found) (r : Option (Bor Text)) (id : Text) → text_at r ≡ first_value f id → r ≡ None → is_some (first_of id (rows_of f)) ≡ true → ⊥
@@ -273,7 +274,7 @@ no_word f r id e none some = not_found r _ (value_is f r id e) none some
 pub text_is : (f : Found) (r : Option (Bor Text)) (id : Text) (text : Bor Text) → text_at r ≡ first_value f id → r ≡ Some text → first_of id (rows_of f) ≡ Some text.now
 text_is f r id text e is = value_is f r id e ∙ ap text_at is
 
-pub both_found : {f m : Option Text} (asks : Text → Text → Asked) (file mode : Text) → f ≡ Some file → m ≡ Some mode → Some (asks file mode) ≡ found_of_file asks f m
+pub both_found : {f m : Option Text} (asks : Text → Text → Task) (file mode : Text) → f ≡ Some file → m ≡ Some mode → Some (asks file mode) ≡ found_of_file asks f m
 both_found asks file mode e h = sym (ap₂ (found_of_file asks) e h)
 
 debug_of : {f m : Option Text} {s : Option Bool} {c w : Option Text} (file mode : Text) (ends : Bool) (choices witness : Option Text) → f ≡ Some file → m ≡ Some mode → s ≡ Some ends → c ≡ choices → w ≡ witness
@@ -283,7 +284,7 @@ debug_of file mode ends choices witness a b d e g = rw (a, b, d, e, g) refl
 -- with the words of choices and a witness's file, where there are such
 pub debug_found : (f : Found) (file mode : Text) (ends : Bool) (c w : Option (Bor Text)) → first_of (codes "FILE") (rows_of f) ≡ Some file → first_of (codes "mode") (rows_of f) ≡ Some mode
     → option_and_then flag_in (one_of (codes "ends") (rows_of f)) ≡ Some ends → text_at c ≡ first_value f (codes "choices") → text_at w ≡ first_value f (codes "laid_witness")
-    → Some (debug file mode (text_at c) (text_at w) ends) ≡ found_in debugger (rows_of f)
+    → Some (debug file mode (text_at c) (text_at w) ends) ≡ task_in debugger (rows_of f)
 debug_found f file mode ends c w a b d e g = debug_of file mode ends (text_at c) (text_at w) a b d (value_is f c (codes "choices") e) (value_is f w (codes "laid_witness") g)
 
 pub verify_found : {f w m : Option Text} {l : Option (Option ℕ)} (file witness mode : Text) (leaf : Option ℕ) → f ≡ Some file → w ≡ Some witness → m ≡ Some mode → l ≡ Some leaf
@@ -297,8 +298,13 @@ words_found file choices mode fuel ends a b c d e = rw (a, b, c, d, e) refl
 pub translate_found : {f : Option Text} (file : Text) → f ≡ Some file → Some (translate file) ≡ option_map translate f
 translate_found file a = rw a refl
 
-pub diagnose_found : {f m : Option Text} {s : Option Bool} (file mode : Text) (strict : Bool) → f ≡ Some file → m ≡ Some mode → s ≡ Some strict → Some (diagnose file mode strict) ≡ found_diagnose f m s
-diagnose_found file mode strict a b c = rw (a, b, c) refl
+diagnose_of : {f m : Option Text} {s : Option Bool} {r : Option Text} (file mode : Text) (strict : Bool) (ranks : Option Text) → f ≡ Some file → m ≡ Some mode → s ≡ Some strict → r ≡ ranks → Some (diagnose file mode strict ranks) ≡ found_diagnose f m s r
+diagnose_of file mode strict ranks a b c d = rw (a, b, c, d) refl
+
+-- with the word of several numbers of ranks, where there is one
+pub diagnose_found : (f : Found) (file mode : Text) (strict : Bool) (r : Option (Bor Text)) → first_of (codes "FILE") (rows_of f) ≡ Some file → first_of (codes "mode") (rows_of f) ≡ Some mode
+    → option_and_then flag_in (one_of (codes "strict") (rows_of f)) ≡ Some strict → text_at r ≡ first_value f (codes "rank_span") → Some (diagnose file mode strict (text_at r)) ≡ task_in diagnoser (rows_of f)
+diagnose_found f file mode strict r a b c d = diagnose_of file mode strict (text_at r) a b c (value_is f r (codes "rank_span") d)
 
 picture_of : {f m : Option Text} {n : Option ℕ} {s : Option Bool} {c w x : Option Text} (file mode : Text) (fuel : ℕ) (ends : Bool) (choices witness words : Option Text)
     → f ≡ Some file → m ≡ Some mode → n ≡ Some fuel → s ≡ Some ends → c ≡ choices → w ≡ witness → x ≡ words
@@ -309,7 +315,7 @@ picture_of file mode fuel ends choices witness words a b d i e g h = rw (a, b, d
 pub picture_found : (f : Found) (file mode : Text) (fuel : ℕ) (ends : Bool) (c w x : Option (Bor Text)) → first_of (codes "FILE") (rows_of f) ≡ Some file → first_of (codes "mode") (rows_of f) ≡ Some mode
     → option_and_then (number_in 1 most_fuel) (one_of (codes "fuel") (rows_of f)) ≡ Some fuel → option_and_then flag_in (one_of (codes "ends") (rows_of f)) ≡ Some ends
     → text_at c ≡ first_value f (codes "choices") → text_at w ≡ first_value f (codes "laid_witness") → text_at x ≡ first_value f (codes "words")
-    → Some (paint file mode (text_at c) (text_at w) (text_at x) fuel ends) ≡ found_in painter (rows_of f)
+    → Some (paint file mode (text_at c) (text_at w) (text_at x) fuel ends) ≡ task_in painter (rows_of f)
 picture_found f file mode fuel ends c w x a b d i e g h =
     picture_of file mode fuel ends (text_at c) (text_at w) (text_at x) a b d i (value_is f c (codes "choices") e) (value_is f w (codes "laid_witness") g) (value_is f x (codes "words") h)
 
@@ -394,43 +400,43 @@ flag_some (Some t) b on off some =
 pub flag_found : (f : Found) (id : Text) (b : Bool) → (one_text f id ≡ Some (codes "true") → b ≡ true) → (one_text f id ≡ Some (codes "false") → b ≡ false) → is_some (flag_at id f) ≡ true → flag_at id f ≡ Some b
 flag_found f id b on off some = flag_some (one_of id (rows_of f)) b (λ e. on (one_text-rows f id ∙ e)) (λ e. off (one_text-rows f id ∙ e)) some
 
-pub has_served : (f : Found) → is_some (found_in server (rows_of f)) ≡ true
+pub has_served : (f : Found) → is_some (task_in server (rows_of f)) ≡ true
     → HasServed (first_of (codes "FILE") (rows_of f)) (first_of (codes "mode") (rows_of f)) (number_at 1 most_port (codes "port") f) (number_at 1 most_clients (codes "clients") f)
 has_served f e = some_served _ _ _ _ e
 
 pub served_found : (f : Found) (file mode : Text) (port clients : ℕ) → first_of (codes "FILE") (rows_of f) ≡ Some file → first_of (codes "mode") (rows_of f) ≡ Some mode
-    → number_at 1 most_port (codes "port") f ≡ Some port → number_at 1 most_clients (codes "clients") f ≡ Some clients → Some (serve file mode port clients) ≡ found_in server (rows_of f)
+    → number_at 1 most_port (codes "port") f ≡ Some port → number_at 1 most_clients (codes "clients") f ≡ Some clients → Some (serve file mode port clients) ≡ task_in server (rows_of f)
 served_found f file mode port clients a b c d = sym (four a b c d)
   where
     four : {f' m' : Option Text} {p' c' : Option ℕ} → f' ≡ Some file → m' ≡ Some mode → p' ≡ Some port → c' ≡ Some clients → found_serve f' m' p' c' ≡ Some (serve file mode port clients)
     four a b c d = rw (a, b, c, d) refl
 
-pub has_verified : (f : Found) → is_some (found_in verifier (rows_of f)) ≡ true → is_some (given_at 0 most_leaf (codes "leaf") f) ≡ true
+pub has_verified : (f : Found) → is_some (task_in verifier (rows_of f)) ≡ true → is_some (given_at 0 most_leaf (codes "leaf") f) ≡ true
 has_verified f e = (some_verified _ _ _ _ e).leaf
 
-pub has_fuel : (f : Found) → is_some (found_in teller (rows_of f)) ≡ true → is_some (number_at 1 most_fuel (codes "fuel") f) ≡ true
+pub has_fuel : (f : Found) → is_some (task_in teller (rows_of f)) ≡ true → is_some (number_at 1 most_fuel (codes "fuel") f) ≡ true
 has_fuel f e = (some_words_found _ _ _ _ _ e).fuel
 
-pub has_picture_fuel : (f : Found) → is_some (found_in painter (rows_of f)) ≡ true → is_some (number_at 1 most_fuel (codes "fuel") f) ≡ true
+pub has_picture_fuel : (f : Found) → is_some (task_in painter (rows_of f)) ≡ true → is_some (number_at 1 most_fuel (codes "fuel") f) ≡ true
 has_picture_fuel f e = (some_picture _ _ _ _ _ _ _ e).fuel
 
-pub has_words_ends : (f : Found) → is_some (found_in teller (rows_of f)) ≡ true → is_some (flag_at (codes "ends") f) ≡ true
+pub has_words_ends : (f : Found) → is_some (task_in teller (rows_of f)) ≡ true → is_some (flag_at (codes "ends") f) ≡ true
 has_words_ends f e = (some_words_found _ _ _ _ _ e).ends
 
-pub has_debug_ends : (f : Found) → is_some (found_in debugger (rows_of f)) ≡ true → is_some (flag_at (codes "ends") f) ≡ true
+pub has_debug_ends : (f : Found) → is_some (task_in debugger (rows_of f)) ≡ true → is_some (flag_at (codes "ends") f) ≡ true
 has_debug_ends f e = (some_debug _ _ _ _ _ e).ends
 
-pub has_picture_ends : (f : Found) → is_some (found_in painter (rows_of f)) ≡ true → is_some (flag_at (codes "ends") f) ≡ true
+pub has_picture_ends : (f : Found) → is_some (task_in painter (rows_of f)) ≡ true → is_some (flag_at (codes "ends") f) ≡ true
 has_picture_ends f e = (some_picture _ _ _ _ _ _ _ e).ends
 
-pub has_strict : (f : Found) → is_some (found_in diagnoser (rows_of f)) ≡ true → is_some (flag_at (codes "strict") f) ≡ true
-has_strict f e = (some_diagnosed _ _ _ e).strict
+pub has_strict : (f : Found) → is_some (task_in diagnoser (rows_of f)) ≡ true → is_some (flag_at (codes "strict") f) ≡ true
+has_strict f e = (some_diagnosed _ _ _ _ e).strict
 
-pub has_options : (f : Found) → is_some (found_in checker (rows_of f)) ≡ true → is_some (found_options (text_in (rows_of f))) ≡ true
+pub has_options : (f : Found) → is_some (task_in checker (rows_of f)) ≡ true → is_some (found_options (text_in (rows_of f))) ≡ true
 has_options f e = (some_check _ _ _ e).2
 
 pub check_found : (f : Found) (file mode : Text) (options : CheckOptions) → first_of (codes "FILE") (rows_of f) ≡ Some file → first_of (codes "mode") (rows_of f) ≡ Some mode
-    → found_options (text_in (rows_of f)) ≡ Some options → Some (check file mode options) ≡ found_in checker (rows_of f)
+    → found_options (text_in (rows_of f)) ≡ Some options → Some (check file mode options) ≡ task_in checker (rows_of f)
 check_found f file mode options a b c = sym (all_three a b c)
   where
     all_three : {f' m' : Option Text} {o' : Option CheckOptions} → f' ≡ Some file → m' ≡ Some mode → o' ≡ Some options → found_check f' m' o' ≡ Some (check file mode options)
@@ -484,7 +490,7 @@ until_found f r e some = until_by (first_of (codes "until") (rows_of f)) r (valu
 -- ---- numbers lie in their ranges
 
 -- what is asked for has each number in its range
-abbrev HasRange : Asked → Type 0
+abbrev HasRange : Task → Type 0
 HasRange (serve file mode port clients) = (1 ≤ port) × (port ≤ most_port) × (1 ≤ clients) × (clients ≤ most_clients)
 HasRange (check file mode options) = AreInRange options
 HasRange (verify file witness mode leaf) = IfSome leaf (λ n. n ≤ most_leaf)
@@ -492,9 +498,9 @@ HasRange (tell file choices mode fuel ends) = (1 ≤ fuel) × (fuel ≤ most_fue
 HasRange (paint file mode choices witness words fuel ends) = (1 ≤ fuel) × (fuel ≤ most_fuel)
 HasRange _ = Unit {0}
 
-range_asked : (options : Options) → HasRange (asked options) → IsInRange options
+range_asked : (options : Options) → HasRange (task_of options) → IsInRange options
 range_asked Plain h = tt
-range_asked (Diagnose file mode strict) h = tt
+range_asked (Diagnose file mode strict ranks) h = tt
 range_asked (Trace file mode) h = tt
 range_asked (Debug file mode choices witness ends) h = tt
 range_asked (Run file mode) h = tt
@@ -505,11 +511,11 @@ range_asked (Words file choices mode fuel ends) h = h
 range_asked (Translate file) h = tt
 range_asked (Picture file mode choices witness words fuel ends) h = h
 
-abbrev RangeOf : Option Asked → Type 0
+abbrev RangeOf : Option Task → Type 0
 RangeOf None = Unit {0}
 RangeOf (Some x) = HasRange x
 
-file_range : (asks : Text → Text → Asked) (f m : Option Text) → ((f m : Text) → HasRange (asks f m)) → RangeOf (found_of_file asks f m)
+file_range : (asks : Text → Text → Task) (f m : Option Text) → ((f m : Text) → HasRange (asks f m)) → RangeOf (found_of_file asks f m)
 file_range asks None m h = tt
 file_range asks (Some f) None h = tt
 file_range asks (Some f) (Some m) h = h f m
@@ -564,13 +570,13 @@ debug_range (Some f) None s c w = tt
 debug_range (Some f) (Some m) None c w = tt
 debug_range (Some f) (Some m) (Some s) c w = tt
 
-diagnose_range : (f m : Option Text) (s : Option Bool) → RangeOf (found_diagnose f m s)
-diagnose_range None m s = tt
-diagnose_range (Some f) None s = tt
-diagnose_range (Some f) (Some m) None = tt
-diagnose_range (Some f) (Some m) (Some s) = tt
+diagnose_range : (f m : Option Text) (s : Option Bool) (r : Option Text) → RangeOf (found_diagnose f m s r)
+diagnose_range None m s r = tt
+diagnose_range (Some f) None s r = tt
+diagnose_range (Some f) (Some m) None r = tt
+diagnose_range (Some f) (Some m) (Some s) r = tt
 
-found_range : (t : Tool) (text : Item → Option Text) → RangeOf (found t text)
+found_range : (t : Tool) (text : Item → Option Text) → RangeOf (found_task t text)
 found_range tracer text = file_range trace (text the_file) (text the_mode) (λ f m. tt)
 found_range debugger text = debug_range (text the_file) (text the_mode) (option_and_then flag_in (text the_ends)) (text the_choices) (text the_laid_witness)
 found_range runner text = file_range run (text the_file) (text the_mode) (λ f m. tt)
@@ -583,15 +589,59 @@ found_range teller text =
 found_range translator text = translate_range (text the_file)
 found_range painter text =
     picture_range (text the_file) (text the_mode) (option_and_then (number_in 1 most_fuel) (text the_fuel)) (option_and_then flag_in (text the_ends)) (text the_choices) (text the_laid_witness) (text the_words) (read_within 1 most_fuel (text the_fuel))
-found_range diagnoser text = diagnose_range (text the_file) (text the_mode) (option_and_then flag_in (text the_strict))
+found_range diagnoser text = diagnose_range (text the_file) (text the_mode) (option_and_then flag_in (text the_strict)) (text the_rank_span)
 
-range_by : (o : Option Tool) (rows : List Row) → RangeOf (found_by o rows)
+range_by : (o : Option Tool) (rows : List Row) → RangeOf (task_by o rows)
 range_by None rows = tt
 range_by (Some t) rows = found_range t (text_in rows)
 
-command_range : (command : Option (Text × List Row)) → RangeOf (found_of_command command)
+command_range : (command : Option (Text × List Row)) → RangeOf (task_of_command command)
 command_range None = tt
 command_range (Some command) = range_by (tool_named command.0) command.1
 
-pub range_of : (command : Option (Text × List Row)) (options : Options) → Some (asked options) ≡ found_of_command command → IsInRange options
-range_of command options e = range_asked options (subst RangeOf (sym e) (command_range command))
+task_range : (command : Option (Text × List Row)) (options : Options) → Some (task_of options) ≡ task_of_command command → IsInRange options
+task_range command options e = range_asked options (subst RangeOf (sym e) (command_range command))
+
+-- ---- a task, and for how many ranks
+
+parts_by : (o : Option Tool) (rows : List Row) → found_by o rows ≡ with_ranks (task_by o rows) (found_ranks (text_in rows))
+parts_by None rows = refl
+parts_by (Some t) rows = refl
+
+parts : (command : Option (Text × List Row)) → found_of_command command ≡ with_ranks (task_of_command command) (ranks_of_command command)
+parts None = refl
+parts (Some command) = parts_by (tool_named command.0) command.1
+
+both_there : (task : Option Task) (ranks : Option (Option ℕ)) → is_some (with_ranks task ranks) ≡ true → (is_some task ≡ true) × (is_some ranks ≡ true)
+both_there None ranks e = cc
+both_there (Some task) None e = cc
+both_there (Some task) (Some ranks) e = (refl, refl)
+
+pub parts_there : (command : Option (Text × List Row)) → is_some (found_of_command command) ≡ true → (is_some (task_of_command command) ≡ true) × (is_some (ranks_of_command command) ≡ true)
+parts_there command e = both_there (task_of_command command) (ranks_of_command command) (sym (ap is_some (parts command)) ∙ e)
+
+pub line_found : (command : Option (Text × List Row)) (line : CommandLine) → Some (task_of line.asked) ≡ task_of_command command → ranks_of_command command ≡ Some line.ranks → Some (asked line) ≡ found_of_command command
+line_found command line e h = ap₂ with_ranks e (sym h) ∙ sym (parts command)
+
+-- the rows of the command that was found
+pub ranks_are : (command : Option (Text × List Row)) (rows : List Row) → option_map (λ (p : Text × List Row). p.1) command ≡ Some rows → ranks_of_command command ≡ found_ranks (text_in rows)
+ranks_are None rows e = cc
+ranks_are (Some command) rows e = (let same : command.1 ≡ rows = cc in ap (λ rs. found_ranks (text_in rs)) same)
+
+pub no_ranks : (command : Option (Text × List Row)) → option_map (λ (p : Text × List Row). p.1) command ≡ None → is_some (ranks_of_command command) ≡ true → ⊥
+no_ranks None e some = cc
+no_ranks (Some command) e some = cc
+
+parts_of : (task : Option Task) (ranks : Option (Option ℕ)) (x : Asked) → Some x ≡ with_ranks task ranks → (Some x.task ≡ task) × (Some x.ranks ≡ ranks)
+parts_of None ranks x e = cc
+parts_of (Some task) None x e = cc
+parts_of (Some task) (Some ranks) x e = (ap (option_map (λ (y : Asked). y.task)) e, ap (option_map (λ (y : Asked). y.ranks)) e)
+
+ranks_range : (command : Option (Text × List Row)) (ranks : Option ℕ) → Some ranks ≡ ranks_of_command command → IfSome ranks (λ n. (1 ≤ n) × (n ≤ most_ranks))
+ranks_range None ranks e = cc
+ranks_range (Some command) ranks e = subst (GivenWithin 1 most_ranks) (sym e) (given_within 1 most_ranks (text_in command.1 the_ranks))
+
+pub range_of : (command : Option (Text × List Row)) (line : CommandLine) → Some (asked line) ≡ found_of_command command → IsLineInRange line
+range_of command line e =
+    let parts = parts_of (task_of_command command) (ranks_of_command command) (asked line) (e ∙ parts command) in
+    (task_range command line.asked parts.0, ranks_range command line.ranks parts.1)

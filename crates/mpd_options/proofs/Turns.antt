@@ -52,29 +52,29 @@ Unnamed t name = NoneNamed (options_of t) name
 
 find_help : (lie : Lies) (t : Tool) (name : Text) → Unnamed t name → bytes_eq (codes "help") name ≡ true → arg_by_long (rules lie t) name ≡ Some (help_arg lie t)
 unfolding clap_on_literals
-find_help lie tracer name u h = rw (u.0, h) refl
-find_help lie debugger name u h = rw (u.0, u.1.0, u.1.1.0, u.1.1.1.0, h) refl
-find_help lie runner name u h = rw (u.0, h) refl
-find_help lie server name u h = rw (u.0, u.1.0, u.1.1.0, h) refl
-find_help lie checker name u h = rw (u.0, u.1.0, u.1.1.0, u.1.1.1.0, u.1.1.1.1.0, u.1.1.1.1.1.0, u.1.1.1.1.1.1.0, u.1.1.1.1.1.1.1.0, u.1.1.1.1.1.1.1.1.0, u.1.1.1.1.1.1.1.1.1.0, u.1.1.1.1.1.1.1.1.1.1.0, u.1.1.1.1.1.1.1.1.1.1.1.0, u.1.1.1.1.1.1.1.1.1.1.1.1.0, u.1.1.1.1.1.1.1.1.1.1.1.1.1.0, u.1.1.1.1.1.1.1.1.1.1.1.1.1.1.0, u.1.1.1.1.1.1.1.1.1.1.1.1.1.1.1.0, u.1.1.1.1.1.1.1.1.1.1.1.1.1.1.1.1.0, u.1.1.1.1.1.1.1.1.1.1.1.1.1.1.1.1.1.0, h) refl
-find_help lie verifier name u h = rw (u.0, u.1.0, h) refl
-find_help lie teller name u h = rw (u.0, u.1.0, u.1.1.0, u.1.1.1.0, h) refl
-find_help lie translator name u h = rw h refl
-find_help lie painter name u h = rw (u.0, u.1.0, u.1.1.0, u.1.1.1.0, u.1.1.1.1.0, u.1.1.1.1.1.0, h) refl
-find_help lie diagnoser name u h = rw (u.0, u.1.0, h) refl
+find_help lie tracer name u h = rw (u.0, u.1.0, h) refl
+find_help lie debugger name u h = rw (u.0, u.1.0, u.1.1.0, u.1.1.1.0, u.1.1.1.1.0, h) refl
+find_help lie runner name u h = rw (u.0, u.1.0, h) refl
+find_help lie server name u h = rw (u.0, u.1.0, u.1.1.0, u.1.1.1.0, h) refl
+find_help lie checker name u h = rw (u.0, u.1.0, u.1.1.0, u.1.1.1.0, u.1.1.1.1.0, u.1.1.1.1.1.0, u.1.1.1.1.1.1.0, u.1.1.1.1.1.1.1.0, u.1.1.1.1.1.1.1.1.0, u.1.1.1.1.1.1.1.1.1.0, u.1.1.1.1.1.1.1.1.1.1.0, u.1.1.1.1.1.1.1.1.1.1.1.0, u.1.1.1.1.1.1.1.1.1.1.1.1.0, u.1.1.1.1.1.1.1.1.1.1.1.1.1.0, u.1.1.1.1.1.1.1.1.1.1.1.1.1.1.0, u.1.1.1.1.1.1.1.1.1.1.1.1.1.1.1.0, u.1.1.1.1.1.1.1.1.1.1.1.1.1.1.1.1.0, u.1.1.1.1.1.1.1.1.1.1.1.1.1.1.1.1.1.0, u.1.1.1.1.1.1.1.1.1.1.1.1.1.1.1.1.1.1.0, h) refl
+find_help lie verifier name u h = rw (u.0, u.1.0, u.1.1.0, h) refl
+find_help lie teller name u h = rw (u.0, u.1.0, u.1.1.0, u.1.1.1.0, u.1.1.1.1.0, h) refl
+find_help lie translator name u h = rw (u.0, h) refl
+find_help lie painter name u h = rw (u.0, u.1.0, u.1.1.0, u.1.1.1.0, u.1.1.1.1.0, u.1.1.1.1.1.0, u.1.1.1.1.1.1.0, h) refl
+find_help lie diagnoser name u h = rw (u.0, u.1.0, u.1.1.0, h) refl
 
 find_none : (lie : Lies) (t : Tool) (name : Text) → Unnamed t name → bytes_eq (codes "help") name ≡ false → arg_by_long (rules lie t) name ≡ None
 unfolding clap_on_literals
-find_none lie tracer name u h = rw (u.0, h) refl
-find_none lie debugger name u h = rw (u.0, u.1.0, u.1.1.0, u.1.1.1.0, h) refl
-find_none lie runner name u h = rw (u.0, h) refl
-find_none lie server name u h = rw (u.0, u.1.0, u.1.1.0, h) refl
-find_none lie checker name u h = rw (u.0, u.1.0, u.1.1.0, u.1.1.1.0, u.1.1.1.1.0, u.1.1.1.1.1.0, u.1.1.1.1.1.1.0, u.1.1.1.1.1.1.1.0, u.1.1.1.1.1.1.1.1.0, u.1.1.1.1.1.1.1.1.1.0, u.1.1.1.1.1.1.1.1.1.1.0, u.1.1.1.1.1.1.1.1.1.1.1.0, u.1.1.1.1.1.1.1.1.1.1.1.1.0, u.1.1.1.1.1.1.1.1.1.1.1.1.1.0, u.1.1.1.1.1.1.1.1.1.1.1.1.1.1.0, u.1.1.1.1.1.1.1.1.1.1.1.1.1.1.1.0, u.1.1.1.1.1.1.1.1.1.1.1.1.1.1.1.1.0, u.1.1.1.1.1.1.1.1.1.1.1.1.1.1.1.1.1.0, h) refl
-find_none lie verifier name u h = rw (u.0, u.1.0, h) refl
-find_none lie teller name u h = rw (u.0, u.1.0, u.1.1.0, u.1.1.1.0, h) refl
-find_none lie translator name u h = rw h refl
-find_none lie painter name u h = rw (u.0, u.1.0, u.1.1.0, u.1.1.1.0, u.1.1.1.1.0, u.1.1.1.1.1.0, h) refl
-find_none lie diagnoser name u h = rw (u.0, u.1.0, h) refl
+find_none lie tracer name u h = rw (u.0, u.1.0, h) refl
+find_none lie debugger name u h = rw (u.0, u.1.0, u.1.1.0, u.1.1.1.0, u.1.1.1.1.0, h) refl
+find_none lie runner name u h = rw (u.0, u.1.0, h) refl
+find_none lie server name u h = rw (u.0, u.1.0, u.1.1.0, u.1.1.1.0, h) refl
+find_none lie checker name u h = rw (u.0, u.1.0, u.1.1.0, u.1.1.1.0, u.1.1.1.1.0, u.1.1.1.1.1.0, u.1.1.1.1.1.1.0, u.1.1.1.1.1.1.1.0, u.1.1.1.1.1.1.1.1.0, u.1.1.1.1.1.1.1.1.1.0, u.1.1.1.1.1.1.1.1.1.1.0, u.1.1.1.1.1.1.1.1.1.1.1.0, u.1.1.1.1.1.1.1.1.1.1.1.1.0, u.1.1.1.1.1.1.1.1.1.1.1.1.1.0, u.1.1.1.1.1.1.1.1.1.1.1.1.1.1.0, u.1.1.1.1.1.1.1.1.1.1.1.1.1.1.1.0, u.1.1.1.1.1.1.1.1.1.1.1.1.1.1.1.1.0, u.1.1.1.1.1.1.1.1.1.1.1.1.1.1.1.1.1.0, u.1.1.1.1.1.1.1.1.1.1.1.1.1.1.1.1.1.1.0, h) refl
+find_none lie verifier name u h = rw (u.0, u.1.0, u.1.1.0, h) refl
+find_none lie teller name u h = rw (u.0, u.1.0, u.1.1.0, u.1.1.1.0, u.1.1.1.1.0, h) refl
+find_none lie translator name u h = rw (u.0, h) refl
+find_none lie painter name u h = rw (u.0, u.1.0, u.1.1.0, u.1.1.1.0, u.1.1.1.1.0, u.1.1.1.1.1.0, u.1.1.1.1.1.1.0, h) refl
+find_none lie diagnoser name u h = rw (u.0, u.1.0, u.1.1.0, h) refl
 
 pub dead_long : (lie : Lies) (t : Tool) (name : Text) (v : Option Text) (h : Held) → Unnamed t name → long_fault (rules lie t) false (arg_by_long (rules lie t) name) v h ≢ []
 dead_long lie t name v h u =
@@ -99,16 +99,16 @@ AreOptions t [] = Unit {0}
 AreOptions t (i ∷ items) = ((asks t i ≡ true) ⊎ (flags t i ≡ true)) × AreOptions t items
 
 own_options : (t : Tool) → AreOptions t (options_of t)
-own_options tracer = (inl refl, tt)
-own_options debugger = (inl refl, (inl refl, (inl refl, (inr refl, tt))))
-own_options runner = (inl refl, tt)
-own_options server = (inl refl, (inl refl, (inl refl, tt)))
-own_options checker = (inl refl, (inl refl, (inl refl, (inl refl, (inl refl, (inl refl, (inr refl, (inr refl, (inl refl, (inl refl, (inl refl, (inr refl, (inr refl, (inl refl, (inr refl, (inr refl, (inl refl, (inr refl, tt))))))))))))))))))
-own_options verifier = (inl refl, (inl refl, tt))
-own_options teller = (inl refl, (inl refl, (inl refl, (inr refl, tt))))
-own_options translator = tt
-own_options painter = (inl refl, (inl refl, (inl refl, (inl refl, (inl refl, (inr refl, tt))))))
-own_options diagnoser = (inl refl, (inr refl, tt))
+own_options tracer = (inl refl, (inl refl, tt))
+own_options debugger = (inl refl, (inl refl, (inl refl, (inr refl, (inl refl, tt)))))
+own_options runner = (inl refl, (inl refl, tt))
+own_options server = (inl refl, (inl refl, (inl refl, (inl refl, tt))))
+own_options checker = (inl refl, (inl refl, (inl refl, (inl refl, (inl refl, (inl refl, (inr refl, (inr refl, (inl refl, (inl refl, (inl refl, (inr refl, (inr refl, (inl refl, (inr refl, (inr refl, (inl refl, (inr refl, (inl refl, tt)))))))))))))))))))
+own_options verifier = (inl refl, (inl refl, (inl refl, tt)))
+own_options teller = (inl refl, (inl refl, (inl refl, (inr refl, (inl refl, tt)))))
+own_options translator = (inl refl, tt)
+own_options painter = (inl refl, (inl refl, (inl refl, (inl refl, (inl refl, (inr refl, (inl refl, tt)))))))
+own_options diagnoser = (inl refl, (inr refl, (inl refl, tt)))
 
 -- the first of these that has the name, or that none has it
 data Sought (t : Tool) (items : List Item) (name : Text) : Type 0 where

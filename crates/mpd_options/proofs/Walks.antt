@@ -140,10 +140,10 @@ fails_trailing lie t (word ∷ words) h waiting f x fails = fails_now lie t (wal
 
 option_unsettled : (lie : Lies) (v : Option Text) (h : Held) (t : Tool) (i : Item) → asks t i ≡ true → settle_fault (rules lie t) false h ≢ [] → long_fault (rules lie t) false (Some (arg lie t i)) v h ≢ []
 unfolding clap_on_literals
-option_unsettled lie None h = each_asks (λ t i. settle_fault (rules lie t) false h ≢ [] → long_fault (rules lie t) false (Some (arg lie t i)) None h ≢ []) (λ e. e) ((λ e. e), (λ e. e), (λ e. e)) (λ e. e) ((λ e. e), (λ e. e), (λ e. e)) ((λ e. e), (λ e. e), (λ e. e), (λ e. e), (λ e. e), (λ e. e), (λ e. e), (λ e. e), (λ e. e), (λ e. e), (λ e. e)) ((λ e. e), (λ e. e)) ((λ e. e), (λ e. e), (λ e. e)) ((λ e. e), (λ e. e), (λ e. e), (λ e. e), (λ e. e)) (λ e. e)
+option_unsettled lie None h = each_asks (λ t i. settle_fault (rules lie t) false h ≢ [] → long_fault (rules lie t) false (Some (arg lie t i)) None h ≢ []) ((λ e. e), (λ e. e)) ((λ e. e), (λ e. e), (λ e. e), (λ e. e)) ((λ e. e), (λ e. e)) ((λ e. e), (λ e. e), (λ e. e), (λ e. e)) ((λ e. e), (λ e. e), (λ e. e), (λ e. e), (λ e. e), (λ e. e), (λ e. e), (λ e. e), (λ e. e), (λ e. e), (λ e. e), (λ e. e)) ((λ e. e), (λ e. e), (λ e. e)) ((λ e. e), (λ e. e), (λ e. e), (λ e. e)) (λ e. e) ((λ e. e), (λ e. e), (λ e. e), (λ e. e), (λ e. e), (λ e. e)) ((λ e. e), (λ e. e))
 option_unsettled lie (Some v) h =
     each_asks (λ t i. settle_fault (rules lie t) false h ≢ [] → long_fault (rules lie t) false (Some (arg lie t i)) (Some v) h ≢ [])
-    (λ e. fails_first _ _ e) ((λ e. fails_first _ _ e), (λ e. fails_first _ _ e), (λ e. fails_first _ _ e)) (λ e. fails_first _ _ e) ((λ e. fails_first _ _ e), (λ e. fails_first _ _ e), (λ e. fails_first _ _ e)) ((λ e. fails_first _ _ e), (λ e. fails_first _ _ e), (λ e. fails_first _ _ e), (λ e. fails_first _ _ e), (λ e. fails_first _ _ e), (λ e. fails_first _ _ e), (λ e. fails_first _ _ e), (λ e. fails_first _ _ e), (λ e. fails_first _ _ e), (λ e. fails_first _ _ e), (λ e. fails_first _ _ e)) ((λ e. fails_first _ _ e), (λ e. fails_first _ _ e)) ((λ e. fails_first _ _ e), (λ e. fails_first _ _ e), (λ e. fails_first _ _ e)) ((λ e. fails_first _ _ e), (λ e. fails_first _ _ e), (λ e. fails_first _ _ e), (λ e. fails_first _ _ e), (λ e. fails_first _ _ e)) (λ e. fails_first _ _ e)
+    ((λ e. fails_first _ _ e), (λ e. fails_first _ _ e)) ((λ e. fails_first _ _ e), (λ e. fails_first _ _ e), (λ e. fails_first _ _ e), (λ e. fails_first _ _ e)) ((λ e. fails_first _ _ e), (λ e. fails_first _ _ e)) ((λ e. fails_first _ _ e), (λ e. fails_first _ _ e), (λ e. fails_first _ _ e), (λ e. fails_first _ _ e)) ((λ e. fails_first _ _ e), (λ e. fails_first _ _ e), (λ e. fails_first _ _ e), (λ e. fails_first _ _ e), (λ e. fails_first _ _ e), (λ e. fails_first _ _ e), (λ e. fails_first _ _ e), (λ e. fails_first _ _ e), (λ e. fails_first _ _ e), (λ e. fails_first _ _ e), (λ e. fails_first _ _ e), (λ e. fails_first _ _ e)) ((λ e. fails_first _ _ e), (λ e. fails_first _ _ e), (λ e. fails_first _ _ e)) ((λ e. fails_first _ _ e), (λ e. fails_first _ _ e), (λ e. fails_first _ _ e), (λ e. fails_first _ _ e)) (λ e. fails_first _ _ e) ((λ e. fails_first _ _ e), (λ e. fails_first _ _ e), (λ e. fails_first _ _ e), (λ e. fails_first _ _ e), (λ e. fails_first _ _ e), (λ e. fails_first _ _ e)) ((λ e. fails_first _ _ e), (λ e. fails_first _ _ e))
 
 flag_unsettled : (lie : Lies) (v : Option Text) (h : Held) (t : Tool) (i : Item) → flags t i ≡ true → settle_fault (rules lie t) false h ≢ [] → long_fault (rules lie t) false (Some (arg lie t i)) v h ≢ []
 unfolding clap_on_literals
@@ -184,7 +184,7 @@ given_at rows i v f x = walk_with (held rows (Some (name_of i, v ∷ []))) idle 
 takes_value : (lie : Lies) (rows : List Row) (position : ℕ) (word : Text) (t : Tool) (i : Item) → asks t i ≡ true
     → plain_turn lie t (option (name_of i)) position word (held rows (Some (name_of i, []))) ≡ pair [] (walk_with (held rows (Some (name_of i, word ∷ []))) idle position false)
 unfolding clap_on_literals
-takes_value lie rows position word = each_asks (λ t i. plain_turn lie t (option (name_of i)) position word (held rows (Some (name_of i, []))) ≡ pair [] (walk_with (held rows (Some (name_of i, word ∷ []))) idle position false)) refl (refl, refl, refl) refl (refl, refl, refl) (refl, refl, refl, refl, refl, refl, refl, refl, refl, refl, refl) (refl, refl) (refl, refl, refl) (refl, refl, refl, refl, refl) refl
+takes_value lie rows position word = each_asks (λ t i. plain_turn lie t (option (name_of i)) position word (held rows (Some (name_of i, []))) ≡ pair [] (walk_with (held rows (Some (name_of i, word ∷ []))) idle position false)) (refl, refl) (refl, refl, refl, refl) (refl, refl) (refl, refl, refl, refl) (refl, refl, refl, refl, refl, refl, refl, refl, refl, refl, refl, refl) (refl, refl, refl) (refl, refl, refl, refl) refl (refl, refl, refl, refl, refl, refl) (refl, refl)
 
 stuck_empty : (lie : Lies) (t : Tool) (rows : List Row) (i : Item) → asks t i ≡ true → Stuck lie t rows i []
 stuck_empty lie t rows i asking = let P : Kinds → Type 0 = λ ks. ks ≢ [] in subst P (sym (settles_by lie t rows i [] (asks_keeps t i asking))) (no_value lie rows t i asking)
@@ -255,10 +255,10 @@ asks_turn : (lie : Lies) (rows : List Row) (p : Option (Text × List Text)) (pos
     → long_turn lie t idle position word (held rows p) (Some (arg lie t i)) None ≡ pair (or_else (settle_fault (rules lie t) false (held rows p)) []) (pending_walk (settled (rules lie t) (held rows p)) i position)
 unfolding clap_on_literals
 asks_turn lie rows p position word =
-    each_asks (λ t i. long_turn lie t idle position word (held rows p) (Some (arg lie t i)) None ≡ pair (or_else (settle_fault (rules lie t) false (held rows p)) []) (pending_walk (settled (rules lie t) (held rows p)) i position)) refl (refl, refl, refl) refl (refl, refl, refl) (refl, refl, refl, refl, refl, refl, refl, refl, refl, refl, refl) (refl, refl) (refl, refl, refl) (refl, refl, refl, refl, refl) refl
+    each_asks (λ t i. long_turn lie t idle position word (held rows p) (Some (arg lie t i)) None ≡ pair (or_else (settle_fault (rules lie t) false (held rows p)) []) (pending_walk (settled (rules lie t) (held rows p)) i position)) (refl, refl) (refl, refl, refl, refl) (refl, refl) (refl, refl, refl, refl) (refl, refl, refl, refl, refl, refl, refl, refl, refl, refl, refl, refl) (refl, refl, refl) (refl, refl, refl, refl) refl (refl, refl, refl, refl, refl, refl) (refl, refl)
 
 not_flag : (t : Tool) (i : Item) → asks t i ≡ true → is_flag i ≡ false
-not_flag = each_asks (λ t i. is_flag i ≡ false) refl (refl, refl, refl) refl (refl, refl, refl) (refl, refl, refl, refl, refl, refl, refl, refl, refl, refl, refl) (refl, refl) (refl, refl, refl) (refl, refl, refl, refl, refl) refl
+not_flag = each_asks (λ t i. is_flag i ≡ false) (refl, refl) (refl, refl, refl, refl) (refl, refl) (refl, refl, refl, refl) (refl, refl, refl, refl, refl, refl, refl, refl, refl, refl, refl, refl) (refl, refl, refl) (refl, refl, refl, refl) refl (refl, refl, refl, refl, refl, refl) (refl, refl)
 
 asks_option : (lie : Lies) (t : Tool) (said : Said) (last : Option (Item × Text)) (i : Item) (word : Text) (words : List Text) → asks t i ≡ true → Sound t (ready said last false)
     → turn lie t idle (place_of (with_last said last)) word (held_for said last) ≡ long_turn lie t idle (place_of (with_last said last)) word (held_for said last) (Some (arg lie t i)) None
@@ -319,11 +319,11 @@ gives_turn : (lie : Lies) (rows : List Row) (p : Option (Text × List Text)) (po
     → long_turn lie t idle position word (held rows p) (Some (arg lie t i)) (Some v) ≡ given_turn lie t i (v ∷ []) (settle_fault (rules lie t) false (held rows p)) (settled (rules lie t) (held rows p)) position
 unfolding clap_on_literals
 gives_turn lie rows p position word v =
-    each_asks (λ t i. long_turn lie t idle position word (held rows p) (Some (arg lie t i)) (Some v) ≡ given_turn lie t i (v ∷ []) (settle_fault (rules lie t) false (held rows p)) (settled (rules lie t) (held rows p)) position) refl (refl, refl, refl) refl (refl, refl, refl) (refl, refl, refl, refl, refl, refl, refl, refl, refl, refl, refl) (refl, refl) (refl, refl, refl) (refl, refl, refl, refl, refl) refl
+    each_asks (λ t i. long_turn lie t idle position word (held rows p) (Some (arg lie t i)) (Some v) ≡ given_turn lie t i (v ∷ []) (settle_fault (rules lie t) false (held rows p)) (settled (rules lie t) (held rows p)) position) (refl, refl) (refl, refl, refl, refl) (refl, refl) (refl, refl, refl, refl) (refl, refl, refl, refl, refl, refl, refl, refl, refl, refl, refl, refl) (refl, refl, refl) (refl, refl, refl, refl) refl (refl, refl, refl, refl, refl, refl) (refl, refl)
 
 same_place : (v : Text) (said : Said) (t : Tool) (i : Item) → asks t i ≡ true → SamePlace i v said
 same_place v said =
-    each_asks (λ t i. SamePlace i v said) (refl, (λ o. o)) ((refl, (λ o. o)), (refl, (λ o. o)), (refl, (λ o. o))) (refl, (λ o. o)) ((refl, (λ o. o)), (refl, (λ o. o)), (refl, (λ o. o))) ((refl, (λ o. o)), (refl, (λ o. o)), (refl, (λ o. o)), (refl, (λ o. o)), (refl, (λ o. o)), (refl, (λ o. o)), (refl, (λ o. o)), (refl, (λ o. o)), (refl, (λ o. o)), (refl, (λ o. o)), (refl, (λ o. o))) ((refl, (λ o. o)), (refl, (λ o. o))) ((refl, (λ o. o)), (refl, (λ o. o)), (refl, (λ o. o))) ((refl, (λ o. o)), (refl, (λ o. o)), (refl, (λ o. o)), (refl, (λ o. o)), (refl, (λ o. o))) (refl, (λ o. o))
+    each_asks (λ t i. SamePlace i v said) ((refl, (λ o. o)), (refl, (λ o. o))) ((refl, (λ o. o)), (refl, (λ o. o)), (refl, (λ o. o)), (refl, (λ o. o))) ((refl, (λ o. o)), (refl, (λ o. o))) ((refl, (λ o. o)), (refl, (λ o. o)), (refl, (λ o. o)), (refl, (λ o. o))) ((refl, (λ o. o)), (refl, (λ o. o)), (refl, (λ o. o)), (refl, (λ o. o)), (refl, (λ o. o)), (refl, (λ o. o)), (refl, (λ o. o)), (refl, (λ o. o)), (refl, (λ o. o)), (refl, (λ o. o)), (refl, (λ o. o)), (refl, (λ o. o))) ((refl, (λ o. o)), (refl, (λ o. o)), (refl, (λ o. o))) ((refl, (λ o. o)), (refl, (λ o. o)), (refl, (λ o. o)), (refl, (λ o. o))) (refl, (λ o. o)) ((refl, (λ o. o)), (refl, (λ o. o)), (refl, (λ o. o)), (refl, (λ o. o)), (refl, (λ o. o)), (refl, (λ o. o))) ((refl, (λ o. o)), (refl, (λ o. o)))
 
 gives_option : (lie : Lies) (t : Tool) (said : Said) (last : Option (Item × Text)) (i : Item) (v word : Text) (words : List Text) → asks t i ≡ true → Sound t (ready said last false)
     → turn lie t idle (place_of (with_last said last)) word (held_for said last) ≡ long_turn lie t idle (place_of (with_last said last)) word (held_for said last) (Some (arg lie t i)) (Some v)

@@ -7,43 +7,59 @@ use Rattle.clap.specs.Lexer.{long_of, short_of}
 use Rattle.clap.specs.Words.{Row, first_of, one_of}
 use Rattle.mpd_options.specs.Numbers.{flag_in, number_in}
 use Rattle.mpd_options.specs.declared.options.CheckOptions.{CheckOptions}
+use Rattle.mpd_options.specs.declared.options.CommandLine.{CommandLine}
 use Rattle.mpd_options.specs.declared.options.Options.{Options}
 use Rattle.mpd_options.specs.declared.options.Options.TheVariants.{Plain, Diagnose, Trace, Debug, Run, Serve, Check, Verify, Words, Translate, Picture}
 
 -- what is asked for: a script and its trace on standard input, a diagnosis of a file, the trace of one, a console on one, with the choices of a run or
 -- none and a witness or none, answers to requests on one, of one or of several clients, a look for deadlocks in one, a check of a witness, the trace words of a run,
 -- a script in C, or a picture of a run, by its choices, a witness, or trace words, each given or not; with the words of files, mode and
--- choices, whether messages left over count, the port, how many clients, how deadlocks are looked for, the number of a leaf, the fuel, and
+-- choices, whether messages left over count, the word of several numbers of ranks, the port, how many clients, how deadlocks are looked for, the number of a leaf, the fuel, and
 -- whether choices are those of a report of `--ends` or `--sample`
-pub data Asked : Type 0 where
-  plain : Asked
-  diagnose : List ℕ → List ℕ → Bool → Asked
-  trace : List ℕ → List ℕ → Asked
-  debug : List ℕ → List ℕ → Option (List ℕ) → Option (List ℕ) → Bool → Asked
-  run : List ℕ → List ℕ → Asked
-  serve : List ℕ → List ℕ → ℕ → ℕ → Asked
-  check : List ℕ → List ℕ → CheckOptions → Asked
-  verify : List ℕ → List ℕ → List ℕ → Option ℕ → Asked
-  tell : List ℕ → List ℕ → List ℕ → ℕ → Bool → Asked
-  translate : List ℕ → Asked
-  paint : List ℕ → List ℕ → Option (List ℕ) → Option (List ℕ) → Option (List ℕ) → ℕ → Bool → Asked
+pub data Task : Type 0 where
+  plain : Task
+  diagnose : List ℕ → List ℕ → Bool → Option (List ℕ) → Task
+  trace : List ℕ → List ℕ → Task
+  debug : List ℕ → List ℕ → Option (List ℕ) → Option (List ℕ) → Bool → Task
+  run : List ℕ → List ℕ → Task
+  serve : List ℕ → List ℕ → ℕ → ℕ → Task
+  check : List ℕ → List ℕ → CheckOptions → Task
+  verify : List ℕ → List ℕ → List ℕ → Option ℕ → Task
+  tell : List ℕ → List ℕ → List ℕ → ℕ → Bool → Task
+  translate : List ℕ → Task
+  paint : List ℕ → List ℕ → Option (List ℕ) → Option (List ℕ) → Option (List ℕ) → ℕ → Bool → Task
+
+-- a task, and for how many ranks its script is meant, where that is said
+pub record Asked : Type 0 where
+  pub task : Task
+  pub ranks : Option ℕ
 
 -- a word that need not be there
 abbrev pub given_word : Option (Bor (List ℕ)) → Option (List ℕ)
 given_word = option_map (λ (text : Bor (List ℕ)). text.now)
 
-abbrev pub asked : Options → Asked
-asked Plain = plain
-asked (Diagnose file mode strict) = diagnose file.now mode.now strict
-asked (Trace file mode) = trace file.now mode.now
-asked (Debug file mode choices witness ends) = debug file.now mode.now (given_word choices) (given_word witness) ends
-asked (Run file mode) = run file.now mode.now
-asked (Serve file mode port clients) = serve file.now mode.now port clients
-asked (Check file mode options) = check file.now mode.now options
-asked (Verify file witness mode leaf) = verify file.now witness.now mode.now leaf
-asked (Words file choices mode fuel ends) = tell file.now choices.now mode.now fuel ends
-asked (Translate file) = translate file.now
-asked (Picture file mode choices witness words fuel ends) = paint file.now mode.now (given_word choices) (given_word witness) (given_word words) fuel ends
+abbrev pub task_of : Options → Task
+task_of Plain = plain
+task_of (Diagnose file mode strict ranks) = diagnose file.now mode.now strict (given_word ranks)
+task_of (Trace file mode) = trace file.now mode.now
+task_of (Debug file mode choices witness ends) = debug file.now mode.now (given_word choices) (given_word witness) ends
+task_of (Run file mode) = run file.now mode.now
+task_of (Serve file mode port clients) = serve file.now mode.now port clients
+task_of (Check file mode options) = check file.now mode.now options
+task_of (Verify file witness mode leaf) = verify file.now witness.now mode.now leaf
+task_of (Words file choices mode fuel ends) = tell file.now choices.now mode.now fuel ends
+task_of (Translate file) = translate file.now
+task_of (Picture file mode choices witness words fuel ends) = paint file.now mode.now (given_word choices) (given_word witness) (given_word words) fuel ends
+
+-- a task for as many ranks as the script says
+abbrev pub as_it_stands : Option Task → Option Asked
+as_it_stands = option_map (λ task. record { task = task; ranks = None })
+
+abbrev pub asked : CommandLine → Asked
+asked line = record { task = task_of line.asked; ranks = line.ranks }
+
+abbrev pub most_ranks : ℕ
+most_ranks = 16
 
 abbrev pub most_port : ℕ
 most_port = 65535
@@ -98,7 +114,7 @@ AreInRange o =
 -- each number lies in its range
 abbrev pub IsInRange : Options → Type 0
 IsInRange Plain = ⊤
-IsInRange (Diagnose file mode strict) = ⊤
+IsInRange (Diagnose file mode strict ranks) = ⊤
 IsInRange (Trace file mode) = ⊤
 IsInRange (Debug file mode choices witness ends) = ⊤
 IsInRange (Run file mode) = ⊤
@@ -108,6 +124,10 @@ IsInRange (Verify file witness mode leaf) = IfSome leaf (λ n. n ≤ most_leaf)
 IsInRange (Words file choices mode fuel ends) = (1 ≤ fuel) × (fuel ≤ most_fuel)
 IsInRange (Translate file) = ⊤
 IsInRange (Picture file mode choices witness words fuel ends) = (1 ≤ fuel) × (fuel ≤ most_fuel)
+
+-- and how many ranks there are
+abbrev pub IsLineInRange : CommandLine → Type 0
+IsLineInRange line = IsInRange line.asked × IfSome line.ranks (λ n. (1 ≤ n) × (n ≤ most_ranks))
 
 -- the commands
 pub data Tool : Type 0 where
@@ -164,6 +184,8 @@ pub data Item : Type 0 where
   the_laid_witness : Item
   the_words : Item
   the_strict : Item
+  the_ranks : Item
+  the_rank_span : Item
 
 abbrev pub name_of : Item → List ℕ
 name_of the_file = codes "FILE"
@@ -193,24 +215,28 @@ name_of the_choices = codes "choices"
 name_of the_laid_witness = codes "laid_witness"
 name_of the_words = codes "words"
 name_of the_strict = codes "strict"
+name_of the_ranks = codes "ranks"
+name_of the_rank_span = codes "rank_span"
 
--- how an option is spelled behind its hyphens: as it is named, but that of a witness's file is spelled as the flag of `check` is
+-- how an option is spelled behind its hyphens: as it is named, but that of a witness's file is spelled as the flag of `check` is, and that
+-- of several numbers of ranks as that of one
 abbrev pub spelling_of : Item → List ℕ
 spelling_of the_laid_witness = codes "witness"
+spelling_of the_rank_span = codes "ranks"
 spelling_of item = name_of item
 
 abbrev pub options_of : Tool → List Item
-options_of tracer = the_mode ∷ []
-options_of debugger = the_mode ∷ the_choices ∷ the_laid_witness ∷ the_ends ∷ []
-options_of runner = the_mode ∷ []
-options_of server = the_mode ∷ the_port ∷ the_clients ∷ []
+options_of tracer = the_mode ∷ the_ranks ∷ []
+options_of debugger = the_mode ∷ the_choices ∷ the_laid_witness ∷ the_ends ∷ the_ranks ∷ []
+options_of runner = the_mode ∷ the_ranks ∷ []
+options_of server = the_mode ∷ the_port ∷ the_clients ∷ the_ranks ∷ []
 options_of checker =
-    the_mode ∷ the_modes ∷ the_runs ∷ the_fuel ∷ the_split ∷ the_workers ∷ the_ends ∷ the_outcomes ∷ the_states ∷ the_sample ∷ the_seed ∷ the_explain ∷ the_group ∷ the_until ∷ the_witness ∷ the_complete ∷ the_piece ∷ the_pieces ∷ []
-options_of verifier = the_mode ∷ the_leaf ∷ []
-options_of teller = the_mode ∷ the_choices ∷ the_fuel ∷ the_ends ∷ []
-options_of translator = []
-options_of painter = the_mode ∷ the_choices ∷ the_laid_witness ∷ the_words ∷ the_fuel ∷ the_ends ∷ []
-options_of diagnoser = the_mode ∷ the_strict ∷ []
+    the_mode ∷ the_modes ∷ the_runs ∷ the_fuel ∷ the_split ∷ the_workers ∷ the_ends ∷ the_outcomes ∷ the_states ∷ the_sample ∷ the_seed ∷ the_explain ∷ the_group ∷ the_until ∷ the_witness ∷ the_complete ∷ the_piece ∷ the_pieces ∷ the_ranks ∷ []
+options_of verifier = the_mode ∷ the_leaf ∷ the_ranks ∷ []
+options_of teller = the_mode ∷ the_choices ∷ the_fuel ∷ the_ends ∷ the_ranks ∷ []
+options_of translator = the_ranks ∷ []
+options_of painter = the_mode ∷ the_choices ∷ the_laid_witness ∷ the_words ∷ the_fuel ∷ the_ends ∷ the_ranks ∷ []
+options_of diagnoser = the_mode ∷ the_strict ∷ the_rank_span ∷ []
 
 -- what the words that are no options name, in this order
 abbrev pub files_of : Tool → List Item
@@ -269,6 +295,8 @@ fits the_choices text = true
 fits the_laid_witness text = true
 fits the_words text = true
 fits the_strict text = is_some (flag_in text)
+fits the_ranks text = is_some (number_in 1 most_ranks text)
+fits the_rank_span text = true
 
 -- the value of an item of which nothing is said; where it has none, something must be said of the files, the port, how many clients and the choices of `words`, and need not of the others
 abbrev pub default_of : Item → Option (List ℕ)
@@ -299,6 +327,8 @@ default_of the_choices = None
 default_of the_laid_witness = None
 default_of the_words = None
 default_of the_strict = Some (codes "false")
+default_of the_ranks = None
+default_of the_rank_span = None
 
 -- what a word behind a command is: `--`, `--NAME` or `--NAME=V` of an option, another option, or none
 pub data Word : Type 0 where
@@ -394,12 +424,12 @@ with_word t among_options other_option word said next = None
 with_word t among_options no_option word said next = for_file (unsaid (files_of t) said) word said (next among_options)
 
 -- what a command of one file asks for, by the texts of the file and the mode
-abbrev pub found_of_file : (List ℕ → List ℕ → Asked) → Option (List ℕ) → Option (List ℕ) → Option Asked
+abbrev pub found_of_file : (List ℕ → List ℕ → Task) → Option (List ℕ) → Option (List ℕ) → Option Task
 found_of_file asks None mode = None
 found_of_file asks (Some file) None = None
 found_of_file asks (Some file) (Some mode) = Some (asks file mode)
 
-abbrev pub found_serve : Option (List ℕ) → Option (List ℕ) → Option ℕ → Option ℕ → Option Asked
+abbrev pub found_serve : Option (List ℕ) → Option (List ℕ) → Option ℕ → Option ℕ → Option Task
 found_serve (Some file) (Some mode) (Some port) (Some clients) = Some (serve file mode port clients)
 found_serve _ _ _ _ = None
 
@@ -446,42 +476,53 @@ found_options text =
     (number_if_given 0 most_seed (text the_seed)) (option_and_then flag_in (text the_explain)) (option_and_then flag_in (text the_group)) (until_bad_in (text the_until))
     (option_and_then flag_in (text the_witness)) (option_and_then flag_in (text the_complete)) (number_if_given 0 most_piece (text the_piece)) (option_and_then flag_in (text the_pieces))
 
-abbrev pub found_check : Option (List ℕ) → Option (List ℕ) → Option CheckOptions → Option Asked
+abbrev pub found_check : Option (List ℕ) → Option (List ℕ) → Option CheckOptions → Option Task
 found_check (Some file) (Some mode) (Some options) = Some (check file mode options)
 found_check _ _ _ = None
 
-abbrev pub found_verify : Option (List ℕ) → Option (List ℕ) → Option (List ℕ) → Option (Option ℕ) → Option Asked
+abbrev pub found_verify : Option (List ℕ) → Option (List ℕ) → Option (List ℕ) → Option (Option ℕ) → Option Task
 found_verify (Some file) (Some witness) (Some mode) (Some leaf) = Some (verify file witness mode leaf)
 found_verify _ _ _ _ = None
 
-abbrev pub found_words : Option (List ℕ) → Option (List ℕ) → Option (List ℕ) → Option ℕ → Option Bool → Option Asked
+abbrev pub found_words : Option (List ℕ) → Option (List ℕ) → Option (List ℕ) → Option ℕ → Option Bool → Option Task
 found_words (Some file) (Some choices) (Some mode) (Some fuel) (Some ends) = Some (tell file choices mode fuel ends)
 found_words _ _ _ _ _ = None
 
-abbrev pub found_picture : Option (List ℕ) → Option (List ℕ) → Option ℕ → Option Bool → Option (List ℕ) → Option (List ℕ) → Option (List ℕ) → Option Asked
+abbrev pub found_picture : Option (List ℕ) → Option (List ℕ) → Option ℕ → Option Bool → Option (List ℕ) → Option (List ℕ) → Option (List ℕ) → Option Task
 found_picture (Some file) (Some mode) (Some fuel) (Some ends) choices witness words = Some (paint file mode choices witness words fuel ends)
 found_picture _ _ _ _ _ _ _ = None
 
-abbrev pub found_debug : Option (List ℕ) → Option (List ℕ) → Option Bool → Option (List ℕ) → Option (List ℕ) → Option Asked
+abbrev pub found_debug : Option (List ℕ) → Option (List ℕ) → Option Bool → Option (List ℕ) → Option (List ℕ) → Option Task
 found_debug (Some file) (Some mode) (Some ends) choices witness = Some (debug file mode choices witness ends)
 found_debug _ _ _ _ _ = None
 
-abbrev pub found_diagnose : Option (List ℕ) → Option (List ℕ) → Option Bool → Option Asked
-found_diagnose (Some file) (Some mode) (Some strict) = Some (diagnose file mode strict)
-found_diagnose _ _ _ = None
+abbrev pub found_diagnose : Option (List ℕ) → Option (List ℕ) → Option Bool → Option (List ℕ) → Option Task
+found_diagnose (Some file) (Some mode) (Some strict) ranks = Some (diagnose file mode strict ranks)
+found_diagnose _ _ _ _ = None
 
 -- what a command asks for, by the text of each of its items: each must have one, but those that need not be there, and each number lies in its range
+abbrev pub found_task : Tool → (Item → Option (List ℕ)) → Option Task
+found_task tracer text = found_of_file trace (text the_file) (text the_mode)
+found_task debugger text = found_debug (text the_file) (text the_mode) (option_and_then flag_in (text the_ends)) (text the_choices) (text the_laid_witness)
+found_task runner text = found_of_file run (text the_file) (text the_mode)
+found_task server text = found_serve (text the_file) (text the_mode) (option_and_then (number_in 1 most_port) (text the_port)) (option_and_then (number_in 1 most_clients) (text the_clients))
+found_task checker text = found_check (text the_file) (text the_mode) (found_options text)
+found_task verifier text = found_verify (text the_file) (text the_witness_file) (text the_mode) (number_if_given 0 most_leaf (text the_leaf))
+found_task teller text = found_words (text the_file) (text the_choices) (text the_mode) (option_and_then (number_in 1 most_fuel) (text the_fuel)) (option_and_then flag_in (text the_ends))
+found_task translator text = option_map translate (text the_file)
+found_task painter text = found_picture (text the_file) (text the_mode) (option_and_then (number_in 1 most_fuel) (text the_fuel)) (option_and_then flag_in (text the_ends)) (text the_choices) (text the_laid_witness) (text the_words)
+found_task diagnoser text = found_diagnose (text the_file) (text the_mode) (option_and_then flag_in (text the_strict)) (text the_rank_span)
+
+-- for how many ranks, by the text of that item
+abbrev pub found_ranks : (Item → Option (List ℕ)) → Option (Option ℕ)
+found_ranks text = number_if_given 1 most_ranks (text the_ranks)
+
+abbrev pub with_ranks : Option Task → Option (Option ℕ) → Option Asked
+with_ranks (Some task) (Some ranks) = Some (record { task = task; ranks = ranks })
+with_ranks _ _ = None
+
 abbrev pub found : Tool → (Item → Option (List ℕ)) → Option Asked
-found tracer text = found_of_file trace (text the_file) (text the_mode)
-found debugger text = found_debug (text the_file) (text the_mode) (option_and_then flag_in (text the_ends)) (text the_choices) (text the_laid_witness)
-found runner text = found_of_file run (text the_file) (text the_mode)
-found server text = found_serve (text the_file) (text the_mode) (option_and_then (number_in 1 most_port) (text the_port)) (option_and_then (number_in 1 most_clients) (text the_clients))
-found checker text = found_check (text the_file) (text the_mode) (found_options text)
-found verifier text = found_verify (text the_file) (text the_witness_file) (text the_mode) (number_if_given 0 most_leaf (text the_leaf))
-found teller text = found_words (text the_file) (text the_choices) (text the_mode) (option_and_then (number_in 1 most_fuel) (text the_fuel)) (option_and_then flag_in (text the_ends))
-found translator text = option_map translate (text the_file)
-found painter text = found_picture (text the_file) (text the_mode) (option_and_then (number_in 1 most_fuel) (text the_fuel)) (option_and_then flag_in (text the_ends)) (text the_choices) (text the_laid_witness) (text the_words)
-found diagnoser text = found_diagnose (text the_file) (text the_mode) (option_and_then flag_in (text the_strict))
+found t text = with_ranks (found_task t text) (found_ranks text)
 
 abbrev pub or_default : Option (List ℕ) → Option (List ℕ) → Option (List ℕ)
 or_default None value = value
@@ -507,7 +548,7 @@ behind (Some t) words = wanted t words among_options []
 
 -- what all words ask for, without the program's name
 abbrev pub meant : List (List ℕ) → Option Asked
-meant [] = Some plain
+meant [] = Some (record { task = plain; ranks = None })
 meant (word ∷ words) = behind (tool_named word) words
 
 -- what was found of an item: a number and a flag are read by their types
@@ -539,6 +580,24 @@ text_in rows the_choices = first_of (name_of the_choices) rows
 text_in rows the_laid_witness = first_of (name_of the_laid_witness) rows
 text_in rows the_words = first_of (name_of the_words) rows
 text_in rows the_strict = one_of (name_of the_strict) rows
+text_in rows the_ranks = one_of (name_of the_ranks) rows
+text_in rows the_rank_span = first_of (name_of the_rank_span) rows
+
+abbrev pub task_in : Tool → List Row → Option Task
+task_in t rows = found_task t (text_in rows)
+
+abbrev pub task_by : Option Tool → List Row → Option Task
+task_by None rows = None
+task_by (Some t) rows = task_in t rows
+
+-- the task that was found of the command of this name, and for how many ranks
+abbrev pub task_of_command : Option (List ℕ × List Row) → Option Task
+task_of_command None = None
+task_of_command (Some command) = task_by (tool_named command.0) command.1
+
+abbrev pub ranks_of_command : Option (List ℕ × List Row) → Option (Option ℕ)
+ranks_of_command None = None
+ranks_of_command (Some command) = found_ranks (text_in command.1)
 
 abbrev pub found_in : Tool → List Row → Option Asked
 found_in t rows = found t (text_in rows)

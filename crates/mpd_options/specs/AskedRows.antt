@@ -2,11 +2,11 @@
 use Rattle.std.specs.Prelude.{◌≡◌, ℕ, Bool, true, false, List, [], ◌∷◌, map, Option, Some, None, is_some, codes, refl}
 use Rattle.std.specs.Option.{unwrap_or}
 use Rattle.std.specs.Str.{chars}
-use Rattle.mpd_options.specs.Asked.{Asked, plain, trace, debug, run, serve, check, verify, tell, meant}
+use Rattle.mpd_options.specs.Asked.{Task, as_it_stands, check, debug, meant, plain, run, serve, tell, trace, verify}
 use Rattle.mpd_options.specs.declared.options.CheckOptions.{CheckOptions}
 
 abbrev Row : Type 0
-Row = List (List ℕ) × Option Asked
+Row = List (List ℕ) × Option Task
 
 -- words behind `trace`, and the file and the mode that they name
 abbrev names : List (List ℕ) → List ℕ → List ℕ → Row
@@ -559,6 +559,6 @@ rows =
     ∷ nothing (codes "verify" ∷ codes "a" ∷ codes "b" ∷ codes "--laid_witness=w" ∷ [])
     ∷ []
 
-pub worked : map (λ (row : Row). meant row.0) rows ≡ map (λ (row : Row). row.1) rows
+pub worked : map (λ (row : Row). meant row.0) rows ≡ map (λ (row : Row). as_it_stands row.1) rows
 unfolding chars
 worked = refl

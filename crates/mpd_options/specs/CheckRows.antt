@@ -9,12 +9,12 @@ use Rattle.clap.specs.Takes.{flags_pass, walk_passes}
 use Rattle.clap.specs.Walk.{bundle_met, walked}
 use Rattle.clap.specs.declared.error.kind.ErrorKind.{ErrorKind}
 use Rattle.clap.specs.declared.error.kind.ErrorKind.TheVariants as kind
-use Rattle.mpd_options.specs.Asked.{Asked, check, meant}
+use Rattle.mpd_options.specs.Asked.{Task, as_it_stands, check, meant}
 use Rattle.mpd_options.specs.Program.{Lies, mpdbg_app, only_deadlock}
 use Rattle.mpd_options.specs.declared.options.CheckOptions.{CheckOptions}
 
 abbrev Row : Type 0
-Row = List (List ℕ) × Option Asked
+Row = List (List ℕ) × Option Task
 
 -- how deadlocks are looked for where nothing is said of it
 abbrev by_default : CheckOptions
@@ -275,7 +275,7 @@ rows =
     ∷ nothing (codes "--sample" ∷ codes "5" ∷ codes "check" ∷ codes "a" ∷ [])
     ∷ []
 
-pub worked_checks : map (λ (row : Row). meant row.0) rows ≡ map (λ (row : Row). row.1) rows
+pub worked_checks : map (λ (row : Row). meant row.0) rows ≡ map (λ (row : Row). as_it_stands row.1) rows
 unfolding chars
 worked_checks = refl
 

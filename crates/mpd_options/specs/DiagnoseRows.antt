@@ -8,19 +8,19 @@ use Rattle.clap.specs.Takes.{flags_pass, walk_passes}
 use Rattle.clap.specs.Walk.{bundle_met, walked}
 use Rattle.clap.specs.declared.error.kind.ErrorKind.{ErrorKind}
 use Rattle.clap.specs.declared.error.kind.ErrorKind.TheVariants as kind
-use Rattle.mpd_options.specs.Asked.{Asked, diagnose, meant, trace}
+use Rattle.mpd_options.specs.Asked.{Task, as_it_stands, diagnose, meant, trace}
 use Rattle.mpd_options.specs.Program.{Lies, mpdbg_app, only_deadlock}
 
 abbrev Row : Type 0
-Row = List (List ℕ) × Option Asked
+Row = List (List ℕ) × Option Task
 
 -- words behind `diagnose`, and the file and the mode that they name, without `--strict`
 abbrev says : List (List ℕ) → List ℕ → List ℕ → Row
-says words file mode = (codes "diagnose" ∷ words, Some (diagnose file mode false))
+says words file mode = (codes "diagnose" ∷ words, Some (diagnose file mode false None))
 
 -- and with it
 abbrev says_strictly : List (List ℕ) → List ℕ → List ℕ → Row
-says_strictly words file mode = (codes "diagnose" ∷ words, Some (diagnose file mode true))
+says_strictly words file mode = (codes "diagnose" ∷ words, Some (diagnose file mode true None))
 
 -- words behind `diagnose a` that make them ask for nothing
 abbrev errs : List (List ℕ) → Row
@@ -102,7 +102,7 @@ rows =
     ∷ nothing (codes "debug" ∷ codes "a" ∷ codes "--strict" ∷ [])
     ∷ []
 
-pub worked_diagnoses : map (λ (row : Row). meant row.0) rows ≡ map (λ (row : Row). row.1) rows
+pub worked_diagnoses : map (λ (row : Row). meant row.0) rows ≡ map (λ (row : Row). as_it_stands row.1) rows
 unfolding chars
 worked_diagnoses = refl
 

@@ -8,5 +8,6 @@ pub mod FaultRows
 pub mod Help
 pub mod Numbers
 pub mod PictureRows
+pub mod RanksRows
 pub mod Program
 pub mod Refused

@@ -8,11 +8,11 @@ use Rattle.clap.specs.Takes.{flags_pass, walk_passes}
 use Rattle.clap.specs.Walk.{bundle_met, walked}
 use Rattle.clap.specs.declared.error.kind.ErrorKind.{ErrorKind}
 use Rattle.clap.specs.declared.error.kind.ErrorKind.TheVariants as kind
-use Rattle.mpd_options.specs.Asked.{Asked, meant, paint, trace, translate}
+use Rattle.mpd_options.specs.Asked.{Task, as_it_stands, meant, paint, trace, translate}
 use Rattle.mpd_options.specs.Program.{Lies, mpdbg_app, only_deadlock}
 
 abbrev Row : Type 0
-Row = List (List ℕ) × Option Asked
+Row = List (List ℕ) × Option Task
 
 -- words behind `c`, and the file that they name
 abbrev writes : List (List ℕ) → List ℕ → Row
@@ -178,7 +178,7 @@ rows =
     ∷ nothing (codes "words" ∷ codes "a" ∷ codes "--choices" ∷ codes "0" ∷ codes "--words" ∷ codes "w" ∷ [])
     ∷ []
 
-pub worked_pictures : map (λ (row : Row). meant row.0) rows ≡ map (λ (row : Row). row.1) rows
+pub worked_pictures : map (λ (row : Row). meant row.0) rows ≡ map (λ (row : Row). as_it_stands row.1) rows
 unfolding chars
 worked_pictures = refl
 

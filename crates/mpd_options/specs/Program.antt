@@ -7,7 +7,7 @@ use Rattle.clap.specs.declared.builder.value_parser.ValueParser.{ValueParser}
 use Rattle.clap.specs.declared.builder.value_parser.ValueParser.TheVariants.{Names, Unsigned}
 use Rattle.mpd_options.specs.declared.command.Topic.{Topic}
 use Rattle.mpd_options.specs.declared.command.Topic.TheVariants as topic
-use Rattle.mpd_options.specs.Asked.{most_clients, most_fuel, most_leaf, most_modes, most_piece, most_port, most_runs, most_sample, most_seed, most_split, most_states, most_workers}
+use Rattle.mpd_options.specs.Asked.{most_clients, most_fuel, most_leaf, most_modes, most_piece, most_port, most_ranks, most_runs, most_sample, most_seed, most_split, most_states, most_workers}
 
 -- the word of a file, which must be there
 abbrev pub file_rule : List ℕ → Rule
@@ -35,6 +35,13 @@ required_number_rule name most = record (valued_rule name (Unsigned 1 most)) { r
 
 abbrev pub flag_rule : List ℕ → Rule
 flag_rule name = record (new_rule name) { long = Some name; action = Some SetTrue }
+
+abbrev pub ranks_rule : Rule
+ranks_rule = valued_rule (codes "ranks") (Unsigned 1 most_ranks)
+
+-- the same option of `diagnose`, whose word is read behind the others
+abbrev pub span_rule : Rule
+span_rule = record (new_rule (codes "rank_span")) { long = Some (codes "ranks"); value_names = 1; action = Some Set }
 
 abbrev pub modes_rule : Rule
 modes_rule = valued_rule (codes "modes") (Unsigned 0 most_modes)
@@ -126,12 +133,16 @@ clients_rule = required_number_rule (codes "clients") most_clients
 abbrev pub file_app : List ℕ → App
 file_app name = with_rule (new_app name) (file_rule (codes "FILE"))
 
+-- for a number of ranks
+abbrev pub ranked_app : List ℕ → App
+ranked_app name = with_rule (file_app name) ranks_rule
+
 -- and in a mode
 abbrev pub script_app : List ℕ → App
-script_app name = with_rule (file_app name) mode_rule
+script_app name = with_rule (ranked_app name) mode_rule
 
 abbrev pub diagnose_app : App
-diagnose_app = with_rule (script_app (codes "diagnose")) strict_rule
+diagnose_app = with_rule (with_rule (with_rule (file_app (codes "diagnose")) span_rule) mode_rule) strict_rule
 
 abbrev pub trace_app : App
 trace_app = script_app (codes "trace")
@@ -168,7 +179,7 @@ abbrev pub words_app : App
 words_app = with_rule (with_rule (with_rule (script_app (codes "words")) choices_rule) fuel_rule) ends_rule
 
 abbrev pub translate_app : App
-translate_app = file_app (codes "c")
+translate_app = ranked_app (codes "c")
 
 abbrev pub picture_app : App
 picture_app = with_rule (with_rule (with_rule (with_rule (with_rule (script_app (codes "picture")) (word_rule (codes "choices"))) laid_witness_rule) (word_rule (codes "words"))) fuel_rule) ends_rule

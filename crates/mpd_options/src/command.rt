@@ -6,17 +6,19 @@ ghost use Rattle.clap.specs.Words.{App, Rule, app_of, rule_of, with_rule, with_s
 ghost use Rattle.clap.specs.declared.builder.command.Command.TheViews.{out-Command as fields_of};
 ghost use Rattle.mpd_options.specs.Help.{example_of};
 ghost use Rattle.mpd_options.specs.declared.command.Topic.TheVariants.{Check, Debug, Diagnose, Picture, Program, Run, Serve, Trace, Translate, Verify, Words};
-ghost use Rattle.mpd_options.specs.Program.{check_app, choices_rule, chosen_app, clients_rule, command_app, complete_rule, debug_app, diagnose_app, ends_rule, explain_rule, file_app, file_rule, flag_rule, fuel_rule, group_rule, laid_witness_rule, leaf_rule, mode_rule, modes_rule, mpdbg_app, named_app, number_rule, outcomes_rule, picture_app, piece_rule, pieces_rule, port_rule, required_number_rule, run_app, runs_rule, sample_rule, script_app, seed_rule, serve_app, split_rule, states_rule, strict_rule, told_app, trace_app, translate_app, until_rule, valued_rule, verify_app, witness_rule, word_rule, words_app, work_app, workers_rule};
+ghost use Rattle.mpd_options.specs.Program.{check_app, choices_rule, chosen_app, clients_rule, command_app, complete_rule, debug_app, diagnose_app, ends_rule, explain_rule, file_app, file_rule, flag_rule, fuel_rule, group_rule, laid_witness_rule, leaf_rule, mode_rule, modes_rule, mpdbg_app, named_app, number_rule, outcomes_rule, picture_app, piece_rule, pieces_rule, port_rule, ranked_app, ranks_rule, required_number_rule, run_app, runs_rule, sample_rule, script_app, seed_rule, serve_app, span_rule, split_rule, states_rule, strict_rule, told_app, trace_app, translate_app, until_rule, valued_rule, verify_app, witness_rule, word_rule, words_app, work_app, workers_rule};
 
 use crate::names::{
     CHECK, CHOICES, CLIENTS, COMPLETE, DEBUG, DIAGNOSE, ENDS, EXPLAIN, FILE, FUEL, GROUP,
-    LAID_WITNESS, LEAF, MODE, MODES, OUTCOMES, PICTURE, PIECE, PIECES, PORT, RUN, RUNS, SAMPLE,
-    SEED, SERVE, SPLIT, STATES, STRICT, TRACE, TRANSLATE, UNTIL, VERIFY, WITNESS, WITNESS_FILE,
-    WORDS, WORDS_FILE, WORKERS,
+    LAID_WITNESS, LEAF, MODE, MODES, OUTCOMES, PICTURE, PIECE, PIECES, PORT, RANK_SPAN, RANKS, RUN,
+    RUNS, SAMPLE, SEED, SERVE, SPLIT, STATES, STRICT, TRACE, TRANSLATE, UNTIL, VERIFY, WITNESS,
+    WITNESS_FILE, WORDS, WORDS_FILE, WORKERS,
 };
 use clap::builder::ValueParser;
 use clap::{Arg, ArgAction, Command};
 use std::alloc::{AllocError, Global};
+
+const MOST_RANKS: u64 = 16;
 
 const MOST_PORT: u64 = 65_535;
 
@@ -60,7 +62,8 @@ const DIAGNOSE_ABOUT: &str =
 
 const DIAGNOSE_EXAMPLE: &str = "Examples:
   ./mpdbg diagnose examples/race.mpd
-  ./mpdbg diagnose examples/exchange.mpd --mode buffered --strict";
+  ./mpdbg diagnose examples/exchange.mpd --mode buffered --strict
+  ./mpdbg diagnose examples/race.mpd --ranks 2-5";
 
 const TRACE_ABOUT: &str = "Trace the script of a file";
 
@@ -229,6 +232,30 @@ fn mode_option<'a>(alloc: Global) -> Arg<'a>
 {
     let help = "How standard sends behave: rendezvous, buffered, or slots:K with K from 0 to 65536";
     word_option(alloc, MODE, "M", help).default_value("rendezvous")
+}
+
+/// `--ranks N`.
+fn ranks_option<'a>(alloc: Global) -> Arg<'a>
+    ensures rule { rule_of result ≡ ranks_rule }
+    ensures own { result.global ≡ false }
+{
+    let numbers = ValueParser::unsigned(1, MOST_RANKS);
+    let help = "How many ranks run the script, 1 to 16, in place of the number in it";
+    valued_option(alloc, RANKS, "N", numbers, help)
+}
+
+/// `--ranks N` or `--ranks N-M` of `diagnose`.
+fn span_option<'a>(alloc: Global) -> Arg<'a>
+    ensures rule { rule_of result ≡ span_rule }
+    ensures own { result.global ≡ false }
+{
+    Arg::new(alloc, RANK_SPAN)
+        .long(RANKS)
+        .value_name("N[-M]")
+        .action(ArgAction::Set)
+        .help(
+            "How many ranks run the script, 1 to 16, in place of the number in it; N-M tells each number from N to M by a line",
+        )
 }
 
 /// An option with a value, which may be left out.
@@ -570,25 +597,35 @@ fn file_command<'a>(alloc: Global, name: &'a str) -> Made<'a>
     command.arg(file_word(alloc, FILE, "The script"))
 }
 
-/// A command on the script of a file, in a mode: `NAME FILE --mode M`.
+/// A command on the script of a file, for a number of ranks: `NAME FILE --ranks N`.
+fn ranked_command<'a>(alloc: Global, name: &'a str) -> Made<'a>
+    ensures app { IfOk result (λ c. app_of c ≡ ranked_app name.entry.now) }
+    ensures own { IfOk result (λ c. (fields_of c).has_globals ≡ false) }
+{
+    with_arg(file_command(alloc, name), ranks_option(alloc))
+}
+
+/// And in a mode: `NAME FILE --ranks N --mode M`.
 fn script_command<'a>(alloc: Global, name: &'a str) -> Made<'a>
     ensures app { IfOk result (λ c. app_of c ≡ script_app name.entry.now) }
     ensures own { IfOk result (λ c. (fields_of c).has_globals ≡ false) }
 {
-    with_arg(file_command(alloc, name), mode_option(alloc))
+    with_arg(ranked_command(alloc, name), mode_option(alloc))
 }
 
-/// `mpdbg diagnose FILE --mode M --strict`.
+/// `mpdbg diagnose FILE --ranks N-M --mode M --strict`.
 fn diagnose_command<'a>(alloc: Global) -> Made<'a>
     ensures app { IfOk result (λ c. app_of c ≡ diagnose_app) }
     ensures own { IfOk result (λ c. (fields_of c).has_globals ≡ false) }
     ensures example { IfOk result (λ c. option_map (λ (t : Bor (List ℕ)). t.now) (fields_of c).after_help ≡ Some (example_of Diagnose)) }
 {
-    let command = with_arg(script_command(alloc, DIAGNOSE), strict_flag(alloc));
+    let command = with_arg(file_command(alloc, DIAGNOSE), span_option(alloc));
+    let command = with_arg(command, mode_option(alloc));
+    let command = with_arg(command, strict_flag(alloc));
     with_help(command, Topic::Diagnose)
 }
 
-/// `mpdbg trace FILE --mode M`.
+/// `mpdbg trace FILE --ranks N --mode M`.
 fn trace_command<'a>(alloc: Global) -> Made<'a>
     ensures app { IfOk result (λ c. app_of c ≡ trace_app) }
     ensures own { IfOk result (λ c. (fields_of c).has_globals ≡ false) }
@@ -597,7 +634,7 @@ fn trace_command<'a>(alloc: Global) -> Made<'a>
     with_help(script_command(alloc, TRACE), Topic::Trace)
 }
 
-/// `mpdbg debug FILE --mode M --choices C --witness WITNESS --ends`.
+/// `mpdbg debug FILE --ranks N --mode M --choices C --witness WITNESS --ends`.
 fn debug_command<'a>(alloc: Global) -> Made<'a>
     ensures app { IfOk result (λ c. app_of c ≡ debug_app) }
     ensures own { IfOk result (λ c. (fields_of c).has_globals ≡ false) }
@@ -613,7 +650,7 @@ fn debug_command<'a>(alloc: Global) -> Made<'a>
     with_help(command, Topic::Debug)
 }
 
-/// `mpdbg run FILE --mode M`.
+/// `mpdbg run FILE --ranks N --mode M`.
 fn run_command<'a>(alloc: Global) -> Made<'a>
     ensures app { IfOk result (λ c. app_of c ≡ run_app) }
     ensures own { IfOk result (λ c. (fields_of c).has_globals ≡ false) }
@@ -622,7 +659,7 @@ fn run_command<'a>(alloc: Global) -> Made<'a>
     with_help(script_command(alloc, RUN), Topic::Run)
 }
 
-/// `mpdbg serve FILE --mode M --port P --clients N`.
+/// `mpdbg serve FILE --ranks N --mode M --port P --clients N`.
 fn serve_command<'a>(alloc: Global) -> Made<'a>
     ensures app { IfOk result (λ c. app_of c ≡ serve_app) }
     ensures own { IfOk result (λ c. (fields_of c).has_globals ≡ false) }
@@ -633,7 +670,7 @@ fn serve_command<'a>(alloc: Global) -> Made<'a>
     with_help(command, Topic::Serve)
 }
 
-/// `mpdbg check FILE --mode M --modes N --runs N --fuel N --split K --workers N`.
+/// `mpdbg check FILE --ranks N --mode M --modes N --runs N --fuel N --split K --workers N`.
 fn work_command<'a>(alloc: Global) -> Made<'a>
     ensures app { IfOk result (λ c. app_of c ≡ work_app) }
     ensures own { IfOk result (λ c. (fields_of c).has_globals ≡ false) }
@@ -680,7 +717,7 @@ fn check_command<'a>(alloc: Global, until: &'a [&'a str]) -> Made<'a>
     with_help(command, Topic::Check)
 }
 
-/// `mpdbg verify FILE WITNESS --mode M --leaf N`.
+/// `mpdbg verify FILE WITNESS --ranks N --mode M --leaf N`.
 fn verify_command<'a>(alloc: Global) -> Made<'a>
     ensures app { IfOk result (λ c. app_of c ≡ verify_app) }
     ensures own { IfOk result (λ c. (fields_of c).has_globals ≡ false) }
@@ -692,7 +729,7 @@ fn verify_command<'a>(alloc: Global) -> Made<'a>
     with_help(command, Topic::Verify)
 }
 
-/// `mpdbg words FILE --mode M --choices C --fuel N --ends`.
+/// `mpdbg words FILE --ranks N --mode M --choices C --fuel N --ends`.
 fn words_command<'a>(alloc: Global) -> Made<'a>
     ensures app { IfOk result (λ c. app_of c ≡ words_app) }
     ensures own { IfOk result (λ c. (fields_of c).has_globals ≡ false) }
@@ -704,16 +741,16 @@ fn words_command<'a>(alloc: Global) -> Made<'a>
     with_help(command, Topic::Words)
 }
 
-/// `mpdbg c FILE`.
+/// `mpdbg c FILE --ranks N`.
 fn translate_command<'a>(alloc: Global) -> Made<'a>
     ensures app { IfOk result (λ c. app_of c ≡ translate_app) }
     ensures own { IfOk result (λ c. (fields_of c).has_globals ≡ false) }
     ensures example { IfOk result (λ c. option_map (λ (t : Bor (List ℕ)). t.now) (fields_of c).after_help ≡ Some (example_of Translate)) }
 {
-    with_help(file_command(alloc, TRANSLATE), Topic::Translate)
+    with_help(ranked_command(alloc, TRANSLATE), Topic::Translate)
 }
 
-/// `mpdbg picture FILE --mode M --choices C --witness WITNESS --words WORDS --fuel N --ends`.
+/// `mpdbg picture FILE --ranks N --mode M --choices C --witness WITNESS --words WORDS --fuel N --ends`.
 fn picture_command<'a>(alloc: Global) -> Made<'a>
     ensures app { IfOk result (λ c. app_of c ≡ picture_app) }
     ensures own { IfOk result (λ c. (fields_of c).has_globals ≡ false) }

@@ -8,4 +8,4 @@ pub mod options;
 
 pub use clash::{CheckOption, Clash};
 pub use command::Topic;
-pub use options::{CheckOptions, Options, UsageFault, read_options};
+pub use options::{CheckOptions, CommandLine, Options, UsageFault, read_options};

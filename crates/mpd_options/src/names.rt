@@ -6,6 +6,12 @@ pub(crate) const FILE: &str = "FILE";
 /// The option of the mode, without its hyphens.
 pub(crate) const MODE: &str = "mode";
 
+/// The option of for how many ranks a script is run, without its hyphens.
+pub(crate) const RANKS: &str = "ranks";
+
+/// What `clap` knows the same option of `diagnose` by, which takes several numbers.
+pub(crate) const RANK_SPAN: &str = "rank_span";
+
 /// The option of up to how many slots modes are tried, without its hyphens.
 pub(crate) const MODES: &str = "modes";
 

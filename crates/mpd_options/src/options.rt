@@ -1,16 +1,16 @@
 //! What the words of a command line ask for.
 ghost use Rattle.std.specs.Prelude.{◌≡◌, ◌<◌, IfOk, IfErr, Some, true, is_some, length, map, option_and_then};
 ghost use Rattle.clap.specs.Words.{first_of, found_of, one_of, rows_of, subcommand_rows_of};
-ghost use Rattle.mpd_options.specs.Asked.{IsFound, IsInRange, asked, checker, debugger, diagnoser, found_in, found_of_command, found_options, meant, most_seed, number_if_given, painter, runner, server, teller, text_in, tracer, translator, until_bad_in, verifier};
+ghost use Rattle.mpd_options.specs.Asked.{IsFound, IsLineInRange, asked, checker, debugger, diagnoser, found_of_command, found_options, meant, most_seed, number_if_given, painter, ranks_of_command, runner, server, task_in, task_of, task_of_command, teller, text_in, tracer, translator, until_bad_in, verifier};
 ghost use Rattle.mpd_options.specs.Numbers.{flag_in, most_usize, number_in};
 ghost use Rattle.mpd_options.specs.Refused.{IsRefused, is_answer, usage_of, usage_status, usage_text};
 
 use crate::command::{USUAL_RUNS, USUAL_SPLIT, only_deadlock, program};
 use crate::names::{
     CHECK, CHOICES, CLIENTS, COMPLETE, DEBUG, DIAGNOSE, ENDS, EXPLAIN, FILE, FUEL, GROUP,
-    LAID_WITNESS, LEAF, MODE, MODES, OUTCOMES, PICTURE, PIECE, PIECES, PORT, RUN, RUNS, SAMPLE,
-    SEED, SERVE, SPLIT, STATES, STRICT, TRACE, TRANSLATE, UNTIL, VERIFY, WITNESS, WITNESS_FILE,
-    WORDS, WORDS_FILE, WORKERS,
+    LAID_WITNESS, LEAF, MODE, MODES, OUTCOMES, PICTURE, PIECE, PIECES, PORT, RANK_SPAN, RANKS, RUN,
+    RUNS, SAMPLE, SEED, SERVE, SPLIT, STATES, STRICT, TRACE, TRANSLATE, UNTIL, VERIFY, WITNESS,
+    WITNESS_FILE, WORDS, WORDS_FILE, WORKERS,
 };
 use clap::ArgMatches;
 use clap::error::ErrorKind;
@@ -79,6 +79,8 @@ pub enum Options<'a> {
         mode: &'a str,
         /// Whether the status is to tell that messages can be left over.
         strict: bool,
+        /// The word of how many ranks run the script, one number or several, whatever it is; there need be none.
+        ranks: Option<&'a str>,
     },
     /// Trace the script of a file, by trace words on standard input.
     Trace {
@@ -175,6 +177,15 @@ pub enum Options<'a> {
     },
 }
 
+/// A whole command line: what it asks for, and for how many ranks.
+#[derive(Clone, Copy)]
+pub struct CommandLine<'a> {
+    /// What it asks for.
+    pub asked: Options<'a>,
+    /// How many ranks run the script, 1 to 16, where that is said; else it is the number in the script.
+    pub ranks: Option<usize>,
+}
+
 /// Why a command line asks for nothing that can be done. Its `Display` is the text for the user, with its line feeds.
 #[derive(Drop)]
 pub enum UsageFault {
@@ -261,8 +272,8 @@ fn word_in<'a>(matches: &ArgMatches<'a>, name: &str) -> &'a str
 
 /// What the words behind `trace` ask for.
 fn trace_in<'a>(trace: &ArgMatches<'a>) -> Options<'a>
-    requires { is_some (found_in tracer (rows_of (found_of trace.now))) ≡ true }
-    ensures { Some (asked result) ≡ found_in tracer (rows_of (found_of trace.now)) }
+    requires { is_some (task_in tracer (rows_of (found_of trace.now))) ≡ true }
+    ensures { Some (task_of result) ≡ task_in tracer (rows_of (found_of trace.now)) }
 {
     let file = word_in(trace, FILE);
     let mode = word_in(trace, MODE);
@@ -271,8 +282,8 @@ fn trace_in<'a>(trace: &ArgMatches<'a>) -> Options<'a>
 
 /// What the words behind `debug` ask for.
 fn debug_in<'a>(debug: &ArgMatches<'a>) -> Options<'a>
-    requires { is_some (found_in debugger (rows_of (found_of debug.now))) ≡ true }
-    ensures { Some (asked result) ≡ found_in debugger (rows_of (found_of debug.now)) }
+    requires { is_some (task_in debugger (rows_of (found_of debug.now))) ≡ true }
+    ensures { Some (task_of result) ≡ task_in debugger (rows_of (found_of debug.now)) }
 {
     let file = word_in(debug, FILE);
     let mode = word_in(debug, MODE);
@@ -290,23 +301,25 @@ fn debug_in<'a>(debug: &ArgMatches<'a>) -> Options<'a>
 
 /// What the words behind `diagnose` ask for.
 fn diagnose_in<'a>(diagnose: &ArgMatches<'a>) -> Options<'a>
-    requires { is_some (found_in diagnoser (rows_of (found_of diagnose.now))) ≡ true }
-    ensures { Some (asked result) ≡ found_in diagnoser (rows_of (found_of diagnose.now)) }
+    requires { is_some (task_in diagnoser (rows_of (found_of diagnose.now))) ≡ true }
+    ensures { Some (task_of result) ≡ task_in diagnoser (rows_of (found_of diagnose.now)) }
 {
     let file = word_in(diagnose, FILE);
     let mode = word_in(diagnose, MODE);
     let is_strict = flag_of(diagnose, STRICT);
+    let span_word = diagnose.get_str(RANK_SPAN);
     Options::Diagnose {
         file,
         mode,
         strict: is_strict,
+        ranks: span_word,
     }
 }
 
 /// What the words behind `run` ask for.
 fn run_in<'a>(run: &ArgMatches<'a>) -> Options<'a>
-    requires { is_some (found_in runner (rows_of (found_of run.now))) ≡ true }
-    ensures { Some (asked result) ≡ found_in runner (rows_of (found_of run.now)) }
+    requires { is_some (task_in runner (rows_of (found_of run.now))) ≡ true }
+    ensures { Some (task_of result) ≡ task_in runner (rows_of (found_of run.now)) }
 {
     let file = word_in(run, FILE);
     let mode = word_in(run, MODE);
@@ -315,8 +328,8 @@ fn run_in<'a>(run: &ArgMatches<'a>) -> Options<'a>
 
 /// What the words behind `serve` ask for.
 fn serve_in<'a>(serve: &ArgMatches<'a>) -> Options<'a>
-    requires { is_some (found_in server (rows_of (found_of serve.now))) ≡ true }
-    ensures { Some (asked result) ≡ found_in server (rows_of (found_of serve.now)) }
+    requires { is_some (task_in server (rows_of (found_of serve.now))) ≡ true }
+    ensures { Some (task_of result) ≡ task_in server (rows_of (found_of serve.now)) }
 {
     let file = word_in(serve, FILE);
     let mode = word_in(serve, MODE);
@@ -424,8 +437,8 @@ fn check_options_in<'a>(check: &ArgMatches<'a>) -> CheckOptions
 
 /// What the words behind `check` ask for.
 fn check_in<'a>(check: &ArgMatches<'a>) -> Options<'a>
-    requires { is_some (found_in checker (rows_of (found_of check.now))) ≡ true }
-    ensures { Some (asked result) ≡ found_in checker (rows_of (found_of check.now)) }
+    requires { is_some (task_in checker (rows_of (found_of check.now))) ≡ true }
+    ensures { Some (task_of result) ≡ task_in checker (rows_of (found_of check.now)) }
 {
     let file = word_in(check, FILE);
     let mode = word_in(check, MODE);
@@ -439,8 +452,8 @@ fn check_in<'a>(check: &ArgMatches<'a>) -> Options<'a>
 
 /// What the words behind `verify` ask for.
 fn verify_in<'a>(verify: &ArgMatches<'a>) -> Options<'a>
-    requires { is_some (found_in verifier (rows_of (found_of verify.now))) ≡ true }
-    ensures { Some (asked result) ≡ found_in verifier (rows_of (found_of verify.now)) }
+    requires { is_some (task_in verifier (rows_of (found_of verify.now))) ≡ true }
+    ensures { Some (task_of result) ≡ task_in verifier (rows_of (found_of verify.now)) }
 {
     let file = word_in(verify, FILE);
     let witness = word_in(verify, WITNESS_FILE);
@@ -456,8 +469,8 @@ fn verify_in<'a>(verify: &ArgMatches<'a>) -> Options<'a>
 
 /// What the words behind `words` ask for.
 fn words_in<'a>(words: &ArgMatches<'a>) -> Options<'a>
-    requires { is_some (found_in teller (rows_of (found_of words.now))) ≡ true }
-    ensures { Some (asked result) ≡ found_in teller (rows_of (found_of words.now)) }
+    requires { is_some (task_in teller (rows_of (found_of words.now))) ≡ true }
+    ensures { Some (task_of result) ≡ task_in teller (rows_of (found_of words.now)) }
 {
     let file = word_in(words, FILE);
     let choices = word_in(words, CHOICES);
@@ -475,8 +488,8 @@ fn words_in<'a>(words: &ArgMatches<'a>) -> Options<'a>
 
 /// What the words behind `c` ask for.
 fn translate_in<'a>(translate: &ArgMatches<'a>) -> Options<'a>
-    requires { is_some (found_in translator (rows_of (found_of translate.now))) ≡ true }
-    ensures { Some (asked result) ≡ found_in translator (rows_of (found_of translate.now)) }
+    requires { is_some (task_in translator (rows_of (found_of translate.now))) ≡ true }
+    ensures { Some (task_of result) ≡ task_in translator (rows_of (found_of translate.now)) }
 {
     let file = word_in(translate, FILE);
     Options::Translate { file }
@@ -484,8 +497,8 @@ fn translate_in<'a>(translate: &ArgMatches<'a>) -> Options<'a>
 
 /// What the words behind `picture` ask for.
 fn picture_in<'a>(picture: &ArgMatches<'a>) -> Options<'a>
-    requires { is_some (found_in painter (rows_of (found_of picture.now))) ≡ true }
-    ensures { Some (asked result) ≡ found_in painter (rows_of (found_of picture.now)) }
+    requires { is_some (task_in painter (rows_of (found_of picture.now))) ≡ true }
+    ensures { Some (task_of result) ≡ task_in painter (rows_of (found_of picture.now)) }
 {
     let file = word_in(picture, FILE);
     let mode = word_in(picture, MODE);
@@ -507,8 +520,8 @@ fn picture_in<'a>(picture: &ArgMatches<'a>) -> Options<'a>
 
 /// What the command that was found asks for.
 fn options_in<'a>(matches: &ArgMatches<'a>) -> Options<'a>
-    requires { is_some (found_of_command (subcommand_rows_of matches.now)) ≡ true }
-    ensures { Some (asked result) ≡ found_of_command (subcommand_rows_of matches.now) }
+    requires { is_some (task_of_command (subcommand_rows_of matches.now)) ≡ true }
+    ensures { Some (task_of result) ≡ task_of_command (subcommand_rows_of matches.now) }
 {
     if let Some(trace) = matches.subcommand_matches(TRACE) {
         return trace_in(trace);
@@ -543,6 +556,28 @@ fn options_in<'a>(matches: &ArgMatches<'a>) -> Options<'a>
     picture_in(picture)
 }
 
+/// For how many ranks the command that was found is meant, where that is said.
+fn ranks_in(matches: &ArgMatches<'_>) -> Option<usize>
+    requires { is_some (ranks_of_command (subcommand_rows_of matches.now)) ≡ true }
+    ensures { ranks_of_command (subcommand_rows_of matches.now) ≡ Some result }
+{
+    let Some((_, command)) = matches.subcommand() else {
+        unreachable!()
+    };
+    given_of(command, RANKS)
+}
+
+/// What the command that was found asks for, and for how many ranks.
+fn line_in<'a>(matches: &ArgMatches<'a>) -> CommandLine<'a>
+    requires { is_some (found_of_command (subcommand_rows_of matches.now)) ≡ true }
+    ensures { Some (asked result) ≡ found_of_command (subcommand_rows_of matches.now) }
+{
+    CommandLine {
+        asked: options_in(matches),
+        ranks: ranks_in(matches),
+    }
+}
+
 /// What `clap` finds in words of which there are some.
 fn found_by_words<'a, S: AsStr>(alloc: Global, words: &'a [S]) -> Result<ArgMatches<'a>, UsageFault>
     requires { 0 < length words.now }
@@ -557,14 +592,17 @@ fn found_by_words<'a, S: AsStr>(alloc: Global, words: &'a [S]) -> Result<ArgMatc
 }
 
 /// What words ask for, of which there are some.
-fn options_by_words<'a, S: AsStr>(alloc: Global, words: &'a [S]) -> Result<Options<'a>, UsageFault>
+fn options_by_words<'a, S: AsStr>(
+    alloc: Global,
+    words: &'a [S],
+) -> Result<CommandLine<'a>, UsageFault>
     requires { 0 < length words.now }
-    ensures in_range { IfOk result IsInRange }
-    ensures ok { IfOk result (λ options. meant (map S.text words.entry.now) ≡ Some (asked options)) }
+    ensures in_range { IfOk result IsLineInRange }
+    ensures ok { IfOk result (λ line. meant (map S.text words.entry.now) ≡ Some (asked line)) }
     ensures err { IfErr result (λ fault. IsRefused fault (map S.text words.entry.now)) }
 {
     match found_by_words(alloc, words) {
-        Ok(matches) => Ok(options_in(&matches)),
+        Ok(matches) => Ok(line_in(&matches)),
         Err(fault) => Err(fault),
     }
 }
@@ -572,13 +610,19 @@ fn options_by_words<'a, S: AsStr>(alloc: Global, words: &'a [S]) -> Result<Optio
 /// Reads the words of a command line, without the program's own name (docs/FORMATS.md, "The command line"): what they ask
 /// for, with the words of files and mode as they were given. An `Err` is `Usage` exactly where they ask for nothing that can be
 /// done, with the kind of fault that `clap` has for these words, or `Memory`.
-pub fn read_options<'a, S: AsStr>(alloc: Global, words: &'a [S]) -> Result<Options<'a>, UsageFault>
-    ensures in_range { IfOk result IsInRange }
-    ensures ok { IfOk result (λ options. meant (map S.text words.entry.now) ≡ Some (asked options)) }
+pub fn read_options<'a, S: AsStr>(
+    alloc: Global,
+    words: &'a [S],
+) -> Result<CommandLine<'a>, UsageFault>
+    ensures in_range { IfOk result IsLineInRange }
+    ensures ok { IfOk result (λ line. meant (map S.text words.entry.now) ≡ Some (asked line)) }
     ensures err { IfErr result (λ fault. IsRefused fault (map S.text words.entry.now)) }
 {
     if words.is_empty() {
-        return Ok(Options::Plain);
+        return Ok(CommandLine {
+            asked: Options::Plain,
+            ranks: None,
+        });
     }
     options_by_words(alloc, words)
 }

@@ -1,13 +1,17 @@
 //! `mpdbg diagnose`: whether the runs of a script can hang or trap, how, and where that was decided (docs/FORMATS.md, "Diagnosis").
 
-ghost use Rattle.std.specs.Prelude.{◌≡◌};
+ghost use Rattle.std.specs.Prelude.{◌≡◌, Some};
+ghost use Rattle.mpd_ranks.specs.Ranks.{AreRanks};
+ghost use Rattle.mpd_ranks.specs.Spans.{IsSpan};
 
 use crate::tell::Fault;
 use mpd_code::Subject;
 use mpd_device::Sink;
-use mpd_diagnose::{DiagnosisPlan, diagnose, verdict_of};
+use mpd_diagnose::{DiagnosisPlan, diagnose, ranks_command, verdict_of};
 use mpd_lines::{EngineFault, Verdict, write_all};
+use mpd_model::Mode;
 use mpd_outcomes::StateLimits;
+use mpd_ranks::{RankSpan, code_of_text, ranks_line};
 use mpd_runs::{FUEL, STATES_KEPT, STATES_VISITED};
 use std::alloc::Global;
 
@@ -17,8 +21,8 @@ const VISITED_MAX: usize = 4_000_000;
 /// How many runs are drawn, where there are more than that search comes to.
 const DRAWN: usize = 4_096;
 
-/// How the script of a file is diagnosed: by limits that nobody has to know.
-fn plan_of(file: &str) -> DiagnosisPlan<'_>
+/// How the script of a file is diagnosed, with how many ranks where that is asked for: by limits that nobody has to know.
+fn plan_of(file: &str, ranks: Option<usize>) -> DiagnosisPlan<'_>
     ensures { result.limits.fuel ≡ FUEL }
 {
     DiagnosisPlan {
@@ -32,7 +36,7 @@ fn plan_of(file: &str) -> DiagnosisPlan<'_>
         blamed: STATES_VISITED,
         drawn: DRAWN,
         file,
-        ranks: None,
+        ranks,
     }
 }
 
@@ -42,14 +46,87 @@ pub(crate) fn diagnose_script<'a, W: Sink>(
     alloc: Global,
     subject: Subject<'_>,
     file: &str,
+    ranks: Option<usize>,
     strict: bool,
     sink: &mut W,
 ) -> Result<Verdict, Fault<'a>> {
-    let Ok(told) = diagnose(alloc, subject, plan_of(file)) else {
-        return Err(Fault::from(EngineFault::Memory));
-    };
-    if write_all(sink, &told.text).is_err() {
+    let told = diagnose(alloc, subject, plan_of(file, ranks))?;
+    write_told(sink, &told.text)?;
+    Ok(verdict_of(&told, strict))
+}
+
+/// Writes what is told.
+fn write_told<'a, W: Sink>(sink: &mut W, told: &[u8]) -> Result<(), Fault<'a>> {
+    if write_all(sink, told).is_err() {
         return Err(Fault::from(EngineFault::WriteFailed));
     }
-    Ok(verdict_of(&told, strict))
+    Ok(())
+}
+
+/// A script that is diagnosed for several numbers of ranks: its text, which is that of a script, and how it is named.
+#[derive(Clone, Copy)]
+pub(crate) struct SpannedScript<'s> {
+    pub(crate) text: &'s [u8],
+    pub(crate) file: &'s str,
+    pub(crate) mode: Mode,
+    /// Whether messages that can be left over count.
+    pub(crate) strict: bool,
+}
+
+/// Says by a line what the runs of a script come to for a number of ranks, and answers the verdict.
+fn diagnose_number<'a, W: Sink>(
+    alloc: Global,
+    script: SpannedScript<'_>,
+    ranks: usize,
+    sink: &mut W,
+) -> Result<Verdict, Fault<'a>>
+    requires { AreRanks (Some ranks) }
+{
+    let Ok(code) = code_of_text(alloc, script.text, ranks) else {
+        return Err(Fault::from(EngineFault::Memory));
+    };
+    let subject = Subject {
+        code: &code,
+        mode: script.mode,
+    };
+    let told = diagnose(alloc, subject, plan_of(script.file, Some(ranks)))?;
+    let line = ranks_line(alloc, ranks, &told.text)?;
+    write_told(sink, &line)?;
+    Ok(verdict_of(&told, script.strict))
+}
+
+/// What two verdicts come to: bad where one is, else not whole where one is.
+fn joined(one: Verdict, other: Verdict) -> Verdict {
+    match (one, other) {
+        (Verdict::Bad, _) | (_, Verdict::Bad) => Verdict::Bad,
+        (Verdict::NotWhole, _) | (_, Verdict::NotWhole) => Verdict::NotWhole,
+        _ => Verdict::Good,
+    }
+}
+
+/// Says by a line each what the runs of a script come to for several numbers of ranks, and then how to see more of the first that is bad.
+/// Answers what the verdicts come to. Each line is written as soon as it is known.
+pub(crate) fn diagnose_each<'a, W: Sink>(
+    alloc: Global,
+    script: SpannedScript<'_>,
+    span: RankSpan,
+    sink: &mut W,
+) -> Result<Verdict, Fault<'a>>
+    requires { IsSpan span }
+{
+    let mut worst = Verdict::Good;
+    let mut first_bad = None;
+    for ranks in span.first..span.last + 1 {
+        let verdict = diagnose_number(alloc, script, ranks, sink)?;
+        if verdict == Verdict::Bad && first_bad.is_none() {
+            first_bad = Some(ranks);
+        }
+        worst = joined(worst, verdict);
+    }
+    if let Some(ranks) = first_bad {
+        let more = ranks_command(alloc, script.file, ranks, script.mode)?;
+        write_told(sink, b"\n")?;
+        write_told(sink, &more)?;
+    }
+    Ok(worst)
 }

@@ -2,12 +2,13 @@
 
 use mpd_explore::WitnessFault;
 use mpd_lines::EngineFault;
-use mpd_model::{FaultCode, ReadFault, SLOTS_MAX};
+use mpd_model::{FaultCode, RANKS_MAX, ReadFault, SLOTS_MAX};
 use mpd_options::UsageFault;
 use mpd_pool::PoolFault;
 use mpd_server::ServeFault;
 use mpd_trace::{PlainFault, allowed, excerpt};
 use mpd_witness::{ReportFault, WITNESS_MAX};
+use std::alloc::AllocError;
 use std::io;
 use std::io::{Error, ErrorKind};
 
@@ -24,6 +25,8 @@ pub(crate) enum Fault<'a> {
     Usage(UsageFault),
     /// The mode's word, which is none.
     BadMode(&'a str),
+    /// The word of how many ranks there are, which names none.
+    BadRanks(&'a str),
     /// The file of a witness has none, or not the one that is asked for.
     BadWitness(ReportFault),
     /// A witness that is to lie ahead is refused.
@@ -79,6 +82,12 @@ impl<'a> From<PlainFault> for Fault<'a> {
 impl<'a> From<EngineFault> for Fault<'a> {
     fn from(fault: EngineFault) -> Fault<'a> {
         Fault::Plain(PlainFault::Engine(fault))
+    }
+}
+
+impl<'a> From<AllocError> for Fault<'a> {
+    fn from(_fault: AllocError) -> Fault<'a> {
+        Fault::from(EngineFault::Memory)
     }
 }
 
@@ -237,6 +246,17 @@ fn tell_mode<R: Eprint>(rt: &R, word: &str, is_terminal: bool) -> u8 {
     WRONG
 }
 
+/// Says that a word names no numbers of ranks, and at a terminal which do. Answers the status.
+fn tell_ranks<R: Eprint>(rt: &R, word: &str, is_terminal: bool) -> u8 {
+    let _unwritten = eprintln!(rt; "mpdbg: bad ranks");
+    if is_terminal {
+        let _unwritten = eprintln!(rt;
+            "  '{word}' is none; there are 1 to {RANKS_MAX} ranks (--ranks N), or each number from N to M (--ranks N-M)"
+        );
+    }
+    WRONG
+}
+
 /// Says that the file of a witness has none, or not the one that is asked for. Answers the status.
 fn tell_witness<R: Eprint>(rt: &R, fault: ReportFault, is_terminal: bool) -> u8 {
     let _unwritten = eprintln!(rt; "mpdbg: bad witness {fault}");
@@ -290,6 +310,7 @@ pub(crate) fn tell<R: Print + Eprint + AllocGlobal>(
     match fault {
         Fault::Usage(fault) => tell_usage(rt, fault, notes),
         Fault::BadMode(word) => tell_mode(rt, word, notes.is_terminal),
+        Fault::BadRanks(word) => tell_ranks(rt, word, notes.is_terminal),
         Fault::BadWitness(fault) => tell_witness(rt, fault, notes.is_terminal),
         Fault::Witness(fault) => tell_refused_witness(rt, fault),
         Fault::LongWitness => {

@@ -14,4 +14,5 @@ pub flag_of-is_strict-requires : goal.flag_of-is_strict-requires
 flag_of-is_strict-requires c = has_strict (found_of c.args.diagnose.now) c.requires
 
 pub returns : goal.returns
-returns c = diagnose_found c.word_in-file.result.now c.word_in-mode.result.now c.flag_of-is_strict.result c.word_in-file.ensures c.word_in-mode.ensures c.flag_of-is_strict.ensures
+returns c =
+    diagnose_found (found_of c.args.diagnose.now) c.word_in-file.result.now c.word_in-mode.result.now c.flag_of-is_strict.result c.get_str-span_word.result c.word_in-file.ensures c.word_in-mode.ensures c.flag_of-is_strict.ensures c.get_str-span_word.ensures

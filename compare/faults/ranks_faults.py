@@ -1,0 +1,47 @@
+"""Faults that are put into what the model makes of a script for another number of ranks, on purpose: ranked.py must notice each."""
+
+import re
+
+from faults.policy_faults import Breakage
+from model import ranks
+
+SOUND = {name: getattr(ranks, name) for name in ('with_ranks', 'number_place', 'numbers_in', 'heading', 'several')}
+
+
+def put(name, attribute, replacement):
+    return Breakage(name, ranks, attribute, replacement)
+
+
+def texts(name, change):
+    """A fault of the text: what is made of it, and of the number, by what is sound."""
+    return put(name, 'with_ranks', lambda data, number: change(SOUND['with_ranks'](data, number), data, number))
+
+
+def place_of(found):
+    return found.start(), found.end()
+
+
+FAULTS = (
+    texts('the number is kept', lambda made, data, number: data),
+    texts('one rank more', lambda made, data, number: SOUND['with_ranks'](data, number % 16 + 1)),
+    texts('one rank less', lambda made, data, number: SOUND['with_ranks'](data, max(1, number - 1))),
+    texts('the lines are others', lambda made, data, number: b'\n' + made if made != data else made),
+    texts('the last line is lost', lambda made, data, number: made.rstrip(b'\n').rpartition(b'\n')[0] if made != data else made),
+    texts('the version is the newest', lambda made, data, number: re.sub(rb'\bmpd(\s+)0*1\b', rb'mpd\g<1>2', made, count=1)),
+    texts('comments are lost', lambda made, data, number: re.sub(rb'#[^\n]*', b'', made)),
+    texts('size stays', lambda made, data, number: re.sub(rb'\bsize\b', b'%d' % int(re.search(rb'ranks\s*(?:#.*\s*)*(\d+)', data)[1]), made) if made != data else made),
+    texts('leading zeros stay', lambda made, data, number: re.sub(rb'(\branks(?:\s|#.*\n)*)(\d+)', rb'\g<1>0\g<2>', made, count=1) if made != data else made),
+    put('the first number', 'number_place', lambda text: place_of(re.search(r'\d+', text))),
+    put('the last number', 'number_place', lambda text: place_of(list(re.finditer(r'\d+', text))[-1])),
+    put('the first number after ranks', 'number_place', lambda text: place_of(re.search(r'ranks[^\d]*(\d+)', text))),
+    put('one number alone', 'numbers_in', lambda word: None if '-' in word else SOUND['numbers_in'](word)),
+    put('the first of several alone', 'numbers_in', lambda word: SOUND['numbers_in'](word) and (SOUND['numbers_in'](word)[0],) * 2),
+    put('any order', 'numbers_in', lambda word: SOUND['numbers_in'](word) or SOUND['numbers_in']('-'.join(reversed(word.split('-'))))),
+    put('1 ranks', 'heading', '{} ranks: '.format),
+    put('rank for all', 'heading', '{} rank: '.format),
+    put('no more is told', 'several', lambda numbers, answers, command: (SOUND['several'](numbers, answers, command)[0].partition(b'\n\n')[0] + b'\n', SOUND['several'](numbers, answers, command)[1])),
+    put('the last bad number', 'several', lambda numbers, answers, command: (
+        b''.join(SOUND['heading'](number).encode() + answer.output.split(b'\n')[0] + b'\n' for number, answer in zip(numbers, answers))
+        + b''.join([f'\n  {command(number)}\n'.encode() for number, answer in zip(numbers, answers) if answer.status == 1][-1:]), SOUND['several'](numbers, answers, command)[1])),
+    put('the status of the last', 'several', lambda numbers, answers, command: (SOUND['several'](numbers, answers, command)[0], answers[-1].status)),
+    put('no status', 'several', lambda numbers, answers, command: (SOUND['several'](numbers, answers, command)[0], 0)))

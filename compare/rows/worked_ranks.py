@@ -1,0 +1,85 @@
+"""Rows of scripts for another number of ranks, worked out by hand from docs/LANGUAGE.md, "Another number of ranks", and docs/FORMATS.md."""
+
+from typing import NamedTuple
+
+# Texts, a number of ranks, and the text with it.
+TEXTS = (
+    ('mpd 1; ranks 3; barrier;', 4, 'mpd 1; ranks 4; barrier;'),
+    ('mpd 1; ranks 3; print 3;', 16, 'mpd 1; ranks 16; print 3;'),
+    ('mpd 2; ranks 12; print 12;', 1, 'mpd 2; ranks 1; print 12;'),
+    ('mpd 01;ranks 003;', 5, 'mpd 01;ranks 5;'),
+    ('# 5 ranks 6\nmpd 1; # 7\nranks # 8;\n2; var x;', 3, '# 5 ranks 6\nmpd 1; # 7\nranks # 8;\n3; var x;'),
+    ('mpd\n1\n;\nranks\n2;', 10, 'mpd\n1\n;\nranks\n10;'),
+    ('mpd 1;\nranks 2;\nprint size;\n', 3, 'mpd 1;\nranks 3;\nprint size;\n'), ('mpd 1;\nranks 1; # 2 of 4\nprint 1;\nprint 2;', 2, 'mpd 1;\nranks 2; # 2 of 4\nprint 1;\nprint 2;'),
+    ('mpd 1; ranks2;', 9, 'mpd 1; ranks2;'), ('mpd 1;ranks 2#3\n;', 9, 'mpd 1;ranks 9#3\n;'),
+    # refused as they stand, so nothing is put into them
+    ('mpd 1; ranks 17;', 2, 'mpd 1; ranks 17;'), ('mpd 1; ranks 2; print', 3, 'mpd 1; ranks 2; print'), ('mpd 3; ranks 2;', 3, 'mpd 3; ranks 2;'))
+
+# Words of several numbers of ranks, and the first and the last that each names.
+WORDS = (('1', (1, 1)), ('16', (16, 16)), ('2-5', (2, 5)), ('1-16', (1, 16)), ('7-7', (7, 7)), ('002-000000016', (2, 16)), ('', None), ('0', None), ('17', None), ('x', None),
+         ('+3', None), ('-3', None), ('3-', None), ('-', None), ('5-2', None), ('0-3', None), ('3-17', None), ('1-2-3', None), ('0000000001', None), ('3\n', None))
+# What is answered of some numbers, each first line and status with more after it, and what is said of all.
+SEVERAL = (
+    (((2, b'well\n', 0), (3, b'it hangs\n\nmore\n', 1), (4, b'it traps\n', 1)), b'2 ranks: well\n3 ranks: it hangs\n4 ranks: it traps\n\n  see 3\n', 1),
+    (((1, b'well\nmore\n', 0), (2, b'not all\n', 4)), b'1 rank: well\n2 ranks: not all\n', 4),
+    (((5, b'not all\n', 4), (6, b'bad\n', 1), (7, b'well\n', 0)), b'5 ranks: not all\n6 ranks: bad\n7 ranks: well\n\n  see 6\n', 1),
+    (((15, b'well\n', 0), (16, b'well\n', 0)), b'15 ranks: well\n16 ranks: well\n', 0))
+HEADINGS = ((1, '1 rank: '), (2, '2 ranks: '), (16, '16 ranks: '))
+
+# Each even rank sends to the next one, each odd rank receives: the last of an odd number of ranks sends to rank 0, which never receives.
+RING = 'mpd 1;\nranks {};\nvar x;\nif rank % 2 == 0 {{ send 7 to (rank + 1) % size tag 0; }} else {{ recv x from rank - 1 tag 0; }}\n'
+# Rank 0 sends to rank 2, which isn't there where there are two ranks.
+TO_RANK_2 = 'mpd 1;\nranks {};\nvar x;\nif rank == 0 { send 1 to 2 tag 0; }\nif rank == 2 { recv x from 0 tag 0; }\n'.replace('{ ', '{{ ').replace(' }', ' }}')
+REFUSED = 'mpd 1;\nranks {};\nprint\n'
+# The number of ranks itself is told.
+SIZES = 'mpd 1;\nranks {};\nprint size;\n'
+
+
+class Row(NamedTuple):
+    """A script, whose number is left open, the number that it has, words after `FILE`, standard input, and what is answered: standard output,
+    standard error and status."""
+    script: str
+    own: int
+    words: str
+    output: str
+    status: int = 0
+    errors: str = ''
+    data: str = ''
+
+
+ROWS = (
+    Row(RING, 2, 'check', 'leaf 0 [] done\nleaves 1 more no\n'),
+    Row(RING, 2, 'check --ranks 2', 'leaf 0 [] done\nleaves 1 more no\n'),
+    Row(RING, 2, 'check --ranks 3', 'leaf 0 [] deadlock 2.0\nleaves 1 more no\n', 1),
+    Row(RING, 3, 'check --ranks=4', 'leaf 0 [] done\nleaves 1 more no\n'),
+    Row(RING, 2, 'check --ranks 5 --witness', 'leaf 0 [] deadlock 4.0\nwitness 0: local 0, local 0, local 1, local 1, local 2, local 2, local 3, local 3, local 4, local 4, '
+        'match 0.0 1.0, wake 0, wake 1, match 2.0 3.0, wake 2, wake 3\nleaves 1 more no\n', 1),
+    Row(RING, 2, 'check --ranks 3 --mode buffered', 'leaf 0 [] leftovers 2.0\nleaves 1 more no\n'),
+    Row(TO_RANK_2, 3, 'check', 'leaf 0 [] done\nleaves 1 more no\n'),
+    Row(TO_RANK_2, 3, 'check --ranks 2', 'leaf 0 [] trap 0 bad-rank\nleaves 1 more no\n', 1),
+    Row(TO_RANK_2, 3, 'check --ranks 1', 'leaf 0 [] trap 0 bad-rank\nleaves 1 more no\n', 1),
+    Row(TO_RANK_2, 2, 'check --ranks 16', 'leaf 0 [] done\nleaves 1 more no\n'),
+    Row(SIZES, 3, 'trace --ranks 1', 'ok 1\nrefused not-enabled\ndepth 1 of 1\nrank 0 ended\nvars\nhandles\nout 1\noutcome done\nend\n', data='local 0\nlocal 1\nshow\n'),
+    Row(SIZES, 1, 'trace --ranks 2', 'ok 1\nok 2\ndepth 2 of 2\nrank 0 ended\nvars\nhandles\nout 2\nrank 1 ended\nvars\nhandles\nout 2\noutcome done\nend\n', data='local 0\nlocal 1\nshow\n'),
+    Row(SIZES, 3, 'words --choices 0 --ranks 2', '', 2, 'mpdbg: bad choices at 0\n'),
+    Row(SIZES, 3, "words --choices= --ranks 2", 'local 0\nlocal 1\n'),
+    Row(REFUSED, 2, 'check --ranks 3', '', 2, 'mpdbg: script refused 4 expected at 22 line 4\n'),
+    Row(REFUSED, 2, 'check --ranks 3 --mode fast', '', 2, 'mpdbg: bad mode\n'),
+    Row(REFUSED, 17, 'check --ranks 3', '', 2, 'mpdbg: script refused 9 bad-ranks at 13 line 2\n'),
+    # several numbers of ranks
+    Row(RING, 2, 'diagnose --ranks 2-5', '2 ranks: it never hangs or traps in rendezvous, whatever is taken first (1 run, 1 state)\n3 ranks: it always hangs (1 run)\n'
+        '4 ranks: it never hangs or traps in rendezvous, whatever is taken first (1 run, 1 state)\n5 ranks: it always hangs (1 run)\n\n  ./mpdbg diagnose FILE --ranks 3\n', 1),
+    Row(RING, 7, 'diagnose --ranks 2-3 --mode slots:00000', '2 ranks: it never hangs or traps in slots:0, whatever is taken first (1 run, 1 state)\n3 ranks: it always hangs (1 run)\n\n'
+        '  ./mpdbg diagnose FILE --ranks 3 --mode slots:0\n', 1),
+    Row(RING, 7, 'diagnose --ranks 3-4 --mode buffered', '3 ranks: it never hangs or traps in buffered, whatever is taken first (1 run, 1 state)\n'
+        '4 ranks: it never hangs or traps in buffered, whatever is taken first (1 run, 1 state)\n'),
+    Row(RING, 7, 'diagnose --ranks 3-4 --mode buffered --strict', '3 ranks: it never hangs or traps in buffered, whatever is taken first (1 run, 1 state)\n'
+        '4 ranks: it never hangs or traps in buffered, whatever is taken first (1 run, 1 state)\n\n  ./mpdbg diagnose FILE --ranks 3 --mode buffered\n', 1),
+    Row(TO_RANK_2, 3, 'diagnose --ranks=1-3', '1 rank: it always traps (1 run)\n2 ranks: it always traps (1 run)\n3 ranks: it never hangs or traps in rendezvous, whatever is taken first (1 run, 1 state)\n\n'
+        '  ./mpdbg diagnose FILE --ranks 1\n', 1),
+    Row(RING, 3, 'diagnose --ranks 2-2', 'it never hangs or traps in rendezvous, whatever is taken first (1 run, 1 state)\n  ./mpdbg check FILE --ranks 2 --modes 4 --outcomes\n'),
+    Row(RING, 3, 'diagnose --ranks 4 --mode buffered', 'it never hangs or traps in buffered, whatever is taken first (1 run, 1 state)\n  ./mpdbg check FILE --ranks 4 --modes 4 --outcomes\n'),
+    Row(REFUSED, 2, 'diagnose --ranks 2-3', '', 2, 'mpdbg: script refused 4 expected at 22 line 4\n'),
+    Row(REFUSED, 2, 'diagnose --ranks 2-3 --mode fast', '', 2, 'mpdbg: bad mode\n'),
+    *(Row(REFUSED, 2, f'diagnose --ranks={word} --mode fast', '', 2, 'mpdbg: bad ranks\n') for word in (
+        '', '0', '17', 'x', '+3', '-3', '3-', '-', '5-2', '0-3', '3-17', '1-2-3', '0000000001', '1--2', '2-3x', '1.5')))

@@ -1,0 +1,4 @@
+pub mod Ranks
+pub mod RanksRows
+pub mod Spans
+pub mod SpanRows

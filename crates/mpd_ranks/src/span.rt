@@ -1,0 +1,91 @@
+//! Several numbers of ranks, as a word of the command line names them, and what is told of each (docs/FORMATS.md, "Several numbers of ranks").
+
+ghost use Rattle.std.specs.Prelude.{◌≡◌, ◌≤◌, IfOk, IfSome, length};
+ghost use Rattle.mpd_ranks.specs.Spans as spec;
+
+use itoa::Buffer;
+use mpd_model::{RANKS_MAX, number_of};
+use std::alloc::{AllocError, Global};
+
+/// The numbers of ranks from one to another.
+#[derive(Clone, Copy)]
+pub struct RankSpan {
+    /// The least.
+    pub first: usize,
+    /// The greatest.
+    pub last: usize,
+}
+
+/// How many bytes stand before the first of this kind, or all.
+fn length_before(stop: u8, text: &[u8]) -> usize
+    ensures value { result ≡ spec.length_before stop text.now }
+    ensures within { result ≤ length text.now }
+{
+    let mut end = 0;
+    while end < text.len() && text[end] != stop {
+        end += 1;
+    }
+    end
+}
+
+/// A number of ranks that a script can have, as a word names it: 1 to 9 digits.
+fn rank_count(word: &[u8]) -> Option<usize>
+    ensures value { result ≡ spec.rank_count word.now }
+    ensures within { IfSome result (λ n. (1 ≤ n) × (n ≤ RANKS_MAX)) }
+{
+    let count = number_of(word)?;
+    if 1 <= count && count <= RANKS_MAX {
+        Some(count)
+    } else {
+        None
+    }
+}
+
+/// The numbers from one to another, which is no less.
+fn span_between(first: &[u8], last: &[u8]) -> Option<RankSpan>
+    ensures value { result ≡ spec.span_between (spec.rank_count first.now) (spec.rank_count last.now) }
+    ensures within { IfSome result spec.IsSpan }
+{
+    let first = rank_count(first)?;
+    let last = rank_count(last)?;
+    if first <= last {
+        Some(RankSpan { first, last })
+    } else {
+        None
+    }
+}
+
+/// The numbers of ranks that a word names, `N` or `N-M`; `None` where it names none.
+pub fn span_of(word: &[u8]) -> Option<RankSpan>
+    ensures value { result ≡ spec.span_of word.now }
+    ensures within { IfSome result spec.IsSpan }
+{
+    let place = length_before(b'-', word);
+    if place == word.len() {
+        return span_between(word, word);
+    }
+    let (first, _) = word.split_at(place);
+    let (_, last) = word.split_at(place + 1);
+    span_between(first, last)
+}
+
+/// What stands between a number of ranks and what is told of it.
+fn heading(ranks: usize) -> &'static [u8]
+    ensures { result.now ≡ spec.heading ranks }
+{
+    if ranks == 1 { b" rank: " } else { b" ranks: " }
+}
+
+/// A line for a number of ranks, with the first line of what is told of it.
+pub fn ranks_line(alloc: Global, ranks: usize, told: &[u8]) -> Result<Vec<u8>, AllocError>
+    ensures { IfOk result (λ line. line.items ≡ spec.ranks_line ranks told.now) }
+{
+    let (first, _) = told.split_at(length_before(b'\n', told));
+    let mut digits = Buffer::new();
+    let mut line = Vec::new(alloc);
+    line.extend_from_slice(digits.format(ranks).as_bytes())?;
+    line.extend_from_slice(heading(ranks))?;
+    line.extend_from_slice(first)?;
+    line.push(b'\n')?;
+    Ok(line)
+}
