@@ -3,6 +3,7 @@ pub mod Cells
 pub mod Names
 pub mod Called
 pub mod Held
+pub mod Reads
 pub mod Stand
 pub mod Listed
 pub mod Sources
