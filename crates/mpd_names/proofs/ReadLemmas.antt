@@ -50,6 +50,7 @@ one_declared s w p i (Some e) d before old now h more ts =
     ∙ sym (ap (λ (q : Option Declared). old ++ begun before (declared_text s w p i q ++ ts)) h)
 
 pub ruleset declaring = (none_declared, one_declared)
+
 pub ruleset choosing = (if_not_read, if_read)
 
 -- ---- the statement that a node does

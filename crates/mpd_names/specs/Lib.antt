@@ -8,4 +8,5 @@ pub mod Stand
 pub mod Listed
 pub mod Sources
 pub mod NameRows
+pub mod ReadRows
 pub mod ListRows

@@ -1,6 +1,6 @@
 //! What the next statement of a rank reads, and what the rank holds in that.
 
-ghost use Rattle.std.specs.Prelude.{◌≡◌, ◌<◌, ◌++◌, ℕ, List, [], IfOk, OnOk, Some, codes, length, slice_get, string_bytes};
+ghost use Rattle.std.specs.Prelude.{◌≡◌, ◌<◌, ◌++◌, ℕ, List, [], IfOk, OnOk, codes, length, slice_get, string_bytes};
 ghost use Rattle.std.specs.List.{list_any};
 ghost use Rattle.mpd_model.specs.script.Parts.{send_parts, recv_parts, status_parts};
 ghost use Rattle.mpd_names.specs.Held.{begun};
@@ -48,9 +48,7 @@ fn target_reads(target: &Target, declaration: usize) -> bool
 fn send_reads(send: &SendStmt, declaration: usize) -> bool
     ensures { result ≡ list_any (spec.part_reads declaration) (send_parts send.now) }
 {
-    reads(&send.value, declaration)
-        || reads(&send.to, declaration)
-        || reads(&send.tag, declaration)
+    reads(&send.value, declaration) || reads(&send.to, declaration) || reads(&send.tag, declaration)
 }
 
 /// Whether a status reads it.
