@@ -12,11 +12,15 @@ from model.worlds import CallId
 SOUND = {name: value for name, value in vars(console_lines).items() if isfunction(value)}
 # The functions that the console has by their names.
 ALSO_IN_CONSOLE = ('step_words', 'plural')
+# Those that it takes from the explanations.
+IN_EXPLANATIONS = ('short_text',)
+SOUND |= {name: getattr(explaining, name) for name in IN_EXPLANATIONS}
 
 
 def named(name, faults):
-    """Faults that stand in the place of a function, each by what it is called; of one that the console has by its name, there."""
-    owner = console if name in ALSO_IN_CONSOLE else console_lines
+    """Faults that stand in the place of a function, each by what it is called; of one that the console has by its name, there, and of one that it
+    takes from the explanations, in these."""
+    owner = console if name in ALSO_IN_CONSOLE else explaining if name in IN_EXPLANATIONS else console_lines
     return [Breakage(f'{name}: {what}', owner, name, replacement) for what, replacement in faults.items()]
 
 
@@ -352,8 +356,8 @@ def short_faults():
             'a request in words': in_words,
             'the number of a call alone': number_alone,
             'none for no request': changed('short_text', lambda text, *_: 'none' if text == '-' else text)}),
-        Breakage('short_value: 15 cells', console_lines, 'SHOWN', console_lines.SHOWN - 1),
-        Breakage('short_value: 17 cells', console_lines, 'SHOWN', console_lines.SHOWN + 1),
+        Breakage('short_value: 15 cells', explaining, 'SHOWN', explaining.SHOWN - 1),
+        Breakage('short_value: 17 cells', explaining, 'SHOWN', explaining.SHOWN + 1),
         *named('short_value', {
             'no sign of more': changed('short_value', lambda text, *_: text.replace(', ..', '')),
             'a sign of more behind the bracket': changed('short_value', lambda text, *_: text.replace(', ..]', '], ..')),

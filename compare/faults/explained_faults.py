@@ -10,12 +10,14 @@ from faults.policy_faults import Breakage
 from model import explaining, explorer
 from model.debugger import find_call, is_at_barrier, last_call, partner
 from model.explaining import DESTINATION, SOURCE, TAG
+from model.language import Binary, Place, Unary
 from model.worlds import CallId
 
 SOUND = {name: getattr(explaining, name) for name in (
     'reached', 'next_line', 'plain_text', 'call_text', 'wish', 'wishing', 'differences', 'all_free', 'near_misses', 'nearest_miss', 'pairs_taken', 'last_taken',
     'chances', 'requests', 'has_ended', 'not_there', 'why_not_there', 'behind', 'blocked_lines', 'partners_of', 'waited_for', 'rank_text', 'whom_line',
-    'next_of', 'cycle_from', 'cycles', 'cycle_line', 'deadlock_lines', 'trap_lines', 'left_lines', 'explanation')}
+    'next_of', 'cycle_from', 'cycles', 'cycle_line', 'deadlock_lines', 'trap_lines', 'left_lines', 'explanation', 'with_values', 'values_text', 'names_in',
+    'names_read', 'places_of', 'expressions_of')}
 SOUND |= {name: getattr(explorer, name) for name in ('leaf_lines', 'group_text', 'explained', 'checked')}
 
 
@@ -401,9 +403,91 @@ def cycle_faults():
                 ('one of all ranks where there is none', lambda world: SOUND['cycles'](world) or [[*range(len(world.ranks)), 0]])))
 
 
+# ---- what a trapped rank holds
+
+def of_another_rank(step):
+    """What tells the values of another rank, so many further on."""
+    return lambda at, number, names: SOUND['with_values'](at, (number + step) % len(at.world.ranks), names)
+
+
+def of_some(chosen):
+    """What tells some of the names, by the list of all."""
+    return lambda at, number, names: SOUND['with_values'](at, number, dict(chosen(list(names.items()))))
+
+
+def in_turn(expression):
+    """The names that stand in an expression, from left to right."""
+    if isinstance(expression, Place):
+        return [expression.name, *([] if expression.size is None else in_turn(expression.index))]
+    parts = {Unary: ('operand',), Binary: ('left', 'right')}.get(type(expression), ())
+    return [name for part in parts for name in in_turn(getattr(expression, part))]
+
+
+def by_statement(at, names, number):
+    """What tells the names in the order in which they stand in the statement."""
+    expressions = SOUND['expressions_of'](at.world.ranks[number].rest[0])
+    return SOUND['with_values'](at, number, {name: names[name] for expression in expressions for name in in_turn(expression)})
+
+
+def of_statement_behind(at, names, number):
+    """What tells what the statement behind reads, where there is one."""
+    rest = at.world.ranks[number].rest[1]
+    read = set() if rest is None else SOUND['names_read'](rest[0])
+    return SOUND['with_values'](at, number, {name: declared for name, declared in names.items() if name in read})
+
+
+def reads_of(kind, change):
+    """What reads other names in an expression of a kind, by the expression."""
+    return lambda expression: change(expression) if isinstance(expression, kind) else SOUND['names_in'](expression)
+
+
+def without(part):
+    """What leaves out a part of a statement, where that is an expression of it."""
+    return lambda statement: [found for found in SOUND['expressions_of'](statement) if found is not getattr(statement, part, None)]
+
+
+def no_places(part):
+    """What leaves out the places of a part of a statement."""
+    left_out = (lambda statement: getattr(statement, part, None) or ()) if part == 'status' else (lambda statement: [getattr(statement, part, None)])
+    return lambda statement: [place for place in SOUND['places_of'](statement) if all(place is not other for other in left_out(statement))]
+
+
+def with_inside(statement):
+    """What reads what the statements inside read, too."""
+    inside = [*getattr(statement, 'then', ()), *getattr(statement, 'otherwise', ()), *getattr(statement, 'body', ())]
+    return SOUND['names_read'](statement).union(*map(with_inside, inside))
+
+
+def value_faults():
+    return (named('with_values')(
+                ('of the next rank', of_another_rank(1)), ('of the rank before', of_another_rank(-1)), ('but the last', of_some(lambda found: found[:-1])),
+                ('the first alone', of_some(lambda found: found[:1])), ('but the first', of_some(lambda found: found[1:])),
+                ('the last first', of_some(lambda found: found[::-1])), ('by their names', of_some(sorted)),
+                ('no array', of_some(lambda found: [(name, declared) for name, declared in found if declared.size is None])),
+                ('arrays alone', of_some(lambda found: [(name, declared) for name, declared in found if declared.size is not None])),
+                ('with nothing', after('with_values', lambda text, *_: text or ', with nothing')),
+                ('a colon', after('with_values', lambda text, *_: text.replace(', with ', ': '))),
+                ('and before the last', after('with_values', lambda text, *_: ' and'.join(text.rsplit(',', 1)) if text.count(' = ') > 1 else text)))
+            + named('values_text')(
+                ('all', lambda at, names, number: SOUND['with_values'](at, number, {name: it for name, it in names.items() if it.kind == 'var'})),
+                ('by the statement', by_statement), ('of the statement behind', of_statement_behind))
+            + named('names_in')(
+                ('no index', reads_of(Place, lambda place: {place.name})), ('the index alone', reads_of(Place, lambda place: {place.name} if place.size is None
+                                                                                                     else explaining.names_in(place.index))),
+                ('the left side alone', reads_of(Binary, lambda binary: explaining.names_in(binary.left))),
+                ('the right side alone', reads_of(Binary, lambda binary: explaining.names_in(binary.right))),
+                ('nothing behind a sign', reads_of(Unary, lambda unary: set())))
+            + named('expressions_of')(*((f'no {part}', without(part)) for part in ('value', 'condition', 'to', 'tag', 'source')),
+                                      ('the place itself', lambda statement: [*SOUND['expressions_of'](statement), *(
+                                          [statement.place] if getattr(statement, 'place', None) is not None else [])]))
+            + named('places_of')(*((f'no {part}', no_places(part)) for part in ('handle', 'place', 'status')),
+                                 ('one of a status', lambda statement: SOUND['places_of'](statement)[:3 - (getattr(statement, 'handle', None) is None)]))
+            + named('names_read')(('of the statements inside too', with_inside)))
+
+
 # ---- explanations, and where they stand
 
-def with_blocked(lines, at):
+def with_blocked(lines, at, *_):
     """What tells the blocked ranks beside a trap as well."""
     return [*lines, *(line for number, rank in enumerate(at.world.ranks) if rank.mode == 'blocked'
                       for line in SOUND['blocked_lines'](at, last_call(at.world, number)))]
@@ -481,8 +565,8 @@ def place_faults():
                 ('the first blocked call alone', after('deadlock_lines', lambda lines, at: [
                     line for place, line in enumerate(lines) if not place or not line.startswith('  rank') or ' waits at ' not in line])))
             + named('trap_lines')(
-                ('the first alone', after('trap_lines', lambda lines, at: lines[:1])), ('the blocked ranks too', after('trap_lines', with_blocked)),
-                ('no line', after('trap_lines', lambda lines, at: [f'{line.partition(",")[0]}:{line.partition(":")[2]}' for line in lines])))
+                ('the first alone', after('trap_lines', lambda lines, *_: lines[:1])), ('the blocked ranks too', after('trap_lines', with_blocked)),
+                ('no line', after('trap_lines', lambda lines, *_: [f'{line.partition(",")[0]}:{line.partition(":")[2]}' for line in lines])))
             + named('left_lines')(
                 ('the first alone', after('left_lines', lambda lines, at: lines[:1])), ('the last first', after('left_lines', lambda lines, at: lines[::-1])),
                 ('sends alone', after('left_lines', lambda lines, at: [line for line in lines if 'send ' in line])),
@@ -509,4 +593,4 @@ def place_faults():
 
 def breakages():
     """All of them."""
-    return [*line_faults(), *wish_faults(), *miss_faults(), *taken_faults(), *behind_faults(), *whom_faults(), *cycle_faults(), *place_faults()]
+    return [*line_faults(), *wish_faults(), *miss_faults(), *taken_faults(), *behind_faults(), *whom_faults(), *cycle_faults(), *value_faults(), *place_faults()]

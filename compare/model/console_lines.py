@@ -6,15 +6,13 @@ What they are told of is `at`: a world, and the line of each call that was issue
 
 from model import explaining, order
 from model.debugger import call_line, enabled_steps, find_call, is_done, last_call, partner, pending, posted, step_text
-from model.explaining import Reached, call_text, next_line, wish
+from model.explaining import Reached, call_text, next_line, short_value, wish
 from model.language import Branch, While
 from model.worlds import CallId, Step
 
 ABOUT = 4
 # How long a line of an answer is at most where it can be cut, and how many blanks stand before what goes on.
 WIDTH, INDENT = 80, 8
-# So many cells of an array are shown in short.
-SHOWN = 16
 MESSAGES = 'send', 'recv'
 # What is told of the candidates of a choice.
 TAKES_ONE = 'next N takes one:'
@@ -202,22 +200,6 @@ def value_line(at, number, name, declared, places):
 
 def all_places(declared):
     return range(1 if declared.size is None else declared.size)
-
-
-def short_text(at, number, declared, place):
-    """What stands at a place of what was declared, of a request its call alone."""
-    rank, cell = at.world.ranks[number], declared.first + place
-    if declared.kind == 'var':
-        return str(rank.cells[cell])
-    return '-' if rank.handles[cell] is None else str(CallId(number, rank.handles[cell]))
-
-
-def short_value(at, number, declared):
-    """What was declared, in short: an array in brackets, of which the first cells are shown."""
-    if declared.size is None:
-        return short_text(at, number, declared, 0)
-    values = [short_text(at, number, declared, place) for place in range(min(declared.size, SHOWN))]
-    return f'[{", ".join(values + [".."] * (declared.size > SHOWN))}]'
 
 
 def names_line(at, names, number):

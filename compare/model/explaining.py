@@ -7,9 +7,12 @@ from typing import NamedTuple
 
 from model import debugger
 from model.debugger import call_word, find_call, first_world, free_calls, is_at_barrier, last_call, next_world
+from model.language import Binary, Place, Unary
 from model.worlds import CallId, Pair
 
 NEAREST, TAKEN, CYCLE = 'nearest miss', 'the last that fits is taken', 'a cycle, where each waits for the next'
+# So many cells of an array are shown in short.
+SHOWN = 16
 # What may differ of a send and a receive, that which is nearest first.
 DIFFERENCES = TAG, SOURCE, DESTINATION = 'tag', 'source', 'destination'
 
@@ -232,6 +235,66 @@ def cycle_line(cycle):
     return f'  {CYCLE}: {", ".join(f"rank {number}" for number in cycle)}'
 
 
+# ---- what a trapped rank holds
+
+def short_text(at, number, declared, place):
+    """What stands at a place of what was declared, of a request its call alone."""
+    rank, cell = at.world.ranks[number], declared.first + place
+    if declared.kind == 'var':
+        return str(rank.cells[cell])
+    return '-' if rank.handles[cell] is None else str(CallId(number, rank.handles[cell]))
+
+
+def short_value(at, number, declared):
+    """What was declared, in short: an array in brackets, of which the first cells are shown."""
+    if declared.size is None:
+        return short_text(at, number, declared, 0)
+    values = [short_text(at, number, declared, place) for place in range(min(declared.size, SHOWN))]
+    return f'[{", ".join(values + [".."] * (declared.size > SHOWN))}]'
+
+
+# The expressions of a statement, and the places that it names outside of them.
+EXPRESSIONS, PLACES = ('value', 'condition', 'to', 'tag', 'source'), ('handle', 'place')
+
+
+def places_of(statement):
+    """The places of a statement that stand in no expression."""
+    places = [getattr(statement, part, None) for part in PLACES]
+    return [place for place in (*places, *(getattr(statement, 'status', None) or ())) if place is not None]
+
+
+def expressions_of(statement):
+    """The expressions of a statement, those of the statements inside it left out: of a place the index alone is one."""
+    parts = [getattr(statement, part, None) for part in EXPRESSIONS]
+    return [part for part in (*parts, *(place.index for place in places_of(statement))) if part is not None]
+
+
+def names_in(expression):
+    """The names that stand in an expression."""
+    if isinstance(expression, Place):
+        return {expression.name} | (names_in(expression.index) if expression.size is not None else set())
+    if isinstance(expression, Unary):
+        return names_in(expression.operand)
+    return names_in(expression.left) | names_in(expression.right) if isinstance(expression, Binary) else set()
+
+
+def names_read(statement):
+    """The names that a statement reads."""
+    return set().union(*map(names_in, expressions_of(statement)))
+
+
+def with_values(at, number, names):
+    """What a rank holds in some names, behind the name of its trap; nothing where there is none."""
+    values = [f'{name} = {short_value(at, number, declared)}' for name, declared in names.items()]
+    return f', with {", ".join(values)}' if values else ''
+
+
+def values_text(at, names, number):
+    """What a rank holds in what the statement reads that it is at, in the order in which it is declared."""
+    read = names_read(at.world.ranks[number].rest[0])
+    return with_values(at, number, {name: declared for name, declared in names.items() if name in read})
+
+
 # ---- explanations
 
 def deadlock_lines(at):
@@ -241,9 +304,9 @@ def deadlock_lines(at):
     return lines + [cycle_line(cycle) for cycle in cycles(at.world)]
 
 
-def trap_lines(at):
+def trap_lines(at, names):
     trapped = [(number, rank) for number, rank in enumerate(at.world.ranks) if rank.mode == 'trapped']
-    return [f'  rank {number}, line {next_line(rank)}: trap {rank.trap}' for number, rank in trapped]
+    return [f'  rank {number}, line {next_line(rank)}: trap {rank.trap}{values_text(at, names, number)}' for number, rank in trapped]
 
 
 def left_lines(at):
@@ -252,5 +315,8 @@ def left_lines(at):
 
 def explanation(script, mode, leaf):
     """The lines that explain a leaf: none where it is done, or cut."""
-    tell = {'deadlock': deadlock_lines, 'trap': trap_lines, 'leftovers': left_lines}.get(leaf.outcome.split()[0])
+    word = leaf.outcome.split()[0]
+    if word == 'trap':
+        return tuple(trap_lines(reached(script, mode, leaf.steps), script.names))
+    tell = {'deadlock': deadlock_lines, 'leftovers': left_lines}.get(word)
     return () if tell is None else tuple(tell(reached(script, mode, leaf.steps)))

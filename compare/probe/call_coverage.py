@@ -44,7 +44,10 @@ LEFT_OUT = {
         'seek', 'numbered_run', 'last_choice', 'name', 'push_runs', 'push_none', 'push_ahead', 'push_count', 'push_no_run', 'push_no_choice'), BY_WORDS)},
     'mpd_picture': {'arrows_are_pairs': 'a law'}, 'mpd_console': {'has_quit': 'called by the program behind a console'},
     'mpd_vocabulary': dict.fromkeys(('line_of', 'push_fault', 'push_help'), BY_WORDS),
-    'mpd_names': dict.fromkeys(('find_named', 'issue_line', 'rank_line', 'push_issuer', 'push_placed', 'push_spaced', 'push_break', 'push_cell_name', 'push_list', 'push_list_about', 'push_named', 'push_source', 'push_variables'), BY_WORDS),
+    'mpd_names': {
+        'push_read': 'called by explain',
+        **dict.fromkeys(('find_named', 'issue_line', 'rank_line', 'push_issuer', 'push_placed', 'push_spaced', 'push_break', 'push_cell_name', 'push_list',
+                         'push_list_about', 'push_named', 'push_source', 'push_variables'), BY_WORDS)},
     'mpd_pieces': dict.fromkeys(('pieces_join_to_the_walk', 'each_piece_is_reached', 'no_choice_is_the_whole', 'no_more_is_the_whole'), 'a law')}
 
 

@@ -95,10 +95,10 @@ EXPLANATIONS = {
     (BY_THE_FIRST, 'deadlock 0.3'): OF_BY_THE_FIRST,
     (EARLY_OR_LATE, 'deadlock 0.1'): OF_EARLY_OR_LATE,
     (EARLY_OR_LATE, 'leftovers 0.1'): '  left over: line 2, 0.1 send to 1 tag 1 value 2\n',
-    (TRAPS, 'trap 0 zero-divisor 1 zero-divisor'): '  rank 0, line 2: trap zero-divisor\n  rank 1, line 2: trap zero-divisor\n',
-    (TWO_RACES, 'trap 0 assert'): '  rank 0, line 2: trap assert\n',
-    (TWO_RACES, 'trap 1 assert'): '  rank 1, line 2: trap assert\n',
-    (TWO_RACES, 'trap 0 assert 1 assert'): '  rank 0, line 2: trap assert\n  rank 1, line 2: trap assert\n'}
+    (TRAPS, 'trap 0 zero-divisor 1 zero-divisor'): '  rank 0, line 2: trap zero-divisor, with x = 0\n  rank 1, line 2: trap zero-divisor, with x = 0\n',
+    (TWO_RACES, 'trap 0 assert'): '  rank 0, line 2: trap assert, with x = 4, y = 2\n',
+    (TWO_RACES, 'trap 1 assert'): '  rank 1, line 2: trap assert, with x = 5, y = 3\n',
+    (TWO_RACES, 'trap 0 assert 1 assert'): '  rank 0, line 2: trap assert, with x = 4, y = 2\n  rank 1, line 2: trap assert, with x = 5, y = 3\n'}
 
 
 def explanation(script, outcome):

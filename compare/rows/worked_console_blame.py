@@ -191,7 +191,7 @@ trap 0 assert is 16 steps ahead
 > redo all
 depth 16
 ended: trap 0 assert
-  rank 0, line 12: trap assert
+  rank 0, line 12: trap assert, with answers = [0, 20]
 > blame
 decided at depth 12: rank 0, line 10, goes on by line 9, 0.1 irecv from 2 tag 0;
         if rank 0, line 10, goes on by line 8, 0.0 irecv from 1 tag 0 instead,

@@ -10,7 +10,7 @@ TRAP_CHOICE = '''stopped at a choice of rank 0, line 3; next N takes one:
   1 match 1.0 0.0: rank 1, line 6, to rank 0, line 3
   2 match 2.0 0.0: rank 2, line 6, to rank 0, line 3'''
 TRAP_END = '''ended: trap 0 zero-divisor
-  rank 0, line 4: trap zero-divisor'''
+  rank 0, line 4: trap zero-divisor, with x = 1'''
 HANG_END = '''ended: deadlock 0.1 1.0
   rank 0 waits at line 5, 0.1 recv from 2 tag 0: for a send of rank 2 with tag 0
     nearest miss: line 6, 1.0 send to 0 tag 0 value 1: another source
@@ -26,7 +26,7 @@ HANG_END = '''ended: deadlock 0.1 1.0
 
 # The trap of examples/order_decides.mpd, and the choice before it.
 ORDER_TRAPS = '''ended: trap 0 assert
-  rank 0, line 11: trap assert'''
+  rank 0, line 11: trap assert, with i = 1'''
 OTHER_REQUEST = 'wakeany 0 1: line 10, by line 9, 0.1 irecv from any tag 0'
 REQUESTS_CHOICE = f'''stopped at a choice of rank 0, line 10; next N takes one:
    10    waitany r to i;
@@ -464,7 +464,7 @@ no deadlock from here: 1 run, and no more (1 trap)
 depth 9
 rank 0 prints 5
 ended: trap 1 zero-divisor
-  rank 1, line 10: trap zero-divisor
+  rank 1, line 10: trap zero-divisor, with x = 0
 > why
 no rank waits for a call
 > undo-choice

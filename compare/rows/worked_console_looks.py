@@ -264,7 +264,7 @@ line 2, 0.0 barrier
 > next
 14 local 2: line 10
 ended: trap 1 zero-divisor
-  rank 1, line 5: trap zero-divisor
+  rank 1, line 5: trap zero-divisor, with x = 0
 > why
 line 2, 0.0 barrier
     rank 1 is not there: it is at line 5
@@ -276,7 +276,7 @@ line 10, 2.1 barrier
 9 steps, depth 9
 rank 0 prints 5
 ended: trap 1 zero-divisor
-  rank 1, line 10: trap zero-divisor
+  rank 1, line 10: trap zero-divisor, with x = 0
 > ranks
 rank 0 has ended
 rank 1 is trapped at line 10: zero-divisor

@@ -130,7 +130,7 @@ BY_MATCH = ('  decided at depth 10: rank 0, line 10, goes on by line 8, 0.0 irec
             'if rank 0, line 9, takes the message of rank 2 (line 13, value 2, tag 0) instead, it can still end well')
 BY_SLOT = ('  decided at depth 4: rank 0, line 8, goes on; '
            'if rank 1, line 11, takes the message of rank 0 (line 7, value 1, tag 0) instead, it can still end well')
-TRAPPED = '  rank 0, line 11: trap assert'
+TRAPPED = '  rank 0, line 11: trap assert, with i = 1'
 WAITED_TWICE = open_example('waited_twice.mpd').decode()
 BY_OTHERS = (
     OutcomesRow(ORDER_DECIDES, asked(explain=True), BY_ORDER.replace('; outcomes', f'\n{TRAPPED}\n{BY_OTHER_REQUEST}; outcomes'), 1),

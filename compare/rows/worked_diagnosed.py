@@ -326,7 +326,7 @@ it can hang: 1 of 2 runs
 it can trap: 1 of 2 runs
 
 trap at line 2: 1 of 2 runs
-  rank 0, line 2: trap assert
+  rank 0, line 2: trap assert, with x = 1
   decided from the start: no run ends well
   ./mpdbg debug script.mpd --ends --choices '0'
   ./mpdbg picture script.mpd --ends --choices '0' > run-1.svg
@@ -346,15 +346,15 @@ BY_LAST = '''\
         value 1 instead, it can still end well
   at the prompt of `debug`, `blame` goes to this step and `redo all` to the end'''
 TRAPPED = (
-    *(row(WAITED_TWICE, 1, 'it can trap: 1 of 2 runs\n', 'trap at line 12: 1 of 2 runs', '  rank 0, line 12: trap assert', BY_REQUEST,
+    *(row(WAITED_TWICE, 1, 'it can trap: 1 of 2 runs\n', 'trap at line 12: 1 of 2 runs', '  rank 0, line 12: trap assert, with answers = [0, 20]', BY_REQUEST,
           runs_of(1, file),
           mode=mode) for mode, file in ((None, 'script.mpd'), (BUFFERED, WITH_BUFFERS))),
     row(THREE_TRAPS, 1, 'it always traps (1 run)\n', *OF_THREE_TRAPS, FROM_START, runs_of('')),
     # by two traps of other names, at one line
-    row(TRAPS, 1, 'it always traps (2 runs)\n', 'trap at line 3: 2 of 2 runs', '  rank 0, line 3: trap bad-tag', FROM_START, runs_of(0, WITH_BUFFERS),
+    row(TRAPS, 1, 'it always traps (2 runs)\n', 'trap at line 3: 2 of 2 runs', '  rank 0, line 3: trap bad-tag, with i = 0', FROM_START, runs_of(0, WITH_BUFFERS),
         mode=BUFFERED),
     row(LOW_WANTED, 1, OF_LOW_WANTED, FROM_START, runs_of(0, picture='run-1'),
-        '\ntrap at line 2: 1 of 2 runs', '  rank 0, line 2: trap assert', FROM_START, runs_of(1, picture='run-2')),
+        '\ntrap at line 2: 1 of 2 runs', '  rank 0, line 2: trap assert, with x = 2', FROM_START, runs_of(1, picture='run-2')),
     row(HIGH_WANTED, 1, OF_HIGH_WANTED, FROM_START, runs_of(1, picture='run-2')))
 
 # ---- leftovers
@@ -428,7 +428,7 @@ CUT = (row(ON_AND_ON, 4, *CUT_ONCE),)
 LARGE = (
     row(taken(2, 'i < 64'), 0, MANY_RUNS, in_turn(), mode=BUFFERED),
     row(taken(2, 'i < 64', LAST_OF_ALL), 1, f'it can trap: {2 ** 63} of {AT_LEAST} runs\n', f'trap at line 3: {2 ** 63} of {AT_LEAST} runs',
-        '  rank 0, line 3: trap assert', BY_LAST, runs_of(' '.join('0' * 63 + '1'), WITH_BUFFERS), mode=BUFFERED),
+        '  rank 0, line 3: trap assert, with x = 1', BY_LAST, runs_of(' '.join('0' * 63 + '1'), WITH_BUFFERS), mode=BUFFERED),
     row(ALONE, 1, *OF_ALONE), row(TWO_EACH, 1, OF_TWO_EACH, runs_of('0 0', 'two_each.mpd'), file='two_each.mpd'),
     row(open_example('four_races.mpd').decode(), 0, RACES, in_turn()))
 
@@ -524,7 +524,7 @@ LIMITED = (
 STOLEN_DRAWN = ('\ndrawn at random: 1 of 2 runs hang', '\ndeadlock at lines 9, 13: 1 of 2 runs', OF_STOLEN)
 # The first run ends well, and the second hangs or traps.
 CUT_THEN_HANG = CUT_AND_HANG.partition('\n\n')[2]
-SECOND_TRAPS = ('\ndrawn at random: 1 of 2 runs trap', '\ntrap at line 12: 1 of 2 runs', '  rank 0, line 12: trap assert', BY_REQUEST,
+SECOND_TRAPS = ('\ndrawn at random: 1 of 2 runs trap', '\ntrap at line 12: 1 of 2 runs', '  rank 0, line 12: trap assert, with answers = [0, 20]', BY_REQUEST,
                 runs_of(1, picture='drawn'))
 # Numbers below 3: 2, 0, 0, 2, 2, 0, 1. Each run of ONE_OF_THREE leaves the two others over, which are one bug by three ends.
 FIRST_LEFT = (f'{LEAVES} 1 of 1 run', MORE, '\nleft over from line 2: 1 of 1 run', *TWO_LEFT)
@@ -625,13 +625,13 @@ DRAWN = (
     row(WAITED_TWICE, 1, *none_found('1 run'), *SECOND_TRAPS, limits=few(come_to=2)),
     row(WAITED_TWICE, 1, *none_found('1 run'), *SECOND_TRAPS, limits=few(come_to=2), strict=True),
     row(WAITED_TWICE, 1, *none_found('1 run', BUFFERED), '\ndrawn at random: 1 of 1 run trap',
-        '\ntrap at line 12: 1 of 1 run', '  rank 0, line 12: trap assert',
+        '\ntrap at line 12: 1 of 1 run', '  rank 0, line 12: trap assert, with answers = [0, 20]',
         BY_REQUEST, runs_of(1, WITH_BUFFERS, 'drawn'), mode=BUFFERED, limits=few(1, come_to=2)),
     # a trap is found, and nothing is drawn
-    row(TRAPS, 1, 'it can trap: 1 of 1 run', MORE, others(WITH_BUFFERS), '\ntrap at line 3: 1 of 1 run', '  rank 0, line 3: trap bad-tag', FROM_START,
+    row(TRAPS, 1, 'it can trap: 1 of 1 run', MORE, others(WITH_BUFFERS), '\ntrap at line 3: 1 of 1 run', '  rank 0, line 3: trap bad-tag, with i = 0', FROM_START,
         runs_of(0, WITH_BUFFERS), mode=BUFFERED, limits=few(come_to=2)),
-    row(HIGH_WANTED, 1, 'it can trap: 1 of 1 run', MORE, others(), '\ntrap at line 2: 1 of 1 run', '  rank 0, line 2: trap assert', FROM_START,
-        runs_of(0), limits=few(come_to=2)),
+    row(HIGH_WANTED, 1, 'it can trap: 1 of 1 run', MORE, others(), '\ntrap at line 2: 1 of 1 run', '  rank 0, line 2: trap assert, with x = 1',
+        FROM_START, runs_of(0), limits=few(come_to=2)),
     # by 10 to 12 steps the first run is cut, and the other hangs; by 9 steps both are cut
     *(row(THREE, 1, none_found('1 run')[0], f'not everything was tried: 1 of 1 run were cut after {fuel} steps', MORE,
           '\ndrawn at random: 1 of 2 runs hang\n', CUT_THEN_HANG, runs_of(1, picture='drawn'), limits=few(come_to=2, fuel=fuel)) for fuel in (10, 12)),

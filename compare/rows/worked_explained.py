@@ -48,6 +48,34 @@ if rank == 1 {
 }
 recv x from 0 tag 0;
 '''
+# Two ranks trap at a statement, on line 3; a[1] is another one in each of them.
+HOLDING = '''mpd 2; ranks 2; var i; var b; var x; var a[3]; req h; req r[2]; var z; var e[0]; var w[17];
+i = 3; x = 7; a[1] = rank + 1; a[2] = 0 - 4; w[2] = 9; w[16] = 5;
+STATEMENT
+'''
+A_HELD, W_HELD = 'a = [0, {}, -4]', f'w = [0, 0, 9{", 0" * 13}, ..]'
+# A statement, its trap, and what is told of what the ranks hold.
+READ = (
+    ('assert z;', 'assert', ', with z = 0'), ('print x / z;', 'zero-divisor', ', with x = 7, z = 0'),
+    # in the order of declarations, each once
+    ('x = x * z / b + x;', 'zero-divisor', ', with b = 0, x = 7, z = 0'),
+    # a variable that is written isn't named, and its index is
+    ('a[i] = x;', 'bad-index', ', with i = 3, x = 7'), ('b = 9223372036854775807 + x;', 'overflow', ', with x = 7'),
+    ('a[x - x] = a[i];', 'bad-index', f', with i = 3, x = 7, {A_HELD}'),
+    # a condition, and not the blocks behind it
+    ('if a[a[2]] { print b; } else { x = z; }', 'bad-index', f', with {A_HELD}'), ('while i % z { b = b + x; }', 'zero-divisor', ', with i = 3, z = 0'),
+    # what isn't evaluated is named too
+    ('assert w[x] && z;', 'assert', f', with x = 7, z = 0, {W_HELD}'), ('assert -(i - i) || !x;', 'assert', ', with i = 3, x = 7'),
+    # sends and receives: value, destination or source, tag, and the indexes of handles and places
+    ('send x to i tag z;', 'bad-rank', ', with i = 3, x = 7, z = 0'), ('ssend b to rank tag 0 - i;', 'bad-tag', ', with i = 3, b = 0'),
+    ('isend r[i] x to 0 tag 0;', 'bad-index', ', with i = 3, x = 7'), ('issend r[z] 1 to x + i tag b;', 'bad-rank', ', with i = 3, b = 0, x = 7, z = 0'),
+    ('recv x from i tag any;', 'bad-rank', ', with i = 3'), ('recv a[z] from any tag 0 - x status b a[i];', 'bad-tag', ', with i = 3, x = 7, z = 0'),
+    ('recv a[1] from any tag any status z w[x + x + i];', 'bad-index', ', with i = 3, x = 7'),
+    ('irecv h x from z - 1 tag b status w[i] z;', 'bad-rank', ', with i = 3, b = 0, z = 0'),
+    ('irecv r[a[1]] e[0] from rank tag z;', 'bad-index', f', with {A_HELD}, z = 0'),
+    ('wait r[i];', 'bad-index', ', with i = 3'), ('waitany r to a[i];', 'bad-index', ', with i = 3'),
+    # an array without a cell, and no variable
+    ('print e[i];', 'bad-index', ', with i = 3, e = []'), ('assert 0;', 'assert', ''), ('send rank to size tag 0;', 'bad-rank', ''))
 # One rank is at a barrier, one at a receive behind which it has no statement left, and one has ended.
 ALONE_AT_IT = '''mpd 1; ranks 3; var x;
 if rank == 0 { barrier; }
@@ -297,10 +325,10 @@ MISSED_BY_SOURCE_FIRST = '''leaf 0 [] deadlock 0.0
   rank 0 waits for rank 1 (ended)
 leaves 1 more no
 '''
-WAITED_TWICE = 'leaf 0 [0] done\nleaf 1 [1] trap 0 assert\n  rank 0, line 12: trap assert\nleaves 2 more no\n'
-WAITED_TWICE_GROUPED = ('end 0 leaves 1 first 0 done\nend 1 leaves 1 first 1 trap 0 assert\n  rank 0, line 12: trap assert\n'
+WAITED_TWICE = 'leaf 0 [0] done\nleaf 1 [1] trap 0 assert\n  rank 0, line 12: trap assert, with answers = [0, 20]\nleaves 2 more no\n'
+WAITED_TWICE_GROUPED = ('end 0 leaves 1 first 0 done\nend 1 leaves 1 first 1 trap 0 assert\n  rank 0, line 12: trap assert, with answers = [0, 20]\n'
                         'leaves 2 more no\n')
-TRAPPED = 'leaf 0 [] trap 1 zero-divisor\n  rank 1, line 10: trap zero-divisor\nleaves 1 more no\n'
+TRAPPED = 'leaf 0 [] trap 1 zero-divisor\n  rank 1, line 10: trap zero-divisor, with x = 0\nleaves 1 more no\n'
 ALL_DONE = 'leaf 0 [] done\nleaves 1 more no\n'
 TWO_ARE_LEFT = '''leaf 0 [0] leftovers 0.0 2.1
   left over: line 2, 0.0 irecv from 1 tag 7
@@ -331,6 +359,12 @@ def three_ends(witnessed):
     return ''.join(f'end {number} leaves 2 first {first} deadlock {one}.1 {other}.1\n'
                    + (f'witness {first}: {answered_last(*ranks)}\n' if witnessed else '') + unanswered(one, other)
                    for number, first, (one, other), ranks in ends) + 'leaves 6 more no\n'
+
+
+def trapped(trap, told):
+    """What is answered of HOLDING with a statement: its trap, and what is told of what the ranks hold."""
+    lines = ''.join(f'  rank {rank}, line 3: trap {trap}{told.format(rank + 1)}\n' for rank in (0, 1))
+    return f'leaf 0 [] trap 0 {trap} 1 {trap}\n{lines}leaves 1 more no\n'
 
 
 class Explained(NamedTuple):
@@ -377,6 +411,8 @@ ROWS = (
     Explained('lost_request', ALL_DONE, status=0), Explained('skipped_barrier', SKIPPED), Explained('waited_twice', WAITED_TWICE),
     Explained('waited_twice', WAITED_TWICE_GROUPED, GROUPED),
     Explained('trap', TRAPPED), Explained('trap', TRAPPED, Asked(witnesses=True)),
+    # what a statement that traps reads
+    *(Explained(HOLDING.replace('STATEMENT', statement), trapped(trap, told)) for statement, trap, told in READ),
     # groups of several leaves
     *(Explained(ANSWERED_LAST, three_ends(witnessed), Asked(group=True, witnesses=witnessed, ends=ends))
       for witnessed in (False, True) for ends in (False, True)),

@@ -129,7 +129,7 @@ FEW = (
 # The runs of the wide walk are [0 0] done, [1 0] done and [1 1] trap (worked_ends.py), in rendezvous and with buffers.
 BY_ORDER = 'outcome 0 runs 2 first [0 0] done; outcome 1 runs 1 first [1 1] trap 0 assert; outcomes 2 runs 3 more no'
 EXPLAINED_ORDER = BY_ORDER.replace('; outcomes', (
-    '\n  rank 0, line 11: trap assert\n  decided at depth 12: rank 0, line 10, goes on by line 9, 0.1 irecv from any tag 0; '
+    '\n  rank 0, line 11: trap assert, with i = 1\n  decided at depth 12: rank 0, line 10, goes on by line 9, 0.1 irecv from any tag 0; '
     'if rank 0, line 10, goes on by line 8, 0.0 irecv from 1 tag 0 instead, it can still end well; outcomes'))
 # In slots:1 both matches are candidates, 0 match 1.0 0.0 and 1 match 2.0 0.1, behind ten steps.
 #   0: candidates 0 wakeany 0 0 and 1 match 2.0 0.1.   [0 0]: i is 0; a choice of one: [0 0 0] done.

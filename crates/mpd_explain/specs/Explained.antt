@@ -19,6 +19,7 @@ use Rattle.mpd_model.specs.steps.Next.{fold, is_at_barrier}
 use Rattle.mpd_model.specs.steps.Outcomes.{has_ended}
 use Rattle.mpd_model.specs.texts.Texts.{line, trap_name}
 use Rattle.mpd_names.specs.Placed.{rank_line, placed}
+use Rattle.mpd_names.specs.Reads.{read_text}
 use Rattle.mpd_walk.specs.declared.ending.Ending.{Ending}
 use Rattle.mpd_walk.specs.declared.ending.Ending.TheVariants.{Ended, Cut}
 use Rattle.mpd_explain.specs.declared.near_miss.Miss.{Miss}
@@ -112,9 +113,9 @@ blocked_lines s w c = blocked_line s w.board c ++ details s w c (kind_at w.board
 abbrev pub deadlock_text : Program → World → List CallId → List ℕ
 deadlock_text s w blocked = flat_map (blocked_lines s w) blocked ++ flat_map (waits_line w) blocked ++ cycle_lines w
 
--- `  rank 1, line 7: trap zero-divisor`
+-- `  rank 1, line 7: trap zero-divisor, with n = 0`: the values of the variables that the statement reads stand there
 abbrev pub trap_line : Program → World → TrappedRank → List ℕ
-trap_line s w t = line (codes "  rank " ++ decimal t.rank ++ codes ", line " ++ decimal (rank_line s.lines (slice_get w.ranks t.rank)) ++ codes ": trap " ++ trap_name t.trap)
+trap_line s w t = line (codes "  rank " ++ decimal t.rank ++ codes ", line " ++ decimal (rank_line s.lines (slice_get w.ranks t.rank)) ++ codes ": trap " ++ trap_name t.trap ++ read_text s w t.rank (slice_get w.ranks t.rank))
 
 -- `  left over: line 18, 3.0 isend to 0 tag 4 value 30`
 abbrev pub left_line : Program → Board → CallId → List ℕ

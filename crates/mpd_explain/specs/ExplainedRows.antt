@@ -7,7 +7,7 @@ use Rattle.mpd_model.specs.declared.call.Mode.TheVariants.{Rendezvous, Buffered}
 use Rattle.mpd_model.specs.declared.stmt.Simple.TheVariants as st
 use Rattle.mpd_model.specs.declared.outcome.Outcome.TheVariants as o
 use Rattle.mpd_model.specs.script.Declaration.{Declared}
-use Rattle.mpd_model.specs.script.Term.{Term, lit, own_rank, op2, Target}
+use Rattle.mpd_model.specs.script.Term.{Term, lit, own_rank, cell, op2, Target}
 use Rattle.mpd_model.specs.script.Tree.{Tree, simple, branch, no_more, then_more}
 use Rattle.mpd_model.specs.script.Program.{Program}
 use Rattle.mpd_model.specs.steps.World.{call_id, start}
@@ -111,6 +111,21 @@ divided = record {
 pub row_divided : map {B = List ℕ} (λ (r : Run). explanation divided Rendezvous r.steps r.ending) (walk 20 (start divided Rendezvous)) ≡ line (codes "  rank 1, line 7: trap zero-divisor") ∷ []
 unfolding walk decision digits
 row_divided = refl
+
+-- rank 1 divides by what x holds, and then would print x
+-- if rank == 0 { print 1; } else { print 1 / x; print x; }
+abbrev divided_by : Program
+divided_by = record {
+  version = 1;
+  ranks = 2;
+  decls = one_variable;
+  body = branch (op2 Equal own_rank (n 0)) (then_more (simple (st.Print (n 1))) no_more) (then_more (simple (st.Print (op2 Divide (n 1) (cell x.place)))) (then_more (simple (st.Print (cell x.place))) no_more)) ∷ [];
+  lines = 4 ∷ 5 ∷ 7 ∷ 8 ∷ [];
+}
+
+pub row_divided_by : map {B = List ℕ} (λ (r : Run). explanation divided_by Rendezvous r.steps r.ending) (walk 20 (start divided_by Rendezvous)) ≡ line (codes "  rank 1, line 7: trap zero-divisor, with x = 0") ∷ []
+unfolding walk decision digits
+row_divided_by = refl
 
 -- two messages that nobody receives: with buffers they are left over, and else the first one blocks its rank
 -- if rank == 0 { send 5 to 1 tag 1; send 6 to 1 tag 2; } else { print 1; }

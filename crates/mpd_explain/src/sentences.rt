@@ -15,7 +15,7 @@ use crate::waits::{push_cycle_lines, push_waits_line};
 use mpd_core::Core;
 use mpd_explore::Ending;
 use mpd_model::{Activity, CallId, CallKind, Outcome, RecvCall, SendCall, TrappedRank, is_barrier};
-use mpd_names::{push_placed, rank_line};
+use mpd_names::{push_placed, push_read, rank_line};
 use std::alloc::{AllocError, Global};
 
 /// Adds a text and a number. It is inlined, so that the length of the text is known where it is added.
@@ -339,7 +339,9 @@ fn push_trap(core: &Core<'_>, out: &mut String, trapped: TrappedRank) -> Result<
     let rank = trapped.rank;
     let line = rank_line(core, rank);
     let name = trapped.trap.name();
-    write!(out, "  rank {rank}, line {line}: trap {name}\n")
+    write!(out, "  rank {rank}, line {line}: trap {name}")?;
+    push_read(core, out, rank)?;
+    out.push('\n')
 }
 
 /// Adds the lines of all trapped ranks.

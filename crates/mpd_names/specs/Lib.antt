@@ -3,8 +3,10 @@ pub mod Cells
 pub mod Names
 pub mod Called
 pub mod Held
+pub mod Reads
 pub mod Stand
 pub mod Listed
 pub mod Sources
 pub mod NameRows
+pub mod ReadRows
 pub mod ListRows

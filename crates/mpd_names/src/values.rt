@@ -379,7 +379,7 @@ fn push_short_held(
 }
 
 /// Adds the name of a declaration, whose number this is, with what a rank holds in it, behind this.
-fn push_short_text(
+pub(crate) fn push_short_text(
     core: &Core<'_>,
     out: &mut String,
     before: &str,
