@@ -616,7 +616,7 @@ DRAWN = (
     # how many ranks there are stands behind the file, and before the mode
     *(row(STOLEN, 1, *STUCK_ONCE, runs_of(0, f'{word} --ranks 3'), file=name, ranks=3) for name, word in WORDS),
     row(THREE_SENDERS, 0, SIX_BUFFERED, in_turn('./-x --ranks 4'), mode=BUFFERED, file='-x', ranks=4),
-    row(TRAPS, 1, 'it always traps (2 runs)\n', 'trap at line 3: 2 of 2 runs', '  rank 0, line 3: trap bad-tag', FROM_START,
+    row(TRAPS, 1, 'it always traps (2 runs)\n', 'trap at line 3: 2 of 2 runs', '  rank 0, line 3: trap bad-tag, with i = 0', FROM_START,
         runs_of(0, 'script.mpd --ranks 12 --mode buffered'), mode=BUFFERED, ranks=12),
     row(STOLEN, 4, *none_found('0 runs'), *none_drawn('1 run', 'script.mpd --ranks 3'), limits=Limits(come_to=1, drawn=1), ranks=3),
     row(STOLEN, 1, *none_found('0 runs'), *STOLEN_DRAWN, OR_EARLIER.format(9), runs_of(0, picture='drawn'),
