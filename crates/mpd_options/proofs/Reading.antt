@@ -15,7 +15,7 @@ use Rattle.clap.specs.declared.parser.matches.ArgMatches.TheViews.{out-ArgMatche
 use Rattle.clap.specs.declared.parser.matches.Found.{Found}
 use Rattle.clap.proofs.OnLiterals.{clap_on_literals}
 use Rattle.clap.proofs.WalkLemmas.{first_value-rows, one_text-rows}
-use Rattle.mpd_options.specs.Asked.{AreInRange, Asked, IsFound, IsInRange, IsLineInRange, Item, Task, Tool, asked, check, checker, debug, debugger, diagnose, diagnoser, found, found_by, found_check, found_debug, found_diagnose, found_in, found_of_command, found_of_file, found_options, found_picture, found_ranks, found_serve, found_task, found_verify, found_words, given_word, meant, most_clients, most_fuel, most_leaf, most_modes, most_piece, most_port, most_ranks, most_runs, most_sample, most_seed, most_split, most_states, most_workers, number_if_given, paint, painter, ranks_of_command, run, runner, serve, server, task_by, task_in, task_of, task_of_command, tell, teller, text_in, the_choices, the_clients, the_ends, the_file, the_fuel, the_laid_witness, the_leaf, the_mode, the_modes, the_piece, the_port, the_rank_span, the_ranks, the_runs, the_sample, the_seed, the_split, the_states, the_strict, the_witness_file, the_words, the_workers, tool_named, trace, tracer, translate, translator, until_bad_in, verifier, verify, with_ranks}
+use Rattle.mpd_options.specs.Asked.{AreInRange, Asked, IsFound, IsInRange, IsLineInRange, Item, Task, Tool, asked, check, checker, debug, debugger, diagnose, diagnoser, found_by, found_check, found_debug, found_diagnose, found_of_command, found_of_file, found_options, found_picture, found_ranks, found_serve, found_task, found_verify, found_words, given_word, meant, most_clients, most_fuel, most_leaf, most_modes, most_piece, most_port, most_ranks, most_runs, most_sample, most_seed, most_split, most_states, most_workers, number_if_given, paint, painter, ranks_of_command, run, runner, serve, server, task_by, task_in, task_of, task_of_command, tell, teller, text_in, the_choices, the_clients, the_ends, the_file, the_fuel, the_laid_witness, the_leaf, the_mode, the_modes, the_piece, the_port, the_rank_span, the_ranks, the_runs, the_sample, the_seed, the_split, the_states, the_strict, the_witness_file, the_words, the_workers, tool_named, trace, tracer, translate, translator, until_bad_in, verifier, verify, with_ranks}
 use Rattle.mpd_options.specs.Numbers.{flag_in, most_usize, number_in}
 use Rattle.mpd_options.specs.declared.options.CheckOptions.{CheckOptions}
 use Rattle.mpd_options.specs.declared.options.CommandLine.{CommandLine}

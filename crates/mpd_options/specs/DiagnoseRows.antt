@@ -1,5 +1,5 @@
 -- Worked rows of what the words behind `diagnose` ask for, and of their faults.
-use Rattle.std.specs.Prelude.{◌≡◌, Bool, true, false, ℕ, List, [], ◌∷◌, map, Option, Some, None, codes, refl}
+use Rattle.std.specs.Prelude.{◌≡◌, true, false, ℕ, List, [], ◌∷◌, map, Option, Some, None, codes, refl}
 use Rattle.std.specs.Char.{encode_utf8}
 use Rattle.std.specs.Str.{chars}
 use Rattle.clap.specs.Kinds.{Kinds}

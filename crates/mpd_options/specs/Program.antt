@@ -39,7 +39,7 @@ flag_rule name = record (new_rule name) { long = Some name; action = Some SetTru
 abbrev pub ranks_rule : Rule
 ranks_rule = valued_rule (codes "ranks") (Unsigned 1 most_ranks)
 
--- the same option of `diagnose`, whose word is read behind the others
+-- the same option of `diagnose`, which takes any word
 abbrev pub span_rule : Rule
 span_rule = record (new_rule (codes "rank_span")) { long = Some (codes "ranks"); value_names = 1; action = Some Set }
 

@@ -18,7 +18,7 @@ Row = List (List ℕ) × Option Asked
 abbrev for : List (List ℕ) → Task → ℕ → Row
 for words task ranks = (words, Some (record { task = task; ranks = Some ranks }))
 
--- words behind `diagnose a`, and the word of the ranks that they name
+-- words after `diagnose a`, and the word of the ranks that they name
 abbrev says : List (List ℕ) → Option (List ℕ) → Bool → Row
 says words ranks strict = (codes "diagnose" ∷ codes "a" ∷ words, Some (record { task = diagnose (codes "a") (codes "rendezvous") strict ranks; ranks = None }))
 

@@ -572,9 +572,11 @@ fn line_in<'a>(matches: &ArgMatches<'a>) -> CommandLine<'a>
     requires { is_some (found_of_command (subcommand_rows_of matches.now)) ≡ true }
     ensures { Some (asked result) ≡ found_of_command (subcommand_rows_of matches.now) }
 {
+    let options = options_in(matches);
+    let number = ranks_in(matches);
     CommandLine {
-        asked: options_in(matches),
-        ranks: ranks_in(matches),
+        asked: options,
+        ranks: number,
     }
 }
 

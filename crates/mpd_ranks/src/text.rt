@@ -1,4 +1,4 @@
-//! The text of a script with another number in the place of the one behind `ranks`.
+//! The text of a script with another number in the place of the one after `ranks`.
 
 ghost use Rattle.std.specs.Prelude.{◌≡◌, ◌≤◌, IfOk, false, length};
 ghost use Rattle.mpd_ranks.specs.Ranks.{before_digit, digits_at, is_comment_after, number_at, text_with};
@@ -48,7 +48,7 @@ fn digits_at(text: &[u8]) -> usize
     end
 }
 
-/// Where the number behind `ranks` begins: the second of the text.
+/// Where the number after `ranks` begins: the second of the text.
 fn number_at(text: &[u8]) -> usize
     ensures value { result ≡ number_at text.now }
     ensures within { result ≤ length text.now }
@@ -60,7 +60,7 @@ fn number_at(text: &[u8]) -> usize
     first + end + before_digit(behind)
 }
 
-/// The text of a script, with this number in the place of the one behind `ranks`. All other bytes stay.
+/// The text of a script, with this number in the place of the one after `ranks`. All other bytes stay.
 pub fn text_with_ranks(alloc: Global, text: &[u8], ranks: usize) -> Result<Vec<u8>, AllocError>
     ensures { IfOk result (λ made. made.items ≡ text_with ranks text.now) }
 {
