@@ -321,13 +321,12 @@ BY_LAST = '''\
         0 value 1; if rank 0, line 3, goes on by line 3, 0.315 isend to 0 tag 0
         value 1 instead, it can still end well'''
 TRAPPED = (
-    *(row(WAITED_TWICE, 1, 'it can trap: 1 of 2 runs\n', 'trap at line 12: 1 of 2 runs', '  rank 0, line 12: trap assert, with answers = [0, 20]', BY_REQUEST,
-          runs_of(1, file),
-          mode=mode) for mode, file in ((None, 'script.mpd'), (BUFFERED, WITH_BUFFERS))),
+    *(row(WAITED_TWICE, 1, 'it can trap: 1 of 2 runs\n', 'trap at line 12: 1 of 2 runs',
+          '  rank 0, line 12: trap assert, with answers = [0, 20]', BY_REQUEST, runs_of(1, file), mode=mode) for mode, file in ((None, 'script.mpd'), (BUFFERED, WITH_BUFFERS))),
     row(THREE_TRAPS, 1, 'it can trap: 1 of 1 run\n', *OF_THREE_TRAPS, FROM_START, runs_of('')),
     # by two traps of other names, at one line
-    row(TRAPS, 1, 'it can trap: 2 of 2 runs\n', 'trap at line 3: 2 of 2 runs', '  rank 0, line 3: trap bad-tag, with i = 0', FROM_START, runs_of(0, WITH_BUFFERS),
-        mode=BUFFERED),
+    row(TRAPS, 1, 'it can trap: 2 of 2 runs\n', 'trap at line 3: 2 of 2 runs', '  rank 0, line 3: trap bad-tag, with i = 0', FROM_START,
+        runs_of(0, WITH_BUFFERS), mode=BUFFERED),
     row(LOW_WANTED, 1, OF_LOW_WANTED, FROM_START, runs_of(0), '\ntrap at line 2: 1 of 2 runs', '  rank 0, line 2: trap assert, with x = 2',
         FROM_START, runs_of(1)),
     row(HIGH_WANTED, 1, OF_HIGH_WANTED, FROM_START, runs_of(1)))
@@ -494,7 +493,8 @@ LIMITED = (
 STOLEN_DRAWN = ('\ndrawn at random: 1 of 2 runs hang', '\ndeadlock at lines 9, 13: 1 of 2 runs', OF_STOLEN)
 # The first run ends well, and the second hangs or traps.
 CUT_THEN_HANG = CUT_AND_HANG.partition('\n\n')[2]
-SECOND_TRAPS = ('\ndrawn at random: 1 of 2 runs trap', '\ntrap at line 12: 1 of 2 runs', '  rank 0, line 12: trap assert, with answers = [0, 20]', BY_REQUEST, runs_of(1))
+SECOND_TRAPS = ('\ndrawn at random: 1 of 2 runs trap', '\ntrap at line 12: 1 of 2 runs',
+                '  rank 0, line 12: trap assert, with answers = [0, 20]', BY_REQUEST, runs_of(1))
 # Numbers below 3: 2, 0, 0, 2, 2, 0, 1. Each run of ONE_OF_THREE leaves the two others over, which are one bug by three ends.
 FIRST_LEFT = ('it can leave messages over: 1 of 1 run', MORE, '\nleft over from line 2: 1 of 1 run', *TWO_LEFT)
 
@@ -581,11 +581,11 @@ DRAWN = (
     # the first run is well, and the other traps
     row(WAITED_TWICE, 1, *none_found('1 run'), *SECOND_TRAPS, limits=few(come_to=2)),
     row(WAITED_TWICE, 1, *none_found('1 run'), *SECOND_TRAPS, limits=few(come_to=2), strict=True),
-    row(WAITED_TWICE, 1, *none_found('1 run'), '\ndrawn at random: 1 of 1 run trap', '\ntrap at line 12: 1 of 1 run', '  rank 0, line 12: trap assert, with answers = [0, 20]',
-        BY_REQUEST, runs_of(1, WITH_BUFFERS), mode=BUFFERED, limits=few(1, come_to=2)),
+    row(WAITED_TWICE, 1, *none_found('1 run'), '\ndrawn at random: 1 of 1 run trap', '\ntrap at line 12: 1 of 1 run',
+        '  rank 0, line 12: trap assert, with answers = [0, 20]', BY_REQUEST, runs_of(1, WITH_BUFFERS), mode=BUFFERED, limits=few(1, come_to=2)),
     # a trap is found, and nothing is drawn
-    row(TRAPS, 1, 'it can trap: 1 of 1 run', MORE, others(WITH_BUFFERS), '\ntrap at line 3: 1 of 1 run', '  rank 0, line 3: trap bad-tag, with i = 0', FROM_START,
-        runs_of(0, WITH_BUFFERS), mode=BUFFERED, limits=few(come_to=2)),
+    row(TRAPS, 1, 'it can trap: 1 of 1 run', MORE, others(WITH_BUFFERS), '\ntrap at line 3: 1 of 1 run', '  rank 0, line 3: trap bad-tag, with i = 0',
+        FROM_START, runs_of(0, WITH_BUFFERS), mode=BUFFERED, limits=few(come_to=2)),
     row(HIGH_WANTED, 1, 'it can trap: 1 of 1 run', MORE, others(), '\ntrap at line 2: 1 of 1 run', '  rank 0, line 2: trap assert, with x = 1',
         FROM_START, runs_of(0), limits=few(come_to=2)),
     # by 10 to 12 steps the first run is cut, and the other hangs; by 9 steps both are cut
