@@ -29,8 +29,9 @@ DRAWN_EVERY = 8
 # How many messages there are: few, so that a script has few leaves.
 RANKS, MOST_MESSAGES = (1, 2, 2, 2, 3, 3, 3, 4, 5), 5
 TRAPS = ('assert x;', 'print 1 / y;', 'send 1 to size tag 0;', 'recv x from 0 - 1 tag 0;', 'a[x + 4] = 1;', 'send 1 to 0 tag 32768;',
-         'y = 9223372036854775807 + 1;', 'wait r[4];', 'if 1 % y { print x; }', 'while 1 / y { }', 'recv x from any tag 0 - 1;', 'a[i + 4] = x / y;', 'assert y && a[i];',
-         'isend r[i + 4] y to x tag s;', 'recv a[t] from any tag y - 9 status s a[x];', 'ssend x + t to y tag i - 9;', 'while a[x % 4] / (i - i) { y = a[t]; }',
+         'y = 9223372036854775807 + 1;', 'wait r[4];', 'if 1 % y { print x; }', 'while 1 / y { }', 'recv x from any tag 0 - 1;',
+         'a[i + 4] = x / y;', 'assert y && a[i];', 'isend r[i + 4] y to x tag s;', 'recv a[t] from any tag y - 9 status s a[x];',
+         'ssend x + t to y tag i - 9;', 'while a[x % 4] / (i - i) { y = a[t]; }',
          'irecv r[4] a[x] from y tag s;', 'wait q[y + i + 9];', 'recv y from x - 99 tag any status a[i] a[t];', 'if a[s + 4] { y = t; } else { x = i; }',
          't = t - 9223372036854775807 - y - 20;', 'a[0 - 1] = i * 4611686018427387904 + 4611686018427387904 + 4611686018427387904;')
 MILD = ('print x;', 'y = x;', 'x = x + 1;', 't = 2;', 'a[i] = 3;', 'a[i + 1] = y + 5;', 'if x { y = 1; } else { y = 2; }', 'while i < 2 { i = i + 1; }')

@@ -22,8 +22,10 @@ TOLD_BY = {
     'waits for itself': r'  rank (\d+) waits for rank \1\b',
     **{f'a cycle of {count}': rf'  {CYCLE}: rank \d+(, rank \d+){{{count}}}$' for count in (1, 2, 3, 4)},
     'a send is left over': rf'  left over: {CALL}i?s?send ', 'a receive is left over': rf'  left over: {CALL}irecv ',
-    'a trap that reads nothing': r'  rank \d+, line \d+: trap [a-z-]+$', 'a trap that reads one variable': r'  rank \d+, line \d+: trap [a-z-]+, with \w+ = [^=]*$',
-    'a trap that reads several': r'  rank \d+, line \d+: trap [a-z-]+, with \w+ = .*, \w+ = ', 'a trap that reads an array': r'  rank \d+, line \d+: trap .* = \[',
+    'a trap that reads nothing': r'  rank \d+, line \d+: trap [a-z-]+$',
+    'a trap that reads one variable': r'  rank \d+, line \d+: trap [a-z-]+, with \w+ = [^=]*$',
+    'a trap that reads several': r'  rank \d+, line \d+: trap [a-z-]+, with \w+ = .*, \w+ = ',
+    'a trap that reads an array': r'  rank \d+, line \d+: trap .* = \[',
     **{f'trap {name}': rf'  rank \d+, line \d+: trap {name}' for name in ('assert', 'bad-index', 'bad-rank', 'bad-tag', 'overflow', 'zero-divisor')}}
 TOLD_BY = {name: re.compile(form) for name, form in TOLD_BY.items()}
 # What the leaf, and the lines below it, tell together.

@@ -472,8 +472,8 @@ def value_faults():
                 ('all', lambda at, names, number: SOUND['with_values'](at, number, {name: it for name, it in names.items() if it.kind == 'var'})),
                 ('by the statement', by_statement), ('of the statement behind', of_statement_behind))
             + named('names_in')(
-                ('no index', reads_of(Place, lambda place: {place.name})), ('the index alone', reads_of(Place, lambda place: {place.name} if place.size is None
-                                                                                                     else explaining.names_in(place.index))),
+                ('no index', reads_of(Place, lambda place: {place.name})),
+                ('the index alone', reads_of(Place, lambda place: {place.name} if place.size is None else explaining.names_in(place.index))),
                 ('the left side alone', reads_of(Binary, lambda binary: explaining.names_in(binary.left))),
                 ('the right side alone', reads_of(Binary, lambda binary: explaining.names_in(binary.right))),
                 ('nothing behind a sign', reads_of(Unary, lambda unary: set())))
@@ -593,4 +593,5 @@ def place_faults():
 
 def breakages():
     """All of them."""
-    return [*line_faults(), *wish_faults(), *miss_faults(), *taken_faults(), *behind_faults(), *whom_faults(), *cycle_faults(), *value_faults(), *place_faults()]
+    return [*line_faults(), *wish_faults(), *miss_faults(), *taken_faults(), *behind_faults(), *whom_faults(), *cycle_faults(),
+            *value_faults(), *place_faults()]

@@ -628,8 +628,8 @@ DRAWN = (
         '\ntrap at line 12: 1 of 1 run', '  rank 0, line 12: trap assert, with answers = [0, 20]',
         BY_REQUEST, runs_of(1, WITH_BUFFERS, 'drawn'), mode=BUFFERED, limits=few(1, come_to=2)),
     # a trap is found, and nothing is drawn
-    row(TRAPS, 1, 'it can trap: 1 of 1 run', MORE, others(WITH_BUFFERS), '\ntrap at line 3: 1 of 1 run', '  rank 0, line 3: trap bad-tag, with i = 0', FROM_START,
-        runs_of(0, WITH_BUFFERS), mode=BUFFERED, limits=few(come_to=2)),
+    row(TRAPS, 1, 'it can trap: 1 of 1 run', MORE, others(WITH_BUFFERS), '\ntrap at line 3: 1 of 1 run', '  rank 0, line 3: trap bad-tag, with i = 0',
+        FROM_START, runs_of(0, WITH_BUFFERS), mode=BUFFERED, limits=few(come_to=2)),
     row(HIGH_WANTED, 1, 'it can trap: 1 of 1 run', MORE, others(), '\ntrap at line 2: 1 of 1 run', '  rank 0, line 2: trap assert, with x = 1',
         FROM_START, runs_of(0), limits=few(come_to=2)),
     # by 10 to 12 steps the first run is cut, and the other hangs; by 9 steps both are cut
