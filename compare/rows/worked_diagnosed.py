@@ -14,7 +14,7 @@ from model.outcomes import MOST_COUNTED
 from rows.examples import open_example
 from rows.worked_ends import FREED_SLOT, THREE_SENDERS, TWO_REQUESTS
 from rows.worked_explorer import LOW_WANTED, gathering
-from rows.worked_outcomes import AT_LEAST, BAD_SCRIPT, HIGH_WANTED, LAST_OF_ALL, SWAPPED_TAGS, TRAPS, taken
+from rows.worked_outcomes import AT_LEAST, BAD_SCRIPT, HIGH_WANTED, LAST_OF_ALL, SWAPPED_TAGS, TRAPS, TWO_ASSERTS, taken
 from rows.worked_runs import EMPTY, ON_AND_ON, THREE, UNRECEIVED
 
 
@@ -345,6 +345,7 @@ BY_LAST = '''\
         0 value 1; if rank 0, line 3, goes on by line 3, 0.315 isend to 0 tag 0
         value 1 instead, it can still end well
   at the prompt of `debug`, `blame` goes to this step and `redo all` to the end'''
+APART = 'mpd 1; ranks 3; var x;\nif rank == 0 { recv x from any tag 0; if x == 1 {\nassert x == 3; } else {\nassert x == 4; } } else { send rank to 0 tag 0; }'
 TRAPPED = (
     *(row(WAITED_TWICE, 1, 'it can trap: 1 of 2 runs\n', 'trap at line 12: 1 of 2 runs', '  rank 0, line 12: trap assert, with answers = [0, 20]', BY_REQUEST,
           runs_of(1, file),
@@ -355,7 +356,12 @@ TRAPPED = (
         mode=BUFFERED),
     row(LOW_WANTED, 1, OF_LOW_WANTED, FROM_START, runs_of(0, picture='run-1'),
         '\ntrap at line 2: 1 of 2 runs', '  rank 0, line 2: trap assert, with x = 2', FROM_START, runs_of(1, picture='run-2')),
-    row(HIGH_WANTED, 1, OF_HIGH_WANTED, FROM_START, runs_of(1, picture='run-2')))
+    row(HIGH_WANTED, 1, OF_HIGH_WANTED, FROM_START, runs_of(1, picture='run-2')),
+    # two statements of one line are one bug, and of two lines they are two
+    row(TWO_ASSERTS, 1, 'it always traps (2 runs)\n', 'trap at line 2: 2 of 2 runs', '  rank 0, line 2: trap assert', FROM_START, runs_of(0)),
+    row(APART, 1, 'it always traps (2 runs)\n', 'trap at line 3: 1 of 2 runs', '  rank 0, line 3: trap assert, with x = 1', FROM_START,
+        runs_of(0, picture='run-1'), '\ntrap at line 4: 1 of 2 runs', '  rank 0, line 4: trap assert, with x = 2', FROM_START,
+        runs_of(1, picture='run-2')))
 
 # ---- leftovers
 
