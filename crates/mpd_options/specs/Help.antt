@@ -1,8 +1,8 @@
 -- What help shows as an example.
 use Rattle.std.specs.Prelude.{ℕ, List}
-use Rattle.mpd_options.specs.declared.command.TheConstants.{EXAMPLE, DIAGNOSE_EXAMPLE, TRACE_EXAMPLE, DEBUG_EXAMPLE, RUN_EXAMPLE, SERVE_EXAMPLE, CHECK_EXAMPLE, VERIFY_EXAMPLE, WORDS_EXAMPLE, TRANSLATE_EXAMPLE, PICTURE_EXAMPLE}
-use Rattle.mpd_options.specs.declared.command.Topic.{Topic}
-use Rattle.mpd_options.specs.declared.command.Topic.TheVariants.{Program, Diagnose, Trace, Debug, Run, Serve, Check, Verify, Words, Translate, Picture}
+use Rattle.mpd_options.specs.declared.help.TheConstants.{EXAMPLE, DIAGNOSE_EXAMPLE, TRACE_EXAMPLE, DEBUG_EXAMPLE, RUN_EXAMPLE, SERVE_EXAMPLE, CHECK_EXAMPLE, VERIFY_EXAMPLE, WORDS_EXAMPLE, TRANSLATE_EXAMPLE, PICTURE_EXAMPLE}
+use Rattle.mpd_options.specs.declared.help.Topic.{Topic}
+use Rattle.mpd_options.specs.declared.help.Topic.TheVariants.{Program, Diagnose, Trace, Debug, Run, Serve, Check, Verify, Words, Translate, Picture}
 
 -- the example of each; clauses tell it by its name, and the text itself is seen only where this is unfolded
 unfoldable pub example_of : Topic → List ℕ

@@ -5,8 +5,8 @@ use Rattle.clap.specs.Words.{App, Rule, new_app, new_rule, with_rule, with_subco
 use Rattle.clap.specs.declared.builder.action.ArgAction.TheVariants.{Set, SetTrue}
 use Rattle.clap.specs.declared.builder.value_parser.ValueParser.{ValueParser}
 use Rattle.clap.specs.declared.builder.value_parser.ValueParser.TheVariants.{Names, Unsigned}
-use Rattle.mpd_options.specs.declared.command.Topic.{Topic}
-use Rattle.mpd_options.specs.declared.command.Topic.TheVariants as topic
+use Rattle.mpd_options.specs.declared.help.Topic.{Topic}
+use Rattle.mpd_options.specs.declared.help.Topic.TheVariants as topic
 use Rattle.mpd_options.specs.Asked.{most_clients, most_fuel, most_leaf, most_modes, most_piece, most_port, most_ranks, most_runs, most_sample, most_seed, most_split, most_states, most_workers}
 
 -- the word of a file, which must be there

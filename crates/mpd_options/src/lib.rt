@@ -3,9 +3,10 @@
 
 pub mod clash;
 pub mod command;
+pub mod help;
 mod names;
 pub mod options;
 
 pub use clash::{CheckOption, Clash};
-pub use command::Topic;
+pub use help::Topic;
 pub use options::{CheckOptions, CommandLine, Options, UsageFault, read_options};

@@ -1,6 +1,6 @@
 use Rattle.std.proofs.Common.{ap, sym}
 use Rattle.mpd_options.specs.Help.{example_of}
-use Rattle.mpd_options.proofs.command.example.Goals as goal
+use Rattle.mpd_options.proofs.help.example.Goals as goal
 
 pub returns-in-Program : goal.returns-in-Program
 unfolding example_of
