@@ -51,7 +51,7 @@ Arguments:
 Options:
       --ranks <N[-M]>  How many ranks run the script, 1 to 16, in place of the number in it; N-M tells each number from N to M by a line
       --mode <M>       How standard sends behave: rendezvous, buffered, or slots:K with K from 0 to 65536 [default: rendezvous]
-      --strict         End with status 1 also where messages can be left over
+      --strict         End with status 1 also where calls can be left over
   -h, --help           Print help
 
 Examples:

@@ -299,7 +299,7 @@ fn strict_flag<'a>(alloc: Global) -> Arg<'a>
     ensures rule { rule_of result ≡ strict_rule }
     ensures own { result.global ≡ false }
 {
-    let help = "End with status 1 also where messages can be left over";
+    let help = "End with status 1 also where calls can be left over";
     flag(alloc, STRICT, help)
 }
 

@@ -75,7 +75,7 @@ pub(crate) const LEAF: &str = "leaf";
 /// The option of the choices of a run, without its hyphens.
 pub(crate) const CHOICES: &str = "choices";
 
-/// The flag that asks whether messages can be left over, without its hyphens.
+/// The flag that asks whether calls can be left over, without its hyphens.
 pub(crate) const STRICT: &str = "strict";
 
 /// The word of a witness's file.

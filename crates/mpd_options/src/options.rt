@@ -77,7 +77,7 @@ pub enum Options<'a> {
         file: &'a str,
         /// The mode's word, whatever it is; `rendezvous` where there is none.
         mode: &'a str,
-        /// Whether the status is to tell that messages can be left over.
+        /// Whether the status is to tell that calls can be left over.
         strict: bool,
         /// The word of how many ranks run the script, one number or several, whatever it is; there need be none.
         ranks: Option<&'a str>,

@@ -69,7 +69,7 @@ pub(crate) struct SpannedScript<'s> {
     pub(crate) text: &'s [u8],
     pub(crate) file: &'s str,
     pub(crate) mode: Mode,
-    /// Whether messages that can be left over count.
+    /// Whether calls that can be left over count.
     pub(crate) strict: bool,
 }
 
