@@ -5,7 +5,7 @@ import re
 from faults.policy_faults import Breakage
 from model import ranks
 
-SOUND = {name: getattr(ranks, name) for name in ('with_ranks', 'number_place', 'numbers_in', 'heading', 'several')}
+SOUND = {name: getattr(ranks, name) for name in ('with_ranks', 'number_place', 'numbers_in', 'heading', 'in_short', 'several')}
 
 
 def put(name, attribute, replacement):
@@ -40,8 +40,14 @@ FAULTS = (
     put('1 ranks', 'heading', '{} ranks: '.format),
     put('rank for all', 'heading', '{} rank: '.format),
     put('no more is told', 'several', lambda numbers, answers, command: (SOUND['several'](numbers, answers, command)[0].partition(b'\n\n')[0] + b'\n', SOUND['several'](numbers, answers, command)[1])),
+    put('no others are told of', 'MORE', 'nothing'),
+    put('what was drawn is not told', 'in_short', lambda number, text, mode: SOUND['in_short'](number, text.partition('\n\ndrawn')[0], mode)),
+    *(put(f'{name} is not told', 'OPENING', {it: forms for it, forms in ranks.OPENING.items() if it != name}) for name in ('left', 'cut')),
+    put('hangs and traps turned', 'OPENING', {**ranks.OPENING, 'hang': ranks.OPENING['trap'], 'trap': ranks.OPENING['hang']}),
+    put('long lines', 'folded', lambda line: [line]),
+    put('the first line alone', 'unfolded', lambda text: text),
     put('the last bad number', 'several', lambda numbers, answers, command: (
-        b''.join(SOUND['heading'](number).encode() + answer.output.split(b'\n')[0] + b'\n' for number, answer in zip(numbers, answers))
+        b''.join(ranks.in_short(number, answer.output.decode(), ranks.RENDEZVOUS).encode() for number, answer in zip(numbers, answers))
         + b''.join([f'\n  {command(number)}\n'.encode() for number, answer in zip(numbers, answers) if answer.status == 1][-1:]), SOUND['several'](numbers, answers, command)[1])),
     put('the status of the last', 'several', lambda numbers, answers, command: (SOUND['several'](numbers, answers, command)[0], answers[-1].status)),
     put('no status', 'several', lambda numbers, answers, command: (SOUND['several'](numbers, answers, command)[0], 0)))

@@ -6,6 +6,8 @@ compare/runs/ranked.py compares a program with it.
 
 import re
 
+from model.console_lines import folded
+from model.debugger import RENDEZVOUS
 from model.language import Fault, Tokens, read_script
 
 MOST_RANKS = 16
@@ -44,9 +46,50 @@ def heading(ranks):
     return f'{ranks} rank: ' if ranks == 1 else f'{ranks} ranks: '
 
 
-def several(numbers, answers, command):
+# How a diagnosis tells how many runs do something, and how many there are in all; those of drawn runs begin otherwise.
+COUNT = r'((?:at least )?\d+)'
+OPENING = {
+    'hang': (rf'it always hangs \({COUNT} runs?\)', rf'it can hang: {COUNT} of {COUNT} runs?'),
+    'trap': (rf'it always traps \({COUNT} runs?\)', rf'it can trap: {COUNT} of {COUNT} runs?'),
+    'none': (rf'it never hangs or traps in \S+, whatever is taken first \({COUNT} runs?, \d+ states?\)', rf'no hang and no trap was found in {COUNT} runs? in \S+'),
+    'left': (rf'it can end with calls left over: {COUNT} of {COUNT} runs?',),
+    'cut': (rf'not everything was tried: {COUNT} of {COUNT} runs? were cut after \d+ steps',)}
+DRAWN = {
+    'hang': (rf'drawn at random: {COUNT} of {COUNT} runs? hang',), 'trap': (rf'drawn at random: {COUNT} of {COUNT} runs? trap',),
+    'none': (rf'drawn at random: none of {COUNT} runs? hangs or traps',), 'left': (rf'drawn at random: {COUNT} of {COUNT} runs? end with calls left over',)}
+MORE = 'not everything was tried: there are more runs than these'
+IN_SHORT = {'hang': '{} hang', 'trap': '{} trap', 'none': 'none hangs or traps', 'left': '{} with calls left over', 'cut': '{} cut'}
+
+
+def unfolded(text):
+    """A text whose long lines go on in no further lines."""
+    return re.sub(r'\n {8}(?=\S)', ' ', text)
+
+
+def counts_in(lines, forms):
+    """What lines tell by these forms: how many runs do something, and how many there are; all do where one number stands there."""
+    found = {name: next((told.groups() for form in each for told in [re.fullmatch(form, line) for line in lines] if told), None) for name, each in forms.items()}
+    return {name: (counts * 2)[:2] for name, counts in found.items() if counts}
+
+
+def ways_in(lines, forms, more=''):
+    """How many runs lines tell of, and in short what becomes of them, with what stands between."""
+    counts = counts_in(lines, forms)
+    total = next((total for _, total in counts.values()), 'no')
+    return ', '.join([f'{total} run{"" if total == "1" else "s"}{more}', *(IN_SHORT[name].format(count) for name, (count, _) in counts.items())])
+
+
+def in_short(number, text, mode):
+    """The lines that tell of a number of ranks what becomes of its runs, by what the diagnosis of it says."""
+    opening, *others = [part.splitlines() for part in unfolded(text).split('\n\n')]
+    drawn = [part for part in others if part[0].startswith('drawn at random: ')]
+    told = [ways_in(opening, OPENING, ' and more' * (MORE in opening) + f' in {mode}'), *(f'drawn at random: {ways_in(part, DRAWN)}' for part in drawn)]
+    return ''.join(f'{line}\n' for line in folded(heading(number) + '; '.join(told)))
+
+
+def several(numbers, answers, command, mode=RENDEZVOUS):
     """What is said of several numbers of ranks, and the status, by what is answered of each; `command` tells how more is seen of one."""
-    lines = [heading(number).encode() + answer.output.split(b'\n')[0] + b'\n' for number, answer in zip(numbers, answers)]
+    lines = [in_short(number, answer.output.decode(), mode).encode() for number, answer in zip(numbers, answers)]
     bad = [number for number, answer in zip(numbers, answers) if answer.status == 1]
     statuses = [answer.status for answer in answers]
     more = [f'\n  {command(bad[0])}\n'.encode()] if bad else []

@@ -18,12 +18,27 @@ TEXTS = (
 # Words of several numbers of ranks, and the first and the last that each names.
 WORDS = (('1', (1, 1)), ('16', (16, 16)), ('2-5', (2, 5)), ('1-16', (1, 16)), ('7-7', (7, 7)), ('002-000000016', (2, 16)), ('', None), ('0', None), ('17', None), ('x', None),
          ('+3', None), ('-3', None), ('3-', None), ('-', None), ('5-2', None), ('0-3', None), ('3-17', None), ('1-2-3', None), ('0000000001', None), ('3\n', None))
-# What is answered of some numbers, each first line and status with more after it, and what is said of all.
+# What is answered of some numbers, each with its status, and what is said of all.
+WELL = b'it never hangs or traps in rendezvous, whatever is taken first (1 run, 1 state)\n  ./mpdbg check FILE --modes 4 --outcomes\n'
+FOUR = b'it never hangs or traps in rendezvous, whatever is taken first (4 runs, 13\n        states)\n  ./mpdbg check FILE --modes 4 --outcomes\n'
+BOTH = b'it can hang: 4 of 24 runs\nit can trap: 20 of 24 runs\n\ndeadlock at line 3: 4 of 24 runs\n\ntrap at line 4: 20 of 24 runs\n'
+CUT = b'no hang and no trap was found in 2 runs in rendezvous\nnot everything was tried: 1 of 2 runs were cut after 100000 steps\n'
+LEFT = b'it never hangs or traps in rendezvous, whatever is taken first (3 runs, 5\n        states)\nit can end with calls left over: 2 of 3 runs\n\nleft over from line 3: 2 of 3 runs\n'
+DRAWN = (b'no hang and no trap was found in 7 runs in rendezvous\nit can end with calls left over: 2 of 7 runs\n'
+         b'not everything was tried: there are more runs than these\n\nleft over from line 3: 2 of 7 runs\n\ndrawn at random: 3 of 4096 runs hang\n'
+         b'drawn at random: 1 of 4096 runs end with calls left over\n\ndeadlock at line 5: 3 of 4096 runs\n')
+NONE_DRAWN = (b'no hang and no trap was found in 7 runs in rendezvous\nnot everything was tried: there are more runs than these\n\n'
+              b'drawn at random: none of 4096 runs hangs or traps\n  ./mpdbg check FILE --sample 65536 --group --explain\n')
 SEVERAL = (
-    (((2, b'well\n', 0), (3, b'it hangs\n\nmore\n', 1), (4, b'it traps\n', 1)), b'2 ranks: well\n3 ranks: it hangs\n4 ranks: it traps\n\n  see 3\n', 1),
-    (((1, b'well\nmore\n', 0), (2, b'not all\n', 4)), b'1 rank: well\n2 ranks: not all\n', 4),
-    (((5, b'not all\n', 4), (6, b'bad\n', 1), (7, b'well\n', 0)), b'5 ranks: not all\n6 ranks: bad\n7 ranks: well\n\n  see 6\n', 1),
-    (((15, b'well\n', 0), (16, b'well\n', 0)), b'15 ranks: well\n16 ranks: well\n', 0))
+    (((2, WELL, 0), (3, b'it always hangs (1 run)\n\nmore\n', 1), (4, BOTH, 1), (5, b'it always traps (2 runs)\n', 1)),
+     b'2 ranks: 1 run in rendezvous, none hangs or traps\n3 ranks: 1 run in rendezvous, 1 hang\n4 ranks: 24 runs in rendezvous, 4 hang, 20 trap\n'
+     b'5 ranks: 2 runs in rendezvous, 2 trap\n\n  see 3\n', 1),
+    (((1, FOUR, 0), (2, CUT, 4)), b'1 rank: 4 runs in rendezvous, none hangs or traps\n2 ranks: 2 runs in rendezvous, none hangs or traps, 1 cut\n', 4),
+    (((5, LEFT, 0), (6, DRAWN, 1), (7, WELL, 0)),
+     b'5 ranks: 3 runs in rendezvous, none hangs or traps, 2 with calls left over\n6 ranks: 7 runs and more in rendezvous, none hangs or traps, 2 with calls left\n'
+     b'        over; drawn at random: 4096 runs, 3 hang, 1 with calls left over\n7 ranks: 1 run in rendezvous, none hangs or traps\n\n  see 6\n', 1),
+    (((15, NONE_DRAWN, 4), (16, WELL, 0)),
+     b'15 ranks: 7 runs and more in rendezvous, none hangs or traps; drawn at random:\n        4096 runs, none hangs or traps\n16 ranks: 1 run in rendezvous, none hangs or traps\n', 4))
 HEADINGS = ((1, '1 rank: '), (2, '2 ranks: '), (16, '16 ranks: '))
 
 # Each even rank sends to the next one, each odd rank receives: the last of an odd number of ranks sends to rank 0, which never receives.
@@ -67,15 +82,16 @@ ROWS = (
     Row(REFUSED, 2, 'check --ranks 3 --mode fast', '', 2, 'mpdbg: bad mode\n'),
     Row(REFUSED, 17, 'check --ranks 3', '', 2, 'mpdbg: script refused 9 bad-ranks at 13 line 2\n'),
     # several numbers of ranks
-    Row(RING, 2, 'diagnose --ranks 2-5', '2 ranks: it never hangs or traps in rendezvous, whatever is taken first (1 run, 1 state)\n3 ranks: it always hangs (1 run)\n'
-        '4 ranks: it never hangs or traps in rendezvous, whatever is taken first (1 run, 1 state)\n5 ranks: it always hangs (1 run)\n\n  ./mpdbg diagnose FILE --ranks 3\n', 1),
-    Row(RING, 7, 'diagnose --ranks 2-3 --mode slots:00000', '2 ranks: it never hangs or traps in slots:0, whatever is taken first (1 run, 1 state)\n3 ranks: it always hangs (1 run)\n\n'
+    Row(RING, 2, 'diagnose --ranks 2-5', '2 ranks: 1 run in rendezvous, none hangs or traps\n3 ranks: 1 run in rendezvous, 1 hang\n'
+        '4 ranks: 1 run in rendezvous, none hangs or traps\n5 ranks: 1 run in rendezvous, 1 hang\n\n  ./mpdbg diagnose FILE --ranks 3\n', 1),
+    Row(RING, 7, 'diagnose --ranks 2-3 --mode slots:00000', '2 ranks: 1 run in slots:0, none hangs or traps\n3 ranks: 1 run in slots:0, 1 hang\n\n'
         '  ./mpdbg diagnose FILE --ranks 3 --mode slots:0\n', 1),
-    Row(RING, 7, 'diagnose --ranks 3-4 --mode buffered', '3 ranks: it never hangs or traps in buffered, whatever is taken first (1 run, 1 state)\n'
-        '4 ranks: it never hangs or traps in buffered, whatever is taken first (1 run, 1 state)\n'),
-    Row(RING, 7, 'diagnose --ranks 3-4 --mode buffered --strict', '3 ranks: it never hangs or traps in buffered, whatever is taken first (1 run, 1 state)\n'
-        '4 ranks: it never hangs or traps in buffered, whatever is taken first (1 run, 1 state)\n\n  ./mpdbg diagnose FILE --ranks 3 --mode buffered\n', 1),
-    Row(TO_RANK_2, 3, 'diagnose --ranks=1-3', '1 rank: it always traps (1 run)\n2 ranks: it always traps (1 run)\n3 ranks: it never hangs or traps in rendezvous, whatever is taken first (1 run, 1 state)\n\n'
+    # with three ranks the message to rank 0 is left over, and with four none is
+    Row(RING, 7, 'diagnose --ranks 3-4 --mode buffered', '3 ranks: 1 run in buffered, none hangs or traps, 1 with calls left over\n'
+        '4 ranks: 1 run in buffered, none hangs or traps\n'),
+    Row(RING, 7, 'diagnose --ranks 3-4 --mode buffered --strict', '3 ranks: 1 run in buffered, none hangs or traps, 1 with calls left over\n'
+        '4 ranks: 1 run in buffered, none hangs or traps\n\n  ./mpdbg diagnose FILE --ranks 3 --mode buffered --strict\n', 1),
+    Row(TO_RANK_2, 3, 'diagnose --ranks=1-3', '1 rank: 1 run in rendezvous, 1 trap\n2 ranks: 1 run in rendezvous, 1 trap\n3 ranks: 1 run in rendezvous, none hangs or traps\n\n'
         '  ./mpdbg diagnose FILE --ranks 1\n', 1),
     Row(RING, 3, 'diagnose --ranks 2-2', 'it never hangs or traps in rendezvous, whatever is taken first (1 run, 1 state)\n  ./mpdbg check FILE --ranks 2 --modes 4 --outcomes\n'),
     Row(RING, 3, 'diagnose --ranks 4 --mode buffered', 'it never hangs or traps in buffered, whatever is taken first (1 run, 1 state)\n  ./mpdbg check FILE --ranks 4 --modes 4 --outcomes\n'),

@@ -14,9 +14,13 @@ sample_command file ranks mode = line (codes "  ./mpdbg check " ++ named file ra
 unfoldable pub modes_command : List ℕ → Option ℕ → List ℕ
 modes_command file ranks = line (codes "  ./mpdbg check " ++ script file ranks ++ codes " --modes 4 --outcomes")
 
+-- ` --strict`
+abbrev pub strict_words : Bool → List ℕ
+strict_words strict = if strict then codes " --strict" else []
+
 -- `  ./mpdbg diagnose race.mpd --ranks 3`
-unfoldable pub ranks_command : List ℕ → ℕ → Mode → List ℕ
-ranks_command file ranks mode = line (codes "  ./mpdbg diagnose " ++ named file (Some ranks) mode)
+unfoldable pub ranks_command : List ℕ → ℕ → Mode → Bool → List ℕ
+ranks_command file ranks mode strict = line (codes "  ./mpdbg diagnose " ++ named file (Some ranks) mode ++ strict_words strict)
 
 -- ` --ends --choices '0 2'`
 unfoldable pub choices_words : List ℕ → List ℕ

@@ -11,6 +11,7 @@ use Rattle.mpd_diagnose.specs.Hints.{tells_step}
 use Rattle.mpd_diagnose.specs.Words.{named}
 use Rattle.mpd_diagnose.specs.Commands.{picture_file}
 use Rattle.mpd_diagnose.specs.Told.{always_hangs, always_traps, draws, never_fails, share}
+use Rattle.mpd_diagnose.specs.Brief.{ranks_text, ways_text, drawn_text}
 use Rattle.mpd_diagnose.specs.Verdicts.{verdict_of}
 
 -- each line once, the least first
@@ -102,3 +103,10 @@ row_pictures = refl
 pub row_steps : tells_step (codes "  decided at depth 12: rank 0") ∷ tells_step (codes "  decided at depth 12 or earlier: x") ∷ tells_step (codes "  decided from the start: no") ∷ tells_step (codes "  decided at") ∷ tells_step [] ∷ []
     ≡ true ∷ false ∷ false ∷ false ∷ false ∷ []
 row_steps = refl
+
+-- what they come to in a line, of 3 ranks and of 1: of two, with others and with what was drawn
+pub row_ranks_text : ranks_text 3 Rendezvous both None ++ ranks_text 1 Buffered untidy None ++ ranks_text 3 Rendezvous stopped (Some trapped) ++ ranks_text 3 Rendezvous cut_short None
+    ≡ codes "3 ranks: 3 runs in rendezvous, 2 hang, 1 trap" ++ codes "1 rank: 3 runs in buffered, none hangs or traps, 1 with calls left over"
+    ++ codes "3 ranks: 3 runs and more in rendezvous, none hangs or traps; drawn at random: 3 runs, 1 trap" ++ codes "3 ranks: 3 runs in rendezvous, none hangs or traps, 1 cut"
+unfolding ranks_text ways_text drawn_text digits
+row_ranks_text = refl

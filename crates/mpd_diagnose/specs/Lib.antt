@@ -5,6 +5,7 @@ pub mod Details
 pub mod Words
 pub mod Commands
 pub mod Told
+pub mod Brief
 pub mod Verdicts
 pub mod Diagnosed
 pub mod DiagnosisRows

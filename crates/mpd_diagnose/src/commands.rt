@@ -32,14 +32,26 @@ pub(crate) fn modes_command(alloc: Global, named: Named<'_>) -> Result<Vec<u8>, 
     Ok(out)
 }
 
-/// The command that diagnoses the script of a file for so many ranks.
+/// Adds that calls that are left over count, where they do.
+fn push_strict(out: &mut Vec<u8>, strict: bool) -> Result<(), AllocError>
+    ensures { OnOk result (out.new.items ≡ out.old.items ++ spec.strict_words strict) }
+{
+    if strict {
+        push_text(out, " --strict")
+    } else {
+        Ok(())
+    }
+}
+
+/// The command that diagnoses the script of a file for so many ranks, `strict` or not.
 pub fn ranks_command(
     alloc: Global,
     file: &str,
     ranks: usize,
     mode: Mode,
+    strict: bool,
 ) -> Result<Vec<u8>, AllocError>
-    ensures { IfOk result (λ t. t.items ≡ spec.ranks_command file.now ranks mode) }
+    ensures { IfOk result (λ t. t.items ≡ spec.ranks_command file.now ranks mode strict) }
 {
     let named = Named {
         file,
@@ -49,6 +61,7 @@ pub fn ranks_command(
     let mut out = Vec::new(alloc);
     push_text(&mut out, "  ./mpdbg diagnose ")?;
     push_named(alloc, &mut out, named)?;
+    push_strict(&mut out, strict)?;
     push_text(&mut out, "\n")?;
     Ok(out)
 }

@@ -2,6 +2,7 @@
 #![tactic(auto)]
 
 mod along;
+mod brief;
 mod commands;
 mod details;
 mod diagnosis;
@@ -12,6 +13,7 @@ mod told;
 mod verdict;
 mod words;
 
+pub use brief::ranks_line;
 pub use commands::ranks_command;
 pub use diagnosis::{Diagnosis, DiagnosisPlan, diagnose};
 pub use verdict::verdict_of;

@@ -16,7 +16,7 @@ use mpd_runs::{WayCounts, is_count, sees_all};
 use std::alloc::{AllocError, Global};
 
 /// Adds how many runs there are.
-fn push_runs(out: &mut String, count: Count) -> Result<(), AllocError>
+pub(crate) fn push_runs(out: &mut String, count: Count) -> Result<(), AllocError>
     ensures { OnOk result (string_bytes out.new ≡ string_bytes out.old ++ spec.runs_text count) }
 {
     push_count(out, count)?;
@@ -74,7 +74,7 @@ fn never_fails(counts: WayCounts) -> bool
 }
 
 /// Adds the mode.
-fn push_in_mode(out: &mut String, mode: Mode) -> Result<(), AllocError>
+pub(crate) fn push_in_mode(out: &mut String, mode: Mode) -> Result<(), AllocError>
     ensures { OnOk result (string_bytes out.new ≡ string_bytes out.old ++ spec.in_mode mode) }
 {
     write!(out, " in {mode}")

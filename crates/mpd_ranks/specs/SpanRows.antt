@@ -1,8 +1,7 @@
--- Worked rows of the numbers of ranks that words name, and of the line of one.
-use Rattle.std.specs.Prelude.{◌≡◌, ℕ, List, [], ◌∷◌, ◌++◌, map, Option, Some, None, codes, refl}
-use Rattle.std.specs.Fmt.{digits}
+-- Worked rows of the numbers of ranks that words name.
+use Rattle.std.specs.Prelude.{◌≡◌, ℕ, List, [], ◌∷◌, map, Option, Some, None, codes, refl}
 use Rattle.mpd_ranks.specs.declared.span.RankSpan.{RankSpan}
-use Rattle.mpd_ranks.specs.Spans.{ranks_line, span_of}
+use Rattle.mpd_ranks.specs.Spans.{span_of}
 
 abbrev Row : Type 0
 Row = List ℕ × Option RankSpan
@@ -36,8 +35,3 @@ rows =
 
 pub worked_spans : map (λ (row : Row). span_of row.0) rows ≡ map (λ (row : Row). row.1) rows
 worked_spans = refl
-
-pub worked_lines : ranks_line 3 (codes "it can hang: all" ++ 10 ∷ codes "more") ++ ranks_line 1 (codes "all end well") ++ ranks_line 16 []
-    ≡ codes "3 ranks: it can hang: all" ++ 10 ∷ codes "1 rank: all end well" ++ 10 ∷ codes "16 ranks: " ++ 10 ∷ []
-unfolding digits
-worked_lines = refl

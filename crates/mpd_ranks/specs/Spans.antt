@@ -1,6 +1,5 @@
--- Several numbers of ranks, as a word names them, and what is told of each.
-use Rattle.std.specs.Prelude.{◌≤◌, ℕ, suc, ◌+◌, ◌&&◌, if◌then◌else◌, ◌==◌, nat_le, List, [], ◌∷◌, ◌++◌, length, take, drop, Option, Some, None, option_and_then, codes}
-use Rattle.std.specs.Fmt.{decimal}
+-- Several numbers of ranks, as a word names them.
+use Rattle.std.specs.Prelude.{◌≤◌, ℕ, suc, ◌+◌, ◌&&◌, if◌then◌else◌, ◌==◌, nat_le, List, [], ◌∷◌, length, take, drop, Option, Some, None, option_and_then}
 use Rattle.mpd_model.specs.declared.limits.TheConstants.{RANKS_MAX}
 use Rattle.mpd_model.specs.texts.Words.{number_of}
 use Rattle.mpd_ranks.specs.declared.span.RankSpan.{RankSpan}
@@ -30,12 +29,3 @@ abbrev pub span_of : List ℕ → Option RankSpan
 span_of word =
     let place = length_before 45 word in
     if place == length word then span_between (rank_count word) (rank_count word) else span_between (rank_count (take place word)) (rank_count (drop (place + 1) word))
-
--- ---- what is told
-
-abbrev pub heading : ℕ → List ℕ
-heading ranks = if ranks == 1 then codes " rank: " else codes " ranks: "
-
--- `3 ranks: it can hang: 1 of 2 runs`, the first line of what is told of that number
-abbrev pub ranks_line : ℕ → List ℕ → List ℕ
-ranks_line ranks told = decimal ranks ++ heading ranks ++ take (length_before 10 told) told ++ 10 ∷ []

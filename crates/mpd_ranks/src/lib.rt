@@ -8,5 +8,5 @@ pub mod text;
 
 pub use reading::{code_of_text, read_code_for, read_script_for};
 pub use script::with_ranks;
-pub use span::{RankSpan, ranks_line, span_of};
+pub use span::{RankSpan, span_of};
 pub use text::text_with_ranks;

@@ -1,11 +1,9 @@
-//! Several numbers of ranks, as a word of the command line names them, and what is told of each (docs/FORMATS.md, "Several numbers of ranks").
+//! Several numbers of ranks, as a word of the command line names them (docs/FORMATS.md, "Several numbers of ranks").
 
-ghost use Rattle.std.specs.Prelude.{◌≡◌, ◌≤◌, IfOk, IfSome, length};
+ghost use Rattle.std.specs.Prelude.{◌≡◌, ◌≤◌, IfSome, length};
 ghost use Rattle.mpd_ranks.specs.Spans as spec;
 
-use itoa::Buffer;
 use mpd_model::{RANKS_MAX, number_of};
-use std::alloc::{AllocError, Global};
 
 /// The numbers of ranks from one to another.
 #[derive(Clone, Copy)]
@@ -67,25 +65,4 @@ pub fn span_of(word: &[u8]) -> Option<RankSpan>
     let (first, _) = word.split_at(place);
     let (_, last) = word.split_at(place + 1);
     span_between(first, last)
-}
-
-/// What stands between a number of ranks and what is told of it.
-fn heading(ranks: usize) -> &'static [u8]
-    ensures { result.now ≡ spec.heading ranks }
-{
-    if ranks == 1 { b" rank: " } else { b" ranks: " }
-}
-
-/// A line for a number of ranks, with the first line of what is told of it.
-pub fn ranks_line(alloc: Global, ranks: usize, told: &[u8]) -> Result<Vec<u8>, AllocError>
-    ensures { IfOk result (λ line. line.items ≡ spec.ranks_line ranks told.now) }
-{
-    let (first, _) = told.split_at(length_before(b'\n', told));
-    let mut digits = Buffer::new();
-    let mut line = Vec::new(alloc);
-    line.extend_from_slice(digits.format(ranks).as_bytes())?;
-    line.extend_from_slice(heading(ranks))?;
-    line.extend_from_slice(first)?;
-    line.push(b'\n')?;
-    Ok(line)
 }

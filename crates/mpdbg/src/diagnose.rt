@@ -7,11 +7,11 @@ ghost use Rattle.mpd_ranks.specs.Spans.{IsSpan};
 use crate::tell::Fault;
 use mpd_code::Subject;
 use mpd_device::Sink;
-use mpd_diagnose::{DiagnosisPlan, diagnose, ranks_command, verdict_of};
+use mpd_diagnose::{DiagnosisPlan, diagnose, ranks_command, ranks_line, verdict_of};
 use mpd_lines::{EngineFault, Verdict, write_all};
 use mpd_model::Mode;
 use mpd_outcomes::StateLimits;
-use mpd_ranks::{RankSpan, code_of_text, ranks_line};
+use mpd_ranks::{RankSpan, code_of_text};
 use mpd_runs::{FUEL, STATES_KEPT, STATES_VISITED};
 use std::alloc::Global;
 
@@ -90,7 +90,7 @@ fn diagnose_number<'a, W: Sink>(
         mode: script.mode,
     };
     let told = diagnose(alloc, subject, plan_of(script.file, Some(ranks)))?;
-    let line = ranks_line(alloc, ranks, &told.text)?;
+    let line = ranks_line(alloc, ranks, script.mode, &told)?;
     write_told(sink, &line)?;
     Ok(verdict_of(&told, script.strict))
 }
@@ -124,7 +124,7 @@ pub(crate) fn diagnose_each<'a, W: Sink>(
         worst = joined(worst, verdict);
     }
     if let Some(ranks) = first_bad {
-        let more = ranks_command(alloc, script.file, ranks, script.mode)?;
+        let more = ranks_command(alloc, script.file, ranks, script.mode, script.strict)?;
         write_told(sink, b"\n")?;
         write_told(sink, &more)?;
     }
