@@ -36,9 +36,9 @@ LEFT_OUT = {
                                'push_why', 'push_why_rank', 'push_why_ranks', 'push_words', 'push_lost', 'push_all_lost', 'push_lost_line',
                                'lost_calls'), BY_WORDS),
     'mpd_moves': dict.fromkeys(('doing_of', 'goto_command', 'known_for', 'lead_of', 'lead_text', 'push_break_line', 'push_reply'), BY_WORDS),
-    'mpd_diagnose': {'ranks_command': 'called by the program with --ranks'},
+    'mpd_diagnose': dict.fromkeys(('ranks_command', 'ranks_line'), 'called by the program with --ranks'),
     'mpd_ranks': {'with_ranks': 'takes no memory', 'span_of': 'takes no memory', **dict.fromkeys(
-        ('read_script_for', 'read_code_for', 'code_of_text', 'text_with_ranks', 'ranks_line'), 'called by the program with --ranks')},
+        ('read_script_for', 'read_code_for', 'code_of_text', 'text_with_ranks'), 'called by the program with --ranks')},
     'mpd_fold': {'push_folded': BY_WORDS, **dict.fromkeys(('long_lines_keep_their_words', 'long_lines_can_nowhere_be_cut'), 'a law')},
     'mpd_runs': {'a_run_or_a_bad_choice': 'a law', 'counts_told': 'called by check_outcomes', **dict.fromkeys(('is_count', 'sees_all'), 'takes no memory'), **dict.fromkeys((
         'seek', 'numbered_run', 'last_choice', 'name', 'push_runs', 'push_none', 'push_ahead', 'push_count', 'push_no_run', 'push_no_choice'), BY_WORDS)},
