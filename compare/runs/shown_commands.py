@@ -68,7 +68,8 @@ done
 '''
 # What tells of a deadlock or a trap, in a report, grouped or of modes, or in a diagnosis.
 IS_BAD = re.compile(r'^(?:leaf|outcome) .*\] (?:deadlock|trap) |^end .* first \d+ (?:deadlock|trap) |'
-                    r'^\S+ leaves \d+ (?:deadlocks [1-9]|deadlocks 0 traps [1-9])|^(?:[0-9]+ ranks?: )?it (?:can (?:hang|trap): |always (?:hangs|traps) )', re.M)
+                    r'^\S+ leaves \d+ (?:deadlocks [1-9]|deadlocks 0 traps [1-9])|^it (?:can (?:hang|trap): |always (?:hangs|traps) )'
+                    r'|^\d+ ranks?: .*, \d+ (?:hang|trap)\b', re.M)
 # What the examples of help answer, each in its turn.
 STUCK = '  rank {0} waits at line 4, {0}.0 send to {1} tag 5 value {0}: for a receive of rank {1} from rank {0} with tag 5\n'
 CANDIDATE = '  {0} match {0}.0 0.0: rank {0}, line 7, to rank 0, line 7\n'
