@@ -213,6 +213,7 @@ def verdict_faults():
         ('no command that tries other modes', lambda asked, found: [line for line in SOUND['tried_next'](asked, found) if '--modes' not in line]),
         ('a command that tries other modes where it is cut', lambda asked, found: always_modes(asked, found, CUT in found.ways)),
         ('a command that tries other modes where there are more', lambda asked, found: always_modes(asked, found, found.more)),
+        ('no command that tries other modes where all is bad', lambda asked, found: SOUND['tried_next'](asked, found) if not any(map(is_bad, found.ways)) else []),
         ('a command that tries other modes beside a trap', lambda asked, found: always_modes(asked, found, not SOUND['runs_of'](found, HANG))),
         ('a command that tries other modes beside a deadlock', lambda asked, found: always_modes(asked, found, not SOUND['runs_of'](found, TRAP))),
         ('a command that tries other modes beside nothing that is left over', lambda asked, found:

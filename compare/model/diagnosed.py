@@ -226,12 +226,12 @@ def always(found, kind):
     return is_whole(found) and {word_of(outcome) for outcome in found.ways} == {kind}
 
 
-def bad_lines(found):
+def bad_lines(asked, found):
     """How many runs hang, and how many trap."""
     runs = several(outcomes.total(found), 'run')
     for kind, word in ((HANG, 'hang'), (TRAP, 'trap')):
         if always(found, kind):
-            yield f'it always {word}s ({runs})'
+            yield f'it always {word}s in {mode_of(asked)} ({runs})'
         elif count := runs_of(found, kind):
             yield f'it can {word}: {of_runs(count, found)}'
 
@@ -247,7 +247,7 @@ def well_line(asked, search, found):
 def verdict_lines(asked, search, found):
     """What becomes of the runs."""
     left, cut = (runs_of(found, kind) for kind in (LEFT, CUT))
-    yield from bad_lines(found)
+    yield from bad_lines(asked, found)
     if not any(map(is_bad, found.ways)):
         yield well_line(asked, search, found)
     if left:
@@ -269,8 +269,8 @@ def modes_in_turn(asked):
 
 
 def tried_next(asked, found):
-    """The command that is tried next: other modes where no run hangs or traps, and others where there are more and none are drawn."""
-    if is_whole(found) and not any(map(is_bad, found.ways)):
+    """The command that is tried next: other modes where no run hangs or traps, or each does, and others where there are more and none are drawn."""
+    if is_whole(found) and len(set(map(is_bad, found.ways))) == 1:
         yield modes_in_turn(asked)
     if found.more and not is_drawn(found):
         yield others(asked)

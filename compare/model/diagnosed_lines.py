@@ -15,8 +15,8 @@ RUNS = f'{COUNT} (runs?)'
 RENDEZVOUS = 'rendezvous'
 # What becomes of the runs in a mode, in the order of the lines.
 VERDICT = (
-    ('hang', f'it can hang: {COUNT} of {RUNS}'), ('always hangs', rf'it always hangs \({RUNS}\)'),
-    ('trap', f'it can trap: {COUNT} of {RUNS}'), ('always traps', rf'it always traps \({RUNS}\)'),
+    ('hang', f'it can hang: {COUNT} of {RUNS}'), ('always hangs', rf'it always hangs in MODE \({RUNS}\)'),
+    ('trap', f'it can trap: {COUNT} of {RUNS}'), ('always traps', rf'it always traps in MODE \({RUNS}\)'),
     ('never', rf'it never hangs or traps in MODE, whatever is taken first \({RUNS}, ([0-9]+) (states?)\)'),
     ('none found', f'no hang and no trap was found in {RUNS} in MODE'), ('left', f'it can end with calls left over: {COUNT} of {RUNS}'),
     ('cut', f'not everything was tried: {COUNT} of {RUNS} were cut after 100000 steps'),
@@ -240,7 +240,8 @@ def read_diagnosis(text, named):
     place = next((place for place, lines in enumerate(others) if lines[0].startswith(AT_RANDOM)), len(others))
     is_drawn = 'more' in told and not counts['hang'] and not counts['trap']
     must_be((place < len(others)) == is_drawn, f'{"nothing" if is_drawn else "something"} is told of runs that were drawn')
-    wanted = 'modes' if 'never' in told else 'others' if 'more' in told and not is_drawn else None
+    are_all_bad = runs <= MOST_COUNTED and counts['hang'] + counts['trap'] == runs and 'more' not in told
+    wanted = 'modes' if 'never' in told or are_all_bad or set(ALWAYS) & set(told) else 'others' if 'more' in told and not is_drawn else None
     must_be(command == wanted, f'the command {command}, and not {wanted}')
     bugs = bugs_in(others[:place], named, counts, runs, 'run')
     if 'never' in told:

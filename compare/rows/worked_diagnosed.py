@@ -70,6 +70,11 @@ def in_turn(file='script.mpd'):
     return f'  ./mpdbg check {file} --modes 4 --outcomes'
 
 
+def always(does, runs, mode=RENDEZVOUS, file='script.mpd'):
+    """What is told where every run hangs or traps, and an empty line."""
+    return f'it always {does} in {mode} ({runs})', f'{in_turn(file)}\n'
+
+
 # ---- never
 
 def never(counts, mode=RENDEZVOUS):
@@ -116,7 +121,8 @@ BY_MESSAGE = f'''\
 {HINT}'''
 # Always, in one run.
 OF_SWAPPED = '''\
-it always hangs (1 run)
+it always hangs in rendezvous (1 run)
+  ./mpdbg check script.mpd --modes 4 --outcomes
 
 deadlock at lines 7, 10: 1 of 1 run
   rank 0 waits at line 7, 0.0 send to 1 tag 1 value 640: for a receive of rank 1
@@ -216,7 +222,7 @@ LONGER_LAST, AS_LONG = LONGER_FIRST.replace('x == 1', 'x == 2'), LONGER_FIRST.re
 
 def of_longer(rank, taken_by):
     """What is told of both, by the one in which a sender is left."""
-    return ('it always hangs (2 runs)\n', 'deadlock at lines 5, 6: 2 of 2 runs', waits_for_itself(5, '0.1', 9), left_waiting(rank, 6, taken_by),
+    return (*always('hangs', '2 runs'), 'deadlock at lines 5, 6: 2 of 2 runs', waits_for_itself(5, '0.1', 9), left_waiting(rank, 6, taken_by),
             f'  rank 0 waits for rank 0\n  rank {rank} waits for rank 0\n  a cycle, where each waits for the next: rank 0, rank 0', FROM_START,
             runs_of(taken_by - 1))
 
@@ -241,7 +247,8 @@ if rank == 1 {
   recv x from 1 tag 0;
 } else { recv x from 0 tag 0; }'''
 OF_LATER_LINE = '''\
-it always hangs (1 run)
+it always hangs in rendezvous (1 run)
+  ./mpdbg check script.mpd --modes 4 --outcomes
 
 deadlock at lines 3, 4: 1 of 1 run
   rank 0 waits at line 4, 0.0 recv from 0 tag 0: for a send of rank 0 with tag 0
@@ -263,7 +270,7 @@ if rank == 0 {
 ALONE = ('mpd 1; ranks 12; var x;' + '\n' * 100
          + ''.join(f'if rank == {rank} {{ recv x from rank tag 0; }}\n' for rank in range(12)))
 OF_ALONE = (
-    'it always hangs (1 run)\n', 'deadlock at lines 101, 102, 103, 104, 105, 106, 107, 108, 109, 110, 111, 112: 1\n        of 1 run',
+    *always('hangs', '1 run'), 'deadlock at lines 101, 102, 103, 104, 105, 106, 107, 108, 109, 110, 111, 112: 1\n        of 1 run',
     *(f'  rank {rank} waits at line {101 + rank}, {rank}.0 recv from {rank} tag 0: for a send of rank {rank} with{last}'
       for ranks, last in ((range(10), ' tag\n        0'), ((10, 11), '\n        tag 0')) for rank in ranks),
     *(f'  rank {rank} waits for rank {rank}' for rank in range(12)),
@@ -280,21 +287,21 @@ HANGS = (
     *(row(STOLEN, 1, *STUCK_ONCE, runs_of(0, word), file=name) for name, word in WORDS if '/' not in name),
     row(THREE_SENDERS, 0, SIX_BUFFERED, in_turn(r"'it'\''s.mpd'"), mode=BUFFERED, file="it's.mpd"),
     row(SWAPPED_TAGS, 1, OF_SWAPPED, FROM_START, runs_of('')),
-    row(TWO_HANGS, 1, 'it always hangs (2 runs)\n', 'deadlock at line 4: 1 of 2 runs', waits_for_itself(4, '0.1', 9), TO_ITSELF, FROM_START,
+    row(TWO_HANGS, 1, *always('hangs', '2 runs'), 'deadlock at line 4: 1 of 2 runs', waits_for_itself(4, '0.1', 9), TO_ITSELF, FROM_START,
         runs_of(0, picture='run-1'),
         '\ndeadlock at line 6: 1 of 2 runs', waits_for_itself(6, '0.2', 8), TO_ITSELF, FROM_START, runs_of('1 0', picture='run-2')),
-    row(FIRST_AND_LAST, 1, 'it always hangs (3 runs)\n', 'deadlock at lines 6, 7: 2 of 3 runs', waits_for_itself(6, '0.1', 8),
+    row(FIRST_AND_LAST, 1, *always('hangs', '3 runs'), 'deadlock at lines 6, 7: 2 of 3 runs', waits_for_itself(6, '0.1', 8),
         left_waiting_of(2, 3, 1), runs_of(0, picture='run-1'),
         '\ndeadlock at lines 5, 7: 1 of 3 runs', waits_for_itself(5, '0.1', 9), left_waiting_of(1, 3, 2), runs_of(1, picture='run-2')),
     # the second bug has more runs
-    row(FIRST_AND_LAST.replace('x == 2', 'x == 1'), 1, 'it always hangs (3 runs)\n', 'deadlock at lines 5, 7: 1 of 3 runs',
+    row(FIRST_AND_LAST.replace('x == 2', 'x == 1'), 1, *always('hangs', '3 runs'), 'deadlock at lines 5, 7: 1 of 3 runs',
         waits_for_itself(5, '0.1', 9),
         left_waiting_of(2, 3, 1), runs_of(0, picture='run-1'),
         '\ndeadlock at lines 6, 7: 2 of 3 runs', waits_for_itself(6, '0.1', 8), left_waiting_of(1, 3, 2), runs_of(1, picture='run-2')),
-    row(ONE_SENDER_LEFT, 1, 'it always hangs (2 runs)\n', *one_left(2, 4, 1, 3), '', *one_left(1, 3, 2, 4)),
+    row(ONE_SENDER_LEFT, 1, *always('hangs', '2 runs'), *one_left(2, 4, 1, 3), '', *one_left(1, 3, 2, 4)),
     row(LATER_LINE_FIRST, 1, OF_LATER_LINE, FROM_START, runs_of('')),
     row(LONGER_FIRST, 1, *of_longer(1, 2)), row(LONGER_LAST, 1, *of_longer(2, 1)), row(AS_LONG, 1, *of_longer(2, 1)),
-    row(SAME_CALL, 1, 'it always hangs (2 runs)\n', 'deadlock at line 5: 2 of 2 runs', waits_for_itself(5, '0.1', 9), TO_ITSELF, FROM_START,
+    row(SAME_CALL, 1, *always('hangs', '2 runs'), 'deadlock at line 5: 2 of 2 runs', waits_for_itself(5, '0.1', 9), TO_ITSELF, FROM_START,
         runs_of(0)))
 
 # ---- traps
@@ -313,6 +320,7 @@ OF_THREE_TRAPS = 'trap at lines 2, 3: 1 of 1 run', '  rank 0, line 2: trap asser
 OF_LOW_WANTED = '''\
 it can hang: 1 of 2 runs
 it can trap: 1 of 2 runs
+  ./mpdbg check script.mpd --modes 4 --outcomes
 
 deadlock at line 2: 1 of 2 runs
   rank 2 waits at line 2, 2.0 send to 0 tag 0 value 2: for a receive of rank 0
@@ -324,6 +332,7 @@ deadlock at line 2: 1 of 2 runs
 OF_HIGH_WANTED = '''\
 it can hang: 1 of 2 runs
 it can trap: 1 of 2 runs
+  ./mpdbg check script.mpd --modes 4 --outcomes
 
 trap at line 2: 1 of 2 runs
   rank 0, line 2: trap assert, with x = 1
@@ -350,16 +359,16 @@ TRAPPED = (
     *(row(WAITED_TWICE, 1, 'it can trap: 1 of 2 runs\n', 'trap at line 12: 1 of 2 runs', '  rank 0, line 12: trap assert, with answers = [0, 20]', BY_REQUEST,
           runs_of(1, file),
           mode=mode) for mode, file in ((None, 'script.mpd'), (BUFFERED, WITH_BUFFERS))),
-    row(THREE_TRAPS, 1, 'it always traps (1 run)\n', *OF_THREE_TRAPS, FROM_START, runs_of('')),
+    row(THREE_TRAPS, 1, *always('traps', '1 run'), *OF_THREE_TRAPS, FROM_START, runs_of('')),
     # by two traps of other names, at one line
-    row(TRAPS, 1, 'it always traps (2 runs)\n', 'trap at line 3: 2 of 2 runs', '  rank 0, line 3: trap bad-tag, with i = 0', FROM_START, runs_of(0, WITH_BUFFERS),
+    row(TRAPS, 1, *always('traps', '2 runs', BUFFERED), 'trap at line 3: 2 of 2 runs', '  rank 0, line 3: trap bad-tag, with i = 0', FROM_START, runs_of(0, WITH_BUFFERS),
         mode=BUFFERED),
     row(LOW_WANTED, 1, OF_LOW_WANTED, FROM_START, runs_of(0, picture='run-1'),
         '\ntrap at line 2: 1 of 2 runs', '  rank 0, line 2: trap assert, with x = 2', FROM_START, runs_of(1, picture='run-2')),
     row(HIGH_WANTED, 1, OF_HIGH_WANTED, FROM_START, runs_of(1, picture='run-2')),
     # two statements of one line are one bug, and of two lines they are two
-    row(TWO_ASSERTS, 1, 'it always traps (2 runs)\n', 'trap at line 2: 2 of 2 runs', '  rank 0, line 2: trap assert', FROM_START, runs_of(0)),
-    row(APART, 1, 'it always traps (2 runs)\n', 'trap at line 3: 1 of 2 runs', '  rank 0, line 3: trap assert, with x = 1', FROM_START,
+    row(TWO_ASSERTS, 1, *always('traps', '2 runs'), 'trap at line 2: 2 of 2 runs', '  rank 0, line 2: trap assert', FROM_START, runs_of(0)),
+    row(APART, 1, *always('traps', '2 runs'), 'trap at line 3: 1 of 2 runs', '  rank 0, line 3: trap assert, with x = 1', FROM_START,
         runs_of(0, picture='run-1'), '\ntrap at line 4: 1 of 2 runs', '  rank 0, line 4: trap assert, with x = 2', FROM_START,
         runs_of(1, picture='run-2')))
 
@@ -622,7 +631,7 @@ DRAWN = (
     # how many ranks there are stands behind the file, and before the mode
     *(row(STOLEN, 1, *STUCK_ONCE, runs_of(0, f'{word} --ranks 3'), file=name, ranks=3) for name, word in WORDS),
     row(THREE_SENDERS, 0, SIX_BUFFERED, in_turn('./-x --ranks 4'), mode=BUFFERED, file='-x', ranks=4),
-    row(TRAPS, 1, 'it always traps (2 runs)\n', 'trap at line 3: 2 of 2 runs', '  rank 0, line 3: trap bad-tag, with i = 0', FROM_START,
+    row(TRAPS, 1, *always('traps', '2 runs', BUFFERED, 'script.mpd --ranks 12'), 'trap at line 3: 2 of 2 runs', '  rank 0, line 3: trap bad-tag, with i = 0', FROM_START,
         runs_of(0, 'script.mpd --ranks 12 --mode buffered'), mode=BUFFERED, ranks=12),
     row(STOLEN, 4, *none_found('0 runs'), *none_drawn('1 run', 'script.mpd --ranks 3'), limits=Limits(come_to=1, drawn=1), ranks=3),
     row(STOLEN, 1, *none_found('0 runs'), *STOLEN_DRAWN, OR_EARLIER.format(9), runs_of(0, picture='drawn'),

@@ -30,7 +30,7 @@ DRAWN = (b'no hang and no trap was found in 7 runs in rendezvous\nit can end wit
 NONE_DRAWN = (b'no hang and no trap was found in 7 runs in rendezvous\nnot everything was tried: there are more runs than these\n\n'
               b'drawn at random: none of 4096 runs hangs or traps\n  ./mpdbg check FILE --sample 65536 --group --explain\n')
 SEVERAL = (
-    (((2, WELL, 0), (3, b'it always hangs (1 run)\n\nmore\n', 1), (4, BOTH, 1), (5, b'it always traps (2 runs)\n', 1)),
+    (((2, WELL, 0), (3, b'it always hangs in rendezvous (1 run)\n  ./mpdbg check FILE --modes 4 --outcomes\n\nmore\n', 1), (4, BOTH, 1), (5, b'it always traps in rendezvous (2 runs)\n', 1)),
      b'2 ranks: 1 run in rendezvous, none hangs or traps\n3 ranks: 1 run in rendezvous, 1 hang\n4 ranks: 24 runs in rendezvous, 4 hang, 20 trap\n'
      b'5 ranks: 2 runs in rendezvous, 2 trap\n\n  see 3\n', 1),
     (((1, FOUR, 0), (2, CUT, 4)), b'1 rank: 4 runs in rendezvous, none hangs or traps\n2 ranks: 2 runs in rendezvous, none hangs or traps, 1 cut\n', 4),

@@ -1,5 +1,5 @@
 -- What is told of a script by the ends that its runs come to.
-use Rattle.std.specs.Prelude.{ℕ, Bool, true, false, not, nat_lt, ◌+◌, ◌&&◌, ◌==◌, if◌then◌else◌, List, [], ◌∷◌, ◌++◌, Option, Some, None, length, slice_get, codes}
+use Rattle.std.specs.Prelude.{ℕ, Bool, true, false, not, nat_lt, ◌+◌, ◌&&◌, ◌||◌, ◌==◌, if◌then◌else◌, List, [], ◌∷◌, ◌++◌, Option, Some, None, length, slice_get, codes}
 use Rattle.std.specs.Fmt.{decimal}
 use Rattle.mpd_model.specs.declared.call.Mode.{Mode}
 use Rattle.mpd_model.specs.texts.Modes.{mode_word}
@@ -69,19 +69,19 @@ always_hangs c = always_fails c && is_count 0 c.trap && not (is_count 0 c.deadlo
 abbrev pub always_traps : WayCounts → Bool
 always_traps c = always_fails c && is_count 0 c.deadlock && not (is_count 0 c.trap)
 
--- `it always hangs (2 runs)`
-abbrev pub always_line : List ℕ → Count → List ℕ
-always_line does total = line (does ++ codes " (" ++ runs_text total ++ codes ")")
+-- `it always hangs in rendezvous (2 runs)`
+abbrev pub always_line : List ℕ → Mode → Count → List ℕ
+always_line does m total = line (does ++ in_mode m ++ codes " (" ++ runs_text total ++ codes ")")
 
-unfoldable pub hang_line : WayCounts → List ℕ
-hang_line c = if always_hangs c then always_line (codes "it always hangs") c.total else line_if (codes "it can hang: ") c.deadlock c.total []
+unfoldable pub hang_line : Mode → WayCounts → List ℕ
+hang_line m c = if always_hangs c then always_line (codes "it always hangs") m c.total else line_if (codes "it can hang: ") c.deadlock c.total []
 
-unfoldable pub trap_line : WayCounts → List ℕ
-trap_line c = if always_traps c then always_line (codes "it always traps") c.total else line_if (codes "it can trap: ") c.trap c.total []
+unfoldable pub trap_line : Mode → WayCounts → List ℕ
+trap_line m c = if always_traps c then always_line (codes "it always traps") m c.total else line_if (codes "it can trap: ") c.trap c.total []
 
 -- how many runs hang, and how many trap
-abbrev pub bad_text : WayCounts → List ℕ
-bad_text c = hang_line c ++ trap_line c
+abbrev pub bad_text : Mode → WayCounts → List ℕ
+bad_text m c = hang_line m c ++ trap_line m c
 
 unfoldable pub left_line : WayCounts → List ℕ
 left_line c = line_if (codes "it can end with calls left over: ") c.leftovers c.total []
@@ -101,7 +101,7 @@ untried_text c fuel = line_if (codes "not everything was tried: ") c.cut c.total
 -- what becomes of the runs in a mode, which have so many steps at most, as was found by coming to so many states
 abbrev pub verdict_text : Mode → WayCounts → ℕ → ℕ → List ℕ
 verdict_text m c fuel states =
-    bad_text c ++ well_line m c states ++ left_line c ++ untried_text c fuel
+    bad_text m c ++ well_line m c states ++ left_line c ++ untried_text c fuel
 
 -- ---- ends that are told together
 
@@ -140,9 +140,13 @@ others_command true file ranks mode = sample_command file ranks mode
 abbrev pub draws : WayCounts → Bool
 draws c = c.more && ends_well c
 
--- the command that is tried next: where no run hangs or traps, other modes; where there are more and none are drawn, other runs
+-- whether other modes are tried next: no run of this one hangs or traps, or every run does
+abbrev pub tries_modes : WayCounts → Bool
+tries_modes c = never_fails c || always_fails c
+
+-- the command that is tried next: other modes, where these are; where there are more and none are drawn, other runs
 abbrev pub next_command : List ℕ → Option ℕ → Mode → WayCounts → List ℕ
-next_command file ranks mode c = if never_fails c then modes_command file ranks else others_command (c.more && not (ends_well c)) file ranks mode
+next_command file ranks mode c = if tries_modes c then modes_command file ranks else others_command (c.more && not (ends_well c)) file ranks mode
 
 -- what becomes of the runs that were come to, and that command
 abbrev pub opening : List ℕ → Option ℕ → Mode → WayCounts → ℕ → ℕ → List ℕ

@@ -211,10 +211,11 @@ fn always_traps(counts: WayCounts) -> bool
 }
 
 /// Adds the line of what every run does.
-fn push_always(out: &mut String, does: &str, total: Count) -> Result<(), AllocError>
-    ensures { OnOk result (string_bytes out.new ≡ string_bytes out.old ++ spec.always_line does.now total) }
+fn push_always(out: &mut String, does: &str, mode: Mode, total: Count) -> Result<(), AllocError>
+    ensures { OnOk result (string_bytes out.new ≡ string_bytes out.old ++ spec.always_line does.now mode total) }
 {
     out.push_str(does)?;
+    push_in_mode(out, mode)?;
     out.push_str(" (")?;
     push_runs(out, total)?;
     out.push_str(")")?;
@@ -223,33 +224,33 @@ fn push_always(out: &mut String, does: &str, total: Count) -> Result<(), AllocEr
 }
 
 /// Adds how many runs hang.
-fn push_hang(out: &mut String, counts: WayCounts) -> Result<(), AllocError>
-    ensures { OnOk result (string_bytes out.new ≡ string_bytes out.old ++ spec.hang_line counts) }
+fn push_hang(out: &mut String, mode: Mode, counts: WayCounts) -> Result<(), AllocError>
+    ensures { OnOk result (string_bytes out.new ≡ string_bytes out.old ++ spec.hang_line mode counts) }
 {
     if always_hangs(counts) {
-        push_always(out, "it always hangs", counts.total)
+        push_always(out, "it always hangs", mode, counts.total)
     } else {
         push_line_if(out, "it can hang: ", counts.deadlock, counts.total, "")
     }
 }
 
 /// Adds how many runs trap.
-fn push_trap(out: &mut String, counts: WayCounts) -> Result<(), AllocError>
-    ensures { OnOk result (string_bytes out.new ≡ string_bytes out.old ++ spec.trap_line counts) }
+fn push_trap(out: &mut String, mode: Mode, counts: WayCounts) -> Result<(), AllocError>
+    ensures { OnOk result (string_bytes out.new ≡ string_bytes out.old ++ spec.trap_line mode counts) }
 {
     if always_traps(counts) {
-        push_always(out, "it always traps", counts.total)
+        push_always(out, "it always traps", mode, counts.total)
     } else {
         push_line_if(out, "it can trap: ", counts.trap, counts.total, "")
     }
 }
 
 /// Adds how many runs hang, and how many trap.
-fn push_bad(out: &mut String, counts: WayCounts) -> Result<(), AllocError>
-    ensures { OnOk result (string_bytes out.new ≡ string_bytes out.old ++ spec.bad_text counts) }
+fn push_bad(out: &mut String, mode: Mode, counts: WayCounts) -> Result<(), AllocError>
+    ensures { OnOk result (string_bytes out.new ≡ string_bytes out.old ++ spec.bad_text mode counts) }
 {
-    push_hang(out, counts)?;
-    push_trap(out, counts)?;
+    push_hang(out, mode, counts)?;
+    push_trap(out, mode, counts)?;
     Ok(())
 }
 
@@ -264,7 +265,7 @@ fn verdict_text(
     ensures { IfOk result (λ t. string_bytes t ≡ spec.verdict_text mode counts fuel states) }
 {
     let mut out = String::new(alloc);
-    push_bad(&mut out, counts)?;
+    push_bad(&mut out, mode, counts)?;
     push_well_line(&mut out, mode, counts, states)?;
     push_left(&mut out, counts)?;
     push_untried(alloc, &mut out, counts, fuel)?;
@@ -370,12 +371,19 @@ pub(crate) fn draws(counts: WayCounts) -> bool
     counts.more && ends_well(counts)
 }
 
+/// Whether other modes are tried next: no run of this one hangs or traps, or every run does.
+fn tries_modes(counts: WayCounts) -> bool
+    ensures { result ≡ spec.tries_modes counts }
+{
+    never_fails(counts) || always_fails(counts)
+}
+
 /// The command that is tried next: one that tries other runs, where there are more and none are drawn; or other modes, where no run of this
-/// one hangs or traps.
+/// one hangs or traps, or every run does.
 fn next_command(alloc: Global, named: Named<'_>, counts: WayCounts) -> Result<Vec<u8>, AllocError>
     ensures { IfOk result (λ t. t.items ≡ spec.next_command named.entry.file.now named.entry.ranks named.entry.mode counts) }
 {
-    if never_fails(counts) {
+    if tries_modes(counts) {
         return modes_command(alloc, named);
     }
     others_command(alloc, counts.more && !ends_well(counts), named)

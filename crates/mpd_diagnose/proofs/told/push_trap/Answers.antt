@@ -7,7 +7,7 @@ unfolding trap_line
 returns-then-always_traps c =
     let n = c.args.counts in
     let yes : always_traps n ≡ true = sym c.always_traps.ensures ∙ c.if-always_traps.true in
-    let always = always_line (codes "it always traps") n.total in
+    let always = always_line (codes "it always traps") c.args.mode n.total in
     let can = line_if (codes "it can trap: ") n.trap n.total [] in
     subst (λ (b : Bool). OnOk c.push_always.result (string_bytes c.push_always.new.out ≡ string_bytes c.args.out.now ++ (if b then always else can))) (sym yes) c.push_always.ensures
 
@@ -16,6 +16,6 @@ unfolding trap_line
 returns-else-always_traps c =
     let n = c.args.counts in
     let no : always_traps n ≡ false = sym c.always_traps.ensures ∙ c.if-always_traps.false in
-    let always = always_line (codes "it always traps") n.total in
+    let always = always_line (codes "it always traps") c.args.mode n.total in
     let can = line_if (codes "it can trap: ") n.trap n.total [] in
     subst (λ (b : Bool). OnOk c.push_line_if.result (string_bytes c.push_line_if.new.out ≡ string_bytes c.args.out.now ++ (if b then always else can))) (sym no) c.push_line_if.ensures
