@@ -22,3 +22,4 @@ mod Fuel
 mod ToldLemmas
 mod OutcomesLemmas
 mod DiagnosisLemmas
+mod PictureLemmas

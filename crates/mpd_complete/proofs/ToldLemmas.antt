@@ -24,7 +24,7 @@ use Rattle.mpd_outcomes.specs.declared.report.Count.TheVariants.{Exactly, More}
 use Rattle.mpd_outcomes.specs.Outcomes.{counted, leaves_from}
 use Rattle.mpd_pool.specs.declared.pool.CheckPlan.{CheckPlan}
 use Rattle.mpd_sample.specs.Drawn.{seeded, draws}
-use Rattle.mpd_sample.proofs.SampleLemmas.{sample_all}
+use Rattle.mpd_sample.proofs.UntilLemmas.{ended_all}
 use Rattle.mpd_runs.specs.declared.way.Way.TheVariants as way
 use Rattle.mpd_runs.specs.Ways.{way_of, same_way, ends_in, count_in}
 use Rattle.mpd_runs.specs.declared.search.Scope.{Scope}
@@ -107,7 +107,7 @@ samples_tell s mode seed l h =
     let u : World = start s mode in
     let whole = whole_tells (sample_leaves s mode seed l) (sample_more s mode seed l) h.0 in
     let ends = all_end (sample_leaves s mode seed l) whole.1 in
-    let are : sample_leaves s mode seed l ≡ map shown (wide_walk l.fuel u) = sample_all (draws l.until_bad l.fuel l.runs u (seeded seed)) l.fuel u (sample_leaves s mode seed l) (sample_more s mode seed l) refl refl whole.0 in
+    let are : sample_leaves s mode seed l ≡ map shown (wide_walk l.fuel u) = ended_all l.until_bad (draws l.until_bad l.fuel l.runs u (seeded seed)) l.fuel u (sample_leaves s mode seed l) (sample_more s mode seed l) refl refl whole.0 in
     let said = complete s mode [] u refl l.fuel in
     (have_outcomes l.fuel u (wide_walk l.fuel u) said (sample_leaves s mode seed l) are ends, bound_runs l.fuel u (wide_walk l.fuel u) said (sample_leaves s mode seed l) are ends)
 

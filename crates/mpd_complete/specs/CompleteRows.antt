@@ -12,6 +12,7 @@ use Rattle.mpd_model.specs.script.Term.{Term, lit, own_rank, op2, Target}
 use Rattle.mpd_model.specs.script.Tree.{Tree, simple, branch, no_more, then_more}
 use Rattle.mpd_model.specs.script.Program.{Program}
 use Rattle.mpd_model.specs.steps.World.{call_id, start}
+use Rattle.mpd_model.specs.steps.Outcomes.{issued_by}
 use Rattle.mpd_model.specs.runs.Decisions.{decision}
 use Rattle.mpd_walk.specs.declared.ending.Ending.{Ending}
 use Rattle.mpd_walk.specs.declared.ending.Ending.TheVariants.{Ended}
@@ -47,7 +48,7 @@ racing = record {
 
 -- seven local steps, two matches and four wakes in the longer run: so many steps of fuel, and no less, make the walk whole
 pub row_racing : map {B = List ℕ × Ending} (λ (r : Run). (r.choices, r.ending)) (walk 13 (start racing Rendezvous))
-    ≡ (0 ∷ [], Ended o.Done) ∷ (1 ∷ [], Ended (o.Deadlock (call_id 0 1 ∷ call_id 1 0 ∷ []))) ∷ []
+    ≡ (0 ∷ [], Ended o.Done) ∷ (1 ∷ [], Ended (o.Deadlock (issued_by 2 (call_id 0 1) ∷ issued_by 3 (call_id 1 0) ∷ []))) ∷ []
 unfolding walk decision
 row_racing = refl
 
@@ -85,7 +86,7 @@ row_one_order = refl
 
 -- two matches of one receive are two ends in both
 pub row_both_ends : map {B = List ℕ × Ending} (λ (r : Run). (r.choices, r.ending)) (sleeping_walk 13 (start racing Rendezvous))
-    ≡ (0 ∷ [], Ended o.Done) ∷ (1 ∷ [], Ended (o.Deadlock (call_id 0 1 ∷ call_id 1 0 ∷ []))) ∷ []
+    ≡ (0 ∷ [], Ended o.Done) ∷ (1 ∷ [], Ended (o.Deadlock (issued_by 2 (call_id 0 1) ∷ issued_by 3 (call_id 1 0) ∷ []))) ∷ []
 unfolding awake_by decision
 row_both_ends = refl
 

@@ -18,7 +18,7 @@ use Rattle.mpd_model.specs.script.Tree.{Tree, simple, branch, repeat, Block, no_
 use Rattle.mpd_model.specs.script.Program.{Program}
 use Rattle.mpd_model.specs.steps.World.{World, start, call_id, listed_calls, kind_of, is_buffered}
 use Rattle.mpd_model.specs.steps.Next.{next, fold, enabled}
-use Rattle.mpd_model.specs.steps.Outcomes.{ending}
+use Rattle.mpd_model.specs.steps.Outcomes.{issued_by, ending}
 use Rattle.mpd_model.specs.runs.Decisions.{decision}
 use Rattle.mpd_policy.specs.Wide.{conflict}
 use Rattle.mpd_walk.specs.declared.ending.Ending.{Ending}
@@ -70,11 +70,11 @@ abbrev pub ending_there : Program
 ending_there = two_sends no_more
 
 -- with one slot the walk, which takes local steps first, comes to a deadlock: it waits for the second send, which found no slot
-pub row_walk : map {B = List ℕ × Ending} (λ (r : Run). (r.choices, r.ending)) (walk 8 (start ending_there (Slots 1))) ≡ ([], Ended (o.Deadlock (call_id 0 2 ∷ []))) ∷ []
+pub row_walk : map {B = List ℕ × Ending} (λ (r : Run). (r.choices, r.ending)) (walk 8 (start ending_there (Slots 1))) ≡ ([], Ended (o.Deadlock (issued_by 3 (call_id 0 2) ∷ []))) ∷ []
 unfolding walk decision
 row_walk = refl
 
-pub row_sleeping_walk : map {B = List ℕ × Ending} (λ (r : Run). (r.choices, r.ending)) (sleeping_walk 8 (start ending_there (Slots 1))) ≡ ([], Ended (o.Deadlock (call_id 0 2 ∷ []))) ∷ []
+pub row_sleeping_walk : map {B = List ℕ × Ending} (λ (r : Run). (r.choices, r.ending)) (sleeping_walk 8 (start ending_there (Slots 1))) ≡ ([], Ended (o.Deadlock (issued_by 3 (call_id 0 2) ∷ []))) ∷ []
 unfolding awake_by decision
 row_sleeping_walk = refl
 
@@ -82,17 +82,17 @@ row_sleeping_walk = refl
 abbrev left_out : List Step
 left_out = matched_first ++ Wake 1 ∷ []
 
-pub row_left_out : option_map {U = Outcome × List Step} (λ w. (ending w, enabled w)) (fold (start ending_there (Slots 1)) left_out) ≡ Some (o.Leftovers (call_id 0 1 ∷ []), [])
+pub row_left_out : option_map {U = Outcome × List Step} (λ w. (ending w, enabled w)) (fold (start ending_there (Slots 1)) left_out) ≡ Some (o.Leftovers (issued_by 2 (call_id 0 1) ∷ []), [])
 row_left_out = refl
 
 -- in the other modes, with no slot and with two, these steps come to what the walk comes to, or can't be taken
 pub row_other_walks : map {B = List (List ℕ × Ending)} (λ (mode : Mode). map {B = List ℕ × Ending} (λ (r : Run). (r.choices, r.ending)) (walk 9 (start ending_there mode))) (Rendezvous ∷ Buffered ∷ Slots 0 ∷ Slots 2 ∷ [])
-    ≡ (([], Ended (o.Deadlock (call_id 0 2 ∷ []))) ∷ []) ∷ (([], Ended (o.Leftovers (call_id 0 1 ∷ []))) ∷ []) ∷ (([], Ended (o.Deadlock (call_id 0 2 ∷ []))) ∷ []) ∷ (([], Ended (o.Leftovers (call_id 0 1 ∷ []))) ∷ []) ∷ []
+    ≡ (([], Ended (o.Deadlock (issued_by 3 (call_id 0 2) ∷ []))) ∷ []) ∷ (([], Ended (o.Leftovers (issued_by 2 (call_id 0 1) ∷ []))) ∷ []) ∷ (([], Ended (o.Deadlock (issued_by 3 (call_id 0 2) ∷ []))) ∷ []) ∷ (([], Ended (o.Leftovers (issued_by 2 (call_id 0 1) ∷ []))) ∷ []) ∷ []
 unfolding walk decision
 row_other_walks = refl
 
 pub row_others_left_out : map {B = Option Outcome} (λ (mode : Mode). option_map ending (fold (start ending_there mode) left_out)) (Rendezvous ∷ Buffered ∷ Slots 0 ∷ Slots 2 ∷ [])
-    ≡ None ∷ Some (o.Leftovers (call_id 0 1 ∷ [])) ∷ None ∷ Some (o.Leftovers (call_id 0 1 ∷ [])) ∷ []
+    ≡ None ∷ Some (o.Leftovers (issued_by 2 (call_id 0 1) ∷ [])) ∷ None ∷ Some (o.Leftovers (issued_by 2 (call_id 0 1) ∷ [])) ∷ []
 row_others_left_out = refl
 
 -- ---- a run that is longer than the fuel, and may go on for ever: while 1 == 1 { print 1; }
@@ -100,7 +100,7 @@ row_others_left_out = refl
 abbrev looping : Program
 looping = two_sends (then_more (repeat (op2 Equal (n 1) (n 1)) (then_more (simple (st.Print (n 1))) no_more)) no_more)
 
-pub row_short : map {B = List ℕ × Ending} (λ (r : Run). (r.choices, r.ending)) (walk 8 (start looping (Slots 1))) ≡ ([], Ended (o.Deadlock (call_id 0 2 ∷ []))) ∷ []
+pub row_short : map {B = List ℕ × Ending} (λ (r : Run). (r.choices, r.ending)) (walk 8 (start looping (Slots 1))) ≡ ([], Ended (o.Deadlock (issued_by 3 (call_id 0 2) ∷ []))) ∷ []
 unfolding walk decision
 row_short = refl
 

@@ -8,6 +8,7 @@ use Rattle.mpd_model.specs.declared.call.Mode.TheVariants.{Rendezvous, Buffered,
 use Rattle.mpd_model.specs.declared.call.Trap.TheVariants.{Assertion}
 use Rattle.mpd_model.specs.declared.outcome.Outcome.TheVariants as o
 use Rattle.mpd_model.specs.steps.World.{call_id, start}
+use Rattle.mpd_model.specs.steps.Outcomes.{issued_by}
 use Rattle.mpd_model.specs.runs.Decisions.{decision}
 use Rattle.mpd_policy.specs.Wide.{is_full, conflict, is_quiet, sleeps_on, wide_decision}
 use Rattle.mpd_walk.specs.declared.ending.Ending.{Ending}
@@ -28,7 +29,7 @@ ended runs = map (λ r. (r.choices, r.ending)) runs
 
 -- with one slot it matters which is first, the second send or the match of the first one: each has its end
 abbrev both_ends : List (List ℕ × Ending)
-both_ends = (0 ∷ 0 ∷ [], Ended (o.Deadlock (call_id 0 2 ∷ []))) ∷ (1 ∷ [], Ended (o.Leftovers (call_id 0 1 ∷ []))) ∷ []
+both_ends = (0 ∷ 0 ∷ [], Ended (o.Deadlock (issued_by 3 (call_id 0 2) ∷ []))) ∷ (1 ∷ [], Ended (o.Leftovers (issued_by 2 (call_id 0 1) ∷ []))) ∷ []
 
 pub row_one_slot : ended (wide_walk 9 (start ending_there (Slots 1))) ≡ both_ends
 unfolding wide_walk wide_decision
@@ -41,7 +42,7 @@ row_one_slot_asleep = refl
 
 -- in the other modes, with no slot and with two, nothing is to be chosen but, with two slots, the match of a buffered send
 pub row_other_modes : map {B = List (List ℕ × Ending)} (λ (mode : Mode). ended (wide_walk 9 (start ending_there mode))) (Rendezvous ∷ Buffered ∷ Slots 0 ∷ Slots 2 ∷ [])
-    ≡ (([], Ended (o.Deadlock (call_id 0 2 ∷ []))) ∷ []) ∷ (([], Ended (o.Leftovers (call_id 0 1 ∷ []))) ∷ []) ∷ (([], Ended (o.Deadlock (call_id 0 2 ∷ []))) ∷ []) ∷ ((0 ∷ [], Ended (o.Leftovers (call_id 0 1 ∷ []))) ∷ []) ∷ []
+    ≡ (([], Ended (o.Deadlock (issued_by 3 (call_id 0 2) ∷ []))) ∷ []) ∷ (([], Ended (o.Leftovers (issued_by 2 (call_id 0 1) ∷ []))) ∷ []) ∷ (([], Ended (o.Deadlock (issued_by 3 (call_id 0 2) ∷ []))) ∷ []) ∷ ((0 ∷ [], Ended (o.Leftovers (issued_by 2 (call_id 0 1) ∷ []))) ∷ []) ∷ []
 unfolding wide_walk wide_decision
 row_other_modes = refl
 

@@ -158,3 +158,10 @@ pub fn good_diagnoses_are_of_all_runs()
 pub fn consoles_see_all_ends()
     ensures { told.ConsolesSeeAllEnds }
 {}
+
+ghost use Rattle.mpd_complete.specs.Drawn as drawn;
+
+/// A run of which a diagnosis names a picture is never refused by `picture`: it shows few enough glyphs to be drawn.
+pub fn drawn_runs_are_few()
+    ensures { drawn.DrawnRunsAreFew }
+{}

@@ -1,5 +1,5 @@
 -- The walk of `clap` over all words: the first names the command, and those behind it are its own.
-use Rattle.std.proofs.Common.{◌≡◌, ◌≢◌, ◌∙◌, ℕ, Bool, true, false, List, [], ◌∷◌, ◌++◌, ◌==◌, length, Option, Some, None, is_some, drop, fold, codes, refl, sym, ap, subst, if◌then◌else◌, append_assoc, append-nil}
+use Rattle.std.proofs.Common.{◌≡◌, ◌≢◌, ◌∙◌, ℕ, Bool, true, false, List, [], ◌∷◌, ◌++◌, ◌==◌, ◌||◌, ◌&&◌, not, cond, find, option_map, length, Option, Some, None, is_some, drop, fold, codes, refl, sym, ap, subst, if◌then◌else◌, append_assoc, append-nil}
 use Rattle.std.specs.Prelude.{encode_utf8}
 use Rattle.std.specs.Option.{option_map_or}
 use Rattle.std.specs.Str.{bytes_eq, chars}
@@ -7,16 +7,18 @@ use Rattle.std.proofs.lemmas.Slice.Eq.{bytes_eq-Decides}
 use Rattle.clap.specs.Lexer.{long_of, short_of}
 use Rattle.clap.specs.Words.{App, Rule, Shape, Row, Text, built}
 use Rattle.clap.specs.Kinds.{Kinds, or_else}
-use Rattle.clap.specs.Faults.{fault_of, walk_fault, settle_fault, turn_fault, step_fault, long_fault, bundle_fault, flags_fault, short_fault, flag_word_fault, other_fault, entered_fault, check_fault, defaults_fault, is_simple_and_free}
-use Rattle.clap.specs.Simple.{names_of, subcommand_of, entered}
-use Rattle.clap.specs.Walk.{Held, Walk, Names, idle, Step, value, trailing, Outcome, plain, nothing_held, finished, settled, walk_from, walked, arg_by_long, arg_by_short, long_or_other, short_or_plain, after_flag, after_step, subcommand_or_other, bundle, bundle_met, subcommand_met}
+use Rattle.clap.specs.Faults.{fault_of, level_fault, walk_fault, settle_fault, turn_fault, step_fault, long_fault, bundle_fault, flags_fault, short_fault, flag_word_fault, other_fault, entered_fault, check_fault, defaults_fault, is_simple_and_free}
+use Rattle.clap.specs.Simple.{names_of, label_of, subcommand_of, entered, rows_at as found_at}
+use Rattle.clap.specs.Walk.{answers_to, Held, Walk, Names, idle, Step, value, trailing, Outcome, plain, nothing_held, finished, settled, walk_from, walked, arg_by_long, arg_by_short, long_or_other, short_or_plain, after_flag, after_step, subcommand_or_other, bundle, bundle_met, subcommand_met}
 use Rattle.clap.proofs.OnLiterals.{clap_on_literals}
-use Rattle.mpd_options.specs.Asked.{Asked, Tool, behind, checker, debugger, diagnoser, found_of_command, meant, among_options, painter, runner, server, teller, tracer, translator, verifier, wanted}
+use Rattle.mpd_options.specs.Asked.{Asked, IsInRange, asked_of, among_options, behind, meant, number_by, task_of_tool, text_in, wanted}
 use Rattle.mpd_options.specs.Program.{Lies, mpdbg_app, only_deadlock}
+use Rattle.mpd_options.specs.Table.{Tool, called, checker, debugger, diagnoser, files_of, painter, runner, server, teller, the_ranks, tool_named, tools, tracer, translator, verifier}
 use Rattle.mpd_options.proofs.Ends.{Agrees, fails_first, fails_then}
-use Rattle.mpd_options.proofs.Items.{NamesNone, by_name, called, some_fault, tools}
+use Rattle.mpd_options.proofs.Items.{all_seated, found_holds, or_nothing, rules, same_either_way, some_fault, sub}
 use Rattle.mpd_options.proofs.Turns.{State, dd, reads, reads_dashes, reads_letters, reads_long, reads_no_letters, reads_plain, ready, walk_at}
 use Rattle.mpd_options.proofs.Walks.{faults, law, rows_at}
+use Rattle.clap.specs.declared.error.kind.ErrorKind.TheVariants as kind
 
 abbrev top : Lies → App
 top lie = built (mpdbg_app (only_deadlock lie))
@@ -64,93 +66,101 @@ all_faults lie words = refl
 -- where nothing is asked for something fails, and else nothing does, and that is what was found
 abbrev pub AgreesAll : Option Asked → Kinds → Option (Text × List Row) → Type 0
 AgreesAll None ks command = ks ≢ []
-AgreesAll (Some x) ks command = (ks ≡ []) × (found_of_command command ≡ Some x)
+AgreesAll (Some x) ks command = (ks ≡ []) × (asked_of command ≡ x) × IsInRange x
 
-behind_command : (t : Tool) (words : List Text) → walk_over (called t ∷ words) ≡ stopped_at start (called t) words
-unfolding clap_on_literals
-behind_command tracer words = stays words [] start (codes "trace")
-behind_command debugger words = stays words [] start (codes "debug")
-behind_command runner words = stays words [] start (codes "run")
-behind_command server words = stays words [] start (codes "serve")
-behind_command checker words = stays words [] start (codes "check")
-behind_command verifier words = stays words [] start (codes "verify")
-behind_command teller words = stays words [] start (codes "words")
-behind_command translator words = stays words [] start (codes "c")
-behind_command painter words = stays words [] start (codes "picture")
-behind_command diagnoser words = stays words [] start (codes "diagnose")
+pub named_tool : (t : Tool) → tool_named (called t) ≡ Some t
+named_tool tracer = refl
+named_tool debugger = refl
+named_tool runner = refl
+named_tool server = refl
+named_tool checker = refl
+named_tool verifier = refl
+named_tool teller = refl
+named_tool translator = refl
+named_tool painter = refl
+named_tool diagnoser = refl
 
-command_walk : (t : Tool) (words : List Text) → walk_fault shape names start (called t ∷ words) ≡ []
-unfolding clap_on_literals
-command_walk tracer words = no_fault words [] start (codes "trace")
-command_walk debugger words = no_fault words [] start (codes "debug")
-command_walk runner words = no_fault words [] start (codes "run")
-command_walk server words = no_fault words [] start (codes "serve")
-command_walk checker words = no_fault words [] start (codes "check")
-command_walk verifier words = no_fault words [] start (codes "verify")
-command_walk teller words = no_fault words [] start (codes "words")
-command_walk translator words = no_fault words [] start (codes "c")
-command_walk painter words = no_fault words [] start (codes "picture")
-command_walk diagnoser words = no_fault words [] start (codes "diagnose")
+-- each command is met and entered by its word, and by no other
+record IsMet (lie : Lies) (t : Tool) : Type 0 where
+  met : subcommand_met names idle (called t) ≡ Some (called t)
+  no_help : bytes_eq (called t) (codes "help") ≡ false
+  found : find (λ s. answers_to (called t) (label_of s)) (top lie).subs ≡ Some (sub lie t)
+
+is_met : (lie : Lies) (t : Tool) → IsMet lie t
+is_met lie tracer = record { met = refl; no_help = refl; found = refl }
+is_met lie debugger = record { met = refl; no_help = refl; found = refl }
+is_met lie runner = record { met = refl; no_help = refl; found = refl }
+is_met lie server = record { met = refl; no_help = refl; found = refl }
+is_met lie checker = record { met = refl; no_help = refl; found = refl }
+is_met lie verifier = record { met = refl; no_help = refl; found = refl }
+is_met lie teller = record { met = refl; no_help = refl; found = refl }
+is_met lie translator = record { met = refl; no_help = refl; found = refl }
+is_met lie painter = record { met = refl; no_help = refl; found = refl }
+is_met lie diagnoser = record { met = refl; no_help = refl; found = refl }
+
+-- the walk behind the command's word
+abbrev walk_met : Text → Option Text → Walk
+walk_met word met = let step = subcommand_or_other shape.rules met idle 1 word nothing_held in after_step shape.rules word start step.0 step.1
+
+behind_command : (lie : Lies) (t : Tool) (words : List Text) → walk_over (called t ∷ words) ≡ stopped_at start (called t) words
+unfolding walked
+behind_command lie t words = ap (λ m. fold (walked shape.rules names) (walk_met (called t) m) words) (is_met lie t).met ∙ stays words [] start (called t)
+
+-- the turn of a first word, by the command that it names
+abbrev met_turn : Option Text → Text → Kinds
+met_turn met word =
+    let step = subcommand_or_other shape.rules met idle 1 word nothing_held in
+    or_else (other_fault shape met word nothing_held) (step_fault shape 1 step.0 step.1)
+
+command_walk : (lie : Lies) (t : Tool) (words : List Text) → walk_fault shape names start (called t ∷ words) ≡ []
+unfolding walk_fault walked
+command_walk lie t words =
+    ap (λ m. or_else (met_turn m (called t)) (walk_fault shape names (walk_met (called t) m) words)) (is_met lie t).met
+    ∙ ap (λ b. or_else (or_else (if b && true then kind.DisplayHelp ∷ kind.InvalidSubcommand ∷ [] else []) []) (walk_fault shape names (stopped_at start (called t) []) words)) (is_met lie t).no_help
+    ∙ no_fault words [] start (called t)
 
 and_nothing : (ks : Kinds) → or_else ks [] ≡ ks
 and_nothing [] = refl
 and_nothing (k ∷ ks) = refl
 
-abbrev at_first : State
-at_first = ready [] None false
+abbrev at_first : Tool → State
+at_first t = ready [] None false 1 (files_of t)
 
-whole_command : (lie : Lies) (t : Tool) (words : List Text) → whole_fault lie [] (stopped_at start (called t) words) ≡ faults lie t (walk_at at_first) words
+-- what all words come to, by the command that was entered
+abbrev entered_whole : List Text → Option Shape → Kinds
+entered_whole words s =
+    or_else (option_map_or (λ x. level_fault x [] nothing_held words false []) s []) (or_else [] (or_else [] (check_fault shape (finished shape.rules nothing_held) (is_some (option_map (λ x. found_at x words) s)))))
+
+no_check : (t : Tool) (words : List Text) (lie : Lies) → check_fault shape (finished shape.rules nothing_held) true ≡ []
 unfolding clap_on_literals
-whole_command lie tracer words = and_nothing (faults lie tracer (walk_at at_first) words)
-whole_command lie debugger words = and_nothing (faults lie debugger (walk_at at_first) words)
-whole_command lie runner words = and_nothing (faults lie runner (walk_at at_first) words)
-whole_command lie server words = and_nothing (faults lie server (walk_at at_first) words)
-whole_command lie checker words = and_nothing (faults lie checker (walk_at at_first) words)
-whole_command lie verifier words = and_nothing (faults lie verifier (walk_at at_first) words)
-whole_command lie teller words = and_nothing (faults lie teller (walk_at at_first) words)
-whole_command lie translator words = and_nothing (faults lie translator (walk_at at_first) words)
-whole_command lie painter words = and_nothing (faults lie painter (walk_at at_first) words)
-whole_command lie diagnoser words = and_nothing (faults lie diagnoser (walk_at at_first) words)
+no_check t words lie = refl
 
-command_fault : (lie : Lies) (t : Tool) (words : List Text) → fault_of (mpdbg_app (only_deadlock lie)) (called t ∷ words) ≡ faults lie t (walk_at at_first) words
+whole_is : (lie : Lies) (t : Tool) (words : List Text) → whole_fault lie [] (stopped_at start (called t) words) ≡ entered_whole words (find (λ s. answers_to (called t) (label_of s)) (top lie).subs)
+unfolding clap_on_literals
+whole_is lie t words = refl
+
+whole_command : (lie : Lies) (t : Tool) (words : List Text) → whole_fault lie [] (stopped_at start (called t) words) ≡ faults lie t (walk_at (at_first t)) words
+whole_command lie t words =
+    whole_is lie t words ∙ ap (entered_whole words) (is_met lie t).found ∙ ap (or_else (faults lie t (walk_at (at_first t)) words)) (no_check t words lie) ∙ and_nothing (faults lie t (walk_at (at_first t)) words)
+
+command_fault : (lie : Lies) (t : Tool) (words : List Text) → fault_of (mpdbg_app (only_deadlock lie)) (called t ∷ words) ≡ faults lie t (walk_at (at_first t)) words
 command_fault lie t words =
-    all_faults lie (called t ∷ words) ∙ ap (λ ks. whole_fault lie ks (walk_over (called t ∷ words))) (command_walk t words) ∙ ap (λ end. whole_fault lie [] end) (behind_command t words) ∙ whole_command lie t words
+    all_faults lie (called t ∷ words) ∙ ap (λ ks. whole_fault lie ks (walk_over (called t ∷ words))) (command_walk lie t words) ∙ ap (λ end. whole_fault lie [] end) (behind_command lie t words) ∙ whole_command lie t words
 
-entered_at : (lie : Lies) (t : Tool) (words : List Text) → entered (top lie) (Some (called t, words)) ≡ Some (called t, rows_at lie t (walk_at at_first) words)
-entered_at lie tracer words = refl
-entered_at lie debugger words = refl
-entered_at lie runner words = refl
-entered_at lie server words = refl
-entered_at lie checker words = refl
-entered_at lie verifier words = refl
-entered_at lie teller words = refl
-entered_at lie translator words = refl
-entered_at lie painter words = refl
-entered_at lie diagnoser words = refl
+command_found : (lie : Lies) (t : Tool) (words : List Text) → subcommand_of (mpdbg_app (only_deadlock lie)) (called t ∷ words) ≡ Some (called t, rows_at lie t (walk_at (at_first t)) words)
+command_found lie t words = ap (λ (w : Walk). entered (top lie) w.stopped) (behind_command lie t words) ∙ ap (option_map (λ s. found_at s words)) (is_met lie t).found
 
-command_found : (lie : Lies) (t : Tool) (words : List Text) → subcommand_of (mpdbg_app (only_deadlock lie)) (called t ∷ words) ≡ Some (called t, rows_at lie t (walk_at at_first) words)
-command_found lie t words = ap (λ (w : Walk). entered (top lie) w.stopped) (behind_command t words) ∙ entered_at lie t words
+lift : (lie : Lies) (t : Tool) (o : Option Asked) (ks : Kinds) (rows : List Row) → Agrees t o ks rows → AgreesAll o ks (Some (called t, rows))
+lift lie t None ks rows h = h
+lift lie t (Some x) ks rows h = (h.0, ap (λ o. let y : Asked = record { task = task_of_tool o rows; ranks = number_by (text_in rows the_ranks) } in y) (named_tool t) ∙ h.1, h.2)
 
-lift : (t : Tool) (o : Option Asked) (ks : Kinds) (rows : List Row) → Agrees t o ks rows → AgreesAll o ks (Some (called t, rows))
-lift t None ks rows h = h
-lift tracer (Some x) ks rows h = h
-lift debugger (Some x) ks rows h = h
-lift runner (Some x) ks rows h = h
-lift server (Some x) ks rows h = h
-lift checker (Some x) ks rows h = h
-lift verifier (Some x) ks rows h = h
-lift teller (Some x) ks rows h = h
-lift translator (Some x) ks rows h = h
-lift painter (Some x) ks rows h = h
-lift diagnoser (Some x) ks rows h = h
-
-command_law : (lie : Lies) (t : Tool) (words : List Text) → AgreesAll (wanted t words among_options []) (fault_of (mpdbg_app (only_deadlock lie)) (called t ∷ words)) (subcommand_of (mpdbg_app (only_deadlock lie)) (called t ∷ words))
+command_law : (lie : Lies) (t : Tool) (words : List Text) → AgreesAll (wanted t words among_options (files_of t) []) (fault_of (mpdbg_app (only_deadlock lie)) (called t ∷ words)) (subcommand_of (mpdbg_app (only_deadlock lie)) (called t ∷ words))
 command_law lie t words =
-    let o = wanted t words among_options [] in
+    let o = wanted t words among_options (files_of t) [] in
     let P : Kinds → Type 0 = λ ks. AgreesAll o ks (subcommand_of (mpdbg_app (only_deadlock lie)) (called t ∷ words)) in
-    let Q : Option (Text × List Row) → Type 0 = λ c. AgreesAll o (faults lie t (walk_at at_first) words) c in
+    let Q : Option (Text × List Row) → Type 0 = λ c. AgreesAll o (faults lie t (walk_at (at_first t)) words) c in
     subst P (sym (command_fault lie t words))
-    (subst Q (sym (command_found lie t words)) (lift t o (faults lie t (walk_at at_first) words) (rows_at lie t (walk_at at_first) words) (law lie t words at_first (tt, tt, (λ e. refl)))))
+    (subst Q (sym (command_found lie t words)) (lift lie t o (faults lie t (walk_at (at_first t)) words) (rows_at lie t (walk_at (at_first t)) words) (law lie t words (at_first t) (tt, tt, all_seated t))))
 
 -- ---- another first word
 
@@ -211,20 +221,27 @@ top_letters [] x xs e = no_chars x xs e
 top_letters (y ∷ ys) x xs e = rw e (top_letter x (drop (length (encode_utf8 x)) (y ∷ ys)) _)
 
 -- the word names no command
-abbrev IsOther : Text → Type 0
-IsOther word =
-    (bytes_eq (codes "trace") word ≡ false) × (bytes_eq (codes "debug") word ≡ false) × (bytes_eq (codes "run") word ≡ false) × (bytes_eq (codes "serve") word ≡ false) × (bytes_eq (codes "check") word ≡ false)
-    × (bytes_eq (codes "verify") word ≡ false) × (bytes_eq (codes "words") word ≡ false) × (bytes_eq (codes "c") word ≡ false) × (bytes_eq (codes "picture") word ≡ false) × (bytes_eq (codes "diagnose") word ≡ false)
-    × (bytes_eq (codes "help") word ≡ false)
+record IsOther (word : Text) : Type 0 where
+  no_tool : tool_named word ≡ None
+  no_help : bytes_eq (codes "help") word ≡ false
 
--- the turn of a first word, by the command that it names
-abbrev met_turn : Option Text → Text → Kinds
-met_turn met word =
-    let step = subcommand_or_other shape.rules met idle 1 word nothing_held in
-    or_else (other_fault shape met word nothing_held) (step_fault shape 1 step.0 step.1)
+-- the names of these commands, and that of the help
+abbrev labels : List Tool → Names
+labels [] = (codes "help", []) ∷ []
+labels (t ∷ rest) = (called t, []) ∷ labels rest
+
+unmet_among : (word : Text) (rest : List Tool) → find (λ t. bytes_eq word (called t)) rest ≡ None → bytes_eq (codes "help") word ≡ false → find (answers_to word) (labels rest) ≡ None
+unmet_among word [] none h = rw h refl
+unmet_among word (t ∷ rest) none h =
+    let turned : (bytes_eq (called t) word || false) ≡ bytes_eq word (called t) = or_nothing (bytes_eq (called t) word) ∙ same_either_way (called t) word in
+    ap (λ b. cond b (Some (called t, [])) (find (answers_to word) (labels rest))) turned
+    ∙ elim (bytes_eq word (called t)) as (λ b. cond b (Some t) (find (λ t. bytes_eq word (called t)) rest) ≡ None → cond b (Some (called t, [])) (find (answers_to word) (labels rest)) ≡ None) [
+      | true ↦ λ e. cc
+      | false ↦ λ e. unmet_among word rest e h
+    ] none
 
 unmet : (word : Text) → IsOther word → subcommand_met names idle word ≡ None
-unmet word other = rw (other.0, other.1, other.2, other.3, other.4, other.5, other.6, other.7, other.8, other.9, other.10) refl
+unmet word other = ap (option_map (λ (s : Text × List Text). s.0)) (unmet_among word tools other.no_tool other.no_help)
 
 top_turns : (word : Text) → IsOther word → turn_fault shape names start word ≡ met_turn None word
 top_turns word other = ap (λ m. met_turn m word) (unmet word other)
@@ -305,31 +322,10 @@ first_word lie word words other =
 
 -- ---- all words
 
-turned_about : (name word : Text) → bytes_eq word name ≡ false → bytes_eq name word ≡ false
-turned_about name word e = elim (bytes_eq name word) as (λ b. bytes_eq name word ≡ b → b ≡ false) [
-  | true ↦ λ h. let same : name ≡ word = (bytes_eq-Decides name word).0 h in sym (sym e ∙ ap (λ w. bytes_eq w name) (sym same) ∙ same_text name)
-  | false ↦ λ h. refl
-] refl
-  where
-    same_text : (x : Text) → bytes_eq x x ≡ true
-    same_text x = (bytes_eq-Decides x x).1 refl
-
-other_word : (lie : Lies) (word : Text) (words : List Text) → NamesNone word tools → fault_of (mpdbg_app (only_deadlock lie)) (word ∷ words) ≢ []
+other_word : (lie : Lies) (word : Text) (words : List Text) → tool_named word ≡ None → fault_of (mpdbg_app (only_deadlock lie)) (word ∷ words) ≢ []
 other_word lie word words n = elim (bytes_eq (codes "help") word) as (λ b. bytes_eq (codes "help") word ≡ b → fault_of (mpdbg_app (only_deadlock lie)) (word ∷ words) ≢ []) [
   | true ↦ λ e. let P : Text → Type 0 = λ w. fault_of (mpdbg_app (only_deadlock lie)) (w ∷ words) ≢ [] in subst P ((bytes_eq-Decides (codes "help") word).0 e) (help_word lie words)
-  | false ↦ λ e. first_word lie word words (
-    turned_about (codes "trace") word n.0,
-    turned_about (codes "debug") word n.1.0,
-    turned_about (codes "run") word n.1.1.0,
-    turned_about (codes "serve") word n.1.1.1.0,
-    turned_about (codes "check") word n.1.1.1.1.0,
-    turned_about (codes "verify") word n.1.1.1.1.1.0,
-    turned_about (codes "words") word n.1.1.1.1.1.1.0,
-    turned_about (codes "c") word n.1.1.1.1.1.1.1.0,
-    turned_about (codes "picture") word n.1.1.1.1.1.1.1.1.0,
-    turned_about (codes "diagnose") word n.1.1.1.1.1.1.1.1.1.0,
-    e,
-  )
+  | false ↦ λ e. first_word lie word words (record { no_tool = n; no_help = e })
 ] refl
 
 -- the law where the first word is this command's
@@ -340,7 +336,10 @@ named_law : (lie : Lies) (t : Tool) (word : Text) (words : List Text) → bytes_
 named_law lie t word words e = let P : Text → Type 0 = λ w. LawOf lie w words (Some t) in subst P (sym ((bytes_eq-Decides word (called t)).0 e)) (command_law lie t words)
 
 pub meant_law : (lie : Lies) (word : Text) (words : List Text) → AgreesAll (meant (word ∷ words)) (fault_of (mpdbg_app (only_deadlock lie)) (word ∷ words)) (subcommand_of (mpdbg_app (only_deadlock lie)) (word ∷ words))
-meant_law lie word words = by_name (LawOf lie word words) word tools (λ t e. named_law lie t word words e) (λ n. other_word lie word words n)
+meant_law lie word words = elim (tool_named word) as (λ o. tool_named word ≡ o → LawOf lie word words o) [
+  | None ↦ λ e. other_word lie word words e
+  | Some t ↦ λ e. named_law lie t word words (found_holds tools (λ t. bytes_eq word (called t)) t e)
+] refl
 
 pub is_plain_app : (lie : Lies) → is_simple_and_free (mpdbg_app (only_deadlock lie)) ≡ true
 unfolding clap_on_literals

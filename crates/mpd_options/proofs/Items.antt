@@ -1,382 +1,270 @@
--- What `clap` holds of the items of a command, and what it does with a value of one.
-use Rattle.std.proofs.Common.{◌≡◌, ◌≢◌, ◌∙◌, ◌&&◌, ◌||◌, Bool, true, false, not, List, [], ◌∷◌, ◌++◌, cond, Option, Some, None, is_some, option_map, find, codes, refl, sym, ap, ap₂, subst, if◌then◌else◌, unwrap_or, arith}
+-- What `clap` makes of the items of a table, and of a value of one.
+use Rattle.std.proofs.Common.{◌≡◌, ◌≢◌, ◌∙◌, ◌<◌, ◌≤◌, ◌^◌, ◌&&◌, ◌||◌, ℕ, Bool, true, false, not, List, [], ◌∷◌, ◌++◌, ◌==◌, cond, suc, zero, Option, Some, None, is_some, option_map, find, codes, refl, sym, ap, ap₂, subst, if◌then◌else◌, arith}
+use Rattle.std.specs.Prelude.{nat_le}
+use Rattle.std.specs.List.{list_all}
 use Rattle.std.specs.Option.{option_map_or}
 use Rattle.std.specs.Str.{bytes_eq}
+use Rattle.std.proofs.lemmas.Bool.{leb-true}
 use Rattle.std.proofs.lemmas.Slice.Eq.{bytes_eq-Decides}
-use Rattle.clap.specs.Words.{Row, Rule, Shape, Text, built}
+use Rattle.clap.specs.Words.{Row, Rule, Shape, Text}
 use Rattle.clap.specs.Kinds.{Kinds, or_else}
 use Rattle.clap.specs.Faults.{use_fault}
-use Rattle.clap.specs.Simple.{label_of, new_rule, new_shape}
+use Rattle.clap.specs.Simple.{filled, help_rule, new_shape}
 use Rattle.clap.specs.ValueTests.{is_unsigned_in}
-use Rattle.clap.specs.Walk.{answers_to, arg_by_id, arg_by_long, has_row, used, with_values, without}
+use Rattle.clap.specs.Walk.{arg_by_id, arg_by_index, arg_by_long, arg_by_short, has_long, has_row, has_short, used, with_values, without}
+use Rattle.clap.specs.declared.builder.action.ArgAction.{ArgAction}
+use Rattle.clap.specs.declared.builder.action.ArgAction.TheVariants.{Set, SetTrue}
 use Rattle.clap.specs.declared.builder.value_parser.Reading.{Reading}
 use Rattle.clap.specs.declared.builder.value_parser.Reading.TheVariants.{AsWritten}
+use Rattle.clap.specs.declared.builder.value_parser.ValueParser.{ValueParser}
+use Rattle.clap.specs.declared.builder.value_parser.ValueParser.TheVariants as parser
 use Rattle.clap.specs.declared.error.kind.ErrorKind.{ErrorKind}
 use Rattle.clap.specs.declared.error.kind.ErrorKind.TheVariants as kind
 use Rattle.clap.specs.declared.parser.matches.ValueSource.{ValueSource}
 use Rattle.clap.specs.declared.parser.matches.ValueSource.TheVariants.{CommandLine}
 use Rattle.clap.proofs.OnLiterals.{clap_on_literals}
-use Rattle.mpd_options.specs.Asked.{Item, Said, Tool, checker, debugger, diagnoser, fits, most_clients, most_fuel, most_leaf, most_modes, most_piece, most_port, most_ranks, most_runs, most_sample, most_seed, most_split, most_states, most_workers, name_of, painter, said_named, said_of, spelling_of, the_choices, the_clients, the_complete, the_ends, the_explain, the_file, the_fuel, the_group, the_laid_witness, the_leaf, the_mode, the_modes, the_outcomes, the_piece, the_pieces, the_port, the_rank_span, the_ranks, the_runs, the_sample, the_seed, the_split, the_states, the_strict, the_until, the_witness, the_witness_file, the_words, the_workers, runner, server, teller, tracer, translator, verifier}
-use Rattle.mpd_options.specs.Program.{Lies, mpdbg_app, only_deadlock}
+use Rattle.clap.proofs.WalkLemmas.{both}
+use Rattle.mpd_options.specs.Asked.{Said, said_named, said_of}
+use Rattle.mpd_options.specs.Numbers.{most_usize}
+use Rattle.mpd_options.specs.Program.{Lies, only_deadlock}
+use Rattle.mpd_options.specs.Table.{Item, Tool, a_file, a_flag, an_option, Unsaid, Values, any_word, called, checker, deadlock_alone, debugger, default_of, diagnoser, files_of, fits, from_to, is_file, is_flag, is_missed, is_nothing, is_required, is_same_as, is_spelled, item_named, items_of, name_of, option_among, painter, runner, server, teller, tracer, translator, verifier}
 use Rattle.mpd_options.proofs.NumberReads.{accepts_number}
 
-abbrev pub called : Tool → Text
-called tracer = codes "trace"
-called debugger = codes "debug"
-called runner = codes "run"
-called server = codes "serve"
-called checker = codes "check"
-called verifier = codes "verify"
-called teller = codes "words"
-called translator = codes "c"
-called painter = codes "picture"
-called diagnoser = codes "diagnose"
+-- ---- the rule that `clap` builds of an item
 
--- the first of these commands that a word names
-abbrev pub named_among : List Tool → Text → Option Tool
-named_among [] word = None
-named_among (t ∷ tools) word = if bytes_eq word (called t) then Some t else named_among tools word
+abbrev seat_of : Item → Option ℕ
+seat_of (a_file place name) = Some place
+seat_of _ = None
 
-abbrev pub tools : List Tool
-tools = tracer ∷ debugger ∷ runner ∷ server ∷ checker ∷ verifier ∷ teller ∷ translator ∷ painter ∷ diagnoser ∷ []
+abbrev long_for : Item → Option Text
+long_for (a_file place name) = None
+long_for (a_flag name) = Some name
+long_for (an_option name spelling values unsaid) = Some spelling
 
--- the word names none of these commands
-abbrev pub NamesNone : Text → List Tool → Type 0
-NamesNone word [] = Unit {0}
-NamesNone word (t ∷ rest) = (bytes_eq word (called t) ≡ false) × NamesNone word rest
+abbrev action_for : Item → ArgAction
+action_for (a_flag name) = SetTrue
+action_for _ = Set
 
--- by cases on what a word names among these commands: one of them, or none
-pub by_name : (P : Option Tool → Type 0) (word : Text) (rest : List Tool) → ((t : Tool) → bytes_eq word (called t) ≡ true → P (Some t)) → (NamesNone word rest → P None) → P (named_among rest word)
-by_name P word [] some other = other tt
-by_name P word (t ∷ rest) some other = elim (bytes_eq word (called t)) as (λ b. bytes_eq word (called t) ≡ b → P (if b then Some t else named_among rest word)) [
-  | true ↦ λ e. some t e
-  | false ↦ λ e. by_name P word rest some (λ others. other (e, others))
-] refl
+abbrev how_many : Item → ℕ
+how_many (a_flag name) = 0
+how_many _ = 1
 
-abbrev pub sub : Lies → Tool → Shape
-sub lie tracer = option_map_or (λ s. s) (find (λ s. answers_to (codes "trace") (label_of s)) (built (mpdbg_app (only_deadlock lie))).subs) (new_shape [])
-sub lie debugger = option_map_or (λ s. s) (find (λ s. answers_to (codes "debug") (label_of s)) (built (mpdbg_app (only_deadlock lie))).subs) (new_shape [])
-sub lie runner = option_map_or (λ s. s) (find (λ s. answers_to (codes "run") (label_of s)) (built (mpdbg_app (only_deadlock lie))).subs) (new_shape [])
-sub lie server = option_map_or (λ s. s) (find (λ s. answers_to (codes "serve") (label_of s)) (built (mpdbg_app (only_deadlock lie))).subs) (new_shape [])
-sub lie checker = option_map_or (λ s. s) (find (λ s. answers_to (codes "check") (label_of s)) (built (mpdbg_app (only_deadlock lie))).subs) (new_shape [])
-sub lie verifier = option_map_or (λ s. s) (find (λ s. answers_to (codes "verify") (label_of s)) (built (mpdbg_app (only_deadlock lie))).subs) (new_shape [])
-sub lie teller = option_map_or (λ s. s) (find (λ s. answers_to (codes "words") (label_of s)) (built (mpdbg_app (only_deadlock lie))).subs) (new_shape [])
-sub lie translator = option_map_or (λ s. s) (find (λ s. answers_to (codes "c") (label_of s)) (built (mpdbg_app (only_deadlock lie))).subs) (new_shape [])
-sub lie painter = option_map_or (λ s. s) (find (λ s. answers_to (codes "picture") (label_of s)) (built (mpdbg_app (only_deadlock lie))).subs) (new_shape [])
-sub lie diagnoser = option_map_or (λ s. s) (find (λ s. answers_to (codes "diagnose") (label_of s)) (built (mpdbg_app (only_deadlock lie))).subs) (new_shape [])
+abbrev value_names_for : Item → ℕ
+value_names_for (an_option name spelling values unsaid) = 1
+value_names_for _ = 0
+
+abbrev pub default_list : Unsaid → List Text
+default_list (is_same_as value) = value ∷ []
+default_list _ = []
+
+abbrev pub defaults_for : Item → List Text
+defaults_for (a_file place name) = []
+defaults_for (a_flag name) = codes "false" ∷ []
+defaults_for (an_option name spelling values unsaid) = default_list unsaid
+
+abbrev missing_for : Item → List Text
+missing_for (a_flag name) = codes "true" ∷ []
+missing_for _ = []
+
+abbrev parser_of : Lies → Values → ValueParser
+parser_of lie any_word = parser.String
+parser_of lie (from_to low high) = parser.Unsigned low high
+parser_of lie deadlock_alone = parser.Names (only_deadlock lie)
+
+abbrev parser_for : Lies → Item → ValueParser
+parser_for lie (a_file place name) = parser.String
+parser_for lie (a_flag name) = parser.Bool
+parser_for lie (an_option name spelling values unsaid) = parser_of lie values
+
+abbrev pub rule_for : Lies → Item → Rule
+rule_for lie i = record {
+  id = name_of i;
+  long = long_for i;
+  aliases = [];
+  short = None;
+  short_aliases = [];
+  index = seat_of i;
+  action = Some (action_for i);
+  range = Some (record { start_inclusive = how_many i; end_inclusive = how_many i });
+  value_names = value_names_for i;
+  defaults = defaults_for i;
+  missing = missing_for i;
+  trailing_var_arg = false;
+  parser = Some (parser_for lie i);
+  ignore_case = false;
+  required = is_required i;
+  is_simple = true;
+  is_free = true;
+}
+
+abbrev pub help_arg : Rule
+help_arg = filled help_rule
+
+abbrev pub rules_for : Lies → List Item → List Rule
+rules_for lie [] = help_arg ∷ []
+rules_for lie (i ∷ items) = rule_for lie i ∷ rules_for lie items
 
 abbrev pub rules : Lies → Tool → List Rule
-rules lie t = (sub lie t).rules
+rules lie t = rules_for lie (items_of t)
 
-abbrev pub arg : Lies → Tool → Item → Rule
-arg lie t item = unwrap_or (arg_by_id (rules lie t) (name_of item)) (new_rule [])
+-- a command as it is built
+abbrev pub sub : Lies → Tool → Shape
+sub lie t = record (new_shape (called t)) { rules = rules lie t; no_binary_name = true; disable_help_subcommand = true; is_built = true }
 
-abbrev pub help_arg : Lies → Tool → Rule
-help_arg lie t = unwrap_or (arg_by_id (rules lie t) (codes "help")) (new_rule [])
+-- ---- which of the rules is found
 
--- ---- the items that take a value in words
+abbrev pub at_rule : Lies → Option Item → Option Rule → Option Rule
+at_rule lie None other = other
+at_rule lie (Some i) other = Some (rule_for lie i)
 
-abbrev pub is_common : Item → Bool
-is_common the_mode = true
-is_common the_ranks = true
-is_common _ = false
+find_rules : (lie : Lies) (q : Rule → Bool) (p : Item → Bool) → ((i : Item) → q (rule_for lie i) ≡ p i) → (items : List Item) → find q (rules_for lie items) ≡ at_rule lie (find p items) (find q (help_arg ∷ []))
+find_rules lie q p same [] = refl
+find_rules lie q p same (i ∷ items) =
+    ap (λ b. cond b (Some (rule_for lie i)) (find q (rules_for lie items))) (same i)
+    ∙ elim (p i) as (λ b. cond b (Some (rule_for lie i)) (find q (rules_for lie items)) ≡ at_rule lie (cond b (Some i) (find p items)) (find q (help_arg ∷ []))) [
+      | true ↦ refl
+      | false ↦ find_rules lie q p same items
+    ]
 
--- options that want a value
-abbrev pub asks : Tool → Item → Bool
-asks tracer i = is_common i
-asks debugger the_mode = true
-asks debugger the_choices = true
-asks debugger the_laid_witness = true
-asks debugger the_ranks = true
-asks debugger _ = false
-asks runner i = is_common i
-asks server the_mode = true
-asks server the_port = true
-asks server the_clients = true
-asks server the_ranks = true
-asks server _ = false
-asks checker the_mode = true
-asks checker the_modes = true
-asks checker the_runs = true
-asks checker the_fuel = true
-asks checker the_split = true
-asks checker the_workers = true
-asks checker the_states = true
-asks checker the_sample = true
-asks checker the_seed = true
-asks checker the_until = true
-asks checker the_piece = true
-asks checker the_ranks = true
-asks checker _ = false
-asks verifier the_mode = true
-asks verifier the_leaf = true
-asks verifier the_ranks = true
-asks verifier _ = false
-asks teller the_mode = true
-asks teller the_choices = true
-asks teller the_fuel = true
-asks teller the_ranks = true
-asks teller _ = false
-asks translator the_ranks = true
-asks translator _ = false
-asks painter the_mode = true
-asks painter the_choices = true
-asks painter the_laid_witness = true
-asks painter the_words = true
-asks painter the_fuel = true
-asks painter the_ranks = true
-asks painter _ = false
-asks diagnoser the_mode = true
-asks diagnoser the_rank_span = true
-asks diagnoser _ = false
+pub by_id : (lie : Lies) (t : Tool) (i : Item) → item_named (name_of i) (items_of t) ≡ Some i → arg_by_id (rules lie t) (name_of i) ≡ Some (rule_for lie i)
+by_id lie t i own = find_rules lie (λ a. bytes_eq a.id (name_of i)) (λ j. bytes_eq (name_of j) (name_of i)) (λ j. refl) (items_of t) ∙ ap (λ o. at_rule lie o (arg_by_id (help_arg ∷ []) (name_of i))) own
 
--- the witness has a word of its own
-abbrev pub reads_witness : Tool → Bool
-reads_witness tracer = false
-reads_witness debugger = false
-reads_witness runner = false
-reads_witness server = false
-reads_witness checker = false
-reads_witness verifier = true
-reads_witness teller = false
-reads_witness translator = false
-reads_witness painter = false
-reads_witness diagnoser = false
+pub or_nothing : (b : Bool) → (b || false) ≡ b
+or_nothing true = refl
+or_nothing false = refl
 
--- and the files
-abbrev pub keeps : Tool → Item → Bool
-keeps t the_file = true
-keeps t the_witness_file = reads_witness t
-keeps t the_mode = asks t the_mode
-keeps t the_modes = asks t the_modes
-keeps t the_port = asks t the_port
-keeps t the_clients = asks t the_clients
-keeps t the_runs = asks t the_runs
-keeps t the_fuel = asks t the_fuel
-keeps t the_split = asks t the_split
-keeps t the_workers = asks t the_workers
-keeps t the_states = asks t the_states
-keeps t the_sample = asks t the_sample
-keeps t the_seed = asks t the_seed
-keeps t the_until = asks t the_until
-keeps t the_piece = asks t the_piece
-keeps t the_leaf = asks t the_leaf
-keeps t the_choices = asks t the_choices
-keeps t the_laid_witness = asks t the_laid_witness
-keeps t the_words = asks t the_words
-keeps t the_ranks = asks t the_ranks
-keeps t the_rank_span = asks t the_rank_span
-keeps t _ = false
+long_same : (lie : Lies) (name : Text) (i : Item) → (not (is_some (seat_of i)) && has_long (rule_for lie i) name) ≡ is_spelled name i
+long_same lie name (a_file place own) = refl
+long_same lie name (a_flag own) = or_nothing (bytes_eq own name)
+long_same lie name (an_option own spelling values unsaid) = or_nothing (bytes_eq spelling name)
 
-common_alone : (Q : Item → Type 0) → Q the_mode × Q the_ranks → (i : Item) → is_common i ≡ true → Q i
-common_alone Q m the_mode e = m.0
-common_alone Q m the_ranks e = m.1
-common_alone Q m _ e = cc
+-- an option, or the help
+pub by_long : (lie : Lies) (t : Tool) (name : Text) → arg_by_long (rules lie t) name ≡ at_rule lie (option_among (items_of t) name) (cond (bytes_eq (codes "help") name) (Some help_arg) None)
+by_long lie t name =
+    find_rules lie (λ a. not (is_some a.index) && has_long a name) (is_spelled name) (long_same lie name) (items_of t)
+    ∙ ap (λ b. at_rule lie (option_among (items_of t) name) (cond b (Some help_arg) None)) (or_nothing (bytes_eq (codes "help") name))
 
--- each option that wants a value
-abbrev pub EachAsks : (P : Tool → Item → Type 0) → Tool → Type 0
-EachAsks P tracer = P tracer the_mode × P tracer the_ranks
-EachAsks P debugger = P debugger the_mode × P debugger the_choices × P debugger the_laid_witness × P debugger the_ranks
-EachAsks P runner = P runner the_mode × P runner the_ranks
-EachAsks P server = P server the_mode × P server the_port × P server the_clients × P server the_ranks
-EachAsks P checker = P checker the_mode × P checker the_modes × P checker the_runs × P checker the_fuel × P checker the_split × P checker the_workers × P checker the_states × P checker the_sample × P checker the_seed × P checker the_until × P checker the_piece × P checker the_ranks
-EachAsks P verifier = P verifier the_mode × P verifier the_leaf × P verifier the_ranks
-EachAsks P teller = P teller the_mode × P teller the_choices × P teller the_fuel × P teller the_ranks
-EachAsks P translator = P translator the_ranks
-EachAsks P painter = P painter the_mode × P painter the_choices × P painter the_laid_witness × P painter the_words × P painter the_fuel × P painter the_ranks
-EachAsks P diagnoser = P diagnoser the_mode × P diagnoser the_rank_span
+short_none : (lie : Lies) (x : ℕ) (i : Item) → (not (is_some (seat_of i)) && has_short (rule_for lie i) x) ≡ false
+short_none lie x (a_file place own) = refl
+short_none lie x (a_flag own) = refl
+short_none lie x (an_option own spelling values unsaid) = refl
 
-pub each_asks : (P : Tool → Item → Type 0) → EachAsks P tracer → EachAsks P debugger → EachAsks P runner → EachAsks P server → EachAsks P checker → EachAsks P verifier → EachAsks P teller → EachAsks P translator → EachAsks P painter → EachAsks P diagnoser → (t : Tool) (i : Item) → asks t i ≡ true → P t i
-each_asks P a d r s c v w x q g tracer i e = common_alone (P tracer) a i e
-each_asks P a d r s c v w x q g debugger the_mode e = d.0
-each_asks P a d r s c v w x q g debugger the_choices e = d.1
-each_asks P a d r s c v w x q g debugger the_laid_witness e = d.2
-each_asks P a d r s c v w x q g debugger the_ranks e = d.3
-each_asks P a d r s c v w x q g debugger _ e = cc
-each_asks P a d r s c v w x q g runner i e = common_alone (P runner) r i e
-each_asks P a d r s c v w x q g server the_mode e = s.0
-each_asks P a d r s c v w x q g server the_port e = s.1
-each_asks P a d r s c v w x q g server the_clients e = s.2
-each_asks P a d r s c v w x q g server the_ranks e = s.3
-each_asks P a d r s c v w x q g server _ e = cc
-each_asks P a d r s c v w x q g checker the_mode e = c.0
-each_asks P a d r s c v w x q g checker the_modes e = c.1
-each_asks P a d r s c v w x q g checker the_runs e = c.2
-each_asks P a d r s c v w x q g checker the_fuel e = c.3
-each_asks P a d r s c v w x q g checker the_split e = c.4
-each_asks P a d r s c v w x q g checker the_workers e = c.5
-each_asks P a d r s c v w x q g checker the_states e = c.6
-each_asks P a d r s c v w x q g checker the_sample e = c.7
-each_asks P a d r s c v w x q g checker the_seed e = c.8
-each_asks P a d r s c v w x q g checker the_until e = c.9
-each_asks P a d r s c v w x q g checker the_piece e = c.10
-each_asks P a d r s c v w x q g checker the_ranks e = c.11
-each_asks P a d r s c v w x q g checker _ e = cc
-each_asks P a d r s c v w x q g verifier the_mode e = v.0
-each_asks P a d r s c v w x q g verifier the_leaf e = v.1
-each_asks P a d r s c v w x q g verifier the_ranks e = v.2
-each_asks P a d r s c v w x q g verifier _ e = cc
-each_asks P a d r s c v w x q g teller the_mode e = w.0
-each_asks P a d r s c v w x q g teller the_choices e = w.1
-each_asks P a d r s c v w x q g teller the_fuel e = w.2
-each_asks P a d r s c v w x q g teller the_ranks e = w.3
-each_asks P a d r s c v w x q g teller _ e = cc
-each_asks P a d r s c v w x q g translator the_ranks e = x
-each_asks P a d r s c v w x q g translator _ e = cc
-each_asks P a d r s c v w x q g painter the_mode e = q.0
-each_asks P a d r s c v w x q g painter the_choices e = q.1
-each_asks P a d r s c v w x q g painter the_laid_witness e = q.2
-each_asks P a d r s c v w x q g painter the_words e = q.3
-each_asks P a d r s c v w x q g painter the_fuel e = q.4
-each_asks P a d r s c v w x q g painter the_ranks e = q.5
-each_asks P a d r s c v w x q g painter _ e = cc
-each_asks P a d r s c v w x q g diagnoser the_mode e = g.0
-each_asks P a d r s c v w x q g diagnoser the_rank_span e = g.1
-each_asks P a d r s c v w x q g diagnoser _ e = cc
+find_none : (items : List Item) → find (λ i. false) items ≡ None
+find_none [] = refl
+find_none (i ∷ items) = find_none items
 
--- each file
-abbrev pub EachFile : (P : Tool → Item → Type 0) → Type 0
-EachFile P = P tracer the_file × P debugger the_file × P runner the_file × P server the_file × P checker the_file × P verifier the_file × P verifier the_witness_file × P teller the_file × P translator the_file × P painter the_file × P diagnoser the_file
+-- no letter but that of the help
+pub by_short : (lie : Lies) (t : Tool) (x : ℕ) → arg_by_short (rules lie t) x ≡ cond (104 == x) (Some help_arg) None
+by_short lie t x =
+    find_rules lie (λ a. not (is_some a.index) && has_short a x) (λ i. false) (short_none lie x) (items_of t) ∙ ap (λ o. at_rule lie o (arg_by_short (help_arg ∷ []) x)) (find_none (items_of t))
+    ∙ ap (λ b. cond b (Some help_arg) None) (or_nothing (104 == x))
 
-pub each_keeps : (P : Tool → Item → Type 0) → EachFile P → EachAsks P tracer → EachAsks P debugger → EachAsks P runner → EachAsks P server → EachAsks P checker → EachAsks P verifier → EachAsks P teller → EachAsks P translator → EachAsks P painter → EachAsks P diagnoser → (t : Tool) (i : Item) → keeps t i ≡ true → P t i
-each_keeps P f a d r s c v w x q g tracer the_file e = f.0
-each_keeps P f a d r s c v w x q g tracer the_mode e = a.0
-each_keeps P f a d r s c v w x q g tracer the_ranks e = a.1
-each_keeps P f a d r s c v w x q g tracer _ e = cc
-each_keeps P f a d r s c v w x q g debugger the_file e = f.1
-each_keeps P f a d r s c v w x q g debugger the_mode e = d.0
-each_keeps P f a d r s c v w x q g debugger the_choices e = d.1
-each_keeps P f a d r s c v w x q g debugger the_laid_witness e = d.2
-each_keeps P f a d r s c v w x q g debugger the_ranks e = d.3
-each_keeps P f a d r s c v w x q g debugger _ e = cc
-each_keeps P f a d r s c v w x q g runner the_file e = f.2
-each_keeps P f a d r s c v w x q g runner the_mode e = r.0
-each_keeps P f a d r s c v w x q g runner the_ranks e = r.1
-each_keeps P f a d r s c v w x q g runner _ e = cc
-each_keeps P f a d r s c v w x q g server the_file e = f.3
-each_keeps P f a d r s c v w x q g server the_mode e = s.0
-each_keeps P f a d r s c v w x q g server the_port e = s.1
-each_keeps P f a d r s c v w x q g server the_clients e = s.2
-each_keeps P f a d r s c v w x q g server the_ranks e = s.3
-each_keeps P f a d r s c v w x q g server _ e = cc
-each_keeps P f a d r s c v w x q g checker the_file e = f.4
-each_keeps P f a d r s c v w x q g checker the_mode e = c.0
-each_keeps P f a d r s c v w x q g checker the_modes e = c.1
-each_keeps P f a d r s c v w x q g checker the_runs e = c.2
-each_keeps P f a d r s c v w x q g checker the_fuel e = c.3
-each_keeps P f a d r s c v w x q g checker the_split e = c.4
-each_keeps P f a d r s c v w x q g checker the_workers e = c.5
-each_keeps P f a d r s c v w x q g checker the_states e = c.6
-each_keeps P f a d r s c v w x q g checker the_sample e = c.7
-each_keeps P f a d r s c v w x q g checker the_seed e = c.8
-each_keeps P f a d r s c v w x q g checker the_until e = c.9
-each_keeps P f a d r s c v w x q g checker the_piece e = c.10
-each_keeps P f a d r s c v w x q g checker the_ranks e = c.11
-each_keeps P f a d r s c v w x q g checker _ e = cc
-each_keeps P f a d r s c v w x q g verifier the_file e = f.5
-each_keeps P f a d r s c v w x q g verifier the_witness_file e = f.6
-each_keeps P f a d r s c v w x q g verifier the_mode e = v.0
-each_keeps P f a d r s c v w x q g verifier the_leaf e = v.1
-each_keeps P f a d r s c v w x q g verifier the_ranks e = v.2
-each_keeps P f a d r s c v w x q g verifier _ e = cc
-each_keeps P f a d r s c v w x q g teller the_file e = f.7
-each_keeps P f a d r s c v w x q g teller the_mode e = w.0
-each_keeps P f a d r s c v w x q g teller the_choices e = w.1
-each_keeps P f a d r s c v w x q g teller the_fuel e = w.2
-each_keeps P f a d r s c v w x q g teller the_ranks e = w.3
-each_keeps P f a d r s c v w x q g teller _ e = cc
-each_keeps P f a d r s c v w x q g translator the_file e = f.8
-each_keeps P f a d r s c v w x q g translator the_ranks e = x
-each_keeps P f a d r s c v w x q g translator _ e = cc
-each_keeps P f a d r s c v w x q g painter the_file e = f.9
-each_keeps P f a d r s c v w x q g painter the_mode e = q.0
-each_keeps P f a d r s c v w x q g painter the_choices e = q.1
-each_keeps P f a d r s c v w x q g painter the_laid_witness e = q.2
-each_keeps P f a d r s c v w x q g painter the_words e = q.3
-each_keeps P f a d r s c v w x q g painter the_fuel e = q.4
-each_keeps P f a d r s c v w x q g painter the_ranks e = q.5
-each_keeps P f a d r s c v w x q g painter _ e = cc
-each_keeps P f a d r s c v w x q g diagnoser the_file e = f.10
-each_keeps P f a d r s c v w x q g diagnoser the_mode e = g.0
-each_keeps P f a d r s c v w x q g diagnoser the_rank_span e = g.1
-each_keeps P f a d r s c v w x q g diagnoser _ e = cc
+abbrev pub item_at : ℕ → List Item → Option Item
+item_at n items = find (λ i. option_map_or (λ k. k == n) (seat_of i) false) items
 
-pub asks_keeps : (t : Tool) (i : Item) → asks t i ≡ true → keeps t i ≡ true
-asks_keeps = each_asks (λ t i. keeps t i ≡ true) (refl, refl) (refl, refl, refl, refl) (refl, refl) (refl, refl, refl, refl) (refl, refl, refl, refl, refl, refl, refl, refl, refl, refl, refl, refl) (refl, refl, refl) (refl, refl, refl, refl) refl (refl, refl, refl, refl, refl, refl) (refl, refl)
+pub by_index : (lie : Lies) (t : Tool) (n : ℕ) → arg_by_index (rules lie t) n ≡ at_rule lie (item_at n (items_of t)) None
+by_index lie t n = find_rules lie (λ a. option_map_or (λ k. k == n) a.index false) (λ i. option_map_or (λ k. k == n) (seat_of i) false) (λ i. refl) (items_of t)
 
-pub by_id : (lie : Lies) (t : Tool) (i : Item) → keeps t i ≡ true → arg_by_id (rules lie t) (name_of i) ≡ Some (arg lie t i)
-unfolding clap_on_literals
-by_id lie = each_keeps (λ t i. arg_by_id (rules lie t) (name_of i) ≡ Some (arg lie t i)) (refl, refl, refl, refl, refl, refl, refl, refl, refl, refl, refl) (refl, refl) (refl, refl, refl, refl) (refl, refl) (refl, refl, refl, refl) (refl, refl, refl, refl, refl, refl, refl, refl, refl, refl, refl, refl) (refl, refl, refl) (refl, refl, refl, refl) refl (refl, refl, refl, refl, refl, refl) (refl, refl)
+-- ---- each table is sound
 
-pub by_long : (lie : Lies) (t : Tool) (i : Item) → asks t i ≡ true → arg_by_long (rules lie t) (spelling_of i) ≡ Some (arg lie t i)
-unfolding clap_on_literals
-by_long lie = each_asks (λ t i. arg_by_long (rules lie t) (spelling_of i) ≡ Some (arg lie t i)) (refl, refl) (refl, refl, refl, refl) (refl, refl) (refl, refl, refl, refl) (refl, refl, refl, refl, refl, refl, refl, refl, refl, refl, refl, refl) (refl, refl, refl) (refl, refl, refl, refl) refl (refl, refl, refl, refl, refl, refl) (refl, refl)
+-- the numbers of a range can be told, and a value that stands for none is one of the item's
+abbrev is_bounded : Values → Bool
+is_bounded (from_to low high) = nat_le high most_usize
+is_bounded _ = true
 
--- the flags, which have no value
-abbrev pub flags : Tool → Item → Bool
-flags checker the_ends = true
-flags checker the_outcomes = true
-flags checker the_explain = true
-flags checker the_group = true
-flags checker the_witness = true
-flags checker the_complete = true
-flags checker the_pieces = true
-flags teller the_ends = true
-flags painter the_ends = true
-flags diagnoser the_strict = true
-flags debugger the_ends = true
-flags _ _ = false
+abbrev pub is_sound_item : Item → Bool
+is_sound_item (an_option name spelling values unsaid) = is_bounded values && option_map_or (fits (an_option name spelling values unsaid)) (default_of (an_option name spelling values unsaid)) true
+is_sound_item _ = true
 
-pub each_flag : (P : Tool → Item → Type 0) → P checker the_ends × P checker the_outcomes × P checker the_explain × P checker the_group × P checker the_witness × P checker the_complete × P checker the_pieces → P teller the_ends → P painter the_ends → P diagnoser the_strict → P debugger the_ends → (t : Tool) (i : Item) → flags t i ≡ true → P t i
-each_flag P c w q g d checker the_ends e = c.0
-each_flag P c w q g d checker the_outcomes e = c.1
-each_flag P c w q g d checker the_explain e = c.2
-each_flag P c w q g d checker the_group e = c.3
-each_flag P c w q g d checker the_witness e = c.4
-each_flag P c w q g d checker the_complete e = c.5
-each_flag P c w q g d checker the_pieces e = c.6
-each_flag P c w q g d checker _ e = cc
-each_flag P c w q g d teller the_ends e = w
-each_flag P c w q g d teller _ e = cc
-each_flag P c w q g d painter the_ends e = q
-each_flag P c w q g d painter _ e = cc
-each_flag P c w q g d diagnoser the_strict e = g
-each_flag P c w q g d diagnoser _ e = cc
-each_flag P c w q g d debugger the_ends e = d
-each_flag P c w q g d debugger _ e = cc
-each_flag P c w q g d tracer i e = cc
-each_flag P c w q g d runner i e = cc
-each_flag P c w q g d server i e = cc
-each_flag P c w q g d verifier i e = cc
-each_flag P c w q g d translator i e = cc
+-- no two have one name
+abbrev pub are_distinct : List Item → Bool
+are_distinct [] = true
+are_distinct (i ∷ items) = not (is_some (item_named (name_of i) items)) && are_distinct items
 
-pub flag_by_long : (lie : Lies) (t : Tool) (i : Item) → flags t i ≡ true → arg_by_long (rules lie t) (spelling_of i) ≡ Some (arg lie t i)
-unfolding clap_on_literals
-flag_by_long lie = each_flag (λ t i. arg_by_long (rules lie t) (spelling_of i) ≡ Some (arg lie t i)) (refl, refl, refl, refl, refl, refl, refl) refl refl refl refl
+abbrev pub is_sound_table : List Item → Bool
+is_sound_table items = list_all is_sound_item items && are_distinct items
+
+sound : (t : Tool) → is_sound_table (items_of t) ≡ true
+sound tracer = refl
+sound debugger = refl
+sound runner = refl
+sound server = refl
+sound checker = refl
+sound verifier = refl
+sound teller = refl
+sound translator = refl
+sound painter = refl
+sound diagnoser = refl
+
+pub sound_items : (t : Tool) → list_all is_sound_item (items_of t) ≡ true
+sound_items t = (both (list_all is_sound_item (items_of t)) (are_distinct (items_of t)) (sound t)).0
+
+pub distinct : (t : Tool) → are_distinct (items_of t) ≡ true
+distinct t = (both (list_all is_sound_item (items_of t)) (are_distinct (items_of t)) (sound t)).1
+
+-- each of these has this test
+pub all_items : (P : Item → Bool) (items : List Item) → list_all P items ≡ true → (p : Item → Bool) (i : Item) → find p items ≡ Some i → P i ≡ true
+all_items P [] all p i e = cc
+all_items P (j ∷ items) all p i e =
+    let parts = both (P j) (list_all P items) all in
+    elim (p j) as (λ b. cond b (Some j) (find p items) ≡ Some i → P i ≡ true) [
+      | true ↦ λ h. (let same : j ≡ i = cc in subst (λ k. P k ≡ true) same parts.0)
+      | false ↦ λ h. all_items P items parts.1 p i h
+    ] e
+
+pub is_sound : (t : Tool) (p : Item → Bool) (i : Item) → find p (items_of t) ≡ Some i → is_sound_item i ≡ true
+is_sound t p i e = all_items is_sound_item (items_of t) (sound_items t) p i e
+
+-- what is found has the test
+pub found_holds : {A : Type 0} (items : List A) (p : A → Bool) (i : A) → find p items ≡ Some i → p i ≡ true
+found_holds [] p i e = cc
+found_holds (j ∷ items) p i e = elim (p j) as (λ b. p j ≡ b → cond b (Some j) (find p items) ≡ Some i → p i ≡ true) [
+  | true ↦ λ q h. (let same : j ≡ i = cc in subst (λ k. p k ≡ true) same q)
+  | false ↦ λ q h. found_holds items p i h
+] refl e
+
+same_text : (x : Text) → bytes_eq x x ≡ true
+same_text x = (bytes_eq-Decides x x).1 refl
+
+-- what is found in any way is found by its name
+pub named_again : (items : List Item) → are_distinct items ≡ true → (p : Item → Bool) (i : Item) → find p items ≡ Some i → item_named (name_of i) items ≡ Some i
+named_again [] apart p i e = cc
+named_again (j ∷ items) apart p i e =
+    let parts = both (not (is_some (item_named (name_of j) items))) (are_distinct items) apart in
+    elim (p j) as (λ b. cond b (Some j) (find p items) ≡ Some i → item_named (name_of i) (j ∷ items) ≡ Some i) [
+      | true ↦ λ h. (
+          let same : j ≡ i = cc in
+          let first : item_named (name_of j) (j ∷ items) ≡ Some j = ap (λ b. cond b (Some j) (item_named (name_of j) items)) (same_text (name_of j)) in
+          subst (λ k. item_named (name_of k) (j ∷ items) ≡ Some k) same first
+          )
+      | false ↦ λ h. (
+          let later = named_again items parts.1 p i h in
+          elim (bytes_eq (name_of j) (name_of i)) as (λ b. bytes_eq (name_of j) (name_of i) ≡ b → cond b (Some j) (item_named (name_of i) items) ≡ Some i) [
+            | true ↦ λ q. (
+                let known : item_named (name_of j) items ≡ Some i = subst (λ n. item_named n items ≡ Some i) (sym ((bytes_eq-Decides (name_of j) (name_of i)).0 q)) later in
+                let bad : false ≡ true = sym (ap (λ o. not (is_some o)) known) ∙ parts.0 in
+                cc
+                )
+            | false ↦ λ q. later
+          ] refl
+          )
+    ] e
+
+pub own : (t : Tool) (p : Item → Bool) (i : Item) → find p (items_of t) ≡ Some i → item_named (name_of i) (items_of t) ≡ Some i
+own t p i e = named_again (items_of t) (distinct t) p i e
 
 -- ---- a use of an item
 
-abbrev accepted : Item → Text → Bool
-accepted the_file text = true
-accepted the_witness_file text = true
-accepted the_mode text = true
-accepted the_modes text = is_unsigned_in 0 most_modes text
-accepted the_port text = is_unsigned_in 1 most_port text
-accepted the_clients text = is_unsigned_in 1 most_clients text
-accepted the_runs text = is_unsigned_in 1 most_runs text
-accepted the_fuel text = is_unsigned_in 1 most_fuel text
-accepted the_split text = is_unsigned_in 0 most_split text
-accepted the_workers text = is_unsigned_in 0 most_workers text
-accepted the_states text = is_unsigned_in 1 most_states text
-accepted the_sample text = is_unsigned_in 1 most_sample text
-accepted the_seed text = is_unsigned_in 0 most_seed text
-accepted the_until text = bytes_eq (codes "deadlock") text || false
-accepted the_piece text = is_unsigned_in 0 most_piece text
-accepted the_leaf text = is_unsigned_in 0 most_leaf text
-accepted the_ranks text = is_unsigned_in 1 most_ranks text
+abbrev accepted_by : Values → Text → Bool
+accepted_by any_word text = true
+accepted_by (from_to low high) text = is_unsigned_in low high text
+accepted_by deadlock_alone text = bytes_eq (codes "deadlock") text || false
+
+abbrev pub accepted : Item → Text → Bool
+accepted (an_option name spelling values unsaid) text = accepted_by values text
 accepted _ text = true
 
-same_either_way : (a b : Text) → bytes_eq a b ≡ bytes_eq b a
+pub same_either_way : (a b : Text) → bytes_eq a b ≡ bytes_eq b a
 same_either_way a b = elim (bytes_eq a b) as (λ x. bytes_eq a b ≡ x → x ≡ bytes_eq b a) [
   | true ↦ λ e. sym ((bytes_eq-Decides b a).1 (sym ((bytes_eq-Decides a b).0 e)))
   | false ↦ λ e. elim (bytes_eq b a) as (λ y. bytes_eq b a ≡ y → false ≡ y) [
@@ -385,84 +273,87 @@ same_either_way a b = elim (bytes_eq a b) as (λ x. bytes_eq a b ≡ x → x ≡
   ] refl
 ] refl
 
-or_nothing : (b : Bool) → (b || false) ≡ b
-or_nothing true = refl
-or_nothing false = refl
-
-accepted_fits : (t : Tool) (i : Item) (v : Text) → keeps t i ≡ true → accepted i v ≡ fits i v
-accepted_fits t i v k =
-    let ranks = accepts_number 1 most_ranks v (omega arith) in
-    each_keeps (λ t i. accepted i v ≡ fits i v) (refl, refl, refl, refl, refl, refl, refl, refl, refl, refl, refl) (refl, ranks) (refl, refl, refl, ranks) (refl, ranks) (refl, accepts_number 1 most_port v (omega arith), accepts_number 1 most_clients v (omega arith), ranks) (
-      refl,
-      accepts_number 0 most_modes v (omega arith),
-      accepts_number 1 most_runs v (omega arith),
-      accepts_number 1 most_fuel v (omega arith),
-      accepts_number 0 most_split v (omega arith),
-      accepts_number 0 most_workers v (omega arith),
-      accepts_number 1 most_states v (omega arith),
-      accepts_number 1 most_sample v (omega arith),
-      accepts_number 0 most_seed v (omega arith),
-      or_nothing (bytes_eq (codes "deadlock") v) ∙ same_either_way (codes "deadlock") v,
-      accepts_number 0 most_piece v (omega arith),
-      ranks,
-    ) (refl, accepts_number 0 most_leaf v (omega arith), ranks) (refl, refl, accepts_number 1 most_fuel v (omega arith), ranks) ranks (refl, refl, refl, refl, accepts_number 1 most_fuel v (omega arith), ranks) (refl, refl) t i k
+pub accepted_fits : (i : Item) (v : Text) → is_sound_item i ≡ true → accepted i v ≡ fits i v
+accepted_fits (a_file place name) v s = refl
+accepted_fits (a_flag name) v s = refl
+accepted_fits (an_option name spelling any_word unsaid) v s = refl
+accepted_fits (an_option name spelling (from_to low high) unsaid) v s = let top : high ≤ most_usize = leb-true high most_usize (both (nat_le high most_usize) _ s).0 in accepts_number low high v (omega (arith, top))
+accepted_fits (an_option name spelling deadlock_alone unsaid) v s = or_nothing (bytes_eq (codes "deadlock") v) ∙ same_either_way (codes "deadlock") v
 
 -- the fault of a value, by whether it is taken
-abbrev value_fault : ErrorKind → Bool → Kinds
+abbrev pub value_fault : ErrorKind → Bool → Kinds
 value_fault k taken = or_else (if taken then [] else k ∷ []) []
 
 -- the kind of fault of a value of an item that isn't taken
 abbrev refused_as : Item → ErrorKind
-refused_as the_until = kind.InvalidValue
+refused_as (an_option name spelling deadlock_alone unsaid) = kind.InvalidValue
 refused_as _ = kind.ValueValidation
 
 -- the fault of a use, by whether there was one before
 abbrev again_fault : Bool → Kinds
 again_fault again = if again && not false then kind.ArgumentConflict ∷ [] else []
 
-use_is : (lie : Lies) (v : Text) (rows : List Row) (t : Tool) (i : Item) → keeps t i ≡ true
-    → use_fault false (arg lie t i) (v ∷ []) rows ≡ or_else (again_fault (has_row (name_of i) rows)) (value_fault (refused_as i) (accepted i v))
-unfolding clap_on_literals
-use_is lie v rows = each_keeps (λ t i. use_fault false (arg lie t i) (v ∷ []) rows ≡ or_else (again_fault (has_row (name_of i) rows)) (value_fault (refused_as i) (accepted i v))) (refl, refl, refl, refl, refl, refl, refl, refl, refl, refl, refl) (refl, refl) (refl, refl, refl, refl) (refl, refl) (refl, refl, refl, refl) (refl, refl, refl, refl, refl, refl, refl, refl, refl, refl, refl, refl) (refl, refl, refl) (refl, refl, refl, refl) refl (refl, refl, refl, refl, refl, refl) (refl, refl)
-
-flag_use_is : (lie : Lies) (rows : List Row) (t : Tool) (i : Item) → flags t i ≡ true → use_fault false (arg lie t i) [] rows ≡ or_else (again_fault (has_row (name_of i) rows)) []
-unfolding clap_on_literals
-flag_use_is lie rows = each_flag (λ t i. use_fault false (arg lie t i) [] rows ≡ or_else (again_fault (has_row (name_of i) rows)) []) (refl, refl, refl, refl, refl, refl, refl) refl refl refl refl
-
 abbrev fault_by : ErrorKind → Bool → Bool → Kinds
 fault_by k again taken = or_else (again_fault again) (value_fault k taken)
 
-use_by : (lie : Lies) (t : Tool) (i : Item) (v : Text) (rows : List Row) (again taken : Bool) → keeps t i ≡ true → has_row (name_of i) rows ≡ again → fits i v ≡ taken → use_fault false (arg lie t i) (v ∷ []) rows ≡ fault_by (refused_as i) again taken
-use_by lie t i v rows again taken k h f = use_is lie v rows t i k ∙ ap₂ (fault_by (refused_as i)) h (accepted_fits t i v k ∙ f)
+abbrev pub row_for : Item → Text → ValueSource → Row
+row_for i v source = record { id = name_of i; values = v ∷ []; count = None; source = Some source; reading = AsWritten }
+
+-- a use of an item with these values gives it this text
+pub record Uses (lie : Lies) (i : Item) (v : Text) (values : List Text) : Type 0 where
+  pub fault : (rows : List Row) → use_fault false (rule_for lie i) values rows ≡ fault_by (refused_as i) (has_row (name_of i) rows) (fits i v)
+  pub rows_are : (rows : List Row) → used (rule_for lie i) values rows ≡ with_values (name_of i) AsWritten CommandLine (v ∷ []) (without (name_of i) rows)
+
+accepted_use : (lie : Lies) (i : Item) (v : Text) (rows : List Row) → is_flag i ≡ false → use_fault false (rule_for lie i) (v ∷ []) rows ≡ fault_by (refused_as i) (has_row (name_of i) rows) (accepted i v)
+unfolding clap_on_literals
+accepted_use lie (a_file place name) v rows e = refl
+accepted_use lie (a_flag name) v rows e = cc
+accepted_use lie (an_option name spelling any_word unsaid) v rows e = refl
+accepted_use lie (an_option name spelling (from_to low high) unsaid) v rows e = refl
+accepted_use lie (an_option name spelling deadlock_alone unsaid) v rows e = refl
+
+value_rows : (lie : Lies) (i : Item) (v : Text) (rows : List Row) → is_flag i ≡ false → used (rule_for lie i) (v ∷ []) rows ≡ with_values (name_of i) AsWritten CommandLine (v ∷ []) (without (name_of i) rows)
+unfolding clap_on_literals
+value_rows lie (a_file place name) v rows e = refl
+value_rows lie (a_flag name) v rows e = cc
+value_rows lie (an_option name spelling any_word unsaid) v rows e = refl
+value_rows lie (an_option name spelling (from_to low high) unsaid) v rows e = refl
+value_rows lie (an_option name spelling deadlock_alone unsaid) v rows e = refl
+
+pub uses_value : (lie : Lies) (i : Item) (v : Text) → is_flag i ≡ false → is_sound_item i ≡ true → Uses lie i v (v ∷ [])
+uses_value lie i v e s = record {
+  fault = λ rows. accepted_use lie i v rows e ∙ ap (fault_by (refused_as i) (has_row (name_of i) rows)) (accepted_fits i v s);
+  rows_are = λ rows. value_rows lie i v rows e;
+}
+
+pub uses_flag : (lie : Lies) (i : Item) → is_flag i ≡ true → Uses lie i (codes "true") []
+unfolding clap_on_literals
+uses_flag lie (a_flag name) e = record { fault = λ rows. refl; rows_are = λ rows. refl }
+uses_flag lie (a_file place name) e = cc
+uses_flag lie (an_option name spelling values unsaid) e = cc
 
 -- a first use whose value fits
-pub used_well : (lie : Lies) (t : Tool) (i : Item) (v : Text) (rows : List Row) → keeps t i ≡ true → has_row (name_of i) rows ≡ false → fits i v ≡ true → use_fault false (arg lie t i) (v ∷ []) rows ≡ []
-used_well lie t i v rows k h f = use_by lie t i v rows false true k h f
+pub used_well : (lie : Lies) (i : Item) (v : Text) (values : List Text) (rows : List Row) → Uses lie i v values → has_row (name_of i) rows ≡ false → fits i v ≡ true → use_fault false (rule_for lie i) values rows ≡ []
+used_well lie i v values rows u h f = u.fault rows ∙ ap₂ (fault_by (refused_as i)) h f
 
 taken_or_not : (k : ErrorKind) (taken : Bool) → fault_by k true taken ≢ []
 taken_or_not k taken = λ e. cc
 
 -- a second use
-pub used_again : (lie : Lies) (t : Tool) (i : Item) (v : Text) (rows : List Row) → keeps t i ≡ true → has_row (name_of i) rows ≡ true → use_fault false (arg lie t i) (v ∷ []) rows ≢ []
-used_again lie t i v rows k h = let P : Kinds → Type 0 = λ ks. ks ≢ [] in subst P (sym (use_by lie t i v rows true (fits i v) k h refl)) (taken_or_not (refused_as i) (fits i v))
+pub used_again : (lie : Lies) (i : Item) (v : Text) (values : List Text) (rows : List Row) → Uses lie i v values → has_row (name_of i) rows ≡ true → use_fault false (rule_for lie i) values rows ≢ []
+used_again lie i v values rows u h =
+    let P : Kinds → Type 0 = λ ks. ks ≢ [] in
+    subst P (sym (u.fault rows ∙ ap (λ b. fault_by (refused_as i) b (fits i v)) h)) (taken_or_not (refused_as i) (fits i v))
 
 unfit : (k : ErrorKind) (again : Bool) → fault_by k again false ≢ []
 unfit k true = λ e. cc
 unfit k false = λ e. cc
 
 -- a value that doesn't fit
-pub used_badly : (lie : Lies) (t : Tool) (i : Item) (v : Text) (rows : List Row) → keeps t i ≡ true → fits i v ≡ false → use_fault false (arg lie t i) (v ∷ []) rows ≢ []
-used_badly lie t i v rows k f =
+pub used_badly : (lie : Lies) (i : Item) (v : Text) (values : List Text) (rows : List Row) → Uses lie i v values → fits i v ≡ false → use_fault false (rule_for lie i) values rows ≢ []
+used_badly lie i v values rows u f =
     let P : Kinds → Type 0 = λ ks. ks ≢ [] in
-    subst P (sym (use_by lie t i v rows (has_row (name_of i) rows) false k refl f)) (unfit (refused_as i) (has_row (name_of i) rows))
-
-pub flag_used_well : (lie : Lies) (t : Tool) (i : Item) (rows : List Row) → flags t i ≡ true → has_row (name_of i) rows ≡ false → use_fault false (arg lie t i) [] rows ≡ []
-flag_used_well lie t i rows flag h = flag_use_is lie rows t i flag ∙ ap (λ b. or_else (again_fault b) []) h
-
-pub flag_used_again : (lie : Lies) (t : Tool) (i : Item) (rows : List Row) → flags t i ≡ true → has_row (name_of i) rows ≡ true → use_fault false (arg lie t i) [] rows ≢ []
-flag_used_again lie t i rows flag h =
-    let P : Kinds → Type 0 = λ ks. ks ≢ [] in
-    subst P (sym (flag_use_is lie rows t i flag ∙ ap (λ b. or_else (again_fault b) []) h)) (λ e. cc)
+    subst P (sym (u.fault rows ∙ ap (fault_by (refused_as i) (has_row (name_of i) rows)) f)) (unfit (refused_as i) (has_row (name_of i) rows))
 
 -- faults are no empty list where there is a first one: told by computing to it, which is far cheaper than `cc` on such a list
 abbrev pub has_fault : Kinds → Bool
@@ -474,14 +365,13 @@ some_fault [] e = λ z. cc
 some_fault (k ∷ ks) e = λ z. cc
 
 -- an option that waits for its value still
-pub no_value : (lie : Lies) (rows : List Row) (t : Tool) (i : Item) → asks t i ≡ true → use_fault false (arg lie t i) [] rows ≢ []
+pub no_value : (lie : Lies) (rows : List Row) (i : Item) → is_flag i ≡ false → use_fault false (rule_for lie i) [] rows ≢ []
 unfolding clap_on_literals
-no_value lie rows = each_asks (λ t i. use_fault false (arg lie t i) [] rows ≢ []) (some_fault _ refl, some_fault _ refl) (some_fault _ refl, some_fault _ refl, some_fault _ refl, some_fault _ refl) (some_fault _ refl, some_fault _ refl) (some_fault _ refl, some_fault _ refl, some_fault _ refl, some_fault _ refl) (some_fault _ refl, some_fault _ refl, some_fault _ refl, some_fault _ refl, some_fault _ refl, some_fault _ refl, some_fault _ refl, some_fault _ refl, some_fault _ refl, some_fault _ refl, some_fault _ refl, some_fault _ refl) (some_fault _ refl, some_fault _ refl, some_fault _ refl) (some_fault _ refl, some_fault _ refl, some_fault _ refl, some_fault _ refl) (some_fault _ refl) (some_fault _ refl, some_fault _ refl, some_fault _ refl, some_fault _ refl, some_fault _ refl, some_fault _ refl) (some_fault _ refl, some_fault _ refl)
+no_value lie rows (a_file place name) e = some_fault _ refl
+no_value lie rows (a_flag name) e = cc
+no_value lie rows (an_option name spelling values unsaid) e = some_fault _ refl
 
 -- ---- rows
-
-abbrev pub row_for : Item → Text → ValueSource → Row
-row_for i v source = record { id = name_of i; values = v ∷ []; count = None; source = Some source; reading = AsWritten }
 
 abbrev pub rows_for : Said → List Row
 rows_for [] = []
@@ -505,22 +395,11 @@ values_at_end id how source values (r ∷ rs) h =
       | false ↦ λ e q. rw q (ap (λ xs. r ∷ xs) (values_at_end id how source values rs e))
     ] h refl
 
-used_is : (lie : Lies) (v : Text) (rows : List Row) (t : Tool) (i : Item) → keeps t i ≡ true → used (arg lie t i) (v ∷ []) rows ≡ with_values (name_of i) AsWritten CommandLine (v ∷ []) (without (name_of i) rows)
-unfolding clap_on_literals
-used_is lie v rows = each_keeps (λ t i. used (arg lie t i) (v ∷ []) rows ≡ with_values (name_of i) AsWritten CommandLine (v ∷ []) (without (name_of i) rows)) (refl, refl, refl, refl, refl, refl, refl, refl, refl, refl, refl) (refl, refl) (refl, refl, refl, refl) (refl, refl) (refl, refl, refl, refl) (refl, refl, refl, refl, refl, refl, refl, refl, refl, refl, refl, refl) (refl, refl, refl) (refl, refl, refl, refl) refl (refl, refl, refl, refl, refl, refl) (refl, refl)
-
 at_end_of : (i : Item) (v : Text) (rows : List Row) → has_row (name_of i) rows ≡ false → with_values (name_of i) AsWritten CommandLine (v ∷ []) (without (name_of i) rows) ≡ rows ++ row_for i v CommandLine ∷ []
 at_end_of i v rows h = ap (λ rs. with_values (name_of i) AsWritten CommandLine (v ∷ []) rs) (without_none (name_of i) rows h) ∙ values_at_end (name_of i) AsWritten CommandLine (v ∷ []) rows h
 
-pub used_once : (lie : Lies) (t : Tool) (i : Item) (v : Text) (rows : List Row) → keeps t i ≡ true → has_row (name_of i) rows ≡ false → used (arg lie t i) (v ∷ []) rows ≡ rows ++ row_for i v CommandLine ∷ []
-used_once lie t i v rows k h = used_is lie v rows t i k ∙ at_end_of i v rows h
-
-flag_used_is : (lie : Lies) (rows : List Row) (t : Tool) (i : Item) → flags t i ≡ true → used (arg lie t i) [] rows ≡ with_values (name_of i) AsWritten CommandLine (codes "true" ∷ []) (without (name_of i) rows)
-unfolding clap_on_literals
-flag_used_is lie rows = each_flag (λ t i. used (arg lie t i) [] rows ≡ with_values (name_of i) AsWritten CommandLine (codes "true" ∷ []) (without (name_of i) rows)) (refl, refl, refl, refl, refl, refl, refl) refl refl refl refl
-
-pub flag_used_once : (lie : Lies) (t : Tool) (i : Item) (rows : List Row) → flags t i ≡ true → has_row (name_of i) rows ≡ false → used (arg lie t i) [] rows ≡ rows ++ row_for i (codes "true") CommandLine ∷ []
-flag_used_once lie t i rows flag h = flag_used_is lie rows t i flag ∙ at_end_of i (codes "true") rows h
+pub used_once : (lie : Lies) (i : Item) (v : Text) (values : List Text) (rows : List Row) → Uses lie i v values → has_row (name_of i) rows ≡ false → used (rule_for lie i) values rows ≡ rows ++ row_for i v CommandLine ∷ []
+used_once lie i v values rows u h = u.rows_are rows ∙ at_end_of i v rows h
 
 -- ---- the row of a name
 
@@ -545,10 +424,10 @@ row_at_more id (x ∷ xs) r = elim (bytes_eq x.id id) as (λ b. cond b (Some x) 
   | false ↦ row_at_more id xs r
 ]
 
--- what was said is in order: each item once, with a value that fits
-abbrev pub Valid : Said → Type 0
-Valid [] = Unit {0}
-Valid (entry ∷ said) = (said_of entry.0 said ≡ None) × (fits entry.0 entry.1 ≡ true) × Valid said
+-- what was said is in order: each item of the table once, with a value that fits
+abbrev pub Valid : Tool → Said → Type 0
+Valid t [] = Unit {0}
+Valid t (entry ∷ said) = (said_of entry.0 said ≡ None) × (fits entry.0 entry.1 ≡ true) × (item_named (name_of entry.0) (items_of t) ≡ Some entry.0) × Valid t said
 
 -- the row of a name, by the text that was said
 abbrev pub named_row : Text → Option Text → Option Row
@@ -564,16 +443,42 @@ joined_rows i v id (Some w) true e first = (let bad : Some w ≡ None = first re
 joined_rows i v id None false e first = refl
 joined_rows i v id (Some w) false e first = refl
 
-pub row_said : (id : Text) (said : Said) → Valid said → row_at id (rows_for said) ≡ named_row id (said_named id said)
-row_said id [] h = refl
-row_said id (entry ∷ said) h =
+pub row_said : (t : Tool) (id : Text) (said : Said) → Valid t said → row_at id (rows_for said) ≡ named_row id (said_named id said)
+row_said t id [] h = refl
+row_said t id (entry ∷ said) h =
     row_at_more id (rows_for said) (row_for entry.0 entry.1 CommandLine)
-    ∙ ap (λ o. or_row o (cond (bytes_eq (name_of entry.0) id) (Some (row_for entry.0 entry.1 CommandLine)) None)) (row_said id said h.2)
+    ∙ ap (λ o. or_row o (cond (bytes_eq (name_of entry.0) id) (Some (row_for entry.0 entry.1 CommandLine)) None)) (row_said t id said h.3)
     ∙ joined_rows entry.0 entry.1 id (said_named id said) (bytes_eq (name_of entry.0) id) refl (λ e. subst (λ n. said_named n said ≡ None) ((bytes_eq-Decides (name_of entry.0) id).0 e) h.0)
 
 named_some : (id : Text) (o : Option Text) → is_some (named_row id o) ≡ is_some o
 named_some id None = refl
 named_some id (Some v) = refl
 
-pub has_said : (i : Item) (said : Said) → Valid said → has_row (name_of i) (rows_for said) ≡ is_some (said_of i said)
-has_said i said h = has_is (name_of i) (rows_for said) ∙ ap is_some (row_said (name_of i) said h) ∙ named_some (name_of i) (said_of i said)
+pub has_said : (t : Tool) (i : Item) (said : Said) → Valid t said → has_row (name_of i) (rows_for said) ≡ is_some (said_of i said)
+has_said t i said h = has_is (name_of i) (rows_for said) ∙ ap is_some (row_said t (name_of i) said h) ∙ named_some (name_of i) (said_of i said)
+
+-- ---- the files of a command
+
+-- a place that a file may have
+abbrev pub is_early : ℕ → Bool
+is_early zero = true
+is_early (suc zero) = true
+is_early (suc (suc zero)) = true
+is_early _ = false
+
+-- these take the words that are no options, from the nth on, and no other item does
+abbrev pub Seated : List Item → ℕ → List Item → Type 0
+Seated items n [] = item_at n items ≡ None
+Seated items n (i ∷ files) = (item_at n items ≡ Some i) × (is_file i ≡ true) × (is_early n ≡ true) × Seated items (suc n) files
+
+pub all_seated : (t : Tool) → Seated (items_of t) 1 (files_of t)
+all_seated tracer = (refl, refl, refl, refl)
+all_seated debugger = (refl, refl, refl, refl)
+all_seated runner = (refl, refl, refl, refl)
+all_seated server = (refl, refl, refl, refl)
+all_seated checker = (refl, refl, refl, refl)
+all_seated verifier = (refl, refl, refl, (refl, refl, refl, refl))
+all_seated teller = (refl, refl, refl, refl)
+all_seated translator = (refl, refl, refl, refl)
+all_seated painter = (refl, refl, refl, refl)
+all_seated diagnoser = (refl, refl, refl, refl)

@@ -1,6 +1,6 @@
 pub mod NumberReads
-pub mod CheckItems
 pub mod Items
+pub mod Ranges
 pub mod Ends
 pub mod Turns
 pub mod Walks

@@ -116,18 +116,47 @@ to_digits (c ∷ cs) e =
     let small : digit_value c < 10 = omega (arith, is_decimal c parts.0, top) in
     (small, to_digits cs parts.1)
 
-pub number_read : {E : Type 0} (bits : ℕ) (G : List ℕ → Result ℕ E → Type 0) (low high : ℕ) (text : List ℕ) (n : ℕ) (r : Option ℕ) → ((u : List ℕ) (x : Result ℕ E) → G u x → ParsesUnsigned bits 10 u x)
-    → high < 2 ^ bits → number_in low high text ≡ Some n → ReadsOne G text r → r ≡ Some n
-number_read bits G low high text n r parses small is gives =
-    let facts = of_digits low high (without_plus text) n is in
+all_less : (cs : List ℕ) → AllDigits 10 cs → list_all (λ d. nat_lt (digit_value d) 10) cs ≡ true
+all_less [] h = refl
+all_less (c ∷ cs) h = and_from _ _ (lt-ltb (digit_value c) 10 h.0) (all_less cs h.1)
+
+-- a text is the numeral that std reads exactly where it is a number
+numeral_of : (low high : ℕ) (text : List ℕ) (n : ℕ) → IsNumberOf low high (without_plus text) n → IsNumeral 10 (without_leading_plus text) × (digits_value 10 (without_leading_plus text) ≡ n)
+numeral_of low high text n facts =
     let parts = both _ _ facts.number in
-    let value : digits_value 10 (without_leading_plus text) ≡ n = ap (digits_value 10) (plus_same text) ∙ value_same (without_plus text) 0 parts.1 ∙ facts.value in
-    let numeral : IsNumeral 10 (without_leading_plus text) = subst (IsNumeral 10) (sym (plus_same text)) (ltb-true _ _ parts.0, to_digits (without_plus text) parts.1) in
-    read r value numeral facts.most gives
+    (subst (IsNumeral 10) (sym (plus_same text)) (ltb-true _ _ parts.0, to_digits (without_plus text) parts.1), ap (digits_value 10) (plus_same text) ∙ value_same (without_plus text) 0 parts.1 ∙ facts.value)
+
+number_of_numeral : (most : ℕ) (text : List ℕ) → IsNumeral 10 (without_leading_plus text) → digits_value 10 (without_leading_plus text) ≤ most → is_some (number_in 0 most text) ≡ true
+number_of_numeral most text is top =
+    let ds = without_plus text in
+    let numeral : IsNumeral 10 ds = subst (IsNumeral 10) (plus_same text) is in
+    let digits : list_all is_digit ds ≡ true = sym (all_same ds) ∙ all_less ds numeral.1 in
+    let number : is_number ds ≡ true = and_from _ _ (lt-ltb 0 (length ds) numeral.0) digits in
+    let value : digits_value 10 (without_leading_plus text) ≡ number_after 0 ds = ap (digits_value 10) (plus_same text) ∙ value_same ds 0 digits in
+    let bound : number_after 0 ds ≤ most = omega (arith, value, top) in
+    let least : 0 ≤ number_after 0 ds = omega arith in
+    some_if (is_number ds && (nat_le 0 (number_after 0 ds) && nat_le (number_after 0 ds) most)) (number_after 0 ds)
+    ∙ and_from _ _ number (and_from _ _ (le-leb 0 (number_after 0 ds) least) (le-leb (number_after 0 ds) most bound))
+
+-- what is read of a text, by a type whose greatest number is `most`
+pub number_parsed : {E : Type 0} (bits : ℕ) (G : List ℕ → Result ℕ E → Type 0) (most : ℕ) (text : List ℕ) (r : Option ℕ) → ((u : List ℕ) (x : Result ℕ E) → G u x → ParsesUnsigned bits 10 u x)
+    → most < 2 ^ bits → 2 ^ bits ≤ most + 1 → ReadsOne G text r → r ≡ number_in 0 most text
+number_parsed bits G most text r parses small whole gives = elim (number_in 0 most text) as (λ o. number_in 0 most text ≡ o → r ≡ o) [
+  | Some n ↦ λ e. (let facts = of_digits 0 most (without_plus text) n e in let is = numeral_of 0 most text n facts in read r n is.0 is.1 facts.most gives)
+  | None ↦ λ e. refused r e gives
+] refl
   where
-    read : (o : Option ℕ) → digits_value 10 (without_leading_plus text) ≡ n → IsNumeral 10 (without_leading_plus text) → n ≤ high → ReadsOne G text o → o ≡ Some n
-    read (Some v) value numeral most h = ap Some ((parses text (Ok v) h).1 ∙ value)
-    read None value numeral most h = absurd (parses text (Err h.0) h.1 (numeral, omega (arith, value, most, small)))
+    read : (o : Option ℕ) (n : ℕ) → IsNumeral 10 (without_leading_plus text) → digits_value 10 (without_leading_plus text) ≡ n → n ≤ most → ReadsOne G text o → o ≡ Some n
+    read (Some v) n numeral value top h = ap Some ((parses text (Ok v) h).1 ∙ value)
+    read None n numeral value top h = absurd (parses text (Err h.0) h.1 (numeral, omega (arith, value, top, small)))
+
+    refused : (o : Option ℕ) → number_in 0 most text ≡ None → ReadsOne G text o → o ≡ None
+    refused None e h = refl
+    refused (Some v) e h =
+        let is = (parses text (Ok v) h).0 in
+        let top : digits_value 10 (without_leading_plus text) ≤ most = omega (arith, is.1, whole) in
+        let there : is_some (number_in 0 most text) ≡ true = number_of_numeral most text is.0 top in
+        (let bad : false ≡ true = sym (ap is_some e) ∙ there in cc)
 
 -- ---- one text, two ranges
 

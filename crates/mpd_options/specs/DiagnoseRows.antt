@@ -15,12 +15,16 @@ abbrev Row : Type 0
 Row = List (List ℕ) × Option Task
 
 -- words behind `diagnose`, and the file and the mode that they name, without `--strict`
-abbrev says : List (List ℕ) → List ℕ → List ℕ → Row
-says words file mode = (codes "diagnose" ∷ words, Some (diagnose file mode false None))
+abbrev says : List (List ℕ) → List ℕ → Option (List ℕ) → Row
+says words file mode = (codes "diagnose" ∷ words, Some (diagnose file mode None false None))
 
 -- and with it
-abbrev says_strictly : List (List ℕ) → List ℕ → List ℕ → Row
-says_strictly words file mode = (codes "diagnose" ∷ words, Some (diagnose file mode true None))
+abbrev says_strictly : List (List ℕ) → List ℕ → Option (List ℕ) → Row
+says_strictly words file mode = (codes "diagnose" ∷ words, Some (diagnose file mode None true None))
+
+-- words behind `diagnose a`, and up to how many slots they ask for modes
+abbrev says_modes : List (List ℕ) → ℕ → Row
+says_modes words most = (codes "diagnose" ∷ codes "a" ∷ words, Some (diagnose (codes "a") None (Some most) false None))
 
 -- words behind `diagnose a` that make them ask for nothing
 abbrev errs : List (List ℕ) → Row
@@ -32,30 +36,30 @@ nothing words = (words, None)
 
 abbrev rows : List Row
 rows =
-    says (codes "a" ∷ []) (codes "a") (codes "rendezvous")
-    ∷ says (codes "" ∷ []) [] (codes "rendezvous")
-    ∷ says (codes "-" ∷ []) (codes "-") (codes "rendezvous")
-    ∷ says (codes "diagnose" ∷ []) (codes "diagnose") (codes "rendezvous")
-    ∷ says (codes "strict" ∷ []) (codes "strict") (codes "rendezvous")
-    ∷ says (codes "a" ∷ codes "--mode" ∷ codes "buffered" ∷ []) (codes "a") (codes "buffered")
-    ∷ says (codes "--mode" ∷ codes "slots:2" ∷ codes "a" ∷ []) (codes "a") (codes "slots:2")
-    ∷ says (codes "--mode=b" ∷ codes "a" ∷ []) (codes "a") (codes "b")
-    ∷ says (codes "--mode=" ∷ codes "a" ∷ []) (codes "a") []
-    ∷ says (codes "--mode" ∷ codes "a" ∷ codes "b" ∷ []) (codes "b") (codes "a")
-    ∷ says (codes "--mode=--strict" ∷ codes "a" ∷ []) (codes "a") (codes "--strict")
-    ∷ says (codes "--" ∷ codes "--strict" ∷ []) (codes "--strict") (codes "rendezvous")
-    ∷ says (codes "--mode" ∷ codes "b" ∷ codes "--" ∷ codes "-x" ∷ []) (codes "-x") (codes "b")
-    ∷ says (codes "a" ∷ codes "--" ∷ []) (codes "a") (codes "rendezvous")
-    ∷ says_strictly (codes "a" ∷ codes "--strict" ∷ []) (codes "a") (codes "rendezvous")
-    ∷ says_strictly (codes "--strict" ∷ codes "a" ∷ []) (codes "a") (codes "rendezvous")
-    ∷ says_strictly (codes "--strict" ∷ codes "" ∷ []) [] (codes "rendezvous")
-    ∷ says_strictly (codes "--strict" ∷ codes "strict" ∷ []) (codes "strict") (codes "rendezvous")
-    ∷ says_strictly (codes "--strict" ∷ codes "true" ∷ []) (codes "true") (codes "rendezvous")
-    ∷ says_strictly (codes "a" ∷ codes "--mode" ∷ codes "buffered" ∷ codes "--strict" ∷ []) (codes "a") (codes "buffered")
-    ∷ says_strictly (codes "--strict" ∷ codes "--mode=b" ∷ codes "a" ∷ []) (codes "a") (codes "b")
-    ∷ says_strictly (codes "--mode" ∷ codes "b" ∷ codes "a" ∷ codes "--strict" ∷ []) (codes "a") (codes "b")
-    ∷ says_strictly (codes "--strict" ∷ codes "--" ∷ codes "--strict" ∷ []) (codes "--strict") (codes "rendezvous")
-    ∷ says_strictly (codes "a" ∷ codes "--strict" ∷ codes "--" ∷ []) (codes "a") (codes "rendezvous")
+    says (codes "a" ∷ []) (codes "a") None
+    ∷ says (codes "" ∷ []) [] None
+    ∷ says (codes "-" ∷ []) (codes "-") None
+    ∷ says (codes "diagnose" ∷ []) (codes "diagnose") None
+    ∷ says (codes "strict" ∷ []) (codes "strict") None
+    ∷ says (codes "a" ∷ codes "--mode" ∷ codes "buffered" ∷ []) (codes "a") (Some (codes "buffered"))
+    ∷ says (codes "--mode" ∷ codes "slots:2" ∷ codes "a" ∷ []) (codes "a") (Some (codes "slots:2"))
+    ∷ says (codes "--mode=b" ∷ codes "a" ∷ []) (codes "a") (Some (codes "b"))
+    ∷ says (codes "--mode=" ∷ codes "a" ∷ []) (codes "a") (Some [])
+    ∷ says (codes "--mode" ∷ codes "a" ∷ codes "b" ∷ []) (codes "b") (Some (codes "a"))
+    ∷ says (codes "--mode=--strict" ∷ codes "a" ∷ []) (codes "a") (Some (codes "--strict"))
+    ∷ says (codes "--" ∷ codes "--strict" ∷ []) (codes "--strict") None
+    ∷ says (codes "--mode" ∷ codes "b" ∷ codes "--" ∷ codes "-x" ∷ []) (codes "-x") (Some (codes "b"))
+    ∷ says (codes "a" ∷ codes "--" ∷ []) (codes "a") None
+    ∷ says_strictly (codes "a" ∷ codes "--strict" ∷ []) (codes "a") None
+    ∷ says_strictly (codes "--strict" ∷ codes "a" ∷ []) (codes "a") None
+    ∷ says_strictly (codes "--strict" ∷ codes "" ∷ []) [] None
+    ∷ says_strictly (codes "--strict" ∷ codes "strict" ∷ []) (codes "strict") None
+    ∷ says_strictly (codes "--strict" ∷ codes "true" ∷ []) (codes "true") None
+    ∷ says_strictly (codes "a" ∷ codes "--mode" ∷ codes "buffered" ∷ codes "--strict" ∷ []) (codes "a") (Some (codes "buffered"))
+    ∷ says_strictly (codes "--strict" ∷ codes "--mode=b" ∷ codes "a" ∷ []) (codes "a") (Some (codes "b"))
+    ∷ says_strictly (codes "--mode" ∷ codes "b" ∷ codes "a" ∷ codes "--strict" ∷ []) (codes "a") (Some (codes "b"))
+    ∷ says_strictly (codes "--strict" ∷ codes "--" ∷ codes "--strict" ∷ []) (codes "--strict") None
+    ∷ says_strictly (codes "a" ∷ codes "--strict" ∷ codes "--" ∷ []) (codes "a") None
     ∷ (codes "trace" ∷ codes "diagnose" ∷ [], Some (trace (codes "diagnose") (codes "rendezvous")))
     ∷ nothing (codes "diagnose" ∷ [])
     ∷ nothing (codes "diagnose" ∷ codes "--" ∷ [])
@@ -87,7 +91,16 @@ rows =
     ∷ errs (codes "--stric" ∷ [])
     ∷ errs (codes "--Strict" ∷ [])
     ∷ errs (codes "-s" ∷ [])
-    ∷ errs (codes "--modes" ∷ codes "2" ∷ [])
+    ∷ says_modes (codes "--modes" ∷ codes "2" ∷ []) 2
+    ∷ says_modes (codes "--modes=0" ∷ []) 0
+    ∷ says_modes (codes "--modes" ∷ codes "1000" ∷ []) 1000
+    ∷ (codes "diagnose" ∷ codes "--modes" ∷ codes "3" ∷ codes "a" ∷ codes "--strict" ∷ codes "--ranks" ∷ codes "2" ∷ codes "--mode=b" ∷ [], Some (diagnose (codes "a") (Some (codes "b")) (Some 3) true (Some (codes "2"))))
+    ∷ errs (codes "--modes" ∷ [])
+    ∷ errs (codes "--modes" ∷ codes "1001" ∷ [])
+    ∷ errs (codes "--modes" ∷ codes "x" ∷ [])
+    ∷ errs (codes "--modes" ∷ codes "" ∷ [])
+    ∷ errs (codes "--modes=2" ∷ codes "--modes=2" ∷ [])
+    ∷ errs (codes "--given_mode" ∷ codes "b" ∷ [])
     ∷ errs (codes "--runs" ∷ codes "5" ∷ [])
     ∷ errs (codes "--fuel" ∷ codes "5" ∷ [])
     ∷ errs (codes "--choices" ∷ codes "0" ∷ [])
@@ -154,6 +167,8 @@ fault_rows =
     ∷ wrong kind.MissingRequiredArgument (codes "diagnose" ∷ codes "--mode=b" ∷ codes "--strict" ∷ [])
     ∷ wrong kind.InvalidValue (codes "diagnose" ∷ codes "a" ∷ codes "--mode" ∷ [])
     ∷ wrong kind.InvalidValue (codes "diagnose" ∷ codes "a" ∷ codes "--mode" ∷ codes "--strict" ∷ [])
+    ∷ wrong kind.ValueValidation (codes "diagnose" ∷ codes "a" ∷ codes "--modes" ∷ codes "1001" ∷ [])
+    ∷ wrong kind.ArgumentConflict (codes "diagnose" ∷ codes "--modes=1" ∷ codes "a" ∷ codes "--modes=1" ∷ [])
     ∷ wrong kind.TooManyValues (codes "diagnose" ∷ codes "a" ∷ codes "--strict=true" ∷ [])
     ∷ wrong kind.TooManyValues (codes "diagnose" ∷ codes "a" ∷ codes "--strict=" ∷ [])
     ∷ wrong kind.ArgumentConflict (codes "diagnose" ∷ codes "a" ∷ codes "--strict" ∷ codes "--strict" ∷ [])

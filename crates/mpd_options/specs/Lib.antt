@@ -11,3 +11,4 @@ pub mod PictureRows
 pub mod RanksRows
 pub mod Program
 pub mod Refused
+pub mod Table

@@ -1,4 +1,4 @@
--- What a word says as a number, and as a flag.
+-- What a word says as a number.
 use Rattle.std.specs.Prelude.{ℕ, ◌+◌, ◌-◌, ◌*◌, ◌==◌, ◌&&◌, Bool, true, false, if◌then◌else◌, List, [], ◌∷◌, length, Option, Some, None, nat_le, nat_lt, codes}
 use Rattle.std.specs.List.{list_all}
 use Rattle.std.specs.Str.{bytes_eq}
@@ -29,6 +29,3 @@ number_in low high text = digits_in low high (without_plus text)
 -- the most that a `usize` holds
 abbrev pub most_usize : ℕ
 most_usize = 18446744073709551615
-
-abbrev pub flag_in : List ℕ → Option Bool
-flag_in text = if bytes_eq text (codes "true") then Some true else (if bytes_eq text (codes "false") then Some false else None)

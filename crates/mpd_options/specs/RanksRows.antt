@@ -20,7 +20,7 @@ for words task ranks = (words, Some (record { task = task; ranks = Some ranks })
 
 -- words after `diagnose a`, and the word of the ranks that they name
 abbrev says : List (List ℕ) → Option (List ℕ) → Bool → Row
-says words ranks strict = (codes "diagnose" ∷ codes "a" ∷ words, Some (record { task = diagnose (codes "a") (codes "rendezvous") strict ranks; ranks = None }))
+says words ranks strict = (codes "diagnose" ∷ codes "a" ∷ words, Some (record { task = diagnose (codes "a") None None strict ranks; ranks = None }))
 
 -- words that ask for nothing
 abbrev nothing : List (List ℕ) → Row

@@ -6,7 +6,8 @@ ghost use Rattle.clap.specs.Words.{App, Rule, app_of, rule_of, with_rule, with_s
 ghost use Rattle.clap.specs.declared.builder.command.Command.TheViews.{out-Command as fields_of};
 ghost use Rattle.mpd_options.specs.Help.{example_of};
 ghost use Rattle.mpd_options.specs.declared.help.Topic.TheVariants.{Check, Debug, Diagnose, Picture, Program, Run, Serve, Trace, Translate, Verify, Words};
-ghost use Rattle.mpd_options.specs.Program.{check_app, choices_rule, chosen_app, clients_rule, command_app, complete_rule, debug_app, diagnose_app, ends_rule, explain_rule, file_app, file_rule, flag_rule, fuel_rule, group_rule, laid_witness_rule, leaf_rule, mode_rule, modes_rule, mpdbg_app, named_app, number_rule, outcomes_rule, picture_app, piece_rule, pieces_rule, port_rule, ranked_app, ranks_rule, required_number_rule, run_app, runs_rule, sample_rule, script_app, seed_rule, serve_app, span_rule, split_rule, states_rule, strict_rule, told_app, trace_app, translate_app, until_rule, valued_rule, verify_app, witness_rule, word_rule, words_app, work_app, workers_rule};
+ghost use Rattle.mpd_options.specs.Program.{command_app, file_app, item_rule, mpdbg_app, named_app, no_choices, option_rule, ranked_app, rule_with, script_app, tool_app};
+ghost use Rattle.mpd_options.specs.Table.{a_file, a_flag, an_option, any_word, checker, debugger, diagnoser, from_to, is_missed, is_nothing, is_same_as, needed_choices, painter, runner, server, teller, the_clients, the_complete, the_ends, the_explain, the_fuel, the_given_mode, the_group, the_laid_witness, the_leaf, the_mode, the_modes, the_outcomes, the_piece, the_pieces, the_port, the_rank_span, the_ranks, the_runs, the_sample, the_seed, the_split, the_states, the_strict, the_until, the_witness, the_workers, tracer, translator, verifier};
 
 use crate::help::{Topic, about, example};
 use crate::names::{
@@ -56,7 +57,7 @@ type Made<'a> = Result<Command<'a>, AllocError>;
 
 /// The word of a file, which must be there.
 fn file_word<'a>(alloc: Global, name: &'a str, help: &'a str) -> Arg<'a>
-    ensures rule { rule_of result ≡ file_rule name.entry.now }
+    ensures rule { rule_of result ≡ item_rule (a_file 0 name.entry.now) }
     ensures own { result.global ≡ false }
 {
     Arg::new(alloc, name)
@@ -67,16 +68,26 @@ fn file_word<'a>(alloc: Global, name: &'a str, help: &'a str) -> Arg<'a>
 
 /// `--mode M`.
 fn mode_option<'a>(alloc: Global) -> Arg<'a>
-    ensures rule { rule_of result ≡ mode_rule }
+    ensures rule { rule_of result ≡ item_rule the_mode }
     ensures own { result.global ≡ false }
 {
     let help = "How standard sends behave: rendezvous, buffered, or slots:K with K from 0 to 65536";
     word_option(alloc, MODE, "M", help).default_value("rendezvous")
 }
 
+/// `--mode M` of `diagnose`, which need not be there.
+fn given_mode_option<'a>(alloc: Global) -> Arg<'a>
+    ensures rule { rule_of result ≡ item_rule the_given_mode }
+    ensures own { result.global ≡ false }
+{
+    let help =
+        "How standard sends behave: rendezvous, which is usual, buffered, or slots:K with K from 0 to 65536";
+    word_option(alloc, MODE, "M", help)
+}
+
 /// `--ranks N`.
 fn ranks_option<'a>(alloc: Global) -> Arg<'a>
-    ensures rule { rule_of result ≡ ranks_rule }
+    ensures rule { rule_of result ≡ item_rule the_ranks }
     ensures own { result.global ≡ false }
 {
     let numbers = ValueParser::unsigned(1, MOST_RANKS);
@@ -86,7 +97,7 @@ fn ranks_option<'a>(alloc: Global) -> Arg<'a>
 
 /// `--ranks N` or `--ranks N-M` of `diagnose`.
 fn span_option<'a>(alloc: Global) -> Arg<'a>
-    ensures rule { rule_of result ≡ span_rule }
+    ensures rule { rule_of result ≡ item_rule the_rank_span }
     ensures own { result.global ≡ false }
 {
     Arg::new(alloc, RANK_SPAN)
@@ -106,7 +117,7 @@ fn valued_option<'a>(
     parser: ValueParser<'a>,
     help: &'a str,
 ) -> Arg<'a>
-    ensures rule { rule_of result ≡ valued_rule name.entry.now parser.entry }
+    ensures rule { rule_of result ≡ option_rule name.entry.now name.entry.now (Some parser.entry) is_nothing }
     ensures own { result.global ≡ false }
 {
     word_option(alloc, name, value_name, help).value_parser(parser)
@@ -121,7 +132,7 @@ fn number_option<'a>(
     default: &'a str,
     help: &'a str,
 ) -> Arg<'a>
-    ensures rule { rule_of result ≡ number_rule name.entry.now least most default.entry.now }
+    ensures rule { rule_of result ≡ item_rule (an_option name.entry.now name.entry.now (from_to least most) (is_same_as default.entry.now)) }
     ensures own { result.global ≡ false }
 {
     let numbers = ValueParser::unsigned(least, most);
@@ -136,7 +147,7 @@ fn required_number<'a>(
     most: u64,
     help: &'a str,
 ) -> Arg<'a>
-    ensures rule { rule_of result ≡ required_number_rule name.entry.now most }
+    ensures rule { rule_of result ≡ item_rule (an_option name.entry.now name.entry.now (from_to 1 most) is_missed) }
     ensures own { result.global ≡ false }
 {
     let numbers = ValueParser::unsigned(1, most);
@@ -145,7 +156,7 @@ fn required_number<'a>(
 
 /// `--port P`.
 fn port_option<'a>(alloc: Global) -> Arg<'a>
-    ensures rule { rule_of result ≡ port_rule }
+    ensures rule { rule_of result ≡ item_rule the_port }
     ensures own { result.global ≡ false }
 {
     let help = "The port that it listens on, 1 to 65535";
@@ -154,7 +165,7 @@ fn port_option<'a>(alloc: Global) -> Arg<'a>
 
 /// `--clients N`.
 fn clients_option<'a>(alloc: Global) -> Arg<'a>
-    ensures rule { rule_of result ≡ clients_rule }
+    ensures rule { rule_of result ≡ item_rule the_clients }
     ensures own { result.global ≡ false }
 {
     let help = "How many clients it answers, 1 to 16";
@@ -163,7 +174,7 @@ fn clients_option<'a>(alloc: Global) -> Arg<'a>
 
 /// `--modes N`.
 fn modes_option<'a>(alloc: Global) -> Arg<'a>
-    ensures rule { rule_of result ≡ modes_rule }
+    ensures rule { rule_of result ≡ item_rule the_modes }
     ensures own { result.global ≡ false }
 {
     let numbers = ValueParser::unsigned(0, MOST_MODES);
@@ -173,7 +184,7 @@ fn modes_option<'a>(alloc: Global) -> Arg<'a>
 
 /// `--runs N`.
 fn runs_option<'a>(alloc: Global) -> Arg<'a>
-    ensures rule { rule_of result ≡ runs_rule }
+    ensures rule { rule_of result ≡ item_rule the_runs }
     ensures own { result.global ≡ false }
 {
     let numbers = ValueParser::unsigned(1, MOST_RUNS);
@@ -183,7 +194,7 @@ fn runs_option<'a>(alloc: Global) -> Arg<'a>
 
 /// `--fuel N`.
 fn fuel_option<'a>(alloc: Global) -> Arg<'a>
-    ensures rule { rule_of result ≡ fuel_rule }
+    ensures rule { rule_of result ≡ item_rule the_fuel }
     ensures own { result.global ≡ false }
 {
     let help = "How many steps a run takes at most, 1 to 1000000";
@@ -192,7 +203,7 @@ fn fuel_option<'a>(alloc: Global) -> Arg<'a>
 
 /// `--split K`.
 fn split_option<'a>(alloc: Global) -> Arg<'a>
-    ensures rule { rule_of result ≡ split_rule }
+    ensures rule { rule_of result ≡ item_rule the_split }
     ensures own { result.global ≡ false }
 {
     let numbers = ValueParser::unsigned(0, MOST_SPLIT);
@@ -202,7 +213,7 @@ fn split_option<'a>(alloc: Global) -> Arg<'a>
 
 /// `--workers N`.
 fn workers_option<'a>(alloc: Global) -> Arg<'a>
-    ensures rule { rule_of result ≡ workers_rule }
+    ensures rule { rule_of result ≡ item_rule the_workers }
     ensures own { result.global ≡ false }
 {
     let help = "How many workers make the report, 1 to 16";
@@ -211,7 +222,7 @@ fn workers_option<'a>(alloc: Global) -> Arg<'a>
 
 /// `--outcomes`.
 fn outcomes_flag<'a>(alloc: Global) -> Arg<'a>
-    ensures rule { rule_of result ≡ outcomes_rule }
+    ensures rule { rule_of result ≡ item_rule the_outcomes }
     ensures own { result.global ≡ false }
 {
     let help = "Count the runs that come to each different end, without trying them one by one";
@@ -220,7 +231,7 @@ fn outcomes_flag<'a>(alloc: Global) -> Arg<'a>
 
 /// `--states N`.
 fn states_option<'a>(alloc: Global) -> Arg<'a>
-    ensures rule { rule_of result ≡ states_rule }
+    ensures rule { rule_of result ≡ item_rule the_states }
     ensures own { result.global ≡ false }
 {
     let numbers = ValueParser::unsigned(1, MOST_STATES);
@@ -230,7 +241,7 @@ fn states_option<'a>(alloc: Global) -> Arg<'a>
 
 /// `--sample N`.
 fn sample_option<'a>(alloc: Global) -> Arg<'a>
-    ensures rule { rule_of result ≡ sample_rule }
+    ensures rule { rule_of result ≡ item_rule the_sample }
     ensures own { result.global ≡ false }
 {
     let numbers = ValueParser::unsigned(1, MOST_SAMPLE);
@@ -240,7 +251,7 @@ fn sample_option<'a>(alloc: Global) -> Arg<'a>
 
 /// `--seed S`.
 fn seed_option<'a>(alloc: Global) -> Arg<'a>
-    ensures rule { rule_of result ≡ seed_rule }
+    ensures rule { rule_of result ≡ item_rule the_seed }
     ensures own { result.global ≡ false }
 {
     let numbers = ValueParser::unsigned(0, MOST_SEED);
@@ -257,7 +268,7 @@ pub(crate) fn only_deadlock<'a>() -> &'a [&'a str]
 
 /// `--until END`, which takes one of these words.
 fn until_option<'a>(alloc: Global, words: &'a [&'a str]) -> Arg<'a>
-    ensures rule { rule_of result ≡ until_rule words.entry }
+    ensures rule { rule_of result ≡ rule_with words.entry the_until }
     ensures own { result.global ≡ false }
 {
     let help = "Stop at the first run that ends in a deadlock or a trap";
@@ -266,7 +277,7 @@ fn until_option<'a>(alloc: Global, words: &'a [&'a str]) -> Arg<'a>
 
 /// A flag.
 fn flag<'a>(alloc: Global, name: &'a str, help: &'a str) -> Arg<'a>
-    ensures rule { rule_of result ≡ flag_rule name.entry.now }
+    ensures rule { rule_of result ≡ item_rule (a_flag name.entry.now) }
     ensures own { result.global ≡ false }
 {
     Arg::new(alloc, name)
@@ -277,7 +288,7 @@ fn flag<'a>(alloc: Global, name: &'a str, help: &'a str) -> Arg<'a>
 
 /// `--ends` of `check`.
 fn ends_flag<'a>(alloc: Global) -> Arg<'a>
-    ensures rule { rule_of result ≡ ends_rule }
+    ensures rule { rule_of result ≡ item_rule the_ends }
     ensures own { result.global ≡ false }
 {
     let help =
@@ -287,7 +298,7 @@ fn ends_flag<'a>(alloc: Global) -> Arg<'a>
 
 /// `--ends` of `debug`, `words` and `picture`, which says whose choices are given.
 fn chosen_ends_flag<'a>(alloc: Global) -> Arg<'a>
-    ensures rule { rule_of result ≡ ends_rule }
+    ensures rule { rule_of result ≡ item_rule the_ends }
     ensures own { result.global ≡ false }
 {
     let help = "The choices are those of a leaf of `check --ends` or `check --sample`";
@@ -296,7 +307,7 @@ fn chosen_ends_flag<'a>(alloc: Global) -> Arg<'a>
 
 /// `--strict`.
 fn strict_flag<'a>(alloc: Global) -> Arg<'a>
-    ensures rule { rule_of result ≡ strict_rule }
+    ensures rule { rule_of result ≡ item_rule the_strict }
     ensures own { result.global ≡ false }
 {
     let help = "End with status 1 also where calls can be left over";
@@ -305,7 +316,7 @@ fn strict_flag<'a>(alloc: Global) -> Arg<'a>
 
 /// `--explain`.
 fn explain_flag<'a>(alloc: Global) -> Arg<'a>
-    ensures rule { rule_of result ≡ explain_rule }
+    ensures rule { rule_of result ≡ item_rule the_explain }
     ensures own { result.global ≡ false }
 {
     let help = "Explain each deadlock and trap, and tell what is left over";
@@ -314,7 +325,7 @@ fn explain_flag<'a>(alloc: Global) -> Arg<'a>
 
 /// `--group`.
 fn group_flag<'a>(alloc: Global) -> Arg<'a>
-    ensures rule { rule_of result ≡ group_rule }
+    ensures rule { rule_of result ≡ item_rule the_group }
     ensures own { result.global ≡ false }
 {
     let help = "List each different end once, with how many runs come to it";
@@ -323,16 +334,16 @@ fn group_flag<'a>(alloc: Global) -> Arg<'a>
 
 /// `--witness`.
 fn witness_flag<'a>(alloc: Global) -> Arg<'a>
-    ensures rule { rule_of result ≡ witness_rule }
+    ensures rule { rule_of result ≡ item_rule the_witness }
     ensures own { result.global ≡ false }
 {
-    let help = "Print the trace words of a run that comes to a deadlock";
+    let help = "Print the trace words of a run that ends in a deadlock or a trap";
     flag(alloc, WITNESS, help)
 }
 
 /// `--complete`.
 fn complete_flag<'a>(alloc: Global) -> Arg<'a>
-    ensures rule { rule_of result ≡ complete_rule }
+    ensures rule { rule_of result ≡ item_rule the_complete }
     ensures own { result.global ≡ false }
 {
     let help =
@@ -342,7 +353,7 @@ fn complete_flag<'a>(alloc: Global) -> Arg<'a>
 
 /// `--piece N`.
 fn piece_option<'a>(alloc: Global) -> Arg<'a>
-    ensures rule { rule_of result ≡ piece_rule }
+    ensures rule { rule_of result ≡ item_rule the_piece }
     ensures own { result.global ≡ false }
 {
     let numbers = ValueParser::unsigned(0, MOST_PIECE);
@@ -352,7 +363,7 @@ fn piece_option<'a>(alloc: Global) -> Arg<'a>
 
 /// `--pieces`.
 fn pieces_flag<'a>(alloc: Global) -> Arg<'a>
-    ensures rule { rule_of result ≡ pieces_rule }
+    ensures rule { rule_of result ≡ item_rule the_pieces }
     ensures own { result.global ≡ false }
 {
     let help = "Print how many pieces there are, and nothing else";
@@ -361,7 +372,7 @@ fn pieces_flag<'a>(alloc: Global) -> Arg<'a>
 
 /// `--leaf N`.
 fn leaf_option<'a>(alloc: Global) -> Arg<'a>
-    ensures rule { rule_of result ≡ leaf_rule }
+    ensures rule { rule_of result ≡ item_rule the_leaf }
     ensures own { result.global ≡ false }
 {
     let numbers = ValueParser::unsigned(0, MOST_LEAF);
@@ -371,7 +382,7 @@ fn leaf_option<'a>(alloc: Global) -> Arg<'a>
 
 /// `--choices C`, which must be there.
 fn choices_option<'a>(alloc: Global) -> Arg<'a>
-    ensures rule { rule_of result ≡ choices_rule }
+    ensures rule { rule_of result ≡ item_rule needed_choices }
     ensures own { result.global ≡ false }
 {
     let help = "The choices of the run, numbers from 0 with spaces between them";
@@ -380,7 +391,7 @@ fn choices_option<'a>(alloc: Global) -> Arg<'a>
 
 /// `--witness WITNESS`.
 fn laid_witness_option<'a>(alloc: Global, help: &'a str) -> Arg<'a>
-    ensures rule { rule_of result ≡ laid_witness_rule }
+    ensures rule { rule_of result ≡ item_rule the_laid_witness }
     ensures own { result.global ≡ false }
 {
     Arg::new(alloc, LAID_WITNESS)
@@ -392,7 +403,7 @@ fn laid_witness_option<'a>(alloc: Global, help: &'a str) -> Arg<'a>
 
 /// An option whose value is a word, which may be left out.
 fn word_option<'a>(alloc: Global, name: &'a str, value_name: &'a str, help: &'a str) -> Arg<'a>
-    ensures rule { rule_of result ≡ word_rule name.entry.now }
+    ensures rule { rule_of result ≡ item_rule (an_option name.entry.now name.entry.now any_word is_nothing) }
     ensures own { result.global ≡ false }
 {
     Arg::new(alloc, name)
@@ -453,21 +464,22 @@ fn script_command<'a>(alloc: Global, name: &'a str) -> Made<'a>
     with_arg(ranked_command(alloc, name), mode_option(alloc))
 }
 
-/// `mpdbg diagnose FILE --ranks N-M --mode M --strict`.
+/// `mpdbg diagnose FILE --ranks N-M --mode M --modes N --strict`.
 fn diagnose_command<'a>(alloc: Global) -> Made<'a>
-    ensures app { IfOk result (λ c. app_of c ≡ diagnose_app) }
+    ensures app { IfOk result (λ c. app_of c ≡ tool_app no_choices diagnoser) }
     ensures own { IfOk result (λ c. (fields_of c).has_globals ≡ false) }
     ensures example { IfOk result (λ c. option_map (λ (t : Bor (List ℕ)). t.now) (fields_of c).after_help ≡ Some (example_of Diagnose)) }
 {
     let command = with_arg(file_command(alloc, DIAGNOSE), span_option(alloc));
-    let command = with_arg(command, mode_option(alloc));
+    let command = with_arg(command, given_mode_option(alloc));
+    let command = with_arg(command, modes_option(alloc));
     let command = with_arg(command, strict_flag(alloc));
     with_help(command, Topic::Diagnose)
 }
 
 /// `mpdbg trace FILE --ranks N --mode M`.
 fn trace_command<'a>(alloc: Global) -> Made<'a>
-    ensures app { IfOk result (λ c. app_of c ≡ trace_app) }
+    ensures app { IfOk result (λ c. app_of c ≡ tool_app no_choices tracer) }
     ensures own { IfOk result (λ c. (fields_of c).has_globals ≡ false) }
     ensures example { IfOk result (λ c. option_map (λ (t : Bor (List ℕ)). t.now) (fields_of c).after_help ≡ Some (example_of Trace)) }
 {
@@ -476,13 +488,13 @@ fn trace_command<'a>(alloc: Global) -> Made<'a>
 
 /// `mpdbg debug FILE --ranks N --mode M --choices C --witness WITNESS --ends`.
 fn debug_command<'a>(alloc: Global) -> Made<'a>
-    ensures app { IfOk result (λ c. app_of c ≡ debug_app) }
+    ensures app { IfOk result (λ c. app_of c ≡ tool_app no_choices debugger) }
     ensures own { IfOk result (λ c. (fields_of c).has_globals ≡ false) }
     ensures example { IfOk result (λ c. option_map (λ (t : Bor (List ℕ)). t.now) (fields_of c).after_help ≡ Some (example_of Debug)) }
 {
     let choices =
         "The choices of a run that is laid ahead, numbers from 0 with spaces between them";
-    let witness = "A witness or a report, whose deadlock is laid ahead";
+    let witness = "A witness or a report, whose run is laid ahead";
     let command = script_command(alloc, DEBUG);
     let command = with_arg(command, word_option(alloc, CHOICES, "C", choices));
     let command = with_arg(command, laid_witness_option(alloc, witness));
@@ -492,7 +504,7 @@ fn debug_command<'a>(alloc: Global) -> Made<'a>
 
 /// `mpdbg run FILE --ranks N --mode M`.
 fn run_command<'a>(alloc: Global) -> Made<'a>
-    ensures app { IfOk result (λ c. app_of c ≡ run_app) }
+    ensures app { IfOk result (λ c. app_of c ≡ tool_app no_choices runner) }
     ensures own { IfOk result (λ c. (fields_of c).has_globals ≡ false) }
     ensures example { IfOk result (λ c. option_map (λ (t : Bor (List ℕ)). t.now) (fields_of c).after_help ≡ Some (example_of Run)) }
 {
@@ -501,7 +513,7 @@ fn run_command<'a>(alloc: Global) -> Made<'a>
 
 /// `mpdbg serve FILE --ranks N --mode M --port P --clients N`.
 fn serve_command<'a>(alloc: Global) -> Made<'a>
-    ensures app { IfOk result (λ c. app_of c ≡ serve_app) }
+    ensures app { IfOk result (λ c. app_of c ≡ tool_app no_choices server) }
     ensures own { IfOk result (λ c. (fields_of c).has_globals ≡ false) }
     ensures example { IfOk result (λ c. option_map (λ (t : Bor (List ℕ)). t.now) (fields_of c).after_help ≡ Some (example_of Serve)) }
 {
@@ -510,46 +522,25 @@ fn serve_command<'a>(alloc: Global) -> Made<'a>
     with_help(command, Topic::Serve)
 }
 
-/// `mpdbg check FILE --ranks N --mode M --modes N --runs N --fuel N --split K --workers N`.
-fn work_command<'a>(alloc: Global) -> Made<'a>
-    ensures app { IfOk result (λ c. app_of c ≡ work_app) }
+/// `mpdbg check FILE`, with all its options, by the words that `--until` takes.
+fn check_command<'a>(alloc: Global, until: &'a [&'a str]) -> Made<'a>
+    ensures app { IfOk result (λ c. app_of c ≡ tool_app until.entry checker) }
     ensures own { IfOk result (λ c. (fields_of c).has_globals ≡ false) }
+    ensures example { IfOk result (λ c. option_map (λ (t : Bor (List ℕ)). t.now) (fields_of c).after_help ≡ Some (example_of Check)) }
 {
     let command = with_arg(script_command(alloc, CHECK), modes_option(alloc));
     let command = with_arg(command, runs_option(alloc));
     let command = with_arg(command, fuel_option(alloc));
     let command = with_arg(command, split_option(alloc));
-    with_arg(command, workers_option(alloc))
-}
-
-/// The same, with the options of which runs are tried: `--ends --outcomes --states N --sample N --seed S`.
-fn chosen_command<'a>(alloc: Global) -> Made<'a>
-    ensures app { IfOk result (λ c. app_of c ≡ chosen_app) }
-    ensures own { IfOk result (λ c. (fields_of c).has_globals ≡ false) }
-{
-    let command = with_arg(work_command(alloc), ends_flag(alloc));
+    let command = with_arg(command, workers_option(alloc));
+    let command = with_arg(command, ends_flag(alloc));
     let command = with_arg(command, outcomes_flag(alloc));
     let command = with_arg(command, states_option(alloc));
     let command = with_arg(command, sample_option(alloc));
-    with_arg(command, seed_option(alloc))
-}
-
-/// The same, with the options of how they are told: `--explain --group`.
-fn told_command<'a>(alloc: Global) -> Made<'a>
-    ensures app { IfOk result (λ c. app_of c ≡ told_app) }
-    ensures own { IfOk result (λ c. (fields_of c).has_globals ≡ false) }
-{
-    let command = with_arg(chosen_command(alloc), explain_flag(alloc));
-    with_arg(command, group_flag(alloc))
-}
-
-/// `mpdbg check FILE`, with all its options, by the words that `--until` takes.
-fn check_command<'a>(alloc: Global, until: &'a [&'a str]) -> Made<'a>
-    ensures app { IfOk result (λ c. app_of c ≡ check_app until.entry) }
-    ensures own { IfOk result (λ c. (fields_of c).has_globals ≡ false) }
-    ensures example { IfOk result (λ c. option_map (λ (t : Bor (List ℕ)). t.now) (fields_of c).after_help ≡ Some (example_of Check)) }
-{
-    let command = with_arg(told_command(alloc), until_option(alloc, until));
+    let command = with_arg(command, seed_option(alloc));
+    let command = with_arg(command, explain_flag(alloc));
+    let command = with_arg(command, group_flag(alloc));
+    let command = with_arg(command, until_option(alloc, until));
     let command = with_arg(command, witness_flag(alloc));
     let command = with_arg(command, complete_flag(alloc));
     let command = with_arg(command, piece_option(alloc));
@@ -559,7 +550,7 @@ fn check_command<'a>(alloc: Global, until: &'a [&'a str]) -> Made<'a>
 
 /// `mpdbg verify FILE WITNESS --ranks N --mode M --leaf N`.
 fn verify_command<'a>(alloc: Global) -> Made<'a>
-    ensures app { IfOk result (λ c. app_of c ≡ verify_app) }
+    ensures app { IfOk result (λ c. app_of c ≡ tool_app no_choices verifier) }
     ensures own { IfOk result (λ c. (fields_of c).has_globals ≡ false) }
     ensures example { IfOk result (λ c. option_map (λ (t : Bor (List ℕ)). t.now) (fields_of c).after_help ≡ Some (example_of Verify)) }
 {
@@ -571,7 +562,7 @@ fn verify_command<'a>(alloc: Global) -> Made<'a>
 
 /// `mpdbg words FILE --ranks N --mode M --choices C --fuel N --ends`.
 fn words_command<'a>(alloc: Global) -> Made<'a>
-    ensures app { IfOk result (λ c. app_of c ≡ words_app) }
+    ensures app { IfOk result (λ c. app_of c ≡ tool_app no_choices teller) }
     ensures own { IfOk result (λ c. (fields_of c).has_globals ≡ false) }
     ensures example { IfOk result (λ c. option_map (λ (t : Bor (List ℕ)). t.now) (fields_of c).after_help ≡ Some (example_of Words)) }
 {
@@ -583,7 +574,7 @@ fn words_command<'a>(alloc: Global) -> Made<'a>
 
 /// `mpdbg c FILE --ranks N`.
 fn translate_command<'a>(alloc: Global) -> Made<'a>
-    ensures app { IfOk result (λ c. app_of c ≡ translate_app) }
+    ensures app { IfOk result (λ c. app_of c ≡ tool_app no_choices translator) }
     ensures own { IfOk result (λ c. (fields_of c).has_globals ≡ false) }
     ensures example { IfOk result (λ c. option_map (λ (t : Bor (List ℕ)). t.now) (fields_of c).after_help ≡ Some (example_of Translate)) }
 {
@@ -592,7 +583,7 @@ fn translate_command<'a>(alloc: Global) -> Made<'a>
 
 /// `mpdbg picture FILE --ranks N --mode M --choices C --witness WITNESS --words WORDS --fuel N --ends`.
 fn picture_command<'a>(alloc: Global) -> Made<'a>
-    ensures app { IfOk result (λ c. app_of c ≡ picture_app) }
+    ensures app { IfOk result (λ c. app_of c ≡ tool_app no_choices painter) }
     ensures own { IfOk result (λ c. (fields_of c).has_globals ≡ false) }
     ensures example { IfOk result (λ c. option_map (λ (t : Bor (List ℕ)). t.now) (fields_of c).after_help ≡ Some (example_of Picture)) }
 {

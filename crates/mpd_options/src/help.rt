@@ -15,7 +15,8 @@ const DIAGNOSE_ABOUT: &str =
 const DIAGNOSE_EXAMPLE: &str = "Examples:
   ./mpdbg diagnose examples/race.mpd
   ./mpdbg diagnose examples/exchange.mpd --mode buffered --strict
-  ./mpdbg diagnose examples/race.mpd --ranks 2-5";
+  ./mpdbg diagnose examples/race.mpd --ranks 2-5
+  ./mpdbg diagnose examples/exchange.mpd --modes 2";
 
 const TRACE_ABOUT: &str = "Trace the script of a file";
 

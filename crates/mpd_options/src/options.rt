@@ -1,9 +1,10 @@
 //! What the words of a command line ask for.
-ghost use Rattle.std.specs.Prelude.{◌≡◌, ◌<◌, IfOk, IfErr, Some, true, is_some, length, map, option_and_then};
+ghost use Rattle.std.specs.Prelude.{◌≡◌, ◌<◌, IfOk, IfErr, Some, length, map, option_and_then};
 ghost use Rattle.clap.specs.Words.{first_of, found_of, one_of, rows_of, subcommand_rows_of};
-ghost use Rattle.mpd_options.specs.Asked.{IsFound, IsLineInRange, asked, checker, debugger, diagnoser, found_of_command, found_options, meant, most_seed, number_if_given, painter, ranks_of_command, runner, server, task_in, task_of, task_of_command, teller, text_in, tracer, translator, until_bad_in, verifier};
-ghost use Rattle.mpd_options.specs.Numbers.{flag_in, most_usize, number_in};
+ghost use Rattle.mpd_options.specs.Asked.{IsFound, IsLineInRange, asked, asked_of, given_word, is_on, meant, number_by, number_or_none, options_by, port_by, task_by, task_of, text_in, word_by};
+ghost use Rattle.mpd_options.specs.Numbers.{most_usize, number_in};
 ghost use Rattle.mpd_options.specs.Refused.{IsRefused, is_answer, usage_of, usage_status, usage_text};
+ghost use Rattle.mpd_options.specs.Table.{checker, debugger, diagnoser, painter, runner, server, teller, tracer, translator, verifier};
 
 use crate::command::{USUAL_RUNS, USUAL_SPLIT, only_deadlock, program};
 use crate::names::{
@@ -75,8 +76,10 @@ pub enum Options<'a> {
     Diagnose {
         /// The file's word.
         file: &'a str,
-        /// The mode's word, whatever it is; `rendezvous` where there is none.
-        mode: &'a str,
+        /// The mode's word, whatever it is; there need be none.
+        mode: Option<&'a str>,
+        /// Up to how many slots modes are diagnosed in turn, where that is asked for.
+        modes: Option<usize>,
         /// Whether the status is to tell that calls can be left over.
         strict: bool,
         /// The word of how many ranks run the script, one number or several, whatever it is; there need be none.
@@ -259,21 +262,23 @@ fn usage_fault(error: clap::Error) -> UsageFault
     }
 }
 
-/// The word of this name, which was found.
+/// The word of this name; the empty one where there is none.
 fn word_in<'a>(matches: &ArgMatches<'a>, name: &str) -> &'a str
-    requires { is_some (first_of name.now (rows_of (found_of matches.now))) ≡ true }
-    ensures { first_of name.now (rows_of (found_of matches.now)) ≡ Some result.now }
+    ensures { result.now ≡ word_by (first_of name.now (rows_of (found_of matches.now))) }
 {
-    let Some(word) = matches.get_str(name) else {
-        unreachable!()
-    };
-    word
+    matches.get_str(name).unwrap_or("")
+}
+
+/// The word of this name, where one was given.
+fn given_word_in<'a>(matches: &ArgMatches<'a>, name: &str) -> Option<&'a str>
+    ensures { given_word result ≡ first_of name.now (rows_of (found_of matches.now)) }
+{
+    matches.get_str(name)
 }
 
 /// What the words behind `trace` ask for.
 fn trace_in<'a>(trace: &ArgMatches<'a>) -> Options<'a>
-    requires { is_some (task_in tracer (rows_of (found_of trace.now))) ≡ true }
-    ensures { Some (task_of result) ≡ task_in tracer (rows_of (found_of trace.now)) }
+    ensures { task_of result ≡ task_by tracer (text_in (rows_of (found_of trace.now))) }
 {
     let file = word_in(trace, FILE);
     let mode = word_in(trace, MODE);
@@ -282,13 +287,12 @@ fn trace_in<'a>(trace: &ArgMatches<'a>) -> Options<'a>
 
 /// What the words behind `debug` ask for.
 fn debug_in<'a>(debug: &ArgMatches<'a>) -> Options<'a>
-    requires { is_some (task_in debugger (rows_of (found_of debug.now))) ≡ true }
-    ensures { Some (task_of result) ≡ task_in debugger (rows_of (found_of debug.now)) }
+    ensures { task_of result ≡ task_by debugger (text_in (rows_of (found_of debug.now))) }
 {
     let file = word_in(debug, FILE);
     let mode = word_in(debug, MODE);
-    let choices_word = debug.get_str(CHOICES);
-    let witness_file = debug.get_str(LAID_WITNESS);
+    let choices_word = given_word_in(debug, CHOICES);
+    let witness_file = given_word_in(debug, LAID_WITNESS);
     let ends = flag_of(debug, ENDS);
     Options::Debug {
         file,
@@ -301,16 +305,17 @@ fn debug_in<'a>(debug: &ArgMatches<'a>) -> Options<'a>
 
 /// What the words behind `diagnose` ask for.
 fn diagnose_in<'a>(diagnose: &ArgMatches<'a>) -> Options<'a>
-    requires { is_some (task_in diagnoser (rows_of (found_of diagnose.now))) ≡ true }
-    ensures { Some (task_of result) ≡ task_in diagnoser (rows_of (found_of diagnose.now)) }
+    ensures { task_of result ≡ task_by diagnoser (text_in (rows_of (found_of diagnose.now))) }
 {
     let file = word_in(diagnose, FILE);
-    let mode = word_in(diagnose, MODE);
+    let mode_word = given_word_in(diagnose, MODE);
+    let most_slots = given_of(diagnose, MODES);
     let is_strict = flag_of(diagnose, STRICT);
-    let span_word = diagnose.get_str(RANK_SPAN);
+    let span_word = given_word_in(diagnose, RANK_SPAN);
     Options::Diagnose {
         file,
-        mode,
+        mode: mode_word,
+        modes: most_slots,
         strict: is_strict,
         ranks: span_word,
     }
@@ -318,8 +323,7 @@ fn diagnose_in<'a>(diagnose: &ArgMatches<'a>) -> Options<'a>
 
 /// What the words behind `run` ask for.
 fn run_in<'a>(run: &ArgMatches<'a>) -> Options<'a>
-    requires { is_some (task_in runner (rows_of (found_of run.now))) ≡ true }
-    ensures { Some (task_of result) ≡ task_in runner (rows_of (found_of run.now)) }
+    ensures { task_of result ≡ task_by runner (text_in (rows_of (found_of run.now))) }
 {
     let file = word_in(run, FILE);
     let mode = word_in(run, MODE);
@@ -328,17 +332,12 @@ fn run_in<'a>(run: &ArgMatches<'a>) -> Options<'a>
 
 /// What the words behind `serve` ask for.
 fn serve_in<'a>(serve: &ArgMatches<'a>) -> Options<'a>
-    requires { is_some (task_in server (rows_of (found_of serve.now))) ≡ true }
-    ensures { Some (task_of result) ≡ task_in server (rows_of (found_of serve.now)) }
+    ensures { task_of result ≡ task_by server (text_in (rows_of (found_of serve.now))) }
 {
     let file = word_in(serve, FILE);
     let mode = word_in(serve, MODE);
-    let Some(port) = serve.get_one::<u16>(PORT) else {
-        unreachable!()
-    };
-    let Some(clients) = serve.get_one::<usize>(CLIENTS) else {
-        unreachable!()
-    };
+    let port = port_of(serve);
+    let clients = number_of(serve, CLIENTS);
     Options::Serve {
         file,
         mode,
@@ -347,53 +346,44 @@ fn serve_in<'a>(serve: &ArgMatches<'a>) -> Options<'a>
     }
 }
 
-/// The number of this name, which was found.
-fn number_of<'a>(matches: &ArgMatches<'a>, name: &str) -> usize
-    requires { is_some (option_and_then (number_in 0 most_usize) (one_of name.now (rows_of (found_of matches.now)))) ≡ true }
-    ensures { option_and_then (number_in 0 most_usize) (one_of name.now (rows_of (found_of matches.now))) ≡ Some result }
-{
-    let Some(number) = matches.get_one::<usize>(name) else {
-        unreachable!()
-    };
-    number
-}
-
-/// Whether the flag of this name was given.
-fn flag_of<'a>(matches: &ArgMatches<'a>, name: &str) -> bool
-    requires { is_some (option_and_then flag_in (one_of name.now (rows_of (found_of matches.now)))) ≡ true }
-    ensures { option_and_then flag_in (one_of name.now (rows_of (found_of matches.now))) ≡ Some result }
-{
-    matches.get_flag(name)
-}
-
-/// Whether the report ends behind the first deadlock or trap.
-fn until_bad_of<'a>(check: &ArgMatches<'a>) -> bool
-    requires { is_some (until_bad_in (first_of UNTIL.now (rows_of (found_of check.now)))) ≡ true }
-    ensures { until_bad_in (first_of UNTIL.now (rows_of (found_of check.now))) ≡ Some result }
-{
-    check.get_str(UNTIL).is_some()
-}
-
 /// The number of this name, where one was given.
 fn given_of<'a>(matches: &ArgMatches<'a>, name: &str) -> Option<usize>
-    requires { is_some (number_if_given 0 most_usize (one_of name.now (rows_of (found_of matches.now)))) ≡ true }
-    ensures { number_if_given 0 most_usize (one_of name.now (rows_of (found_of matches.now))) ≡ Some result }
+    ensures { result ≡ number_by (one_of name.now (rows_of (found_of matches.now))) }
 {
     matches.get_one::<usize>(name)
 }
 
+/// The number of this name; 0 where there is none.
+fn number_of<'a>(matches: &ArgMatches<'a>, name: &str) -> usize
+    ensures { result ≡ number_or_none (number_by (one_of name.now (rows_of (found_of matches.now)))) }
+{
+    given_of(matches, name).unwrap_or(0)
+}
+
+/// The port; 0 where there is none.
+fn port_of<'a>(serve: &ArgMatches<'a>) -> u16
+    ensures { result ≡ number_or_none (port_by (one_of PORT.now (rows_of (found_of serve.now)))) }
+{
+    serve.get_one::<u16>(PORT).unwrap_or(0)
+}
+
 /// What the draw begins with, where that was given.
 fn seed_of<'a>(check: &ArgMatches<'a>) -> Option<u64>
-    requires { is_some (number_if_given 0 most_seed (one_of SEED.now (rows_of (found_of check.now)))) ≡ true }
-    ensures { number_if_given 0 most_seed (one_of SEED.now (rows_of (found_of check.now))) ≡ Some result }
+    ensures { result ≡ number_by (one_of SEED.now (rows_of (found_of check.now))) }
 {
     check.get_one::<u64>(SEED)
 }
 
+/// Whether the flag of this name was given.
+fn flag_of<'a>(matches: &ArgMatches<'a>, name: &str) -> bool
+    ensures { result ≡ is_on (one_of name.now (rows_of (found_of matches.now))) }
+{
+    matches.get_one::<bool>(name).unwrap_or(false)
+}
+
 /// How the words behind `check` ask for deadlocks to be looked for.
 fn check_options_in<'a>(check: &ArgMatches<'a>) -> CheckOptions
-    requires { is_some (found_options (text_in (rows_of (found_of check.now)))) ≡ true }
-    ensures { Some result ≡ found_options (text_in (rows_of (found_of check.now))) }
+    ensures { result ≡ options_by (text_in (rows_of (found_of check.now))) }
 {
     let modes = given_of(check, MODES);
     let runs = given_of(check, RUNS);
@@ -407,7 +397,7 @@ fn check_options_in<'a>(check: &ArgMatches<'a>) -> CheckOptions
     let seed = seed_of(check);
     let explain = flag_of(check, EXPLAIN);
     let group = flag_of(check, GROUP);
-    let ends_at_first = until_bad_of(check);
+    let ends_at_first = given_word_in(check, UNTIL);
     let wants_witness = flag_of(check, WITNESS);
     let is_complete = flag_of(check, COMPLETE);
     let piece = given_of(check, PIECE);
@@ -427,7 +417,7 @@ fn check_options_in<'a>(check: &ArgMatches<'a>) -> CheckOptions
         seed,
         explain,
         group,
-        until_bad: ends_at_first,
+        until_bad: ends_at_first.is_some(),
         witness: wants_witness,
         complete: is_complete,
         piece,
@@ -437,8 +427,7 @@ fn check_options_in<'a>(check: &ArgMatches<'a>) -> CheckOptions
 
 /// What the words behind `check` ask for.
 fn check_in<'a>(check: &ArgMatches<'a>) -> Options<'a>
-    requires { is_some (task_in checker (rows_of (found_of check.now))) ≡ true }
-    ensures { Some (task_of result) ≡ task_in checker (rows_of (found_of check.now)) }
+    ensures { task_of result ≡ task_by checker (text_in (rows_of (found_of check.now))) }
 {
     let file = word_in(check, FILE);
     let mode = word_in(check, MODE);
@@ -452,8 +441,7 @@ fn check_in<'a>(check: &ArgMatches<'a>) -> Options<'a>
 
 /// What the words behind `verify` ask for.
 fn verify_in<'a>(verify: &ArgMatches<'a>) -> Options<'a>
-    requires { is_some (task_in verifier (rows_of (found_of verify.now))) ≡ true }
-    ensures { Some (task_of result) ≡ task_in verifier (rows_of (found_of verify.now)) }
+    ensures { task_of result ≡ task_by verifier (text_in (rows_of (found_of verify.now))) }
 {
     let file = word_in(verify, FILE);
     let witness = word_in(verify, WITNESS_FILE);
@@ -469,8 +457,7 @@ fn verify_in<'a>(verify: &ArgMatches<'a>) -> Options<'a>
 
 /// What the words behind `words` ask for.
 fn words_in<'a>(words: &ArgMatches<'a>) -> Options<'a>
-    requires { is_some (task_in teller (rows_of (found_of words.now))) ≡ true }
-    ensures { Some (task_of result) ≡ task_in teller (rows_of (found_of words.now)) }
+    ensures { task_of result ≡ task_by teller (text_in (rows_of (found_of words.now))) }
 {
     let file = word_in(words, FILE);
     let choices = word_in(words, CHOICES);
@@ -488,8 +475,7 @@ fn words_in<'a>(words: &ArgMatches<'a>) -> Options<'a>
 
 /// What the words behind `c` ask for.
 fn translate_in<'a>(translate: &ArgMatches<'a>) -> Options<'a>
-    requires { is_some (task_in translator (rows_of (found_of translate.now))) ≡ true }
-    ensures { Some (task_of result) ≡ task_in translator (rows_of (found_of translate.now)) }
+    ensures { task_of result ≡ task_by translator (text_in (rows_of (found_of translate.now))) }
 {
     let file = word_in(translate, FILE);
     Options::Translate { file }
@@ -497,14 +483,13 @@ fn translate_in<'a>(translate: &ArgMatches<'a>) -> Options<'a>
 
 /// What the words behind `picture` ask for.
 fn picture_in<'a>(picture: &ArgMatches<'a>) -> Options<'a>
-    requires { is_some (task_in painter (rows_of (found_of picture.now))) ≡ true }
-    ensures { Some (task_of result) ≡ task_in painter (rows_of (found_of picture.now)) }
+    ensures { task_of result ≡ task_by painter (text_in (rows_of (found_of picture.now))) }
 {
     let file = word_in(picture, FILE);
     let mode = word_in(picture, MODE);
-    let choices_word = picture.get_str(CHOICES);
-    let witness_file = picture.get_str(LAID_WITNESS);
-    let words_file = picture.get_str(WORDS_FILE);
+    let choices_word = given_word_in(picture, CHOICES);
+    let witness_file = given_word_in(picture, LAID_WITNESS);
+    let words_file = given_word_in(picture, WORDS_FILE);
     let fuel = number_of(picture, FUEL);
     let ends = flag_of(picture, ENDS);
     Options::Picture {
@@ -520,8 +505,7 @@ fn picture_in<'a>(picture: &ArgMatches<'a>) -> Options<'a>
 
 /// What the command that was found asks for.
 fn options_in<'a>(matches: &ArgMatches<'a>) -> Options<'a>
-    requires { is_some (task_of_command (subcommand_rows_of matches.now)) ≡ true }
-    ensures { Some (task_of result) ≡ task_of_command (subcommand_rows_of matches.now) }
+    ensures { task_of result ≡ (asked_of (subcommand_rows_of matches.now)).task }
 {
     if let Some(trace) = matches.subcommand_matches(TRACE) {
         return trace_in(trace);
@@ -550,27 +534,25 @@ fn options_in<'a>(matches: &ArgMatches<'a>) -> Options<'a>
     if let Some(diagnose) = matches.subcommand_matches(DIAGNOSE) {
         return diagnose_in(diagnose);
     }
-    let Some(picture) = matches.subcommand_matches(PICTURE) else {
-        unreachable!()
-    };
-    picture_in(picture)
+    if let Some(picture) = matches.subcommand_matches(PICTURE) {
+        return picture_in(picture);
+    }
+    Options::Plain
 }
 
 /// For how many ranks the command that was found is meant, where that is said.
 fn ranks_in(matches: &ArgMatches<'_>) -> Option<usize>
-    requires { is_some (ranks_of_command (subcommand_rows_of matches.now)) ≡ true }
-    ensures { ranks_of_command (subcommand_rows_of matches.now) ≡ Some result }
+    ensures { result ≡ (asked_of (subcommand_rows_of matches.now)).ranks }
 {
     let Some((_, command)) = matches.subcommand() else {
-        unreachable!()
+        return None;
     };
     given_of(command, RANKS)
 }
 
 /// What the command that was found asks for, and for how many ranks.
 fn line_in<'a>(matches: &ArgMatches<'a>) -> CommandLine<'a>
-    requires { is_some (found_of_command (subcommand_rows_of matches.now)) ≡ true }
-    ensures { Some (asked result) ≡ found_of_command (subcommand_rows_of matches.now) }
+    ensures { asked result ≡ asked_of (subcommand_rows_of matches.now) }
 {
     let options = options_in(matches);
     let number = ranks_in(matches);

@@ -236,7 +236,7 @@ fn cut(alloc: Global, debugger: &mut Debugger<'_>, plan: CheckPlan) -> Result<Ve
 /// looked for once (`ends`), the runs are those of the wide walk. Fuel counts from here, and `runs` is for each piece; there is more where
 /// some piece has more. Where a list ends with the first deadlock or trap, the report does, and there is more where some run isn't listed;
 /// who has found one explores no piece after it. No undone step is kept, and the depth and the fuel are at most 1,000,000 steps together.
-/// Each leaf has a run, and each deadlock a witness, as those of `explore` do, with their texts where these are wanted. It is refused where
+/// Each leaf has a run, and each deadlock and each trap a witness, as those of `explore` do, with their texts where these are wanted. It is refused where
 /// there are to be no workers or more than 16 (35), where there are more than 1,024 pieces (31), or for want of memory. A worker that wants
 /// memory stops, and what it doesn't bring is computed here, as far as it is listed. The debugger is left as found, also where it is
 /// refused. `gate` is told how many pieces there are, and by whoever computes one of it before and after that, and of each leaf.

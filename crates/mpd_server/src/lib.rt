@@ -1,5 +1,5 @@
-//! Serves the clients of a listener with one session, each on a thread of its own
-//! (docs/SESSIONS.md, "Several clients").
+//! Serves a session by lines of JSON (docs/SESSIONS.md): over a source and a sink, or to the clients of a listener, each on a thread
+//! of its own ("Several clients").
 #![tactic(auto)]
 
 mod client;
@@ -7,8 +7,10 @@ mod crew;
 pub mod fault;
 mod lines;
 pub mod porter;
+pub mod runner;
 pub mod server;
 
 pub use fault::ServeFault;
 pub use porter::Porter;
+pub use runner::run_script;
 pub use server::{Arrivals, serve};

@@ -10,8 +10,8 @@ use Rattle.mpd_explore.specs.declared.report.Leaf.{Leaf}
 use Rattle.mpd_walk.specs.Walk.{walk}
 use Rattle.mpd_explore.specs.Report.{shown}
 use Rattle.mpd_explore.specs.ReportText.{leaf_text}
-use Rattle.mpd_wire.specs.declared.reply.Answer.TheVariants as answer
-use Rattle.mpd_wire.specs.declared.reply.Refusal.TheVariants.{BadNumber}
+use Rattle.mpd_request.specs.declared.reply.Answer.TheVariants as answer
+use Rattle.mpd_request.specs.declared.reply.Refusal.TheVariants.{BadNumber}
 use Rattle.mpd_session.specs.declared.effect.Effect.TheVariants.{Refused, Told}
 use Rattle.mpd_session.specs.Effects.{vars_of, vars_effect, has_handle, explore_effect, is_within}
 

@@ -12,7 +12,7 @@ use crate::looks::push_text;
 use mpd_core::Core;
 use mpd_model::{BREAKS_MAX, Break};
 use mpd_policy::Breaks;
-use mpd_wire::{Answer, Refusal, TextList};
+use mpd_request::{Answer, Refusal, TextList};
 use std::alloc::{AllocError, Global};
 
 /// Whether a rank has a cell.

@@ -3,7 +3,7 @@
 ghost use Rattle.std.specs.Prelude.{◌≡◌};
 ghost use Rattle.mpd_session.specs.Effects.{is_within};
 
-use mpd_wire::{Answer, Refusal};
+use mpd_request::{Answer, Refusal};
 
 /// What a command comes to.
 #[derive(Drop)]

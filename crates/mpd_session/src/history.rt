@@ -3,7 +3,7 @@
 ghost use Rattle.std.specs.Prelude.{◌≡◌};
 ghost use Rattle.mpd_session.specs.History.{Noted, noted};
 
-use mpd_wire::{Reply, Request};
+use mpd_request::{Reply, Request};
 
 /// How many entries a history has at most.
 pub const HISTORY_MAX: usize = 65_536;

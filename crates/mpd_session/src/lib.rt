@@ -8,14 +8,12 @@ pub(crate) mod effect;
 pub mod history;
 pub(crate) mod limits;
 pub(crate) mod looks;
-pub mod runner;
 pub(crate) mod runs;
 pub mod session;
 
 pub use audit::AuditFault;
 pub use book::{Book, TakeFault};
 pub use history::{Entry, HISTORY_MAX, Log, Logged, Receipt};
-pub use runner::run_script;
 pub use session::Session;
 
 pub(crate) mod steps;

@@ -16,8 +16,8 @@ use crate::steps::is_below;
 use mpd_core::Core;
 use mpd_explore::{Leaf, push_leaf_text};
 use mpd_model::{CallId, MatchSet, RUNS_MAX, STEPS_MAX, Step, print_outcome, print_step};
+use mpd_request::{Answer, HandleList, IntegerList, Refusal, Text, TextList};
 use mpd_trail::Debugger;
-use mpd_wire::{Answer, HandleList, IntegerList, Refusal, Text, TextList};
 use std::alloc::{AllocError, Global};
 
 /// Adds a text. An `Err` is want of memory.

@@ -11,8 +11,8 @@ use crate::effect::{Effect, is_within};
 use mpd_explore::{Limits, Report, Unwatched, explore};
 use mpd_model::STEPS_MAX;
 use mpd_policy::{Breaks, runs as policy};
+use mpd_request::{Answer, Refusal};
 use mpd_trail::Debugger;
-use mpd_wire::{Answer, Refusal};
 use std::alloc::{AllocError, Global};
 
 /// Runs along decisions. An `Err` is want of memory, and then nothing has changed.

@@ -12,8 +12,8 @@ use crate::{breaks, looks, runs, steps};
 use mpd_code::Code;
 use mpd_model::{Mode, Step};
 use mpd_policy::Breaks;
+use mpd_request::{Command, Desk, DeskFault, Refusal, Reply, Request};
 use mpd_trail::Debugger;
-use mpd_wire::{Command, Desk, DeskFault, Refusal, Reply, Request};
 use std::alloc::{AllocError, Global};
 use std::marker::Model;
 

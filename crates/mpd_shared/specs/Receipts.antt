@@ -3,8 +3,8 @@ use Rattle.std.specs.Prelude.{◌≡◌, ℕ, List, [], ◌∷◌, ◌++◌, len
 use Rattle.std.specs.List.{range_with_len}
 use Rattle.mpd_model.specs.script.Program.{Program}
 use Rattle.mpd_model.specs.declared.call.Mode.{Mode}
-use Rattle.mpd_wire.specs.declared.request.Request.{Request}
-use Rattle.mpd_wire.specs.declared.reply.Reply.{Reply}
+use Rattle.mpd_request.specs.declared.request.Request.{Request}
+use Rattle.mpd_request.specs.declared.reply.Reply.{Reply}
 use Rattle.mpd_session.specs.declared.history.Entry.{Entry}
 use Rattle.mpd_session.specs.Held.{Held, opened}
 use Rattle.mpd_session.specs.Respond.{respond}

@@ -5,8 +5,8 @@ ghost use Rattle.std.specs.Prelude.{◌≡◌};
 use crate::opening::Opening;
 use crate::seat::Seat;
 use crate::shared::Shared;
+use mpd_request::{Desk, DeskFault, Reply, Request};
 use mpd_session::TakeFault;
-use mpd_wire::{Desk, DeskFault, Reply, Request};
 use std::alloc::Global;
 use std::sync::Wait;
 

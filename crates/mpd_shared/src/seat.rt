@@ -11,8 +11,8 @@ ghost use Rattle.mpd_shared.specs.Settled.{IsBookOf, Settles, book_in};
 
 use crate::opening::Opening;
 use crate::settle::SettleFault;
+use mpd_request::{Reply, Request};
 use mpd_session::{AuditFault, Book, Log, Logged, TakeFault};
-use mpd_wire::{Reply, Request};
 use std::alloc::Global;
 use std::marker::Model;
 use std::sync::ledger;

@@ -1,8 +1,8 @@
 -- What all lines of an input are answered, by what the desk of lines says of each.
 use Rattle.std.proofs.Common.{◌≡◌, ℕ, suc, ◌+◌, ◌*◌, ◌<◌, ◌≤◌, ◌==◌, Bool, true, false, cond, List, [], ◌∷◌, length, map, refl, ap, sym, ◌∙◌, arith, subst, inl, inr, Result, Ok, Err}
 use Rattle.std.proofs.lemmas.Bool.Decides.{nat_tests}
-use Rattle.mpd_wire.specs.declared.request.Request.{Request}
-use Rattle.mpd_wire.specs.declared.reply.Reply.{Reply}
+use Rattle.mpd_request.specs.declared.request.Request.{Request}
+use Rattle.mpd_request.specs.declared.reply.Reply.{Reply}
 use Rattle.mpd_wire.specs.declared.engine.End.{End}
 use Rattle.mpd_wire.specs.Says.{Says, answered, one_more, counted}
 use Rattle.mpd_wire.specs.Ended.{Ended}

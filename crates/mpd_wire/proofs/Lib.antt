@@ -1,4 +1,3 @@
-pub mod SameLemmas
 pub mod Json
 pub mod Texts
 pub mod SayLemmas

@@ -7,13 +7,10 @@ use Rattle.serde_json.specs.declared.value.Value.{Value, Array}
 use Rattle.serde_json.proofs.Views.{view-Array}
 use Rattle.mpd_wire.specs.Replies.{listed}
 
--- what is told of the elements so far, and of one more
-pub told_more : {X D : Type 0} (f : X → D) (xs : List X) (old new : List D) (i : ℕ) (d : X) (t : D) → i < length xs → old ≡ map f (take i xs) → t ≡ f (get_or xs i d) → new ≡ old ++ t ∷ [] → new ≡ map f (take (i + 1) xs)
-told_more f xs old new i d t within so_far is added = added ∙ ap (λ l. l ++ t ∷ []) so_far ∙ ap (λ z. map f (take i xs) ++ z ∷ []) is ∙ sym (map_more f xs i d within)
-
--- the same of elements that are shown as something else
+-- what is made of the elements so far, and of one more, each shown as something else
 pub made_more : {X Y D : Type 0} (f : X → D) (seen : Y → D) (xs : List X) (old new : List Y) (i : ℕ) (d : X) (y : Y) → i < length xs → map seen old ≡ map f (take i xs) → seen y ≡ f (get_or xs i d) → new ≡ old ++ y ∷ [] → map seen new ≡ map f (take (i + 1) xs)
-made_more f seen xs old new i d y within so_far is added = told_more f xs (map seen old) (map seen new) i d (seen y) within so_far is (ap (map seen) added ∙ map-append seen old (y ∷ []))
+made_more f seen xs old new i d y within so_far is added =
+    ap (map seen) added ∙ map-append seen old (y ∷ []) ∙ ap (λ l. l ++ seen y ∷ []) so_far ∙ ap (λ z. map f (take i xs) ++ z ∷ []) is ∙ sym (map_more f xs i d within)
 
 -- the same where what is told of each is made in two steps
 pub made_twice : {X Y C D : Type 0} (g : C → D) (f : X → C) (seen : Y → D) (xs : List X) (old new : List Y) (i : ℕ) (d : X) (y : Y) → i < length xs → map seen old ≡ map g (map f (take i xs)) → seen y ≡ g (f (get_or xs i d)) → new ≡ old ++ y ∷ []

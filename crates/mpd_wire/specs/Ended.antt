@@ -7,8 +7,8 @@ use Rattle.mpd_device.specs.Seen.{SourceSeen, SinkSeen}
 use Rattle.mpd_lines.specs.Served.{Served}
 use Rattle.mpd_lines.specs.Telling.{Tells, waiting_below}
 use Rattle.mpd_lines.specs.declared.engine.EngineFault.{EngineFault}
-use Rattle.mpd_wire.specs.declared.request.Request.{Request}
-use Rattle.mpd_wire.specs.declared.reply.Reply.{Reply}
+use Rattle.mpd_request.specs.declared.request.Request.{Request}
+use Rattle.mpd_request.specs.declared.reply.Reply.{Reply}
 use Rattle.mpd_wire.specs.declared.engine.End.{End}
 use Rattle.mpd_wire.specs.Says.{Says, answered}
 

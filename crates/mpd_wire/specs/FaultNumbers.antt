@@ -1,37 +1,14 @@
--- The numbers of what a client is refused; want of memory has none.
+-- The numbers of why a line is no request; want of memory has none.
 use Rattle.std.specs.Prelude.{ℕ}
-use Rattle.mpd_wire.specs.declared.request.WireFault.{WireFault}
-use Rattle.mpd_wire.specs.declared.request.WireFault.TheVariants as wire
-use Rattle.mpd_wire.specs.declared.reply.Refusal.{Refusal}
-use Rattle.mpd_wire.specs.declared.reply.Refusal.TheVariants as refusal
-use Rattle.mpd_wire.specs.declared.desk.DeskFault.{DeskFault}
-use Rattle.mpd_wire.specs.declared.desk.DeskFault.TheVariants as desk
+use Rattle.mpd_request.specs.declared.reply.Refusal.TheVariants as refusal
+use Rattle.mpd_request.specs.FaultNumbers.{refusal_number}
+use Rattle.mpd_wire.specs.declared.fault.WireFault.{WireFault}
+use Rattle.mpd_wire.specs.declared.fault.WireFault.TheVariants as wire
 
-abbrev pub refusal_number : Refusal → ℕ
-refusal_number refusal.NotEnabled = 21
-refusal_number refusal.Full = 22
-refusal_number refusal.AtStart = 24
-refusal_number refusal.NoRedo = 25
-refusal_number refusal.NotBefore = 26
-refusal_number refusal.LineTooLong = 41
-refusal_number refusal.NotJson = 42
-refusal_number refusal.BadField = 43
-refusal_number refusal.UnknownCommand = 44
-refusal_number (refusal.Stale now) = 51
-refusal_number (refusal.NeedsChoice count) = 52
-refusal_number refusal.NoSuchBreak = 53
-refusal_number refusal.BreaksFull = 54
-refusal_number refusal.BadNumber = 55
-refusal_number refusal.HistoryFull = 56
-
--- a line that is no request, and a history that is full, have the number of what is replied
+-- it has the number of what is replied
 abbrev pub wire_fault_number : WireFault → ℕ
 wire_fault_number wire.LineTooLong = refusal_number refusal.LineTooLong
 wire_fault_number wire.NotJson = refusal_number refusal.NotJson
 wire_fault_number wire.BadField = refusal_number refusal.BadField
 wire_fault_number wire.UnknownCommand = refusal_number refusal.UnknownCommand
 wire_fault_number wire.Memory = 0
-
-abbrev pub desk_fault_number : DeskFault → ℕ
-desk_fault_number desk.HistoryFull = refusal_number refusal.HistoryFull
-desk_fault_number desk.Memory = 0

@@ -1,7 +1,6 @@
 pub mod Requests
 pub mod Replies
 pub mod FaultNumbers
-pub mod Copies
 pub mod Says
 pub mod Ended
 pub mod RequestRows

@@ -8,14 +8,13 @@ ghost use Rattle.mpd_lines.specs.FaultWords.{failed_reads, failed_writes};
 ghost use Rattle.mpd_lines.specs.Served.{Counted};
 ghost use Rattle.mpd_wire.specs.Ended.{Ended};
 
-use crate::desk::{Desk, DeskFault};
+use crate::fault::WireFault;
 use crate::parser::parse;
 use crate::printer::print;
-use crate::reply::Reply;
-use crate::request::{Request, WireFault};
 use mpd_device::{Sink, Source};
 use mpd_lines::{EngineFault, LineDesk, ROOM, push_all, run};
 use mpd_model::{LINE_MAX, READS_MAX};
+use mpd_request::{Desk, DeskFault, Reply, Request};
 use std::alloc::{AllocError, Global};
 
 /// What stands in the place of a reply where memory is refused before the desk has taken the request.

@@ -3,11 +3,12 @@
 ghost use Rattle.std.specs.Prelude.{◌≡◌, ◌≢◌, ◌<◌, ◌≤◌, length, Err};
 ghost use Rattle.serde_json.specs.View.{view};
 ghost use Rattle.mpd_wire.specs.Requests.{request_of, request_in, Reads};
-ghost use Rattle.mpd_wire.specs.declared.request.WireFault.TheVariants.{Memory};
+ghost use Rattle.mpd_wire.specs.declared.fault.WireFault.TheVariants.{Memory};
 
+use crate::fault::WireFault;
 use crate::fields;
-use crate::request::{Request, WireFault};
 use mpd_model::LINE_MAX;
+use mpd_request::Request;
 use serde_json::Value;
 use std::alloc::Global;
 

@@ -1,14 +1,5 @@
 use Rattle.std.proofs.Common.{refl}
-use Rattle.clap.specs.Words.{found_of, rows_of}
-use Rattle.mpd_options.specs.Asked.{trace, tracer}
-use Rattle.mpd_options.proofs.Reading.{both_found, has_file, has_mode}
 use Rattle.mpd_options.proofs.options.trace_in.Goals as goal
 
-pub word_in-file-requires : goal.word_in-file-requires
-word_in-file-requires c = has_file tracer (rows_of (found_of c.args.trace.now)) c.requires
-
-pub word_in-mode-requires : goal.word_in-mode-requires
-word_in-mode-requires c = has_mode tracer (rows_of (found_of c.args.trace.now)) refl c.requires
-
 pub returns : goal.returns
-returns c = both_found trace c.word_in-file.result.now c.word_in-mode.result.now c.word_in-file.ensures c.word_in-mode.ensures
+returns c = rw (c.word_in-file.ensures, c.word_in-mode.ensures) refl

@@ -1,0 +1,56 @@
+//! What a client asks (docs/SESSIONS.md, "Requests").
+
+use mpd_model::{Break, CallId, Step};
+
+/// A command with its fields. Numbers are as they were given, whatever a session has.
+#[derive(Clone, Copy)]
+pub enum Command {
+    /// Take this step.
+    Step(Step),
+    /// Take the step that comes next: at a choice the candidate of this number.
+    Next(Option<usize>),
+    /// Run along decisions, up to a choice, an end, a breakpoint, or so many steps.
+    Run(usize),
+    /// Run so, but take the single candidate of a choice as if it were forced.
+    RunOn(usize),
+    /// Take so many steps back.
+    Back(usize),
+    /// Take so many undone steps again.
+    Redo(usize),
+    /// Take steps back until so many are left.
+    Goto(usize),
+    /// Run back to a step that hits a breakpoint, or to the start.
+    RunBack,
+    /// List the steps that are enabled.
+    Enabled,
+    /// Tell where the session stands.
+    State,
+    /// Tell what this rank holds.
+    Vars(usize),
+    /// List the calls of this rank.
+    Calls(usize),
+    /// List what this call could be matched with, and what holds each of these back.
+    Why(CallId),
+    /// Set this breakpoint.
+    Break(Break),
+    /// Remove the breakpoint of this number.
+    Unbreak(usize),
+    /// List the breakpoints.
+    Breaks,
+    /// List the runs from here, in the order of their choices.
+    Explore {
+        /// How many at most.
+        runs: usize,
+        /// How many steps each takes at most.
+        fuel: usize,
+    },
+}
+
+/// What a client asks.
+#[derive(Clone, Copy)]
+pub struct Request {
+    /// What is to be done.
+    pub command: Command,
+    /// The version that the session must have, where one is given.
+    pub at: Option<u64>,
+}
