@@ -14,7 +14,7 @@ use Rattle.mpd_blame.specs.declared.back.Blame.{Blame}
 use Rattle.mpd_blame.specs.Blame.{ends_badly, IsBlame, IsThere}
 use Rattle.mpd_blame.specs.Words.{blame_words}
 
--- `  decided from the start: no run ends well`
+-- `  decided from the start: every run hangs or traps`
 abbrev pub blame_line : Program → World → Blame → List ℕ
 blame_line s w b = line (32 ∷ 32 ∷ blame_words s w b)
 

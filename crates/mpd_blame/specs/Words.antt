@@ -68,12 +68,12 @@ abbrev pub instead : Program → World → Step → Option CallId → List ℕ
 instead s w b (Some c) = with_words ++ message s w.board c
 instead s w b None = other_words s w b
 
--- `decided at depth 9: `, and ` it can still end well`
+-- `decided at depth 9: `, and ` it need not hang or trap`
 unfoldable pub depth_words : ℕ → List ℕ
 depth_words n = codes "decided at depth " ++ decimal n ++ codes ": "
 
 unfoldable pub well_words : List ℕ
-well_words = codes " it can still end well"
+well_words = codes " it need not hang or trap"
 
 abbrev pub decided_words : Program → World → Decided → List ℕ
 decided_words s w d = depth_words d.depth ++ deed s w d.taken ++ codes "; " ++ instead s w d.other (other_send d.taken d.other) ++ well_words
@@ -84,7 +84,7 @@ earlier_words n = codes "decided at depth " ++ decimal n ++ codes " or earlier: 
 -- where it was decided, given the state before the step that decided it
 abbrev pub blame_words : Program → World → Blame → List ℕ
 blame_words s w (blame_is.At d) = decided_words s w d
-blame_words s w blame_is.FromStart = codes "decided from the start: no run ends well"
+blame_words s w blame_is.FromStart = codes "decided from the start: every run hangs or traps"
 blame_words s w (blame_is.OrEarlier n) = earlier_words n
-blame_words s w blame_is.Open = codes "not decided: some run still ends well"
+blame_words s w blame_is.Open = codes "not decided: not every run hangs or traps"
 blame_words s w blame_is.Unknown = codes "not known: not all runs from there were counted"

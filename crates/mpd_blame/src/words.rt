@@ -160,12 +160,12 @@ fn push_depth(out: &mut String, depth: usize) -> Result<(), AllocError>
     write!(out, "decided at depth {depth}: ")
 }
 
-/// Adds that it can end well.
+/// Adds that it need not end badly.
 #[tactic(auto, unfolding(crate::specs::Words::well_words))]
 fn push_well(out: &mut String) -> Result<(), AllocError>
     ensures { OnOk result (string_bytes out.new ≡ string_bytes out.old ++ spec.well_words) }
 {
-    out.push_str(" it can still end well")
+    out.push_str(" it need not hang or trap")
 }
 
 /// Adds the step that decided, on the state before it.
@@ -196,9 +196,9 @@ pub fn push_blame(core: &Core<'_>, out: &mut String, blame: Blame) -> Result<(),
 {
     match blame {
         Blame::At(decided) => push_decided(core, out, decided),
-        Blame::FromStart => out.push_str("decided from the start: no run ends well"),
+        Blame::FromStart => out.push_str("decided from the start: every run hangs or traps"),
         Blame::OrEarlier(depth) => push_earlier(out, depth),
-        Blame::Open => out.push_str("not decided: some run still ends well"),
+        Blame::Open => out.push_str("not decided: not every run hangs or traps"),
         Blame::Unknown => out.push_str("not known: not all runs from there were counted"),
     }
 }

@@ -11,7 +11,7 @@ use Rattle.mpd_explore.specs.declared.report.Leaf.{Leaf}
 use Rattle.mpd_explore.specs.declared.report.Limits.{Limits}
 use Rattle.mpd_walk.specs.Walk.{wide_walk}
 use Rattle.mpd_explore.specs.Sleeping.{decides_by}
-use Rattle.mpd_explore.specs.Report.{shown}
+use Rattle.mpd_explore.specs.Report.{shown, ended_by}
 use Rattle.mpd_explore.specs.WitnessTexts.{witness_texts}
 use Rattle.mpd_explain.specs.Explanations.{explained_at}
 use Rattle.mpd_explain.specs.Told.{explained_text}
@@ -55,9 +55,9 @@ plain_part s mode plan choices = text_of s mode plan (leaves_at s mode plan choi
 
 -- ---- a sample
 
--- the leaves of the runs that are drawn, each once, and whether the wide walk has others
+-- the leaves of the runs that are drawn, each once, up to the first bad one if that is asked for, and whether the wide walk has others
 abbrev pub sample_leaves : Program → Mode → ℕ → Limits → List Leaf
-sample_leaves s mode seed l = map shown (sampled (draws l.until_bad l.fuel l.runs (start s mode) (seeded seed)) l.fuel (start s mode))
+sample_leaves s mode seed l = ended_by l.until_bad (map shown (sampled (draws l.until_bad l.fuel l.runs (start s mode) (seeded seed)) l.fuel (start s mode)))
 
 abbrev pub sample_more : Program → Mode → ℕ → Limits → Bool
 sample_more s mode seed l = nat_lt (length (sample_leaves s mode seed l)) (length (wide_walk l.fuel (start s mode)))

@@ -3,6 +3,7 @@ use Rattle.std.specs.Prelude.{◌≡◌, true, false, List, [], ◌∷◌, codes
 use Rattle.std.specs.Fmt.{digits}
 use Rattle.mpd_model.specs.declared.outcome.Outcome.TheVariants.{Done, Deadlock}
 use Rattle.mpd_model.specs.steps.World.{call_id}
+use Rattle.mpd_model.specs.steps.Outcomes.{issued_by}
 use Rattle.mpd_walk.specs.declared.ending.Ending.TheVariants.{Ended, Cut}
 use Rattle.mpd_explore.specs.declared.report.Leaf.{Leaf}
 use Rattle.mpd_outcomes.specs.declared.report.Count.{Count}
@@ -13,7 +14,7 @@ abbrev done : Leaf
 done = record { choices = 0 ∷ 10 ∷ []; ending = Ended Done }
 
 abbrev deadlock : Leaf
-deadlock = record { choices = 1 ∷ []; ending = Ended (Deadlock (call_id 0 1 ∷ call_id 2 0 ∷ [])) }
+deadlock = record { choices = 1 ∷ []; ending = Ended (Deadlock (issued_by 3 (call_id 0 1) ∷ issued_by 5 (call_id 2 0) ∷ [])) }
 
 abbrev cut : Leaf
 cut = record { choices = []; ending = Cut }
@@ -30,8 +31,8 @@ unfolding digits
 row_plain = refl
 
 -- a deadlock is the second, and so are the texts of its witness and of its explanation, and the line of the step that decided
-pub row_behind : outcome_lines ([] ∷ codes ": local 0, wake 1\n" ∷ [] ∷ []) ([] ∷ codes "  rank 0 waits\n  rank 2 waits\n" ∷ [] ∷ []) ([] ∷ codes "  decided from the start: no run ends well\n" ∷ [] ∷ []) 0 firsts counts
-    ≡ codes "outcome 0 runs 3 first [0 10] done\noutcome 1 runs 18446744073709551615 first [1] deadlock 0.1 2.0\nwitness 1: local 0, wake 1\n  rank 0 waits\n  rank 2 waits\n  decided from the start: no run ends well\noutcome 2 runs at least 18446744073709551615 first [] cut\n"
+pub row_behind : outcome_lines ([] ∷ codes ": local 0, wake 1\n" ∷ [] ∷ []) ([] ∷ codes "  rank 0 waits\n  rank 2 waits\n" ∷ [] ∷ []) ([] ∷ codes "  decided from the start: every run hangs or traps\n" ∷ [] ∷ []) 0 firsts counts
+    ≡ codes "outcome 0 runs 3 first [0 10] done\noutcome 1 runs 18446744073709551615 first [1] deadlock 0.1 2.0\nwitness 1: local 0, wake 1\n  rank 0 waits\n  rank 2 waits\n  decided from the start: every run hangs or traps\noutcome 2 runs at least 18446744073709551615 first [] cut\n"
 unfolding digits
 row_behind = refl
 

@@ -1,7 +1,7 @@
 -- What is told of the step that decided, put together from its parts.
 use Rattle.std.proofs.Common.{◌≡◌, ℕ, Bool, List, ◌++◌, refl, sym, ap, ◌∙◌, append_assoc, subst, inl, inr}
 use Rattle.mpd_session.specs.Held.{Held}
-use Rattle.mpd_wire.specs.declared.request.Command.{Command}
+use Rattle.mpd_request.specs.declared.request.Command.{Command}
 use Rattle.mpd_vocabulary.specs.declared.word.Word.TheVariants as word
 use Rattle.mpd_fold.specs.Folding.{folded}
 use Rattle.mpd_moves.specs.Moves.{goto_command}

@@ -1,5 +1,5 @@
 -- A console with steps ahead, which are taken once to see that they can be.
-use Rattle.std.proofs.Common.{◌≡◌, ℕ, ◌≤◌, Bool, List, ◌++◌, length, is_some, Some, None, true, ap, subst, arith}
+use Rattle.std.proofs.Common.{◌≡◌, ℕ, ◌≤◌, Bool, List, ◌++◌, length, is_some, Some, None, true, sym, ap, subst, ◌∙◌, arith}
 use Rattle.std.specs.Prelude.{Result, Ok, Err, IfOk, IsErrOf}
 use Rattle.std.proofs.lemmas.List.{length-append, length-take}
 use Rattle.mpd_model.specs.declared.call.Mode.{Mode}
@@ -9,14 +9,19 @@ use Rattle.mpd_model.specs.script.Program.{Program}
 use Rattle.mpd_model.specs.steps.World.{World, start}
 use Rattle.mpd_model.specs.steps.Next.{fold}
 use Rattle.mpd_model.specs.runs.Trail.{Standing, IsReached, IsRun, done_steps}
+use Rattle.mpd_model.specs.steps.Outcomes.{outcome}
 use Rattle.mpd_walk.specs.declared.ending.Ending.{Ending}
+use Rattle.mpd_walk.specs.declared.ending.Ending.TheVariants.{Ended, Cut}
+use Rattle.mpd_explore.specs.declared.report.Witness.{Witness}
+use Rattle.mpd_explore.specs.declared.report.WitnessEnd.{WitnessEnd}
+use Rattle.mpd_explore.specs.Witness.{end_in, end_of, IsWitness}
 use Rattle.mpd_runs.specs.declared.given.StepsFault.{StepsFault}
 use Rattle.mpd_runs.specs.declared.given.StepsFault.TheVariants.{NotEnabled}
 use Rattle.mpd_runs.specs.Given.{StopsAt}
 use Rattle.mpd_runs.specs.Seek.{EndsAs, LeadsTo}
 use Rattle.mpd_session.specs.Held.{opened}
 use Rattle.mpd_session.specs.Respond.{laid}
-use Rattle.mpd_console.specs.Says.{AlongSaid, laid_said}
+use Rattle.mpd_console.specs.Says.{AlongSaid, WitnessSaid, laid_said}
 
 -- a debugger has taken no more steps than it keeps
 pub few_behind : (d : Standing) (before steps : List Step) → IsReached d → done_steps d.trail ≡ before ++ steps → length steps ≤ STEPS_MAX
@@ -42,3 +47,19 @@ pub said_along : (s : Program) (mode : Mode) (p : Bool) (script : List ℕ) (ste
 said_along s mode p script steps e text leads is = (e, leads, is)
 
 pub ruleset opening = (leads_there, run_from_start, ends_from_start, stops_from_start, said_along)
+
+-- ---- a witness
+
+same_world : (v w : World) → Some v ≡ Some w → v ≡ w
+same_world v w e = cc
+
+end_there : (w : World) (e : Ending) (end : WitnessEnd) → EndsAs w e → end_in (outcome w) ≡ Some end → end_of e ≡ Some end
+end_there w (Ended o) end ends is = sym (ap end_in ends) ∙ is
+end_there w Cut end ends is = let none : end_in (outcome w) ≡ None = ap end_in ends in cc
+
+pub said_of_witness : (s : Program) (mode : Mode) (p : Bool) (script : List ℕ) (x : Witness) (text : List ℕ) → IsWitness s mode x → AlongSaid s mode p script x.steps text → WitnessSaid s mode p script x text
+said_of_witness s mode p script x text is h =
+    let same : is.last ≡ h.1.last = same_world is.last h.1.last (sym is.leads ∙ h.1.leads) in
+    (h.0, end_there h.1.last h.0 x.end h.1.ends (ap (λ v. end_in (outcome v)) (sym same) ∙ is.ends), h.1, h.2)
+
+pub ruleset witnessing = (said_of_witness, said_along)

@@ -7,9 +7,9 @@ use Rattle.mpd_model.specs.steps.World.{World}
 use Rattle.mpd_model.specs.runs.Trail.{Trail, IsReached, IsRun, done_steps, world_of}
 use Rattle.mpd_trail.specs.Views.{DebuggerView, standing_of}
 use Rattle.mpd_walk.specs.declared.ending.Ending.{Ending}
-use Rattle.mpd_wire.specs.declared.request.Command.{Command}
-use Rattle.mpd_wire.specs.declared.request.Command.TheVariants as command
-use Rattle.mpd_wire.specs.declared.reply.Reply.{Reply}
+use Rattle.mpd_request.specs.declared.request.Command.{Command}
+use Rattle.mpd_request.specs.declared.request.Command.TheVariants as command
+use Rattle.mpd_request.specs.declared.reply.Reply.{Reply}
 use Rattle.mpd_view.specs.Standing.{standing_text}
 use Rattle.mpd_session.specs.Held.{Held}
 use Rattle.mpd_session.specs.Respond.{respond, laid}

@@ -10,10 +10,12 @@ use Rattle.mpd_model.specs.steps.World.{World, start}
 use Rattle.mpd_model.specs.runs.Trail.{Trail, world_of}
 use Rattle.mpd_model.specs.texts.Texts.{line}
 use Rattle.mpd_walk.specs.declared.ending.Ending.{Ending}
-use Rattle.mpd_wire.specs.declared.request.Command.{Command}
-use Rattle.mpd_wire.specs.declared.request.Command.TheVariants as command
-use Rattle.mpd_wire.specs.declared.request.Request.{Request}
-use Rattle.mpd_wire.specs.declared.reply.Reply.{Reply}
+use Rattle.mpd_explore.specs.declared.report.Witness.{Witness}
+use Rattle.mpd_explore.specs.Witness.{end_of}
+use Rattle.mpd_request.specs.declared.request.Command.{Command}
+use Rattle.mpd_request.specs.declared.request.Command.TheVariants as command
+use Rattle.mpd_request.specs.declared.request.Request.{Request}
+use Rattle.mpd_request.specs.declared.reply.Reply.{Reply}
 use Rattle.mpd_vocabulary.specs.contracts.word.Word as word_row
 use Rattle.mpd_view.specs.Standing.{standing_text}
 use Rattle.mpd_session.specs.Held.{Held, held_code, opened}
@@ -107,6 +109,11 @@ laid_said p script s number e ahead = said p s (ahead_line number e ahead ++ at_
 -- of steps that lie ahead from the start of a script: how the run ends that they make
 abbrev pub AlongSaid : Program → Mode → Bool → List ℕ → List Step → List ℕ → Type 0
 AlongSaid s mode p script steps text = (e : Ending) × LeadsTo (start s mode) steps e × (text ≡ laid_said p script (laid (opened s mode) steps) None e (length steps))
+
+-- of the steps of a witness, which lie ahead from there: the same, and the run ends in what the witness leads to
+abbrev pub WitnessSaid : Program → Mode → Bool → List ℕ → Witness → List ℕ → Type 0
+WitnessSaid s mode p script x text =
+    (e : Ending) × (end_of e ≡ Some x.end) × LeadsTo (start s mode) x.steps e × (text ≡ laid_said p script (laid (opened s mode) x.steps) None e (length x.steps))
 
 abbrev pub not_found_said : Bool → Held → Way → WayCounts → List ℕ
 not_found_said p s x counts = said p s (none_line x counts)

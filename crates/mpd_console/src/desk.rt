@@ -18,6 +18,8 @@ use mpd_fold::push_folded;
 use mpd_lines::{LineDesk, ROOM, push_all};
 use mpd_model::LINE_MAX;
 use mpd_moves::{Doing, Lead, Scene, doing_of, lead_of, push_reply};
+use mpd_policy::decide;
+use mpd_request::{Command, Reply, Request};
 use mpd_runs::{
     Search, Sought, Way, WayCounts, WholeRun, last_choice, numbered_run, push_ahead,
     push_no_choice, push_no_run, push_none, seek as seek_run,
@@ -25,7 +27,6 @@ use mpd_runs::{
 use mpd_session::Session;
 use mpd_view::push_standing;
 use mpd_vocabulary::{Line, Word, WordFault, line_of, push_fault};
-use mpd_wire::{Command, Reply, Request};
 use std::alloc::{AllocError, Global};
 use std::marker::Model;
 
@@ -217,7 +218,8 @@ pub(crate) fn laid_text(
     let debugger = session.debugger();
     debugger.state_is_reached();
     push_ahead(alloc, &mut told, run.number, run.ending, run.steps)?;
-    push_standing(alloc, debugger, screen.script, &mut told)?;
+    let decided = decide(alloc, debugger.core())?;
+    push_standing(alloc, debugger, screen.script, &mut told, decided)?;
     said(alloc, session, screen.is_prompting, &told)
 }
 

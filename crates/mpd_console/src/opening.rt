@@ -6,17 +6,15 @@ ghost use Rattle.mpd_model.specs.runs.Trail.{IsRun};
 ghost use Rattle.mpd_explore.specs.Witness.{IsWitness};
 ghost use Rattle.mpd_session.specs.Held.{opened};
 ghost use Rattle.mpd_session.specs.Respond.{laid};
-ghost use Rattle.mpd_model.specs.declared.outcome.Outcome.TheVariants.{Deadlock};
-ghost use Rattle.mpd_walk.specs.declared.ending.Ending.TheVariants.{Ended};
 ghost use Rattle.mpd_runs.specs.Given.{StopsAt};
 ghost use Rattle.mpd_runs.specs.Seek.{EndsAs, LeadsTo};
-ghost use Rattle.mpd_console.specs.Says.{prompt, laid_said, AlongSaid};
+ghost use Rattle.mpd_console.specs.Says.{prompt, laid_said, AlongSaid, WitnessSaid};
 
 use crate::desk::{ConsoleDesk, RunAhead, Screen, laid_text};
 use crate::prompts::idle_bytes;
 use mpd_code::Subject;
 use mpd_explore::{Ending, Witness, WitnessFault, verify};
-use mpd_model::{Outcome, STEPS_MAX, Step, StepList};
+use mpd_model::{STEPS_MAX, Step, StepList};
 use mpd_runs::{StepsFault, take_steps};
 use mpd_session::Session;
 use mpd_trail::Debugger;
@@ -120,26 +118,6 @@ fn console_along<'c, 't>(
     console_before(alloc, session, screen, run)
 }
 
-/// A console at the start of a script, with the steps of a witness ahead, which it is checked for first (docs/DEFINITIONS.md,
-/// "Witnesses"). It says where it stands.
-pub fn open_with<'c, 't>(
-    alloc: Global,
-    subject: Subject<'c>,
-    screen: Screen<'t>,
-    witness: Witness,
-) -> Result<Opened<'c, 't>, OpenFault>
-    ensures is { IfOk result (λ _. IsWitness subject.entry.code.now.program subject.entry.mode witness) }
-    ensures desk { IfOk result (λ o. o.desk ≡ record { session = laid (opened subject.entry.code.now.program subject.entry.mode) witness.steps; script = screen.entry.script.now; last = None; prompts = screen.entry.is_prompting }) }
-    ensures said { IfOk result (λ o. o.said.items ≡ laid_said screen.entry.is_prompting screen.entry.script.now (laid (opened subject.entry.code.now.program subject.entry.mode) witness.steps) None (Ended (Deadlock witness.blocked)) (length witness.steps)) }
-{
-    check_witness(alloc, subject, &witness)?;
-    let ending = Ending::Ended(Outcome::Deadlock(witness.blocked));
-    match console_along(alloc, subject, screen, witness.steps, &ending) {
-        Ok(opened) => Ok(opened),
-        Err(_) => Err(OpenFault::Memory),
-    }
-}
-
 /// How the run ends that a debugger has made: in the outcome of its state, or it is cut, where a step is still enabled. An `Err` is want of
 /// memory.
 fn ending_there(alloc: Global, debugger: &Debugger<'_>) -> Result<Ending, AllocError>
@@ -204,5 +182,31 @@ pub fn open_along<'c, 't>(
     match console_along(alloc, subject, screen, steps, &ending) {
         Ok(opened) => Ok(opened),
         Err(_) => Err(StepsFault::Memory),
+    }
+}
+
+/// A console at the start of a script, with the steps of a witness ahead, which it is checked for first (docs/DEFINITIONS.md,
+/// "Witnesses"). It says how the run ends that they make, which is what the witness leads to, and where it stands.
+#[tactic(auto, using(crate::proofs::OpeningLemmas::witnessing))]
+pub fn open_with<'c, 't>(
+    alloc: Global,
+    subject: Subject<'c>,
+    screen: Screen<'t>,
+    witness: Witness,
+) -> Result<Opened<'c, 't>, OpenFault>
+    ensures is { IfOk result (λ _. IsWitness subject.entry.code.now.program subject.entry.mode witness) }
+    ensures desk { IfOk result (λ o. o.desk ≡ record { session = laid (opened subject.entry.code.now.program subject.entry.mode) witness.steps; script = screen.entry.script.now; last = None; prompts = screen.entry.is_prompting }) }
+    ensures said { IfOk result (λ o. WitnessSaid subject.entry.code.now.program subject.entry.mode screen.entry.is_prompting screen.entry.script.now witness o.said.items) }
+{
+    check_witness(alloc, subject, &witness)?;
+    let Witness { steps, end } = witness;
+    drop(end);
+    match open_along(alloc, subject, screen, steps) {
+        Ok(opened) => Ok(opened),
+        Err(StepsFault::NotEnabled(place)) => {
+            Err(OpenFault::Refused(WitnessFault::NoSuchStep(place)))
+        }
+        Err(StepsFault::Full) => Err(OpenFault::TooLong),
+        Err(StepsFault::Memory) => Err(OpenFault::Memory),
     }
 }

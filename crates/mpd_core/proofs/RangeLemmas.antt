@@ -8,6 +8,7 @@ use Rattle.mpd_model.specs.declared.call.MatchSet.TheVariants.{Pair}
 use Rattle.mpd_model.specs.steps.World.{World, Board, call_id, rank_numbers, call_numbers, eligible}
 use Rattle.mpd_model.specs.steps.Next.{is_enabled, with_set, any_wakes_in, matches_with, matches_of, matches_in, steps_of}
 use Rattle.mpd_model.specs.declared.step.CallId.{CallId}
+use Rattle.mpd_model.specs.declared.outcome.IssuedCall.{IssuedCall}
 use Rattle.mpd_model.specs.declared.outcome.TrappedRank.{TrappedRank}
 use Rattle.mpd_model.specs.steps.Outcomes.{ending_by, ended_with}
 use Rattle.mpd_core.specs.Listed.{listed_by}
@@ -171,7 +172,7 @@ pub listed_trap : (w : World) (ts : List TrappedRank) → 0 < length ts → 0 < 
 listed_trap w [] some = absurd (omega (arith, some))
 listed_trap w (t ∷ ts) some = some
 
-pub listed_free : (cs : List CallId) → 0 < length cs → 0 < listed_by (ended_with cs)
+pub listed_free : (cs : List IssuedCall) → 0 < length cs → 0 < listed_by (ended_with cs)
 listed_free [] some = absurd (omega (arith, some))
 listed_free (c ∷ cs) some = some
 

@@ -5,11 +5,11 @@ ghost use Rattle.std.specs.List.{filter, flat_map, list_any};
 ghost use Rattle.mpd_model.specs.declared.step.Step.TheVariants as steps;
 ghost use Rattle.mpd_model.specs.steps.World.{rank_numbers, is_free};
 ghost use Rattle.mpd_model.specs.steps.Next.{is_enabled, any_wakes_of, any_wakes_in, matches_of, matches_in, steps_of};
-ghost use Rattle.mpd_model.specs.steps.Outcomes.{traps_at, traps_in, blocked_at, blocked_calls, free_of, free_calls, untrapped, ending, is_stuck, outcome};
+ghost use Rattle.mpd_model.specs.steps.Outcomes.{traps_at, traps_in, issued_call, blocked_at, blocked_calls, free_of, free_calls, untrapped, ending, is_stuck, outcome};
 ghost use Rattle.mpd_core.specs.Listed.{listed};
 
 use crate::state::Core;
-use mpd_model::{Activity, CallId, CallList, Outcome, Step, TrapList, TrappedRank};
+use mpd_model::{Activity, CallId, IssuedCall, IssuedList, Outcome, Step, TrapList, TrappedRank};
 use std::alloc::{AllocError, Global};
 
 impl<'c> Core<'c> {
@@ -134,20 +134,32 @@ impl<'c> Core<'c> {
         Ok(traps)
     }
 
+    /// A call with the statement that issued it. One that there isn't would be told as the first's, and none such is told.
+    fn issued_call(&self, id: CallId) -> IssuedCall
+        ensures { result ≡ issued_call self.now.world.board id }
+    {
+        let statement = match self.board().call(id) {
+            None => 0,
+            Some(call) => call.statement,
+        };
+        IssuedCall { id, statement }
+    }
+
     /// Adds the call that a rank is blocked on.
-    fn push_blocked(&self, rank: usize, out: &mut Vec<CallId>) -> Result<(), AllocError>
+    fn push_blocked(&self, rank: usize, out: &mut Vec<IssuedCall>) -> Result<(), AllocError>
         ensures ok { OnOk result (out.new.items ≡ out.old.items ++ blocked_at self.now.world rank (slice_get self.now.world.ranks rank)) }
         ensures memory { OnErr result (0 < length (blocked_at self.now.world rank (slice_get self.now.world.ranks rank))) }
     {
         if let Some(Activity::Blocked) = self.activity(rank) {
-            out.push(self.board().last_call(rank))?;
+            let last = self.board().last_call(rank);
+            out.push(self.issued_call(last))?;
         }
         Ok(())
     }
 
     /// The calls that ranks are blocked on.
     #[tactic(auto, using(crate::proofs::RangeLemmas::listing))]
-    fn blocked(&self, alloc: Global) -> Result<Vec<CallId>, AllocError>
+    fn blocked(&self, alloc: Global) -> Result<Vec<IssuedCall>, AllocError>
         ensures ok { IfOk result (λ calls. calls.items ≡ blocked_calls self.now.world) }
         ensures memory { OnErr result (0 < length (blocked_calls self.now.world)) }
     {
@@ -160,19 +172,19 @@ impl<'c> Core<'c> {
     }
 
     /// Adds a call, where it is free.
-    fn push_if_free(&self, id: CallId, out: &mut Vec<CallId>) -> Result<(), AllocError>
-        ensures ok { OnOk result (out.new.items ≡ out.old.items ++ (if is_free self.now.world.board id then id ∷ [] else [])) }
-        ensures memory { OnErr result (0 < length (if is_free self.now.world.board id then id ∷ [] else [])) }
+    fn push_if_free(&self, id: CallId, out: &mut Vec<IssuedCall>) -> Result<(), AllocError>
+        ensures ok { OnOk result (out.new.items ≡ out.old.items ++ (if is_free self.now.world.board id then issued_call self.now.world.board id ∷ [] else [])) }
+        ensures memory { OnErr result (0 < length (if is_free self.now.world.board id then issued_call self.now.world.board id ∷ [] else [])) }
     {
         if self.board().is_free(id) {
-            out.push(id)?;
+            out.push(self.issued_call(id))?;
         }
         Ok(())
     }
 
     /// Adds the free calls of a rank.
     #[tactic(auto, using(crate::proofs::RangeLemmas::listing))]
-    fn push_free(&self, rank: usize, out: &mut Vec<CallId>) -> Result<(), AllocError>
+    fn push_free(&self, rank: usize, out: &mut Vec<IssuedCall>) -> Result<(), AllocError>
         ensures ok { OnOk result (out.new.items ≡ out.old.items ++ free_of self.now.world.board rank) }
         ensures memory { OnErr result (0 < length (free_of self.now.world.board rank)) }
     {
@@ -185,7 +197,7 @@ impl<'c> Core<'c> {
 
     /// The free calls.
     #[tactic(auto, using(crate::proofs::RangeLemmas::listing))]
-    fn free(&self, alloc: Global) -> Result<Vec<CallId>, AllocError>
+    fn free(&self, alloc: Global) -> Result<Vec<IssuedCall>, AllocError>
         ensures ok { IfOk result (λ calls. calls.items ≡ free_calls self.now.world.board) }
         ensures memory { OnErr result (0 < length (free_calls self.now.world.board)) }
     {
@@ -204,7 +216,7 @@ impl<'c> Core<'c> {
         ensures memory { OnErr result (0 < listed (Some (untrapped self.now.world))) }
     {
         if !self.all_ended() {
-            return Ok(Outcome::Deadlock(CallList {
+            return Ok(Outcome::Deadlock(IssuedList {
                 items: self.blocked(alloc)?,
             }));
         }
@@ -212,7 +224,7 @@ impl<'c> Core<'c> {
         if free.is_empty() {
             return Ok(Outcome::Done);
         }
-        Ok(Outcome::Leftovers(CallList { items: free }))
+        Ok(Outcome::Leftovers(IssuedList { items: free }))
     }
 
     /// What a state is in which no step is enabled (docs/DEFINITIONS.md, "Outcomes"). It is not asked whether one is. An `Err` is

@@ -1,1 +1,2 @@
 mod GroupLemmas
+mod StandLemmas

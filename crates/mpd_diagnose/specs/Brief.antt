@@ -1,7 +1,8 @@
--- What a diagnosis comes to, in a line for a number of ranks.
+-- What a diagnosis comes to, in a line for a number of ranks, or for a mode.
 use Rattle.std.specs.Prelude.{ℕ, Bool, if◌then◌else◌, List, [], ◌++◌, ◌==◌, Option, Some, None, codes}
 use Rattle.std.specs.Fmt.{decimal}
 use Rattle.mpd_model.specs.declared.call.Mode.{Mode}
+use Rattle.mpd_model.specs.texts.Modes.{mode_word}
 use Rattle.mpd_model.specs.texts.Texts.{line}
 use Rattle.mpd_outcomes.specs.declared.report.Count.{Count}
 use Rattle.mpd_outcomes.specs.CountText.{count_text}
@@ -47,10 +48,22 @@ abbrev pub drawn_ways : Option WayCounts → List ℕ
 drawn_ways None = []
 drawn_ways (Some c) = drawn_text c
 
--- `3 ranks: 24 runs in rendezvous, 4 hang, 20 trap`
-unfoldable pub ranks_text : ℕ → Mode → WayCounts → Option WayCounts → List ℕ
-ranks_text ranks mode c drawn = ranks_head ranks ++ runs_text c.total ++ and_more c.more ++ in_mode mode ++ ways_text c ++ cut_text c.cut ++ drawn_ways drawn
+-- what it is told of, how many runs there are, where that is said again, and what becomes of them
+unfoldable pub brief_text : List ℕ → List ℕ → WayCounts → Option WayCounts → List ℕ
+brief_text head place c drawn = head ++ runs_text c.total ++ and_more c.more ++ place ++ ways_text c ++ cut_text c.cut ++ drawn_ways drawn
 
 -- its line, which goes on in further lines where it is long
+abbrev pub brief_line : List ℕ → List ℕ → WayCounts → Option WayCounts → List ℕ
+brief_line head place c drawn = folded (line (brief_text head place c drawn))
+
+-- `3 ranks: 24 runs in rendezvous, 4 hang, 20 trap`
 abbrev pub ranks_line : ℕ → Mode → WayCounts → Option WayCounts → List ℕ
-ranks_line ranks mode c drawn = folded (line (ranks_text ranks mode c drawn))
+ranks_line ranks mode c drawn = brief_line (ranks_head ranks) (in_mode mode) c drawn
+
+-- `slots:2: `
+abbrev pub mode_head : Mode → List ℕ
+mode_head mode = mode_word mode ++ codes ": "
+
+-- `rendezvous: 24 runs, 4 hang, 20 trap`
+abbrev pub mode_line : Mode → WayCounts → Option WayCounts → List ℕ
+mode_line mode c drawn = brief_line (mode_head mode) [] c drawn

@@ -1,5 +1,5 @@
 -- The commands that a diagnosis names.
-use Rattle.std.specs.Prelude.{ℕ, Bool, if◌then◌else◌, List, [], ◌∷◌, ◌++◌, Option, Some, codes}
+use Rattle.std.specs.Prelude.{ℕ, Bool, true, false, if◌then◌else◌, List, [], ◌∷◌, ◌++◌, Option, codes}
 use Rattle.std.specs.Fmt.{decimal}
 use Rattle.mpd_model.specs.declared.call.Mode.{Mode}
 use Rattle.mpd_model.specs.texts.Texts.{line}
@@ -10,17 +10,17 @@ use Rattle.mpd_diagnose.specs.Words.{script, named}
 unfoldable pub sample_command : List ℕ → Option ℕ → Mode → List ℕ
 sample_command file ranks mode = line (codes "  ./mpdbg check " ++ named file ranks mode ++ codes " --sample 65536 --group --explain")
 
--- `  ./mpdbg check race.mpd --modes 4 --outcomes`
+-- `  ./mpdbg diagnose race.mpd --modes 4`
 unfoldable pub modes_command : List ℕ → Option ℕ → List ℕ
-modes_command file ranks = line (codes "  ./mpdbg check " ++ script file ranks ++ codes " --modes 4 --outcomes")
+modes_command file ranks = line (codes "  ./mpdbg diagnose " ++ script file ranks ++ codes " --modes 4")
 
 -- ` --strict`
 abbrev pub strict_words : Bool → List ℕ
 strict_words strict = if strict then codes " --strict" else []
 
 -- `  ./mpdbg diagnose race.mpd --ranks 3`
-unfoldable pub ranks_command : List ℕ → ℕ → Mode → Bool → List ℕ
-ranks_command file ranks mode strict = line (codes "  ./mpdbg diagnose " ++ named file (Some ranks) mode ++ strict_words strict)
+unfoldable pub full_command : List ℕ → Option ℕ → Mode → Bool → List ℕ
+full_command file ranks mode strict = line (codes "  ./mpdbg diagnose " ++ named file ranks mode ++ strict_words strict)
 
 -- ` --ends --choices '0 2'`
 unfoldable pub choices_words : List ℕ → List ℕ
@@ -34,10 +34,21 @@ run_command before file ranks mode choices after = line (before ++ named file ra
 unfoldable pub to_file : List ℕ → List ℕ
 to_file file = codes " > " ++ file
 
--- the commands that debug and draw the run with these choices
-unfoldable pub run_commands : List ℕ → Option ℕ → Mode → List ℕ → List ℕ → List ℕ
-run_commands file ranks mode choices picture =
-    run_command (codes "  ./mpdbg debug ") file ranks mode (choices_words choices) [] ++ run_command (codes "  ./mpdbg picture ") file ranks mode (choices_words choices) (to_file picture)
+-- the command that debugs the run with these choices
+unfoldable pub debug_command : List ℕ → Option ℕ → Mode → List ℕ → List ℕ
+debug_command file ranks mode choices = run_command (codes "  ./mpdbg debug ") file ranks mode (choices_words choices) []
+
+-- the command that draws it
+unfoldable pub draw_command : List ℕ → Option ℕ → Mode → List ℕ → List ℕ → List ℕ
+draw_command file ranks mode choices picture = run_command (codes "  ./mpdbg picture ") file ranks mode (choices_words choices) (to_file picture)
+
+abbrev pub draw_if : Bool → List ℕ → Option ℕ → Mode → List ℕ → List ℕ → List ℕ
+draw_if false file ranks mode choices picture = []
+draw_if true file ranks mode choices picture = draw_command file ranks mode choices picture
+
+-- the commands that debug the run with these choices, and draw it if it is drawn
+abbrev pub run_commands : List ℕ → Option ℕ → Mode → List ℕ → Bool → List ℕ → List ℕ
+run_commands file ranks mode choices drawn picture = debug_command file ranks mode choices ++ draw_if drawn file ranks mode choices picture
 
 -- `run.svg`, or `run-2.svg`: the number stands there where there are several
 abbrev pub picture_file : List ℕ → Bool → ℕ → List ℕ

@@ -1,17 +1,18 @@
 -- Worked rows of what a diagnosis tells. What is wanted was worked out by hand.
 use Rattle.std.specs.Prelude.{◌≡◌, true, false, [], ◌∷◌, ◌++◌, Some, None, codes, refl}
 use Rattle.std.specs.Fmt.{digits}
-use Rattle.mpd_model.specs.declared.call.Mode.TheVariants.{Rendezvous, Buffered}
+use Rattle.mpd_model.specs.declared.call.Mode.TheVariants.{Rendezvous, Buffered, Slots}
 use Rattle.mpd_lines.specs.declared.verdict.Verdict.TheVariants.{Good, Bad, NotWhole}
 use Rattle.mpd_outcomes.specs.declared.report.Count.TheVariants.{Exactly, More}
 use Rattle.mpd_runs.specs.declared.counts.WayCounts.{WayCounts}
-use Rattle.mpd_diagnose.specs.Headings.{with_numbers, lines_text}
+use Rattle.mpd_diagnose.specs.Headings.{with_numbers, with_some, lines_text}
 use Rattle.mpd_diagnose.specs.Groups.{groups, shortest}
 use Rattle.mpd_diagnose.specs.Hints.{tells_step}
 use Rattle.mpd_diagnose.specs.Words.{named}
-use Rattle.mpd_diagnose.specs.Commands.{picture_file}
-use Rattle.mpd_diagnose.specs.Told.{always_hangs, always_traps, draws, never_fails, share}
-use Rattle.mpd_diagnose.specs.Brief.{ranks_text, ways_text, drawn_text}
+use Rattle.mpd_diagnose.specs.Commands.{picture_file, run_commands, debug_command, draw_command, choices_words, to_file, full_command}
+use Rattle.mpd_diagnose.specs.Modes.{modes_up_to, worst, worst_mode, closing, all_good, not_all_tried}
+use Rattle.mpd_diagnose.specs.Told.{always_hangs, always_traps, fails_both, both_line, cut_after, of_one, is_drawn, in_mode, draws, never_fails, share}
+use Rattle.mpd_diagnose.specs.Brief.{ranks_head, mode_head, brief_text, ways_text, drawn_text}
 use Rattle.mpd_diagnose.specs.Verdicts.{verdict_of}
 
 -- each line once, the least first
@@ -32,7 +33,7 @@ row_shortest = refl
 
 -- ends a, none, b, a: those called a are told together, of 3 + 4 runs, and the last has the fewest steps
 pub row_groups : groups (codes "a" ∷ [] ∷ codes "b" ∷ codes "a" ∷ []) (Exactly 3 ∷ Exactly 2 ∷ Exactly 1 ∷ Exactly 4 ∷ []) (8 ∷ 1 ∷ 6 ∷ 7 ∷ [])
-    ≡ record { first = 0; count = Exactly 7; shown = 3 } ∷ record { first = 2; count = Exactly 1; shown = 2 } ∷ []
+    ≡ record { first = 0; count = Exactly 7; shown = 3; steps = 7 } ∷ record { first = 2; count = Exactly 1; shown = 2; steps = 6 } ∷ []
 row_groups = refl
 
 pub row_share : share (Exactly 1) (Exactly 1) ++ share More (Exactly 24) ≡ codes "1 of 1 runat least 18446744073709551615 of 24 runs"
@@ -56,6 +57,16 @@ stuck = record { done = Exactly 0; leftovers = Exactly 0; deadlock = Exactly 3; 
 -- two hang, and one traps
 abbrev both : WayCounts
 both = record { done = Exactly 0; leftovers = Exactly 0; deadlock = Exactly 2; trap = Exactly 1; cut = Exactly 0; total = Exactly 3; more = false }
+
+-- and one is done, there are more, or one is cut
+abbrev one_well : WayCounts
+one_well = record both { done = Exactly 1; total = Exactly 4 }
+
+abbrev both_and_more : WayCounts
+both_and_more = record both { more = true }
+
+abbrev both_and_cut : WayCounts
+both_and_cut = record both { cut = Exactly 1; total = Exactly 4 }
 
 -- all that were come to trap, and there are more
 abbrev trapping : WayCounts
@@ -86,6 +97,35 @@ row_always_hangs = refl
 pub row_always_traps : always_traps trapping ∷ always_traps trapping_all ∷ always_traps both ∷ always_traps trapped ∷ [] ≡ false ∷ true ∷ false ∷ false ∷ []
 row_always_traps = refl
 
+-- every run hangs or traps, and some do each, only where none ends otherwise and there are no more
+pub row_fails_both : fails_both both ∷ fails_both stuck ∷ fails_both trapping_all ∷ fails_both one_well ∷ fails_both both_and_more ∷ fails_both both_and_cut ∷ [] ≡ true ∷ false ∷ false ∷ false ∷ false ∷ false ∷ []
+row_fails_both = refl
+
+pub row_both_line : both_line Rendezvous both ≡ codes "it always fails in rendezvous: it hangs in 2 of 3 runs and traps in 1\n"
+unfolding both_line digits
+row_both_line = refl
+
+pub row_cut_after : cut_after (Exactly 1) 100000 ++ cut_after (Exactly 2) 5 ≡ codes " was cut after 100000 steps were cut after 5 steps"
+unfolding digits
+row_cut_after = refl
+
+-- what follows is told of one of several runs
+pub row_of_one : of_one (Exactly 1) ++ of_one (Exactly 2) ++ of_one More ≡ codes ", one of them:, one of them:"
+row_of_one = refl
+
+-- a run of 1,000 steps is drawn, and one of 1,001 isn't
+pub row_drawn : is_drawn 0 ∷ is_drawn 1000 ∷ is_drawn 1001 ∷ is_drawn 100000 ∷ [] ≡ true ∷ true ∷ false ∷ false ∷ []
+row_drawn = refl
+
+pub row_run : run_commands (codes "a") None Buffered (0 ∷ 2 ∷ []) false (codes "run.svg") ++ run_commands (codes "a") None Rendezvous [] true (codes "run-1.svg")
+    ≡ codes "  ./mpdbg debug a --mode buffered --ends --choices '0 2'\n" ++ codes "  ./mpdbg debug a --ends --choices ''\n  ./mpdbg picture a --ends --choices '' > run-1.svg\n"
+unfolding debug_command draw_command choices_words to_file digits
+row_run = refl
+
+-- where ranks stand, of which one has ended
+pub row_standing : with_some (with_some (with_some [] 9) 0) 5 ≡ 5 ∷ 9 ∷ []
+row_standing = refl
+
 pub row_never : never_fails tidy ∷ never_fails untidy ∷ never_fails trapped ∷ never_fails cut_short ∷ never_fails stopped ∷ [] ≡ true ∷ true ∷ false ∷ false ∷ false ∷ []
 row_never = refl
 
@@ -105,8 +145,30 @@ pub row_steps : tells_step (codes "  decided at depth 12: rank 0") ∷ tells_ste
 row_steps = refl
 
 -- what they come to in a line, of 3 ranks and of 1: of two, with others and with what was drawn
-pub row_ranks_text : ranks_text 3 Rendezvous both None ++ ranks_text 1 Buffered untidy None ++ ranks_text 3 Rendezvous stopped (Some trapped) ++ ranks_text 3 Rendezvous cut_short None
+pub row_ranks_text : brief_text (ranks_head 3) (in_mode Rendezvous) both None ++ brief_text (ranks_head 1) (in_mode Buffered) untidy None ++ brief_text (ranks_head 3) (in_mode Rendezvous) stopped (Some trapped) ++ brief_text (ranks_head 3) (in_mode Rendezvous) cut_short None
     ≡ codes "3 ranks: 3 runs in rendezvous, 2 hang, 1 trap" ++ codes "1 rank: 3 runs in buffered, none hangs or traps, 1 with calls left over"
     ++ codes "3 ranks: 3 runs and more in rendezvous, none hangs or traps; drawn at random: 3 runs, 1 trap" ++ codes "3 ranks: 3 runs in rendezvous, none hangs or traps, 1 cut"
-unfolding ranks_text ways_text drawn_text digits
+unfolding brief_text ways_text drawn_text digits
 row_ranks_text = refl
+
+-- and of modes
+pub row_mode_text : brief_text (mode_head Rendezvous) [] both None ++ brief_text (mode_head (Slots 12)) [] untidy None ++ brief_text (mode_head Buffered) [] stopped (Some trapped) ++ brief_text (mode_head (Slots 1)) [] cut_short None
+    ≡ codes "rendezvous: 3 runs, 2 hang, 1 trap" ++ codes "slots:12: 3 runs, none hangs or traps, 1 with calls left over"
+    ++ codes "buffered: 3 runs and more, none hangs or traps; drawn at random: 3 runs, 1 trap" ++ codes "slots:1: 3 runs, none hangs or traps, 1 cut"
+unfolding brief_text ways_text drawn_text digits
+row_mode_text = refl
+
+pub row_modes : modes_up_to 0 ∷ modes_up_to 2 ∷ [] ≡ (Rendezvous ∷ Buffered ∷ []) ∷ (Rendezvous ∷ Slots 1 ∷ Slots 2 ∷ Buffered ∷ []) ∷ []
+row_modes = refl
+
+-- bad where one is, else not whole where one is; of the worst the first is told
+pub row_worst : worst [] ∷ worst (Good ∷ Good ∷ []) ∷ worst (Good ∷ NotWhole ∷ Good ∷ []) ∷ worst (NotWhole ∷ Good ∷ Bad ∷ []) ∷ [] ≡ Good ∷ Good ∷ NotWhole ∷ Bad ∷ []
+row_worst = refl
+
+pub row_worst_mode : worst_mode (modes_up_to 2) (Good ∷ NotWhole ∷ Bad ∷ Bad ∷ []) ∷ worst_mode (modes_up_to 2) (Good ∷ NotWhole ∷ NotWhole ∷ Good ∷ []) ∷ worst_mode (modes_up_to 2) (Good ∷ Good ∷ Good ∷ Bad ∷ []) ∷ [] ≡ Slots 2 ∷ Slots 1 ∷ Buffered ∷ []
+row_worst_mode = refl
+
+pub row_closing : closing (codes "a b") (Some 4) true (modes_up_to 1) (Good ∷ NotWhole ∷ Bad ∷ []) ++ closing (codes "a") None false (modes_up_to 1) (Good ∷ NotWhole ∷ Good ∷ []) ++ closing (codes "a") None false (modes_up_to 1) (Good ∷ Good ∷ Good ∷ [])
+    ≡ codes "\n  ./mpdbg diagnose 'a b' --ranks 4 --mode buffered --strict\n" ++ codes "\nno hang and no trap was found, but not everything was tried in slots:1\n  ./mpdbg diagnose a --mode slots:1\n" ++ codes "\nno run hangs or traps in any of these modes\n"
+unfolding all_good not_all_tried full_command digits
+row_closing = refl

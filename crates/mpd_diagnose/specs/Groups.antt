@@ -35,7 +35,8 @@ shortest steps n (m ∷ ms) = shortest steps (shorter steps n m) ms
 abbrev pub group_of : List (List ℕ) → List Count → List ℕ → ℕ → Group
 group_of headings counts steps n =
     let ns = members headings (text_at (slice_get headings n)) in
-    record { first = n; count = with_counts counts (Exactly 0) ns; shown = shortest steps n ns }
+    let k = shortest steps n ns in
+    record { first = n; count = with_counts counts (Exactly 0) ns; shown = k; steps = slice_index_or steps k 0 }
 
 -- whether the end of a number is called anything
 abbrev pub is_told : List (List ℕ) → ℕ → Bool

@@ -8,4 +8,5 @@ pub mod Told
 pub mod Brief
 pub mod Verdicts
 pub mod Diagnosed
+pub mod Modes
 pub mod DiagnosisRows

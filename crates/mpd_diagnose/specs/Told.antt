@@ -1,5 +1,5 @@
 -- What is told of a script by the ends that its runs come to.
-use Rattle.std.specs.Prelude.{ℕ, Bool, true, false, not, nat_lt, ◌+◌, ◌&&◌, ◌||◌, ◌==◌, if◌then◌else◌, List, [], ◌∷◌, ◌++◌, Option, Some, None, length, slice_get, codes}
+use Rattle.std.specs.Prelude.{ℕ, Bool, true, false, not, nat_lt, nat_le, ◌+◌, ◌&&◌, ◌||◌, ◌==◌, if◌then◌else◌, List, [], ◌∷◌, ◌++◌, Option, Some, None, length, slice_get, codes}
 use Rattle.std.specs.Fmt.{decimal}
 use Rattle.mpd_model.specs.declared.call.Mode.{Mode}
 use Rattle.mpd_model.specs.texts.Modes.{mode_word}
@@ -13,6 +13,7 @@ use Rattle.mpd_runs.specs.Runs.{sees_all}
 use Rattle.mpd_explain.specs.Told.{text_at}
 use Rattle.mpd_fold.specs.Folding.{folded}
 use Rattle.mpd_diagnose.specs.declared.groups.Group.{Group}
+use Rattle.mpd_diagnose.specs.declared.told.TheConstants.{PICTURED_STEPS}
 use Rattle.mpd_diagnose.specs.Commands.{sample_command, modes_command, run_commands, picture_file}
 
 -- ---- what becomes of the runs
@@ -79,9 +80,20 @@ hang_line m c = if always_hangs c then always_line (codes "it always hangs") m c
 unfoldable pub trap_line : Mode → WayCounts → List ℕ
 trap_line m c = if always_traps c then always_line (codes "it always traps") m c.total else line_if (codes "it can trap: ") c.trap c.total []
 
+-- every run fails, and some hang and some trap
+abbrev pub fails_both : WayCounts → Bool
+fails_both c = always_fails c && not (is_count 0 c.deadlock) && not (is_count 0 c.trap)
+
+-- `it always fails in rendezvous: it hangs in 3 of 5 runs and traps in 2`
+unfoldable pub both_line : Mode → WayCounts → List ℕ
+both_line m c = line (codes "it always fails" ++ in_mode m ++ codes ": it hangs in " ++ share c.deadlock c.total ++ codes " and traps in " ++ count_text c.trap)
+
 -- how many runs hang, and how many trap
+abbrev pub each_line : Mode → WayCounts → List ℕ
+each_line m c = hang_line m c ++ trap_line m c
+
 abbrev pub bad_text : Mode → WayCounts → List ℕ
-bad_text m c = hang_line m c ++ trap_line m c
+bad_text m c = if fails_both c then both_line m c else each_line m c
 
 unfoldable pub left_line : WayCounts → List ℕ
 left_line c = line_if (codes "it can end with calls left over: ") c.leftovers c.total []
@@ -90,13 +102,13 @@ abbrev pub more_line : Bool → List ℕ
 more_line false = []
 more_line true = line (codes "not everything was tried: there are more runs than these")
 
--- after how many steps runs are cut
-abbrev pub cut_after : ℕ → List ℕ
-cut_after fuel = codes " were cut after " ++ decimal fuel ++ codes " steps"
+-- after how many steps so many runs are cut
+abbrev pub cut_after : Count → ℕ → List ℕ
+cut_after n fuel = (if is_count 1 n then codes " was" else codes " were") ++ codes " cut after " ++ decimal fuel ++ codes " steps"
 
 -- what was not tried
 unfoldable pub untried_text : WayCounts → ℕ → List ℕ
-untried_text c fuel = line_if (codes "not everything was tried: ") c.cut c.total (cut_after fuel) ++ more_line c.more
+untried_text c fuel = line_if (codes "not everything was tried: ") c.cut c.total (cut_after c.cut fuel) ++ more_line c.more
 
 -- what becomes of the runs in a mode, which have so many steps at most, as was found by coming to so many states
 abbrev pub verdict_text : Mode → WayCounts → ℕ → ℕ → List ℕ
@@ -109,20 +121,28 @@ abbrev pub choices_of : Option Leaf → List ℕ
 choices_of None = []
 choices_of (Some l) = l.choices
 
+-- where several runs end so, what follows is told of one of them
+abbrev pub of_one : Count → List ℕ
+of_one n = if is_count 1 n then [] else codes ", one of them:"
+
 -- what they are called, how many runs end so, and what is told of one of them
 abbrev pub group_said : List ℕ → Count → Count → List ℕ → List ℕ
-group_said heading n total details = line (heading ++ codes ": " ++ share n total) ++ details
+group_said heading n total details = line (heading ++ codes ": " ++ share n total ++ of_one n) ++ details
 
--- the picture of one of them is written to a file
-abbrev pub group_text : List ℕ → Option ℕ → Mode → List ℕ → List ℕ → List ℕ → List ℕ
-group_text file ranks mode said choices picture = 10 ∷ folded said ++ run_commands file ranks mode choices picture
+-- A run of at most so many steps is drawn: no step shows more than 17 glyphs, and 20,000 can be drawn.
+abbrev pub is_drawn : ℕ → Bool
+is_drawn steps = nat_le steps PICTURED_STEPS
+
+-- the picture of one of them is written to a file, if its run is drawn
+abbrev pub group_text : List ℕ → Option ℕ → Mode → List ℕ → List ℕ → Bool → List ℕ → List ℕ
+group_text file ranks mode said choices drawn picture = 10 ∷ folded said ++ run_commands file ranks mode choices drawn picture
 
 -- Those of a report's leaves, which are called so. Their pictures are of a kind, and n stand before them.
 abbrev pub groups_text : List ℕ → Option ℕ → Mode → List ℕ → Bool → ℕ → Count → List (List ℕ) → List Leaf → List Group → List (List ℕ) → List ℕ
 groups_text file ranks mode kind several n total headings leaves [] ts = []
 groups_text file ranks mode kind several n total headings leaves (g ∷ gs) [] = []
 groups_text file ranks mode kind several n total headings leaves (g ∷ gs) (t ∷ ts) =
-    group_text file ranks mode (group_said (text_at (slice_get headings g.first)) g.count total t) (choices_of (slice_get leaves g.shown)) (picture_file kind several (n + 1))
+    group_text file ranks mode (group_said (text_at (slice_get headings g.first)) g.count total t) (choices_of (slice_get leaves g.shown)) (is_drawn g.steps) (picture_file kind several (n + 1))
     ++ groups_text file ranks mode kind several (n + 1) total headings leaves gs ts
 
 -- all of them

@@ -1,6 +1,7 @@
-//! What a diagnosis comes to, in a line for a number of ranks (docs/FORMATS.md, "Several numbers of ranks").
+//! What a diagnosis comes to, in a line for a number of ranks or a mode (docs/FORMATS.md, "Several numbers of ranks", "Several modes").
 
 ghost use Rattle.std.specs.Prelude.{◌≡◌, ◌++◌, IfOk, OnOk, string_bytes};
+ghost use Rattle.mpd_diagnose.specs.Told.{in_mode};
 ghost use Rattle.mpd_diagnose.specs.Brief as spec;
 
 use crate::diagnosis::Diagnosis;
@@ -11,12 +12,32 @@ use mpd_outcomes::{Count, push_count};
 use mpd_runs::{WayCounts, is_count};
 use std::alloc::{AllocError, Global};
 
-/// Adds a number of ranks.
-fn push_head(out: &mut String, ranks: usize) -> Result<(), AllocError>
-    ensures { OnOk result (string_bytes out.new ≡ string_bytes out.old ++ spec.ranks_head ranks) }
+/// A number of ranks.
+fn ranks_head(alloc: Global, ranks: usize) -> Result<String, AllocError>
+    ensures { IfOk result (λ t. string_bytes t ≡ spec.ranks_head ranks) }
 {
+    let mut out = String::new(alloc);
     write!(out, "{ranks}")?;
-    out.push_str(if ranks == 1 { " rank: " } else { " ranks: " })
+    out.push_str(if ranks == 1 { " rank: " } else { " ranks: " })?;
+    Ok(out)
+}
+
+/// A mode, before what is told of it.
+fn mode_head(alloc: Global, mode: Mode) -> Result<String, AllocError>
+    ensures { IfOk result (λ t. string_bytes t ≡ spec.mode_head mode) }
+{
+    let mut out = String::new(alloc);
+    write!(out, "{mode}: ")?;
+    Ok(out)
+}
+
+/// A mode, in what is told of a number of ranks.
+fn mode_place(alloc: Global, mode: Mode) -> Result<String, AllocError>
+    ensures { IfOk result (λ t. string_bytes t ≡ in_mode mode) }
+{
+    let mut out = String::new(alloc);
+    push_in_mode(&mut out, mode)?;
+    Ok(out)
 }
 
 /// Adds how many runs do something, where some do.
@@ -84,24 +105,40 @@ fn push_drawn(out: &mut String, drawn: Option<WayCounts>) -> Result<(), AllocErr
     }
 }
 
-/// What a diagnosis comes to, for a number of ranks and in a mode.
-fn ranks_text(
+/// What a diagnosis comes to, with what it is told of before it, and where that is said again behind how many runs there are.
+fn brief_text(
     alloc: Global,
-    ranks: usize,
-    mode: Mode,
+    head: &str,
+    place: &str,
     counts: WayCounts,
     drawn: Option<WayCounts>,
 ) -> Result<String, AllocError>
-    ensures { IfOk result (λ t. string_bytes t ≡ spec.ranks_text ranks mode counts drawn) }
+    ensures { IfOk result (λ t. string_bytes t ≡ spec.brief_text head.now place.now counts drawn) }
 {
     let mut out = String::new(alloc);
-    push_head(&mut out, ranks)?;
+    out.push_str(head)?;
     push_runs(&mut out, counts.total)?;
     push_and_more(&mut out, counts.more)?;
-    push_in_mode(&mut out, mode)?;
+    out.push_str(place)?;
     push_ways(&mut out, counts)?;
     push_count_if(&mut out, counts.cut, " cut")?;
     push_drawn(&mut out, drawn)?;
+    Ok(out)
+}
+
+/// Its line. A long one goes on in further lines.
+fn brief_line(
+    alloc: Global,
+    head: &str,
+    place: &str,
+    diagnosis: &Diagnosis,
+) -> Result<Vec<u8>, AllocError>
+    ensures { IfOk result (λ t. t.items ≡ spec.brief_line head.now place.now diagnosis.now.counts diagnosis.now.drawn) }
+{
+    let mut text = brief_text(alloc, head, place, diagnosis.counts, diagnosis.drawn)?;
+    text.push('\n')?;
+    let mut out = Vec::new(alloc);
+    push_folded(&mut out, text.as_bytes())?;
     Ok(out)
 }
 
@@ -115,9 +152,19 @@ pub fn ranks_line(
 ) -> Result<Vec<u8>, AllocError>
     ensures { IfOk result (λ t. t.items ≡ spec.ranks_line ranks mode diagnosis.now.counts diagnosis.now.drawn) }
 {
-    let mut text = ranks_text(alloc, ranks, mode, diagnosis.counts, diagnosis.drawn)?;
-    text.push('\n')?;
-    let mut out = Vec::new(alloc);
-    push_folded(&mut out, text.as_bytes())?;
-    Ok(out)
+    let head = ranks_head(alloc, ranks)?;
+    let place = mode_place(alloc, mode)?;
+    brief_line(alloc, &head, &place, diagnosis)
+}
+
+/// The same for a mode. An `Err` is want of memory.
+pub(crate) fn mode_line(
+    alloc: Global,
+    mode: Mode,
+    diagnosis: &Diagnosis,
+) -> Result<Vec<u8>, AllocError>
+    ensures { IfOk result (λ t. t.items ≡ spec.mode_line mode diagnosis.now.counts diagnosis.now.drawn) }
+{
+    let head = mode_head(alloc, mode)?;
+    brief_line(alloc, &head, "", diagnosis)
 }

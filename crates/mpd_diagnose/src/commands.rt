@@ -20,14 +20,14 @@ pub(crate) fn sample_command(alloc: Global, named: Named<'_>) -> Result<Vec<u8>,
     Ok(out)
 }
 
-/// The command that tries other modes.
+/// The command that diagnoses other modes.
 pub(crate) fn modes_command(alloc: Global, named: Named<'_>) -> Result<Vec<u8>, AllocError>
     ensures { IfOk result (λ t. t.items ≡ spec.modes_command named.entry.file.now named.entry.ranks) }
 {
     let mut out = Vec::new(alloc);
-    push_text(&mut out, "  ./mpdbg check ")?;
+    push_text(&mut out, "  ./mpdbg diagnose ")?;
     push_script(alloc, &mut out, named)?;
-    push_text(&mut out, " --modes 4 --outcomes")?;
+    push_text(&mut out, " --modes 4")?;
     push_text(&mut out, "\n")?;
     Ok(out)
 }
@@ -43,21 +43,17 @@ fn push_strict(out: &mut Vec<u8>, strict: bool) -> Result<(), AllocError>
     }
 }
 
-/// The command that diagnoses the script of a file for so many ranks, `strict` or not.
-pub fn ranks_command(
+/// The command that diagnoses the script of a file in a mode, for so many ranks where that is asked for, `strict` or not.
+pub fn full_command(
     alloc: Global,
     file: &str,
-    ranks: usize,
+    ranks: Option<usize>,
     mode: Mode,
     strict: bool,
 ) -> Result<Vec<u8>, AllocError>
-    ensures { IfOk result (λ t. t.items ≡ spec.ranks_command file.now ranks mode strict) }
+    ensures { IfOk result (λ t. t.items ≡ spec.full_command file.now ranks mode strict) }
 {
-    let named = Named {
-        file,
-        ranks: Some(ranks),
-        mode,
-    };
+    let named = Named { file, ranks, mode };
     let mut out = Vec::new(alloc);
     push_text(&mut out, "  ./mpdbg diagnose ")?;
     push_named(alloc, &mut out, named)?;
@@ -106,21 +102,66 @@ fn to_file(alloc: Global, file: &str) -> Result<String, AllocError>
     Ok(out)
 }
 
-/// The commands that debug and draw the run with these choices; the picture is written to this file.
-pub(crate) fn run_commands(
+/// Adds the command that debugs the run with these choices.
+fn push_debug(
     alloc: Global,
+    out: &mut Vec<u8>,
+    named: Named<'_>,
+    choices: &[usize],
+) -> Result<(), AllocError>
+    ensures { OnOk result (out.new.items ≡ out.old.items ++ spec.debug_command named.entry.file.now named.entry.ranks named.entry.mode choices.now) }
+{
+    let words = choices_words(alloc, choices)?;
+    push_command(alloc, out, "  ./mpdbg debug ", named, &words, "")
+}
+
+/// Adds the command that draws it to this file.
+fn push_draw(
+    alloc: Global,
+    out: &mut Vec<u8>,
     named: Named<'_>,
     choices: &[usize],
     picture: &str,
-) -> Result<Vec<u8>, AllocError>
-    ensures { IfOk result (λ t. t.items ≡ spec.run_commands named.entry.file.now named.entry.ranks named.entry.mode choices.now picture.now) }
+) -> Result<(), AllocError>
+    ensures { OnOk result (out.new.items ≡ out.old.items ++ spec.draw_command named.entry.file.now named.entry.ranks named.entry.mode choices.now picture.now) }
 {
     let words = choices_words(alloc, choices)?;
     let after = to_file(alloc, picture)?;
-    let mut out = Vec::new(alloc);
-    push_command(alloc, &mut out, "  ./mpdbg debug ", named, &words, "")?;
-    push_command(alloc, &mut out, "  ./mpdbg picture ", named, &words, &after)?;
-    Ok(out)
+    push_command(alloc, out, "  ./mpdbg picture ", named, &words, &after)
+}
+
+/// The same where it is drawn.
+fn push_draw_if(
+    alloc: Global,
+    out: &mut Vec<u8>,
+    named: Named<'_>,
+    choices: &[usize],
+    is_drawn: bool,
+    picture: &str,
+) -> Result<(), AllocError>
+    ensures { OnOk result (out.new.items ≡ out.old.items ++ spec.draw_if is_drawn named.entry.file.now named.entry.ranks named.entry.mode choices.now picture.now) }
+{
+    if is_drawn {
+        push_draw(alloc, out, named, choices, picture)
+    } else {
+        Ok(())
+    }
+}
+
+/// Adds the commands that debug the run with these choices, and draw it to this file where it is drawn.
+pub(crate) fn push_run(
+    alloc: Global,
+    out: &mut Vec<u8>,
+    named: Named<'_>,
+    choices: &[usize],
+    is_drawn: bool,
+    picture: &str,
+) -> Result<(), AllocError>
+    ensures { OnOk result (out.new.items ≡ out.old.items ++ spec.run_commands named.entry.file.now named.entry.ranks named.entry.mode choices.now is_drawn picture.now) }
+{
+    push_debug(alloc, out, named, choices)?;
+    push_draw_if(alloc, out, named, choices, is_drawn, picture)?;
+    Ok(())
 }
 
 /// The file that a picture is written to: what its kind is called, and its number where there are several.

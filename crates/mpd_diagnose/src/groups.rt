@@ -20,6 +20,8 @@ pub(crate) struct Group {
     pub(crate) count: Count,
     /// The number of the one that is explained.
     pub(crate) shown: usize,
+    /// How many steps the run of that one has.
+    pub(crate) steps: usize,
 }
 
 /// Whether the end of a number is called so.
@@ -94,10 +96,12 @@ fn group_of(
     ensures { IfOk result (λ g. g ≡ spec.group_of (map string_bytes headings.now) counts.now steps.now number) }
 {
     let numbers = members(alloc, headings, text_at(headings, number))?;
+    let shown = shortest(steps, number, &numbers);
     Ok(Group {
         first: number,
         count: count_of(counts, &numbers),
-        shown: shortest(steps, number, &numbers),
+        shown,
+        steps: steps.get(shown).copied().unwrap_or(0),
     })
 }
 

@@ -1,6 +1,6 @@
 //! The kind of a bad end, and the lines of the script at which it stands.
 
-ghost use Rattle.std.specs.Prelude.{◌≡◌, ◌++◌, IfOk, OnOk, map, slice_get, string_bytes};
+ghost use Rattle.std.specs.Prelude.{◌≡◌, ◌++◌, IfOk, OnOk, slice_get, string_bytes};
 ghost use Rattle.std.specs.List.{flat_map};
 ghost use Rattle.std.specs.Ordering.{nat_cmp};
 ghost use Rattle.std.specs.BTreeSet.{insert_key};
@@ -8,7 +8,7 @@ ghost use Rattle.mpd_diagnose.specs.Headings as spec;
 
 use mpd_core::Core;
 use mpd_explore::Ending;
-use mpd_model::{CallId, Outcome, TrappedRank};
+use mpd_model::{Activity, IssuedCall, Outcome, TrappedRank};
 use mpd_names::{issue_line, rank_line};
 use std::alloc::{AllocError, Global};
 use std::collections::BTreeSet;
@@ -25,13 +25,13 @@ fn insert(numbers: &mut BTreeSet<usize>, number: usize) -> Result<(), AllocError
 fn call_lines(
     alloc: Global,
     core: &Core<'_>,
-    calls: &[CallId],
+    calls: &[IssuedCall],
 ) -> Result<BTreeSet<usize>, AllocError>
     ensures { IfOk result (λ s. s.keys ≡ spec.call_lines core.now.program core.now.world.board calls.now) }
 {
     let mut lines = BTreeSet::new(alloc);
     for call in calls {
-        insert(&mut lines, issue_line(core, *call))?;
+        insert(&mut lines, issue_line(core, call.id))?;
     }
     Ok(lines)
 }
@@ -47,6 +47,41 @@ fn trap_lines(
     let mut lines = BTreeSet::new(alloc);
     for trapped in traps {
         insert(&mut lines, rank_line(core, trapped.rank))?;
+    }
+    Ok(lines)
+}
+
+/// Adds a number to some, but for 0.
+fn insert_some(numbers: &mut BTreeSet<usize>, number: usize) -> Result<(), AllocError>
+    ensures { OnOk result (numbers.new.keys ≡ spec.with_some numbers.old.keys number) }
+{
+    if number == 0 {
+        Ok(())
+    } else {
+        insert(numbers, number)
+    }
+}
+
+/// The line where a rank stands: that of its next statement, or where it is blocked that of the call that it waits in; 0 where it has ended.
+fn standing_line(core: &Core<'_>, rank: usize) -> usize
+    ensures { result ≡ spec.standing_line core.now.program core.now.world rank }
+{
+    match core.activity(rank) {
+        None => 0,
+        Some(Activity::Blocked) => issue_line(core, core.board().last_call(rank)),
+        Some(Activity::Running) => rank_line(core, rank),
+        Some(Activity::Trapped(_)) => rank_line(core, rank),
+    }
+}
+
+/// The lines where ranks stand, each once: a rank that has ended stands nowhere.
+fn standing_lines(alloc: Global, core: &Core<'_>) -> Result<BTreeSet<usize>, AllocError>
+    ensures { IfOk result (λ s. s.keys ≡ spec.standing_lines core.now.program core.now.world) }
+{
+    let mut lines = BTreeSet::new(alloc);
+    let count = core.rank_count();
+    for rank in 0..count {
+        insert_some(&mut lines, standing_line(core, rank))?;
     }
     Ok(lines)
 }
@@ -97,7 +132,7 @@ fn placed(alloc: Global, kind: &str, numbers: &BTreeSet<usize>) -> Result<String
     Ok(out)
 }
 
-/// The kind of an end that a run comes to, and the lines at which it stands; empty where a run ends well, or is cut.
+/// The kind of an end that a run comes to, and the lines at which it stands; empty where a run ends well.
 pub(crate) fn heading_of(
     alloc: Global,
     core: &Core<'_>,
@@ -123,6 +158,7 @@ pub(crate) fn heading_of(
                 &call_lines(alloc, core, &calls.items)?,
             )
         }
-        Ending::Ended(Outcome::Done) | Ending::Cut => Ok(String::new(alloc)),
+        Ending::Cut => placed(alloc, "cut at", &standing_lines(alloc, core)?),
+        Ending::Ended(Outcome::Done) => Ok(String::new(alloc)),
     }
 }

@@ -9,11 +9,13 @@ mod diagnosis;
 mod groups;
 mod heading;
 mod hint;
+mod modes;
 mod told;
 mod verdict;
 mod words;
 
 pub use brief::ranks_line;
-pub use commands::ranks_command;
+pub use commands::full_command;
 pub use diagnosis::{Diagnosis, DiagnosisPlan, diagnose};
+pub use modes::{ModeTold, closing_of, diagnose_mode, first_of, modes_up_to, worst_of};
 pub use verdict::verdict_of;

@@ -2,9 +2,10 @@
 
 ghost use Rattle.std.specs.Prelude.{◌≡◌, ◌++◌, ◌&&◌, IfOk, OnOk, slice_get, map, string_bytes};
 ghost use Rattle.std.specs.Option.{option_map};
+ghost use Rattle.mpd_diagnose.specs.Commands as command;
 ghost use Rattle.mpd_diagnose.specs.Told as spec;
 
-use crate::commands::{modes_command, picture_file, run_commands, sample_command};
+use crate::commands::{modes_command, picture_file, push_run, sample_command};
 use crate::groups::Group;
 use crate::words::Named;
 use mpd_explain::text_at;
@@ -14,6 +15,9 @@ use mpd_model::Mode;
 use mpd_outcomes::{Count, Outcomes, push_count};
 use mpd_runs::{WayCounts, is_count, sees_all};
 use std::alloc::{AllocError, Global};
+
+/// How many steps a run has at most that is drawn: no step shows more than 17 glyphs, and 20,000 can be drawn (docs/PICTURES.md).
+const PICTURED_STEPS: usize = 1_000;
 
 /// Adds how many runs there are.
 pub(crate) fn push_runs(out: &mut String, count: Count) -> Result<(), AllocError>
@@ -136,12 +140,13 @@ fn push_well_line(
     out.push('\n')
 }
 
-/// After how many steps runs are cut.
-fn cut_after(alloc: Global, fuel: usize) -> Result<String, AllocError>
-    ensures { IfOk result (λ t. string_bytes t ≡ spec.cut_after fuel) }
+/// After how many steps so many runs are cut.
+fn cut_after(alloc: Global, cut: Count, fuel: usize) -> Result<String, AllocError>
+    ensures { IfOk result (λ t. string_bytes t ≡ spec.cut_after cut fuel) }
 {
     let mut out = String::new(alloc);
-    write!(out, " were cut after {fuel} steps")?;
+    out.push_str(if is_count(cut, 1) { " was" } else { " were" })?;
+    write!(out, " cut after {fuel} steps")?;
     Ok(out)
 }
 
@@ -177,7 +182,7 @@ fn push_untried(
 ) -> Result<(), AllocError>
     ensures { OnOk result (string_bytes out.new ≡ string_bytes out.old ++ spec.untried_text counts fuel) }
 {
-    let after = cut_after(alloc, fuel)?;
+    let after = cut_after(alloc, counts.cut, fuel)?;
     push_line_if(
         out,
         "not everything was tried: ",
@@ -245,13 +250,45 @@ fn push_trap(out: &mut String, mode: Mode, counts: WayCounts) -> Result<(), Allo
     }
 }
 
-/// Adds how many runs hang, and how many trap.
-fn push_bad(out: &mut String, mode: Mode, counts: WayCounts) -> Result<(), AllocError>
-    ensures { OnOk result (string_bytes out.new ≡ string_bytes out.old ++ spec.bad_text mode counts) }
+/// Adds how many runs hang, and how many trap, by a line each.
+fn push_each(out: &mut String, mode: Mode, counts: WayCounts) -> Result<(), AllocError>
+    ensures { OnOk result (string_bytes out.new ≡ string_bytes out.old ++ spec.each_line mode counts) }
 {
     push_hang(out, mode, counts)?;
     push_trap(out, mode, counts)?;
     Ok(())
+}
+
+/// Whether every run fails, and some hang and some trap.
+fn fails_both(counts: WayCounts) -> bool
+    ensures { result ≡ spec.fails_both counts }
+{
+    always_fails(counts) && !is_count(counts.deadlock, 0) && !is_count(counts.trap, 0)
+}
+
+/// Adds the line of it.
+fn push_both(out: &mut String, mode: Mode, counts: WayCounts) -> Result<(), AllocError>
+    ensures { OnOk result (string_bytes out.new ≡ string_bytes out.old ++ spec.both_line mode counts) }
+{
+    out.push_str("it always fails")?;
+    push_in_mode(out, mode)?;
+    out.push_str(": it hangs in ")?;
+    push_share(out, counts.deadlock, counts.total)?;
+    out.push_str(" and traps in ")?;
+    push_count(out, counts.trap)?;
+    out.push_str("\n")?;
+    Ok(())
+}
+
+/// Adds how many runs hang, and how many trap.
+fn push_bad(out: &mut String, mode: Mode, counts: WayCounts) -> Result<(), AllocError>
+    ensures { OnOk result (string_bytes out.new ≡ string_bytes out.old ++ spec.bad_text mode counts) }
+{
+    if fails_both(counts) {
+        push_both(out, mode, counts)
+    } else {
+        push_each(out, mode, counts)
+    }
 }
 
 /// What becomes of the runs in a mode, which have so many steps at most, as was found by coming to so many states.
@@ -274,6 +311,16 @@ fn verdict_text(
 
 // ---- ends that are told together
 
+/// Adds that what follows is told of one of so many runs, where they are several.
+fn push_of_one(out: &mut String, count: Count) -> Result<(), AllocError>
+    ensures { OnOk result (string_bytes out.new ≡ string_bytes out.old ++ spec.of_one count) }
+{
+    if is_count(count, 1) {
+        return Ok(());
+    }
+    out.push_str(", one of them:")
+}
+
 /// What they are called, how many runs end so, and what is told of one of them.
 fn group_said(
     alloc: Global,
@@ -288,26 +335,58 @@ fn group_said(
     out.push_str(heading)?;
     out.push_str(": ")?;
     push_share(&mut out, count, total)?;
+    push_of_one(&mut out, count)?;
     out.push('\n')?;
     out.push_str(details)?;
     Ok(out)
 }
 
-/// Adds what is told of ends together, and the commands that go to one of them, whose picture is written to this file.
+/// Whether a run of so many steps is drawn.
+fn is_drawn(steps: usize) -> bool
+    ensures { result ≡ spec.is_drawn steps }
+{
+    steps <= PICTURED_STEPS
+}
+
+/// The picture of a run: its file, and whether it is drawn.
+#[derive(Drop)]
+struct Picture {
+    file: String,
+    is_drawn: bool,
+}
+
+/// The picture of a run of so many steps, by its number among those of a kind.
+fn picture_of(
+    alloc: Global,
+    kind: &str,
+    several: bool,
+    number: usize,
+    steps: usize,
+) -> Result<Picture, AllocError>
+    ensures file { IfOk result (λ p. string_bytes p.file ≡ command.picture_file kind.now several number) }
+    ensures drawn { IfOk result (λ p. p.is_drawn ≡ spec.is_drawn steps) }
+{
+    let file = picture_file(alloc, kind, several, number)?;
+    Ok(Picture {
+        file,
+        is_drawn: is_drawn(steps),
+    })
+}
+
+/// Adds what is told of ends together, and the commands that go to one of them, of which this is the picture.
 fn push_group(
     alloc: Global,
     out: &mut Vec<u8>,
     named: Named<'_>,
     said: &str,
     choices: &[usize],
-    picture: &str,
+    picture: &Picture,
 ) -> Result<(), AllocError>
-    ensures { OnOk result (out.new.items ≡ out.old.items ++ spec.group_text named.entry.file.now named.entry.ranks named.entry.mode said.now choices.now picture.now) }
+    ensures { OnOk result (out.new.items ≡ out.old.items ++ spec.group_text named.entry.file.now named.entry.ranks named.entry.mode said.now choices.now picture.now.is_drawn (string_bytes picture.now.file)) }
 {
-    let commands = run_commands(alloc, named, choices, picture)?;
     out.push(b'\n')?;
     push_folded(out, said.as_bytes())?;
-    out.extend_from_slice(&commands)?;
+    push_run(alloc, out, named, choices, picture.is_drawn, &picture.file)?;
     Ok(())
 }
 
@@ -357,7 +436,7 @@ pub(crate) fn push_groups(
         let heading = text_at(&told.headings, group.first);
         let said = group_said(alloc, heading, group.count, outcomes.total, details)?;
         number += 1;
-        let picture = picture_file(alloc, kind, several, number)?;
+        let picture = picture_of(alloc, kind, several, number, group.steps)?;
         let choices = choices_at(leaves, group.shown);
         push_group(alloc, out, named, &said, choices, &picture)?;
     }

@@ -14,10 +14,10 @@ use Rattle.mpd_model.specs.declared.call.RecvCall.{RecvCall}
 use Rattle.mpd_model.specs.declared.outcome.TrappedRank.{TrappedRank}
 use Rattle.mpd_model.specs.declared.outcome.Outcome.TheVariants.{Done, Leftovers, Deadlock, Trap}
 use Rattle.mpd_model.specs.script.Program.{Program}
-use Rattle.mpd_model.specs.steps.World.{RankWorld, World, Board, kind_at, is_barrier, last_call, rank_numbers, start}
+use Rattle.mpd_model.specs.steps.World.{RankWorld, World, Board, call_id, kind_at, is_barrier, last_call, rank_numbers, start}
 use Rattle.mpd_model.specs.steps.Next.{fold, is_at_barrier}
-use Rattle.mpd_model.specs.steps.Outcomes.{has_ended}
-use Rattle.mpd_model.specs.texts.Texts.{line, trap_name}
+use Rattle.mpd_model.specs.steps.Outcomes.{has_ended, ids_of}
+use Rattle.mpd_model.specs.texts.Texts.{line, id_text, trap_name}
 use Rattle.mpd_names.specs.Placed.{rank_line, placed}
 use Rattle.mpd_names.specs.Reads.{read_text}
 use Rattle.mpd_walk.specs.declared.ending.Ending.{Ending}
@@ -40,12 +40,17 @@ any_or name (Some n) = name ++ 32 ∷ decimal n
 abbrev pub recv_wish : RecvCall → List ℕ
 recv_wish r = codes "for a send of " ++ any_or (codes "rank") r.from ++ codes " with " ++ any_or (codes "tag") r.tag
 
+-- what a wait of rank p waits for
+abbrev pub request_wish : ℕ → Option ℕ → List ℕ
+request_wish p None = codes "for no request"
+request_wish p (Some i) = codes "for request " ++ id_text (call_id p i)
+
 -- what a call of rank p waits for
 abbrev pub wish : ℕ → Option CallKind → List ℕ
 wish p None = codes "for nothing"
 wish p (Some (Send s)) = send_wish p s
 wish p (Some (Recv r)) = recv_wish r
-wish p (Some (Wait t)) = codes "for this request"
+wish p (Some (Wait t)) = request_wish p t.target
 wish p (Some (Waitany a)) = codes "for one of these requests"
 wish p (Some Barrier) = codes "for all ranks at a barrier"
 
@@ -66,11 +71,11 @@ taken_line s b None = []
 taken_line s b (Some t) = line (codes "    the last that fits is taken: " ++ placed s b t.0 ++ codes ", by " ++ placed s b t.1)
 
 -- what nearly fits a call, and what would have fitted it
-abbrev pub helps : Program → Board → CallId → List ℕ
-helps s b c = miss_line s b (nearest b c) ++ taken_line s b (taken b c)
+abbrev pub helps : Program → World → CallId → List ℕ
+helps s w c = miss_line s w.board (nearest w c) ++ taken_line s w.board (taken w.board c)
 
-abbrev pub request_lines : Program → Board → CallId → List ℕ
-request_lines s b c = request_line s b c ++ helps s b c
+abbrev pub request_lines : Program → World → CallId → List ℕ
+request_lines s w c = request_line s w.board c ++ helps s w c
 
 -- the call that a rank waits in
 abbrev pub last_text : Program → Board → CallId → List ℕ
@@ -97,7 +102,7 @@ absent_line s w q = if is_at_barrier w q then [] else absence_line q (absence s 
 
 -- the lines behind that of a blocked call
 abbrev pub details : Program → World → CallId → Option CallKind → List ℕ
-details s w c kind = if is_barrier kind then flat_map (absent_line s w) (rank_numbers w.board) else helps s w.board c ++ flat_map (request_lines s w.board) (requests w c.rank kind)
+details s w c kind = if is_barrier kind then flat_map (absent_line s w) (rank_numbers w.board) else helps s w c ++ flat_map (request_lines s w) (requests w c.rank kind)
 
 -- ---- deadlocks, traps and leftovers
 
@@ -133,8 +138,8 @@ tells_of (Ended (Trap ranks)) = true
 abbrev pub told : Program → World → Ending → List ℕ
 told s w Cut = []
 told s w (Ended Done) = []
-told s w (Ended (Leftovers calls)) = flat_map (left_line s w.board) calls
-told s w (Ended (Deadlock blocked)) = deadlock_text s w blocked
+told s w (Ended (Leftovers calls)) = flat_map (left_line s w.board) (ids_of calls)
+told s w (Ended (Deadlock calls)) = deadlock_text s w (ids_of calls)
 told s w (Ended (Trap ranks)) = flat_map (trap_line s w) ranks
 
 abbrev pub told_at : Program → Option World → Ending → List ℕ

@@ -11,6 +11,7 @@ use Rattle.mpd_model.specs.script.Term.{Term, lit, own_rank, cell, op2, Target}
 use Rattle.mpd_model.specs.script.Tree.{Tree, simple, branch, no_more, then_more}
 use Rattle.mpd_model.specs.script.Program.{Program}
 use Rattle.mpd_model.specs.steps.World.{call_id, start}
+use Rattle.mpd_model.specs.steps.Outcomes.{issued_by}
 use Rattle.mpd_model.specs.runs.Decisions.{decision}
 use Rattle.mpd_model.specs.texts.Texts.{line}
 use Rattle.mpd_walk.specs.declared.ending.Ending.{Ending}
@@ -160,7 +161,7 @@ abbrev a_leaf : ℕ → Ending → leaf.Leaf
 a_leaf choice e = record { choices = choice ∷ []; ending = e }
 
 abbrev stuck : Ending
-stuck = Ended (o.Deadlock (call_id 0 1 ∷ []))
+stuck = Ended (o.Deadlock (issued_by 3 (call_id 0 1) ∷ []))
 
 abbrev four : List leaf.Leaf
 four = a_leaf 0 (Ended o.Done) ∷ a_leaf 1 stuck ∷ a_leaf 2 (Ended o.Done) ∷ a_leaf 3 Cut ∷ []

@@ -1,13 +1,15 @@
 -- What nearly fits a call that waits, and what would have fitted it.
-use Rattle.std.specs.Prelude.{ℕ, Bool, true, false, ◌==◌, if◌then◌else◌, List, [], ◌∷◌, Option, Some, None, codes}
-use Rattle.std.specs.List.{filter, flat_map}
+use Rattle.std.specs.Prelude.{ℕ, Bool, true, false, ◌||◌, ◌==◌, if◌then◌else◌, List, [], ◌∷◌, slice_get, Option, Some, None, codes}
+use Rattle.std.specs.List.{filter, flat_map, list_any}
 use Rattle.mpd_model.specs.declared.step.CallId.{CallId}
 use Rattle.mpd_model.specs.declared.call.CallKind.{CallKind}
 use Rattle.mpd_model.specs.declared.call.CallKind.TheVariants.{Send, Recv}
 use Rattle.mpd_model.specs.declared.call.MatchSet.{MatchSet}
 use Rattle.mpd_model.specs.declared.call.MatchSet.TheVariants.{Pair}
-use Rattle.mpd_model.specs.steps.World.{Board, call_id, kind_at, rank_numbers, call_numbers, is_free, is_any_or, fits}
+use Rattle.mpd_model.specs.steps.World.{World, Board, call_id, id_eq, kind_at, last_call, rank_numbers, call_numbers, is_free, is_any_or, fits}
+use Rattle.mpd_model.specs.steps.Next.{waits}
 use Rattle.mpd_model.specs.steps.Why.{first_in, or_else}
+use Rattle.mpd_explain.specs.Requests.{requests}
 use Rattle.mpd_explain.specs.declared.near_miss.Miss.{Miss}
 use Rattle.mpd_explain.specs.declared.near_miss.Miss.TheVariants.{Tag, Source, Destination}
 
@@ -33,9 +35,13 @@ abbrev pub miss_entry : CallId → Option Miss → List (CallId × Miss)
 miss_entry e None = []
 miss_entry e (Some m) = (e, m) ∷ []
 
+-- the same of a free call
+abbrev pub free_miss : Board → CallId → CallId → Option Miss
+free_miss b c e = if is_free b e then near_miss b c e else None
+
 -- a free call that nearly fits this one
 abbrev pub misses_with : Board → CallId → CallId → List (CallId × Miss)
-misses_with b c e = if is_free b e then miss_entry e (near_miss b c e) else []
+misses_with b c e = miss_entry e (free_miss b c e)
 
 -- all of a rank, and all, by rank and number
 abbrev pub misses_at : Board → CallId → ℕ → List (CallId × Miss)
@@ -53,12 +59,47 @@ same_miss m n = false
 abbrev pub first_miss : Miss → List (CallId × Miss) → Option (CallId × Miss)
 first_miss m ms = first_in (filter (λ e. same_miss m e.1) ms)
 
--- the first that differs in the tag alone, else in the source alone, else in the destination alone
-abbrev pub nearest_of : List (CallId × Miss) → Option (CallId × Miss)
-nearest_of ms = or_else (first_miss Tag ms) (or_else (first_miss Source ms) (first_miss Destination ms))
+-- the first that differs in the tag alone, else in this one thing, else in that one
+abbrev pub by_order : Miss → Miss → List (CallId × Miss) → Option (CallId × Miss)
+by_order m n ms = or_else (first_miss Tag ms) (or_else (first_miss m ms) (first_miss n ms))
 
-abbrev pub nearest : Board → CallId → Option (CallId × Miss)
-nearest b c = nearest_of (misses b c)
+-- calls of the rank that is waited for come before those of others: of that rank are, for a receive, the sends of another destination,
+-- and for a send the receives of another source
+abbrev pub nearest_of : Option CallKind → List (CallId × Miss) → Option (CallId × Miss)
+nearest_of (Some (Recv r)) ms = by_order Destination Source ms
+nearest_of kind ms = by_order Source Destination ms
+
+-- a call that its rank waits for from when it issues it, and a send that is buffered
+abbrev pub is_at_once : Option CallKind → Bool
+is_at_once (Some (Send s)) = s.blocks || s.buffered
+is_at_once (Some (Recv r)) = r.blocks
+is_at_once kind = false
+
+-- a call that the wait or the waitany is for in which its rank is blocked
+abbrev pub is_waited : World → CallId → Bool
+is_waited w c = if waits (slice_get w.ranks c.rank) then list_any (λ d. id_eq d c) (requests w c.rank (kind_at w.board (last_call w.board c.rank))) else false
+
+-- any other may be meant for a call that is still to come
+abbrev pub is_due : World → CallId → Bool
+is_due w c = is_at_once (kind_at w.board c) || is_waited w c
+
+abbrev pub due_entry : World → CallId → Option Miss → List (CallId × Miss)
+due_entry w e None = []
+due_entry w e (Some m) = if is_due w e then (e, m) ∷ [] else []
+
+abbrev pub due_with : World → CallId → CallId → List (CallId × Miss)
+due_with w c e = due_entry w e (free_miss w.board c e)
+
+-- those of a rank that are due, and all, by rank and number
+abbrev pub due_at : World → CallId → ℕ → List (CallId × Miss)
+due_at w c p = flat_map (λ i. due_with w c (call_id p i)) (call_numbers w.board p)
+
+abbrev pub due : World → CallId → List (CallId × Miss)
+due w c = flat_map (due_at w c) (rank_numbers w.board)
+
+-- the nearest of those that are due, else of all
+abbrev pub nearest : World → CallId → Option (CallId × Miss)
+nearest w c = or_else (nearest_of (kind_at w.board c) (due w c)) (nearest_of (kind_at w.board c) (misses w.board c))
 
 abbrev pub miss_text : Miss → List ℕ
 miss_text Tag = codes "another tag"

@@ -50,9 +50,16 @@ abbrev pub ranks_text : World → List ℕ → List ℕ
 ranks_text w [] = codes "nobody"
 ranks_text w (q ∷ qs) = rank_words w q ++ flat_map (λ r. codes ", " ++ rank_words w r) qs
 
--- `  rank 0 waits for rank 1 (ended)`
+-- of several ranks all are wanted at a barrier, and elsewhere any of them would do
+abbrev pub several_words : Option CallKind → List ℕ → List ℕ
+several_words kind qs = if nat_lt 1 (length qs) then (if is_barrier kind then codes "all of " else codes "any of ") else []
+
+abbrev pub awaited_text : World → Option CallKind → List ℕ → List ℕ
+awaited_text w kind qs = several_words kind qs ++ ranks_text w qs
+
+-- `  rank 0 waits for rank 1 (ended)`, `  rank 0 waits for any of rank 1, rank 2`
 abbrev pub waits_line : World → CallId → List ℕ
-waits_line w c = line (codes "  rank " ++ decimal c.rank ++ codes " waits for " ++ ranks_text w (awaited_ranks w c))
+waits_line w c = line (codes "  rank " ++ decimal c.rank ++ codes " waits for " ++ awaited_text w (kind_at w.board c) (awaited_ranks w c))
 
 -- ---- cycles
 

@@ -26,13 +26,13 @@ use std::alloc::{AllocError, Global};
 pub struct Beside {
     /// The fuel of the exploration that listed the leaves.
     pub fuel: usize,
-    /// Whether a deadlock has its witness.
+    /// Whether a deadlock or a trap has its witness.
     pub witnesses: bool,
     /// Whether a deadlock and a trap are explained.
     pub explain: bool,
 }
 
-/// Goes along the run of a leaf, and makes the text of its witness, empty where it is no deadlock. The debugger is left anywhere beyond
+/// Goes along the run of a leaf, and makes the text of its witness, empty where it is neither a deadlock nor a trap. The debugger is left anywhere beyond
 /// where it stood.
 fn witness_there<S: Schedule>(
     alloc: Global,

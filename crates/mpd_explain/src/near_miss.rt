@@ -1,13 +1,15 @@
 //! What nearly fits a call that waits, and what would have fitted it.
 
-ghost use Rattle.std.specs.Prelude.{◌≡◌, ◌++◌, ◌<◌, IfOk, OnOk, length};
-ghost use Rattle.mpd_model.specs.steps.World.{fits as fits_on};
+ghost use Rattle.std.specs.Prelude.{◌≡◌, ◌++◌, ◌<◌, IfOk, OnOk, Some, length};
+ghost use Rattle.std.specs.List.{list_any};
+ghost use Rattle.mpd_model.specs.steps.World.{id_eq, fits as fits_on};
 ghost use Rattle.mpd_model.specs.steps.Why.{or_else};
 ghost use Rattle.mpd_explain.specs.Missed as missed;
 
+use crate::request_calls::requests;
 use mpd_core::Core;
 use mpd_match::is_any_or;
-use mpd_model::{CallId, CallKind, MatchSet};
+use mpd_model::{Activity, CallId, CallKind, MatchSet};
 use std::alloc::{AllocError, Global};
 
 /// In what alone a send and a receive don't fit: the tag, the source that the receive names, or the rank that the send goes to.
@@ -65,6 +67,17 @@ fn near_miss(core: &Core<'_>, call: CallId, other: CallId) -> Option<Miss>
     }
 }
 
+/// In what alone a free call doesn't fit another.
+fn free_miss(core: &Core<'_>, call: CallId, other: CallId) -> Option<Miss>
+    ensures { result ≡ missed.free_miss core.now.world.board call other }
+{
+    if core.board().is_free(other) {
+        near_miss(core, call, other)
+    } else {
+        None
+    }
+}
+
 /// Adds a call, where it is free and nearly fits another.
 fn push_miss(
     core: &Core<'_>,
@@ -74,10 +87,7 @@ fn push_miss(
 ) -> Result<(), AllocError>
     ensures { OnOk result (out.new.items ≡ out.old.items ++ missed.misses_with core.now.world.board call other) }
 {
-    if !core.board().is_free(other) {
-        return Ok(());
-    }
-    if let Some(miss) = near_miss(core, call, other) {
+    if let Some(miss) = free_miss(core, call, other) {
         out.push((other, miss))?;
     }
     Ok(())
@@ -136,30 +146,151 @@ fn first_miss(wanted: Miss, misses: &[(CallId, Miss)]) -> Option<(CallId, Miss)>
     None
 }
 
-/// The first that differs in the tag alone, else in the source alone, else in the destination alone.
-fn nearest_of(misses: &[(CallId, Miss)]) -> Option<(CallId, Miss)>
-    ensures { result ≡ missed.nearest_of misses.now }
+/// The first that differs in the tag alone, else in this one thing, else in that one.
+fn by_order(next: Miss, last: Miss, misses: &[(CallId, Miss)]) -> Option<(CallId, Miss)>
+    ensures { result ≡ missed.by_order next last misses.now }
 {
     if let Some(entry) = first_miss(Miss::Tag, misses) {
         return Some(entry);
     }
-    if let Some(entry) = first_miss(Miss::Source, misses) {
+    if let Some(entry) = first_miss(next, misses) {
         return Some(entry);
     }
-    first_miss(Miss::Destination, misses)
+    first_miss(last, misses)
 }
 
-/// The free call that fits a call but for one thing, where there is one: the tag before the source, and that before the destination.
-/// An `Err` is want of memory.
+/// The first that differs in the tag alone, else the first of the rank that is waited for, else the first of another.
+fn nearest_of(kind: Option<CallKind>, misses: &[(CallId, Miss)]) -> Option<(CallId, Miss)>
+    ensures { result ≡ missed.nearest_of kind misses.now }
+{
+    match kind {
+        Some(CallKind::Recv(_)) => by_order(Miss::Destination, Miss::Source, misses),
+        None
+        | Some(CallKind::Send(_))
+        | Some(CallKind::Wait(_))
+        | Some(CallKind::Waitany(_))
+        | Some(CallKind::Barrier) => by_order(Miss::Source, Miss::Destination, misses),
+    }
+}
+
+/// Whether a rank waits for a call of this kind from when it issues it, or it is a send that is buffered.
+fn is_at_once(kind: Option<CallKind>) -> bool
+    ensures { result ≡ missed.is_at_once kind }
+{
+    match kind {
+        Some(CallKind::Send(send)) => send.blocks || send.buffered,
+        Some(CallKind::Recv(recv)) => recv.blocks,
+        None | Some(CallKind::Wait(_)) | Some(CallKind::Waitany(_)) | Some(CallKind::Barrier) =>
+            false,
+    }
+}
+
+/// Whether a call is one of these.
+fn is_among(calls: &[CallId], wanted: CallId) -> bool
+    ensures { result ≡ list_any (λ d. id_eq d wanted) calls.now }
+{
+    calls.iter().any(|call| call.rank == wanted.rank && call.index == wanted.index)
+}
+
+/// Whether a call is one that the wait or the waitany is for in which its rank is blocked.
+fn is_waited(alloc: Global, core: &Core<'_>, call: CallId) -> Result<bool, AllocError>
+    ensures { IfOk result (λ b. b ≡ missed.is_waited core.now.world call) }
+{
+    match core.activity(call.rank) {
+        None | Some(Activity::Running) | Some(Activity::Trapped(_)) => Ok(false),
+        Some(Activity::Blocked) => {
+            let last = core.board().last_call(call.rank);
+            let calls = requests(alloc, core, call.rank, core.board().kind(last))?;
+            Ok(is_among(&calls, call))
+        }
+    }
+}
+
+/// Whether a call is due: it isn't one that may be meant for a call that is still to come.
+fn is_due(alloc: Global, core: &Core<'_>, call: CallId) -> Result<bool, AllocError>
+    ensures { IfOk result (λ b. b ≡ missed.is_due core.now.world call) }
+{
+    let waited = is_waited(alloc, core, call)?;
+    Ok(is_at_once(core.board().kind(call)) || waited)
+}
+
+/// Adds a near miss, where it is due.
+fn push_if_due(
+    alloc: Global,
+    core: &Core<'_>,
+    call: CallId,
+    miss: Miss,
+    out: &mut Vec<(CallId, Miss)>,
+) -> Result<(), AllocError>
+    ensures { OnOk result (out.new.items ≡ out.old.items ++ missed.due_entry core.now.world call (Some miss)) }
+{
+    if is_due(alloc, core, call)? {
+        out.push((call, miss))?;
+    }
+    Ok(())
+}
+
+/// Adds a call, where it is free and due, and nearly fits another.
+fn push_due(
+    alloc: Global,
+    core: &Core<'_>,
+    call: CallId,
+    other: CallId,
+    out: &mut Vec<(CallId, Miss)>,
+) -> Result<(), AllocError>
+    ensures { OnOk result (out.new.items ≡ out.old.items ++ missed.due_with core.now.world call other) }
+{
+    match free_miss(core, call, other) {
+        None => Ok(()),
+        Some(miss) => push_if_due(alloc, core, other, miss, out),
+    }
+}
+
+/// Adds the free calls of a rank that are due and nearly fit a call.
+fn push_due_at(
+    alloc: Global,
+    core: &Core<'_>,
+    call: CallId,
+    rank: usize,
+    out: &mut Vec<(CallId, Miss)>,
+) -> Result<(), AllocError>
+    ensures { OnOk result (out.new.items ≡ out.old.items ++ missed.due_at core.now.world call rank) }
+{
+    let count = core.board().call_count(rank);
+    for index in 0..count {
+        push_due(alloc, core, call, CallId { rank, index }, out)?;
+    }
+    Ok(())
+}
+
+/// The free calls that are due and nearly fit a call, by rank and number.
+fn due(alloc: Global, core: &Core<'_>, call: CallId) -> Result<Vec<(CallId, Miss)>, AllocError>
+    ensures { IfOk result (λ ms. ms.items ≡ missed.due core.now.world call) }
+{
+    let mut found = Vec::new(alloc);
+    let count = core.rank_count();
+    for rank in 0..count {
+        push_due_at(alloc, core, call, rank, &mut found)?;
+    }
+    Ok(found)
+}
+
+/// The free call that fits a call but for one thing, where there is one: one that is due before one that isn't; the tag before a call of the
+/// rank that is waited for, and that before one of another rank (docs/FORMATS.md, "Near misses"). An `Err` is want of memory.
 pub(crate) fn nearest(
     alloc: Global,
     core: &Core<'_>,
     call: CallId,
 ) -> Result<Option<(CallId, Miss)>, AllocError>
-    ensures { IfOk result (λ o. o ≡ missed.nearest core.now.world.board call) }
+    ensures { IfOk result (λ o. o ≡ missed.nearest core.now.world call) }
 {
+    let kind = core.board().kind(call);
+    let first = due(alloc, core, call)?;
+    if let Some(entry) = nearest_of(kind, &first) {
+        return Ok(Some(entry));
+    }
     let found = misses(alloc, core, call)?;
-    Ok(nearest_of(&found))
+    Ok(nearest_of(kind, &found))
 }
 
 /// What is told of it.

@@ -63,6 +63,17 @@ fn push_recv_wish(out: &mut String, recv: RecvCall) -> Result<(), AllocError>
     push_any_or(out, "tag", recv.tag)
 }
 
+/// Adds what a wait of a rank waits for.
+fn push_request_wish(out: &mut String, rank: usize, target: Option<usize>) -> Result<(), AllocError>
+    ensures { OnOk result (string_bytes out.new ≡ string_bytes out.old ++ explained.request_wish rank target) }
+{
+    let Some(index) = target else {
+        return out.push_str("for no request");
+    };
+    let call = CallId { rank, index };
+    write!(out, "for request {call}")
+}
+
 /// Adds what a call of a rank waits for.
 pub fn push_wish(out: &mut String, rank: usize, kind: Option<CallKind>) -> Result<(), AllocError>
     ensures { OnOk result (string_bytes out.new ≡ string_bytes out.old ++ explained.wish rank kind) }
@@ -71,7 +82,7 @@ pub fn push_wish(out: &mut String, rank: usize, kind: Option<CallKind>) -> Resul
         None => out.push_str("for nothing"),
         Some(CallKind::Send(send)) => push_send_wish(out, rank, send),
         Some(CallKind::Recv(recv)) => push_recv_wish(out, recv),
-        Some(CallKind::Wait(_)) => out.push_str("for this request"),
+        Some(CallKind::Wait(wait)) => push_request_wish(out, rank, wait.target),
         Some(CallKind::Waitany(_)) => out.push_str("for one of these requests"),
         Some(CallKind::Barrier) => out.push_str("for all ranks at a barrier"),
     }
@@ -139,7 +150,7 @@ pub fn push_helps(
     out: &mut String,
     call: CallId,
 ) -> Result<(), AllocError>
-    ensures { OnOk result (string_bytes out.new ≡ string_bytes out.old ++ explained.helps core.now.program core.now.world.board call) }
+    ensures { OnOk result (string_bytes out.new ≡ string_bytes out.old ++ explained.helps core.now.program core.now.world call) }
 {
     let found = nearest(alloc, core, call)?;
     push_miss(core, out, found)?;
@@ -153,7 +164,7 @@ fn push_request_lines(
     out: &mut String,
     call: CallId,
 ) -> Result<(), AllocError>
-    ensures { OnOk result (string_bytes out.new ≡ string_bytes out.old ++ explained.request_lines core.now.program core.now.world.board call) }
+    ensures { OnOk result (string_bytes out.new ≡ string_bytes out.old ++ explained.request_lines core.now.program core.now.world call) }
 {
     push_request(core, out, call)?;
     push_helps(alloc, core, out, call)
@@ -166,7 +177,7 @@ fn push_requests(
     out: &mut String,
     calls: &[CallId],
 ) -> Result<(), AllocError>
-    ensures { OnOk result (string_bytes out.new ≡ string_bytes out.old ++ flat_map (explained.request_lines core.now.program core.now.world.board) calls.now) }
+    ensures { OnOk result (string_bytes out.new ≡ string_bytes out.old ++ flat_map (explained.request_lines core.now.program core.now.world) calls.now) }
 {
     for call in calls {
         push_request_lines(alloc, core, out, *call)?;
@@ -397,9 +408,15 @@ pub fn push_told(
     ensures memory { OnErr result (IsTrue (tells_of ending.now)) }
 {
     match ending {
-        Ending::Ended(Outcome::Deadlock(calls)) => push_deadlock(alloc, core, out, &calls.items),
+        Ending::Ended(Outcome::Deadlock(calls)) => {
+            let blocked = calls.ids(alloc)?;
+            push_deadlock(alloc, core, out, &blocked.items)
+        }
         Ending::Ended(Outcome::Trap(traps)) => push_traps(core, out, &traps.items),
-        Ending::Ended(Outcome::Leftovers(calls)) => push_all_left(core, out, &calls.items),
+        Ending::Ended(Outcome::Leftovers(calls)) => {
+            let free = calls.ids(alloc)?;
+            push_all_left(core, out, &free.items)
+        }
         Ending::Ended(Outcome::Done) | Ending::Cut => Ok(()),
     }
 }

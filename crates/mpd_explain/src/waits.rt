@@ -127,6 +127,46 @@ fn push_ranks(core: &Core<'_>, out: &mut String, ranks: &[usize]) -> Result<(), 
     Ok(())
 }
 
+/// Whether all of some ranks are wanted, or any of them would do; nothing of one alone.
+fn several_words(kind: Option<CallKind>, ranks: &[usize]) -> &'static str
+    ensures { result.now ≡ waits.several_words kind ranks.now }
+{
+    if 1 < ranks.len() {
+        if is_barrier(kind) {
+            "all of "
+        } else {
+            "any of "
+        }
+    } else {
+        ""
+    }
+}
+
+/// Adds the ranks that a call of this kind waits for.
+fn push_awaited_by(
+    core: &Core<'_>,
+    out: &mut String,
+    kind: Option<CallKind>,
+    ranks: &[usize],
+) -> Result<(), AllocError>
+    ensures { OnOk result (string_bytes out.new ≡ string_bytes out.old ++ waits.awaited_text core.now.world kind ranks.now) }
+{
+    out.push_str(several_words(kind, ranks))?;
+    push_ranks(core, out, ranks)
+}
+
+/// Adds the ranks that a call waits for.
+fn push_awaited(
+    core: &Core<'_>,
+    out: &mut String,
+    call: CallId,
+    ranks: &[usize],
+) -> Result<(), AllocError>
+    ensures { OnOk result (string_bytes out.new ≡ string_bytes out.old ++ waits.awaited_text core.now.world (kind_at core.now.world.board call) ranks.now) }
+{
+    push_awaited_by(core, out, core.board().kind(call), ranks)
+}
+
 /// Adds the line of whom the rank of a blocked call waits for.
 pub(crate) fn push_waits_line(
     alloc: Global,
@@ -139,7 +179,7 @@ pub(crate) fn push_waits_line(
     let ranks = awaited_ranks(alloc, core, call)?;
     let rank = call.rank;
     write!(out, "  rank {rank} waits for ")?;
-    push_ranks(core, out, &ranks)?;
+    push_awaited(core, out, call, &ranks)?;
     out.push('\n')
 }
 

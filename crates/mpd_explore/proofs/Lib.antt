@@ -6,6 +6,7 @@ pub mod MoveLemmas
 pub mod SearchLemmas
 pub mod CollectLemmas
 pub mod VerifyLemmas
+pub mod EndLemmas
 pub mod WitnessLemmas
 pub mod AwakeLemmas
 pub mod ListedLemmas

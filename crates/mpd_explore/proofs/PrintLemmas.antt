@@ -9,9 +9,13 @@ use Rattle.mpd_model.specs.declared.step.Step.{Step}
 use Rattle.mpd_model.specs.declared.decision.Decision.{Decision}
 use Rattle.mpd_model.specs.steps.World.{World}
 use Rattle.mpd_model.specs.texts.Texts.{line, steps_text}
+use Rattle.mpd_model.specs.declared.outcome.Outcome.TheVariants.{Done, Leftovers, Deadlock, Trap}
+use Rattle.mpd_walk.specs.declared.ending.Ending.{Ending}
+use Rattle.mpd_walk.specs.declared.ending.Ending.TheVariants.{Ended, Cut}
 use Rattle.mpd_explore.specs.declared.report.Leaf.{Leaf}
 use Rattle.mpd_explore.specs.declared.report.Witness.{Witness}
 use Rattle.mpd_walk.specs.Walk.{steps_by, run_by}
+use Rattle.mpd_explore.specs.Report.{is_bad}
 use Rattle.mpd_explore.specs.Witness.{witness_by}
 use Rattle.mpd_explore.specs.ReportText.{leaf_line, witness_lines, witness_part, leaves_text, more_text, report_text}
 use Rattle.mpd_explore.specs.WitnessTexts.{behind_number, witness_text, witness_texts}
@@ -36,6 +40,23 @@ none_at v xs n h = slice_get_past (map v xs) n (omega (arith, length-map xs v))
 
 pub some_at : {A B : Type 0} (v : A → B) (xs : List A) (n : ℕ) (x : A) → n < length xs → x ≡ get_or xs n x → slice_get (map v xs) n ≡ Some (v x)
 some_at v xs n x within read = slice_get-map v xs n ∙ ap (option_map v) (slice_get_read xs (length xs) n x refl within read)
+
+-- the text of a witness, where the run is a deadlock or a trap, and where it is neither
+pub good_text : (steps : List Step) (e : Ending) → is_bad e ≡ false → behind_number (witness_by steps e) ≡ []
+good_text steps Cut h = refl
+good_text steps (Ended Done) h = refl
+good_text steps (Ended (Leftovers calls)) h = refl
+good_text steps (Ended (Deadlock blocked)) h = cc
+good_text steps (Ended (Trap ranks)) h = cc
+
+pub bad_text : (steps : List Step) (e : Ending) → is_bad e ≡ true → behind_number (witness_by steps e) ≡ 58 ∷ line (steps_text steps)
+bad_text steps Cut h = cc
+bad_text steps (Ended Done) h = cc
+bad_text steps (Ended (Leftovers calls)) h = cc
+bad_text steps (Ended (Deadlock blocked)) h = refl
+bad_text steps (Ended (Trap ranks)) h = refl
+
+pub ruleset witnessing = (good_text, bad_text)
 
 -- ---- all texts
 

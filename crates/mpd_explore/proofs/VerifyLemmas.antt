@@ -7,18 +7,19 @@ use Rattle.std.specs.Bool.{Decides}
 use Rattle.std.specs.Option.{option_and_then}
 use Rattle.mpd_model.specs.declared.step.CallId.{CallId}
 use Rattle.mpd_model.specs.declared.step.Step.{Step}
-use Rattle.mpd_model.specs.declared.outcome.Outcome.{Outcome}
-use Rattle.mpd_model.specs.declared.outcome.Outcome.TheVariants.{Done, Leftovers, Deadlock, Trap}
 use Rattle.mpd_model.specs.steps.World.{World}
 use Rattle.mpd_model.specs.steps.Next.{next, fold}
 use Rattle.mpd_model.specs.steps.Outcomes.{outcome}
 use Rattle.mpd_core.specs.Listed.{listed}
 use Rattle.mpd_trail.proofs.KeptLemmas.{fold-append}
+use Rattle.mpd_explore.specs.declared.report.RankTrap.{RankTrap}
+use Rattle.mpd_explore.specs.declared.report.WitnessEnd.{WitnessEnd}
+use Rattle.mpd_explore.specs.declared.report.WitnessEnd.TheVariants.{Deadlock, Trap}
 use Rattle.mpd_explore.specs.declared.report.Witness.{Witness}
 use Rattle.mpd_explore.specs.declared.verifier.WitnessFault.{WitnessFault}
 use Rattle.mpd_explore.specs.declared.verifier.WitnessFault.TheVariants.{NoSuchStep, NotStuck, WrongBlocked, Memory}
 use Rattle.mpd_explore.specs.Stops.{StopsAt, IsLeft, WantsMemory}
-use Rattle.mpd_explore.specs.Witness.{IsWitnessFrom, HasFault, FaultAtEnd, FaultBy}
+use Rattle.mpd_explore.specs.Witness.{end_in, IsWitnessFrom, HasFault, FaultAtEnd, FaultBy}
 
 -- ---- calls that are one
 
@@ -87,106 +88,111 @@ left_here first w v i steps NotStuck there same is = let e : NotStuck ≡ NoSuch
 left_here first w v i steps WrongBlocked there same is = let e : WrongBlocked ≡ NoSuchStep i = is (λ k. cc) in cc
 left_here first w v i steps Memory there same is = tt
 
-no_place_at_end : (o : Option Outcome) (blocked : List CallId) (i : ℕ) → FaultAtEnd o blocked (NoSuchStep i) → ⊥
-no_place_at_end None blocked i h = cc
-no_place_at_end (Some Done) blocked i h = cc
-no_place_at_end (Some (Leftovers calls)) blocked i h = cc
-no_place_at_end (Some (Trap ranks)) blocked i h = cc
-no_place_at_end (Some (Deadlock calls)) blocked i h = let e : NoSuchStep i ≡ WrongBlocked = h.0 in cc
+no_place_at_end : (o : Option WitnessEnd) (end : WitnessEnd) (i : ℕ) → FaultAtEnd o end (NoSuchStep i) → ⊥
+no_place_at_end None end i h = cc
+no_place_at_end (Some (Deadlock calls)) (Deadlock blocked) i h = let e : NoSuchStep i ≡ WrongBlocked = h.0 in cc
+no_place_at_end (Some (Deadlock calls)) (Trap ranks) i h = cc
+no_place_at_end (Some (Trap traps)) (Deadlock blocked) i h = cc
+no_place_at_end (Some (Trap traps)) (Trap ranks) i h = let e : NoSuchStep i ≡ WrongBlocked = h.0 in cc
 
-pub left_at_end : (w last : World) (steps given : List Step) (told : List CallId) (r : Result Unit WitnessFault) → given ≡ steps → fold w given ≡ Some last
-    → IfErr r (λ e. e ≢ Memory → FaultAtEnd (outcome last) told e) → IfErr r (IsLeft w steps last)
-left_at_end w last steps given told (Ok u) same leads h = tt
-left_at_end w last steps given told (Err (NoSuchStep i)) same leads h = absurd (no_place_at_end (outcome last) told i (h (λ k. cc)))
-left_at_end w last steps given told (Err NotStuck) same leads h = rw (← same) leads
-left_at_end w last steps given told (Err WrongBlocked) same leads h = rw (← same) leads
-left_at_end w last steps given told (Err Memory) same leads h = tt
+pub left_at_end : (w last : World) (steps given : List Step) (end : WitnessEnd) (r : Result Unit WitnessFault) → given ≡ steps → fold w given ≡ Some last
+    → IfErr r (λ e. e ≢ Memory → FaultAtEnd (end_in (outcome last)) end e) → IfErr r (IsLeft w steps last)
+left_at_end w last steps given end (Ok u) same leads h = tt
+left_at_end w last steps given end (Err (NoSuchStep i)) same leads h = absurd (no_place_at_end (end_in (outcome last)) end i (h (λ k. cc)))
+left_at_end w last steps given end (Err NotStuck) same leads h = rw (← same) leads
+left_at_end w last steps given end (Err WrongBlocked) same leads h = rw (← same) leads
+left_at_end w last steps given end (Err Memory) same leads h = tt
 
 -- ---- where it stops is its fault
 
-fault_now : (o : Option World) (i : ℕ) (more : List Step) (blocked : List CallId) → option_and_then (λ v. Some v) o ≡ None → FaultBy (λ v f. HasFault v (suc i) more blocked f) i o (NoSuchStep (i + 0))
-fault_now None i more blocked refused = ap NoSuchStep (omega arith)
-fault_now (Some v) i more blocked refused = cc
+fault_now : (o : Option World) (i : ℕ) (more : List Step) (end : WitnessEnd) → option_and_then (λ v. Some v) o ≡ None → FaultBy (λ v f. HasFault v (suc i) more end f) i o (NoSuchStep (i + 0))
+fault_now None i more end refused = ap NoSuchStep (omega arith)
+fault_now (Some v) i more end refused = cc
 
-fault_behind : (o : Option World) (i n : ℕ) (more : List Step) (blocked : List CallId)
-    → ((v : World) → IsSome (fold v (take n more)) → fold v (take (suc n) more) ≡ None → HasFault v (suc i) more blocked (NoSuchStep (suc i + n)))
+fault_behind : (o : Option World) (i n : ℕ) (more : List Step) (end : WitnessEnd)
+    → ((v : World) → IsSome (fold v (take n more)) → fold v (take (suc n) more) ≡ None → HasFault v (suc i) more end (NoSuchStep (suc i + n)))
     → IsSome (option_and_then (λ v. fold v (take n more)) o) → option_and_then (λ v. fold v (take (suc n) more)) o ≡ None
-    → FaultBy (λ v f. HasFault v (suc i) more blocked f) i o (NoSuchStep (i + suc n))
-fault_behind None i n more blocked rest before refused = cc
-fault_behind (Some v) i n more blocked rest before refused = let e : i + suc n ≡ suc i + n = omega arith in rw e (rest v before refused)
+    → FaultBy (λ v f. HasFault v (suc i) more end f) i o (NoSuchStep (i + suc n))
+fault_behind None i n more end rest before refused = cc
+fault_behind (Some v) i n more end rest before refused = let e : i + suc n ≡ suc i + n = omega arith in rw e (rest v before refused)
 
-stops_fault : (w : World) (i n : ℕ) (steps : List Step) (blocked : List CallId) → IsSome (fold w (take n steps)) → fold w (take (suc n) steps) ≡ None → HasFault w i steps blocked (NoSuchStep (i + n))
-stops_fault w i n [] blocked before refused = cc
-stops_fault w i zero (a ∷ more) blocked before refused = fault_now (next w a) i more blocked refused
-stops_fault w i (suc n) (a ∷ more) blocked before refused = fault_behind (next w a) i n more blocked (λ v there then. stops_fault v (suc i) n more blocked there then) before refused
+stops_fault : (w : World) (i n : ℕ) (steps : List Step) (end : WitnessEnd) → IsSome (fold w (take n steps)) → fold w (take (suc n) steps) ≡ None → HasFault w i steps end (NoSuchStep (i + n))
+stops_fault w i n [] end before refused = cc
+stops_fault w i zero (a ∷ more) end before refused = fault_now (next w a) i more end refused
+stops_fault w i (suc n) (a ∷ more) end before refused = fault_behind (next w a) i n more end (λ v there then. stops_fault v (suc i) n more end there then) before refused
 
-pub fault_of_stop : (w : World) (steps : List Step) (blocked : List CallId) (e : WitnessFault) → StopsAt w steps e → HasFault w 0 steps blocked e
-fault_of_stop w steps blocked e h =
+pub fault_of_stop : (w : World) (steps : List Step) (end : WitnessEnd) (e : WitnessFault) → StopsAt w steps e → HasFault w 0 steps end e
+fault_of_stop w steps end e h =
     let n : 0 + h.place ≡ h.place = omega arith in
-    rw (h.is, ← n) (stops_fault w 0 h.place steps blocked h.before h.refused)
+    rw (h.is, ← n) (stops_fault w 0 h.place steps end h.before h.refused)
 
 some_world : (v w : World) → Some v ≡ Some w → v ≡ w
 some_world v w e = cc
 
-end_by : (o : Option World) (i : ℕ) (more : List Step) (blocked : List CallId) (last : World) (e : WitnessFault) → option_and_then (λ v. fold v more) o ≡ Some last
-    → ((v : World) → fold v more ≡ Some last → HasFault v (suc i) more blocked e) → FaultBy (λ v f. HasFault v (suc i) more blocked f) i o e
-end_by None i more blocked last e leads rest = cc
-end_by (Some v) i more blocked last e leads rest = rest v leads
+end_by : (o : Option World) (i : ℕ) (more : List Step) (end : WitnessEnd) (last : World) (e : WitnessFault) → option_and_then (λ v. fold v more) o ≡ Some last
+    → ((v : World) → fold v more ≡ Some last → HasFault v (suc i) more end e) → FaultBy (λ v f. HasFault v (suc i) more end f) i o e
+end_by None i more end last e leads rest = cc
+end_by (Some v) i more end last e leads rest = rest v leads
 
 -- a fault at the end is one of the whole
-pub fault_of_end : (w last : World) (i : ℕ) (steps : List Step) (blocked : List CallId) (e : WitnessFault) → fold w steps ≡ Some last → FaultAtEnd (outcome last) blocked e → HasFault w i steps blocked e
-fault_of_end w last i [] blocked e leads h = rw (some_world w last leads) h
-fault_of_end w last i (a ∷ more) blocked e leads h = end_by (next w a) i more blocked last e leads (λ v there. fault_of_end v last (suc i) more blocked e there h)
+pub fault_of_end : (w last : World) (i : ℕ) (steps : List Step) (end : WitnessEnd) (e : WitnessFault) → fold w steps ≡ Some last → FaultAtEnd (end_in (outcome last)) end e → HasFault w i steps end e
+fault_of_end w last i [] end e leads h = rw (some_world w last leads) h
+fault_of_end w last i (a ∷ more) end e leads h = end_by (next w a) i more end last e leads (λ v there. fault_of_end v last (suc i) more end e there h)
 
 -- ---- a witness has no fault
 
-blocked_is : (x y : List CallId) → Some (Deadlock x) ≡ Some (Deadlock y) → x ≡ y
-blocked_is x y e = cc
+same_end : (x y : WitnessEnd) → Some x ≡ Some y → x ≡ y
+same_end x y e = cc
 
-no_fault_at_end : (o : Option Outcome) (blocked : List CallId) (e : WitnessFault) → o ≡ Some (Deadlock blocked) → FaultAtEnd o blocked e → ⊥
-no_fault_at_end None blocked e is h = cc
-no_fault_at_end (Some Done) blocked e is h = cc
-no_fault_at_end (Some (Leftovers calls)) blocked e is h = cc
-no_fault_at_end (Some (Trap ranks)) blocked e is h = cc
-no_fault_at_end (Some (Deadlock calls)) blocked e is h = h.1 (blocked_is calls blocked is)
+same_calls : (x y : List CallId) → Some (Deadlock x) ≡ Some (Deadlock y) → x ≡ y
+same_calls x y e = let h : Deadlock x ≡ Deadlock y = same_end (Deadlock x) (Deadlock y) e in cc
 
-no_fault_by : (o : Option World) (i : ℕ) (more : List Step) (blocked : List CallId) (last : World) (e : WitnessFault) → option_and_then (λ v. fold v more) o ≡ Some last
-    → ((v : World) → fold v more ≡ Some last → HasFault v (suc i) more blocked e → ⊥) → FaultBy (λ v f. HasFault v (suc i) more blocked f) i o e → ⊥
-no_fault_by None i more blocked last e leads rest h = cc
-no_fault_by (Some v) i more blocked last e leads rest h = rest v leads h
+same_traps : (x y : List RankTrap) → Some (Trap x) ≡ Some (Trap y) → x ≡ y
+same_traps x y e = let h : Trap x ≡ Trap y = same_end (Trap x) (Trap y) e in cc
 
-no_fault : (w : World) (i : ℕ) (steps : List Step) (blocked : List CallId) (last : World) (e : WitnessFault) → fold w steps ≡ Some last → outcome last ≡ Some (Deadlock blocked) → HasFault w i steps blocked e → ⊥
-no_fault w i [] blocked last e leads stuck h = no_fault_at_end (outcome w) blocked e (ap outcome (some_world w last leads) ∙ stuck) h
-no_fault w i (a ∷ more) blocked last e leads stuck h = no_fault_by (next w a) i more blocked last e leads (λ v there k. no_fault v (suc i) more blocked last e there stuck k) h
+no_fault_at_end : (o : Option WitnessEnd) (end : WitnessEnd) (e : WitnessFault) → o ≡ Some end → FaultAtEnd o end e → ⊥
+no_fault_at_end None end e is h = cc
+no_fault_at_end (Some (Deadlock calls)) (Deadlock blocked) e is h = h.1 (same_calls calls blocked is)
+no_fault_at_end (Some (Deadlock calls)) (Trap ranks) e is h = let k : Deadlock calls ≡ Trap ranks = same_end (Deadlock calls) (Trap ranks) is in cc
+no_fault_at_end (Some (Trap traps)) (Deadlock blocked) e is h = let k : Trap traps ≡ Deadlock blocked = same_end (Trap traps) (Deadlock blocked) is in cc
+no_fault_at_end (Some (Trap traps)) (Trap ranks) e is h = h.1 (same_traps traps ranks is)
+
+no_fault_by : (o : Option World) (i : ℕ) (more : List Step) (end : WitnessEnd) (last : World) (e : WitnessFault) → option_and_then (λ v. fold v more) o ≡ Some last
+    → ((v : World) → fold v more ≡ Some last → HasFault v (suc i) more end e → ⊥) → FaultBy (λ v f. HasFault v (suc i) more end f) i o e → ⊥
+no_fault_by None i more end last e leads rest h = cc
+no_fault_by (Some v) i more end last e leads rest h = rest v leads h
+
+no_fault : (w : World) (i : ℕ) (steps : List Step) (end : WitnessEnd) (last : World) (e : WitnessFault) → fold w steps ≡ Some last → end_in (outcome last) ≡ Some end → HasFault w i steps end e → ⊥
+no_fault w i [] end last e leads ends h = no_fault_at_end (end_in (outcome w)) end e (ap (λ v. end_in (outcome v)) (some_world w last leads) ∙ ends) h
+no_fault w i (a ∷ more) end last e leads ends h = no_fault_by (next w a) i more end last e leads (λ v there k. no_fault v (suc i) more end last e there ends k) h
 
 -- ---- what is found of a witness
 
-pub only_memory : (w : World) (x : Witness) (e : WitnessFault) → IsWitnessFrom w x → (e ≢ Memory → HasFault w 0 x.steps x.blocked e) → e ≡ Memory
-only_memory w x (NoSuchStep i) h f = absurd (no_fault w 0 x.steps x.blocked h.last (NoSuchStep i) h.leads h.stuck (f (λ same. cc)))
-only_memory w x NotStuck h f = absurd (no_fault w 0 x.steps x.blocked h.last NotStuck h.leads h.stuck (f (λ same. cc)))
-only_memory w x WrongBlocked h f = absurd (no_fault w 0 x.steps x.blocked h.last WrongBlocked h.leads h.stuck (f (λ same. cc)))
+pub only_memory : (w : World) (x : Witness) (e : WitnessFault) → IsWitnessFrom w x → (e ≢ Memory → HasFault w 0 x.steps x.end e) → e ≡ Memory
+only_memory w x (NoSuchStep i) h f = absurd (no_fault w 0 x.steps x.end h.last (NoSuchStep i) h.leads h.ends (f (λ same. cc)))
+only_memory w x NotStuck h f = absurd (no_fault w 0 x.steps x.end h.last NotStuck h.leads h.ends (f (λ same. cc)))
+only_memory w x WrongBlocked h f = absurd (no_fault w 0 x.steps x.end h.last WrongBlocked h.leads h.ends (f (λ same. cc)))
 only_memory w x Memory h f = refl
 
 -- a witness is refused for want of memory alone
-pub accepted_by : (w : World) (x : Witness) (r : Result Unit WitnessFault) → IfErr r (λ e. e ≢ Memory → HasFault w 0 x.steps x.blocked e) → IsWitnessFrom w x → IfErr r (λ e. e ≡ Memory)
+pub accepted_by : (w : World) (x : Witness) (r : Result Unit WitnessFault) → IfErr r (λ e. e ≢ Memory → HasFault w 0 x.steps x.end e) → IsWitnessFrom w x → IfErr r (λ e. e ≡ Memory)
 accepted_by w x (Ok u) f h = tt
 accepted_by w x (Err e) f h = only_memory w x e h f
 
 -- and what is accepted is one
-pub witnessed : (w last : World) (x : Witness) (r : Result Unit WitnessFault) → OnOk r ((fold w x.steps ≡ Some last) × (outcome last ≡ Some (Deadlock x.blocked))) → OnOk r (IsWitnessFrom w x)
-witnessed w last x (Ok u) h = record { last = last; leads = h.0; stuck = h.1 }
+pub witnessed : (w last : World) (x : Witness) (r : Result Unit WitnessFault) → OnOk r ((fold w x.steps ≡ Some last) × (end_in (outcome last) ≡ Some x.end)) → OnOk r (IsWitnessFrom w x)
+witnessed w last x (Ok u) h = record { last = last; leads = h.0; ends = h.1 }
 witnessed w last x (Err e) h = tt
 
 -- ---- the same of a list that is read through a reference
 
-pub stop_fault : (w : World) (steps given : List Step) (blocked : List CallId) (e : WitnessFault) → given ≡ steps → StopsAt w given e → HasFault w 0 steps blocked e
-stop_fault w steps given blocked e same h = subst (λ (xs : List Step). HasFault w 0 xs blocked e) same (fault_of_stop w given blocked e h)
+pub stop_fault : (w : World) (steps given : List Step) (end : WitnessEnd) (e : WitnessFault) → given ≡ steps → StopsAt w given e → HasFault w 0 steps end e
+stop_fault w steps given end e same h = subst (λ (xs : List Step). HasFault w 0 xs end e) same (fault_of_stop w given end e h)
 
-pub end_fault : (w last : World) (steps given : List Step) (blocked told : List CallId) (r : Result Unit WitnessFault) → given ≡ steps → told ≡ blocked → fold w given ≡ Some last
-    → IfErr r (λ e. e ≢ Memory → FaultAtEnd (outcome last) told e) → IfErr r (λ e. e ≢ Memory → HasFault w 0 steps blocked e)
-end_fault w last steps given blocked told (Ok u) same calls leads h = tt
-end_fault w last steps given blocked told (Err e) same calls leads h =
-    λ k. subst (λ (xs : List Step). HasFault w 0 xs blocked e) same (subst (λ (bs : List CallId). HasFault w 0 given bs e) calls (fault_of_end w last 0 given told e leads (h k)))
+pub end_fault : (w last : World) (steps given : List Step) (end : WitnessEnd) (r : Result Unit WitnessFault) → given ≡ steps → fold w given ≡ Some last → IfErr r (λ e. e ≢ Memory → FaultAtEnd (end_in (outcome last)) end e)
+    → IfErr r (λ e. e ≢ Memory → HasFault w 0 steps end e)
+end_fault w last steps given end (Ok u) same leads h = tt
+end_fault w last steps given end (Err e) same leads h = λ k. subst (λ (xs : List Step). HasFault w 0 xs end e) same (fault_of_end w last 0 given end e leads (h k))
 
 pub wants_last : (w last : World) (steps given : List Step) → given ≡ steps → fold w given ≡ Some last → 0 < listed (outcome last) → WantsMemory w steps last
 wants_last w last steps given same leads some = subst (λ (xs : List Step). WantsMemory w xs last) same (wants_at_end w last given leads some)

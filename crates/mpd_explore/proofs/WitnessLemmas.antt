@@ -21,7 +21,7 @@ use Rattle.mpd_walk.proofs.RunLemmas.{run_is}
 use Rattle.mpd_explore.specs.declared.report.Leaf as leaf
 use Rattle.mpd_explore.specs.Report.{shown}
 use Rattle.mpd_explore.specs.Sleeping.{awake_runs, put_to_sleep, branches_by, followed_by, awake_by}
-use Rattle.mpd_explore.specs.Witness.{WitnessBy, HasWitness}
+use Rattle.mpd_explore.specs.Witness.{end_in, WitnessBy, HasWitness}
 
 drop_next : (xs ys : List Step) (i : ℕ) (a : Step) → drop i xs ≡ a ∷ ys → drop (suc i) xs ≡ ys
 drop_next [] ys zero a e = cc
@@ -38,8 +38,8 @@ drop_read (x ∷ xs) ys (suc i) a e = drop_read xs ys i a e
 ended_holds : (s : Program) (mode : Mode) (steps : List Step) (v : World) (o : Outcome) → fold (start s mode) steps ≡ Some v → outcome v ≡ Some o → WitnessBy s mode steps (Ended o)
 ended_holds s mode steps v Done leads is = tt
 ended_holds s mode steps v (Leftovers calls) leads is = tt
-ended_holds s mode steps v (Trap ranks) leads is = tt
-ended_holds s mode steps v (Deadlock blocked) leads is = record { last = v; leads = leads; stuck = is }
+ended_holds s mode steps v (Trap ranks) leads is = record { last = v; leads = leads; ends = ap end_in is }
+ended_holds s mode steps v (Deadlock calls) leads is = record { last = v; leads = leads; ends = ap end_in is }
 
 leaf_outcome : (v : World) (o : Outcome) (d : Decision) → CanFollow v d → d ≡ Leaf o → outcome v ≡ Some o
 leaf_outcome v o (Forced a) h e = cc

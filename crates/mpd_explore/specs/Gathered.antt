@@ -21,7 +21,7 @@ abbrev pub FoundLeaf : Search → List Open → List Step → Standing → Optio
 FoundLeaf s fs asleep d None gs e = Found s fs asleep d None gs e
 FoundLeaf s fs asleep d (Some l) gs e = Found s fs asleep d (Some l.ending) gs e × (l.choices ≡ picked gs)
 
--- the text of the witness of a run that has all steps from the start of the script: empty where it is no deadlock
+-- the text of the witness of a run that has all steps from the start of the script: empty where it is neither a deadlock nor a trap
 abbrev pub run_text : Run → List ℕ
 run_text r = behind_number (witness_by r.steps r.ending)
 

@@ -4,6 +4,7 @@ pub mod Asleep
 pub mod States
 pub mod Search
 pub mod Witness
+pub mod Traps
 pub mod Stops
 pub mod Faults
 pub mod ReportText

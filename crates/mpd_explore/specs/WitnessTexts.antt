@@ -14,7 +14,7 @@ abbrev pub behind_number : Option Witness → List ℕ
 behind_number None = []
 behind_number (Some x) = 58 ∷ line (steps_text x.steps)
 
--- the text of a leaf from a state, with so much fuel, after some steps: empty where it is no deadlock
+-- the text of a leaf from a state, with so much fuel, after some steps: empty where it is neither a deadlock nor a trap
 abbrev pub witness_text : (World → Decision) → List Step → ℕ → World → Leaf → List ℕ
 witness_text decide before n w l = behind_number (witness_by (before ++ steps_by (run_by decide n l.choices w)) l.ending)
 

@@ -333,7 +333,7 @@ pub fn explore_with<S: Schedule, W: Watch>(
 /// conflict are taken in one order alone ("What a walk says of all runs" there), and a leaf's choices are numbers of candidates among all
 /// of a wide choice, also of those that are asleep. Fuel counts from here. The debugger is left as found, also where memory is refused,
 /// which is what an `Err` says; that comes only where a leaf is asked for. No undone step is kept, and the depth and the fuel are at most
-/// 1,000,000 steps together. Each leaf has a run, and each deadlock a witness, which `witness_of` makes and `verify` accepts; where
+/// 1,000,000 steps together. Each leaf has a run, and each deadlock and each trap a witness, which `witness_of` makes and `verify` accepts; where
 /// witnesses are wanted, their texts are made as the leaves are found. `watch` is told of each leaf as it is found: once, in order, with
 /// how many there are so far; nothing else depends on it.
 pub fn explore<W: Watch>(

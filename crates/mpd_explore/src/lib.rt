@@ -1,7 +1,8 @@
-//! The runs of a script, depth first along decisions, forward and by undo; and witnesses of deadlocks.
+//! The runs of a script, depth first along decisions, forward and by undo; and witnesses of deadlocks and traps.
 #![tactic(auto)]
 
 mod asleep;
+mod ends;
 pub mod explorer;
 pub mod print;
 pub mod report;
@@ -15,7 +16,9 @@ pub use explorer::{explore, explore_with};
 pub use print::{
     print_report, push_choices, push_leaf_text, push_leaves, push_total, witness_here,
 };
-pub use report::{ChoiceList, Ending, Leaf, Limits, Report, Witness};
-pub use verifier::{WitnessFault, verify, verify_from};
+pub use report::{
+    ChoiceList, Ending, Leaf, Limits, RankTrap, RankTrapList, Report, Witness, WitnessEnd,
+};
+pub use verifier::{WitnessFault, same_trap, verify, verify_from};
 pub use watch::{Unwatched, Watch};
 pub use witness::witness_of;

@@ -12,8 +12,8 @@ ghost use Rattle.mpd_explore.specs.ReportText.{choices_text, ending_text, leaf_l
 ghost use Rattle.mpd_explore.specs.WitnessTexts.{behind_number, witness_texts};
 ghost use Rattle.mpd_explore.specs.Printed.{numbered, numbered_at, lines_told, told_text, total_line};
 
-use crate::report::{Ending, Leaf, Report};
-use mpd_model::{Outcome, Step, print_outcome};
+use crate::report::{Ending, Leaf, Report, is_bad};
+use mpd_model::{Step, print_outcome};
 use mpd_trail::Debugger;
 use std::alloc::{AllocError, Global};
 
@@ -124,13 +124,14 @@ fn push_steps(out: &mut String, steps: &[Step]) -> Result<(), AllocError>
 }
 
 /// The text of the witness that these steps are of a run that ends so: what its line has behind the number, with the line feed, and
-/// nothing where the run ends in no deadlock.
+/// nothing where the run ends neither in a deadlock nor with a trap.
+#[tactic(auto, using(crate::proofs::PrintLemmas::witnessing))]
 fn witness_text(alloc: Global, steps: &[Step], ending: &Ending) -> Result<String, AllocError>
     ensures { IfOk result (λ t. string_bytes t ≡ behind_number (witness_by steps.now ending.now)) }
 {
-    let Ending::Ended(Outcome::Deadlock(_)) = ending else {
+    if !is_bad(ending) {
         return Ok(String::new(alloc));
-    };
+    }
     let mut out = String::new(alloc);
     out.push(':')?;
     push_steps(&mut out, steps)?;
@@ -139,7 +140,7 @@ fn witness_text(alloc: Global, steps: &[Step], ending: &Ending) -> Result<String
 }
 
 /// The text of the witness of a run that ends so where a debugger stands, as a line of a report has it after its number, with the line
-/// feed: empty where that is no deadlock. An `Err` is want of memory.
+/// feed: empty where that is neither a deadlock nor a trap. An `Err` is want of memory.
 pub fn witness_here(
     alloc: Global,
     debugger: &Debugger<'_>,
@@ -214,7 +215,7 @@ fn told(alloc: Global, report: &Report) -> Result<String, AllocError>
     Ok(out)
 }
 
-/// A report as text: a line for each leaf, behind each deadlock a line with its witness, where the report has their texts, and at last
+/// A report as text: a line for each leaf, behind each deadlock and each trap a line with its witness, where the report has their texts, and at last
 /// how many leaves there are, and whether there are others. An `Err` is want of memory.
 pub fn print_report(alloc: Global, report: &Report) -> Result<String, AllocError>
     ensures told { IfOk result (λ t. string_bytes t ≡ told_text (map string_bytes report.now.witnesses.items) report.now.leaves.items report.now.more) }

@@ -3,7 +3,7 @@
 ghost use Rattle.std.specs.Prelude.{◌≡◌, ◌&&◌};
 ghost use Rattle.mpd_explore.specs.Report.{is_bad, any_bad};
 
-use mpd_model::{CallList, Outcome, StepList};
+use mpd_model::{CallList, Outcome, StepList, Trap};
 pub use mpd_walk::Ending;
 use std::marker::Model;
 
@@ -14,7 +14,7 @@ pub struct Limits {
     pub runs: usize,
     /// How many steps a run has at most.
     pub fuel: usize,
-    /// Whether the witnesses of deadlocks are wanted.
+    /// Whether the witnesses of deadlocks and traps are wanted.
     pub witnesses: bool,
     /// Whether the list ends with the first leaf that is a deadlock or a trap.
     pub until_bad: bool,
@@ -44,17 +44,24 @@ pub struct Leaf {
     pub ending: Ending,
 }
 
+/// Whether a run that ends so has come to a deadlock or a trap.
+pub(crate) fn is_bad(ending: &Ending) -> bool
+    ensures { result ≡ is_bad ending.now }
+{
+    match ending {
+        Ending::Ended(Outcome::Deadlock(_)) => true,
+        Ending::Ended(Outcome::Trap(_)) => true,
+        Ending::Ended(Outcome::Done | Outcome::Leftovers(_)) => false,
+        Ending::Cut => false,
+    }
+}
+
 impl Leaf {
     /// Whether it is a deadlock or a trap.
     pub fn is_bad(&self) -> bool
         ensures { result ≡ is_bad self.now.ending }
     {
-        match &self.ending {
-            Ending::Ended(Outcome::Deadlock(_)) => true,
-            Ending::Ended(Outcome::Trap(_)) => true,
-            Ending::Ended(Outcome::Done | Outcome::Leftovers(_)) => false,
-            Ending::Cut => false,
-        }
+        is_bad(&self.ending)
     }
 }
 
@@ -63,8 +70,8 @@ impl Leaf {
 pub struct Report {
     pub leaves: Vec<Leaf>,
     pub more: bool,
-    /// Where witnesses are wanted a text for each leaf, in order: for a deadlock what the line of its witness has behind the number,
-    /// with the line feed; for any other leaf the empty text. Else there are none.
+    /// Where witnesses are wanted a text for each leaf, in order: for a deadlock or a trap what the line of its witness has behind the
+    /// number, with the line feed; for any other leaf the empty text. Else there are none.
     pub witnesses: Vec<String>,
 }
 
@@ -105,9 +112,40 @@ impl Limits {
     }
 }
 
-/// Steps from the start that lead to a deadlock, and the calls that are blocked there, by rank.
+/// A rank that is trapped, and why: what a report tells of it.
+#[derive(Clone, Copy)]
+pub struct RankTrap {
+    pub rank: usize,
+    pub trap: Trap,
+}
+
+/// Trapped ranks with their traps, in ascending order, which contracts see as a list.
+#[derive(Drop)]
+pub struct RankTrapList {
+    pub items: Vec<RankTrap>,
+}
+
+impl Model for RankTrapList {
+    ghost use Rattle.std.specs.Prelude.{List};
+    ghost use Rattle.mpd_explore.specs.declared.report.RankTrap.{RankTrap};
+
+    ghost Value = { List RankTrap };
+
+    ghost view = { λ l. l.items.items };
+}
+
+/// What the steps of a witness lead to.
+#[derive(Drop)]
+pub enum WitnessEnd {
+    /// A deadlock, in which these calls are blocked, by rank.
+    Deadlock(CallList),
+    /// A trap of these ranks.
+    Trap(RankTrapList),
+}
+
+/// Steps from the start that lead to a deadlock or a trap, and to which one.
 #[derive(Drop)]
 pub struct Witness {
     pub steps: StepList,
-    pub blocked: CallList,
+    pub end: WitnessEnd,
 }

@@ -1,18 +1,20 @@
 //! Whether a witness is one. It uses the forward steps of a core alone: no trail, no decision and no undo.
 
-ghost use Rattle.std.specs.Prelude.{◌≡◌, ◌≢◌, ◌↔◌, ◌<◌, IsTrue, IfOk, IfErr, OnOk, OnErr, IsErrOf, IsSome, Some, None, codes};
+ghost use Rattle.std.specs.Prelude.{◌≡◌, ◌≢◌, ◌↔◌, ◌<◌, IsTrue, IfOk, IfErr, OnOk, OnErr, IsErrOf, IsSome, Some, None, codes, map};
+ghost use Rattle.std.specs.Cmp.Lexicographic.{pointwise};
 ghost use Rattle.mpd_model.specs.steps.World.{start};
 ghost use Rattle.mpd_model.specs.steps.Next.{next, fold};
 ghost use Rattle.mpd_model.specs.steps.Outcomes.{outcome};
 ghost use Rattle.mpd_core.specs.Listed.{listed};
 ghost use Rattle.mpd_explore.specs.Stops.{StopsAt, IsLeft, WantsMemory};
-ghost use Rattle.mpd_explore.specs.Witness.{IsWitness, IsWitnessFrom, HasFault, FaultAtEnd};
+ghost use Rattle.mpd_explore.specs.Witness.{IsWitness, IsWitnessFrom, HasFault, FaultAtEnd, rank_trap, end_in};
+ghost use Rattle.mpd_explore.specs.Traps.{trap_eq, is_told};
 ghost use Rattle.mpd_explore.specs.Faults.{witness_fault_number, witness_fault_name};
 
-use crate::report::Witness;
+use crate::report::{RankTrap, Witness, WitnessEnd};
 use mpd_code::Code;
 use mpd_core::{Core, StepFault};
-use mpd_model::{CallId, Mode, Outcome, Step};
+use mpd_model::{CallId, Mode, Outcome, Step, Trap, TrappedRank};
 use std::alloc::{AllocError, Global};
 use std::error::Error;
 use std::fmt;
@@ -22,9 +24,9 @@ use std::fmt;
 pub enum WitnessFault {
     /// The step at this place, from 0, is not enabled there.
     NoSuchStep(usize),
-    /// The steps don't lead to a deadlock.
+    /// The steps don't lead to a deadlock, or, where the witness says so, to a trap.
     NotStuck,
-    /// Other calls are blocked in that deadlock.
+    /// Other calls are blocked in that deadlock, or other ranks trapped, or trapped otherwise.
     WrongBlocked,
     /// A growth was refused.
     Memory,
@@ -75,29 +77,109 @@ fn is_same(a: &[CallId], b: &[CallId]) -> bool
     a == b
 }
 
-/// Whether a state is a deadlock in which these calls are blocked. `Memory` comes only where how the run has ended lists something.
-fn check_end(alloc: Global, core: &Core<'_>, blocked: &[CallId]) -> Result<(), WitnessFault>
-    ensures ok { OnOk result (outcome core.now.world ≡ Some (Outcome.Deadlock blocked.now)) }
-    ensures fault { IfErr result (λ e. e ≢ WitnessFault.Memory → FaultAtEnd (outcome core.now.world) blocked.now e) }
-    ensures memory { IsErrOf result WitnessFault.Memory → 0 < listed (outcome core.now.world) }
+/// Whether two traps are the same.
+pub fn same_trap(one: Trap, other: Trap) -> bool
+    ensures { result ≡ trap_eq one other }
 {
-    let outcome = match core.outcome(alloc) {
-        Ok(outcome) => outcome,
-        Err(_) => return Err(WitnessFault::Memory),
-    };
-    match outcome {
-        None => Err(WitnessFault::NotStuck),
-        Some(Outcome::Done) => Err(WitnessFault::NotStuck),
-        Some(Outcome::Leftovers(_)) => Err(WitnessFault::NotStuck),
-        Some(Outcome::Trap(_)) => Err(WitnessFault::NotStuck),
-        Some(Outcome::Deadlock(calls)) => {
-            if is_same(&calls.items, blocked) {
+    one == other
+}
+
+/// Whether a witness tells of a trapped rank as it is.
+fn is_told(found: TrappedRank, told: RankTrap) -> bool
+    ensures { result ≡ is_told found told }
+{
+    found.rank == told.rank && same_trap(found.trap, told.trap)
+}
+
+/// Whether a witness tells of trapped ranks as they are, in order.
+fn are_told(found: &[TrappedRank], told: &[RankTrap]) -> bool
+    ensures { result ≡ pointwise is_told found.now told.now }
+{
+    if found.len() != told.len() {
+        return false;
+    }
+    for number in 0..found.len() {
+        if !is_told(found[number], told[number]) {
+            return false;
+        }
+    }
+    true
+}
+
+/// Whether a witness says that these calls are blocked in a deadlock.
+fn check_calls(calls: &[CallId], end: &WitnessEnd) -> Result<(), WitnessFault>
+    ensures ok { OnOk result (end.now ≡ WitnessEnd.Deadlock calls.now) }
+    ensures fault { IfErr result (λ e. FaultAtEnd (Some (WitnessEnd.Deadlock calls.now)) end.now e) }
+    ensures no_memory { IfErr result (λ e. e ≢ WitnessFault.Memory) }
+{
+    match end {
+        WitnessEnd::Deadlock(blocked) => {
+            if is_same(calls, &blocked.items) {
+                Ok(())
+            } else {
+                Err(WitnessFault::WrongBlocked)
+            }
+        }
+        WitnessEnd::Trap(_) => Err(WitnessFault::NotStuck),
+    }
+}
+
+/// Whether a witness says that these ranks are trapped.
+#[tactic(auto, using(crate::proofs::EndLemmas::telling))]
+fn check_traps(traps: &[TrappedRank], end: &WitnessEnd) -> Result<(), WitnessFault>
+    ensures ok { OnOk result (end.now ≡ WitnessEnd.Trap (map rank_trap traps.now)) }
+    ensures fault { IfErr result (λ e. FaultAtEnd (Some (WitnessEnd.Trap (map rank_trap traps.now))) end.now e) }
+    ensures no_memory { IfErr result (λ e. e ≢ WitnessFault.Memory) }
+{
+    match end {
+        WitnessEnd::Deadlock(_) => Err(WitnessFault::NotStuck),
+        WitnessEnd::Trap(ranks) => {
+            if are_told(traps, &ranks.items) {
                 Ok(())
             } else {
                 Err(WitnessFault::WrongBlocked)
             }
         }
     }
+}
+
+/// Whether a run that has this outcome, or none, has come to what a witness says. `Memory` comes only where the outcome lists something.
+fn check_outcome(
+    alloc: Global,
+    outcome: &Option<Outcome>,
+    end: &WitnessEnd,
+) -> Result<(), WitnessFault>
+    ensures ok { OnOk result (end_in outcome.now ≡ Some end.now) }
+    ensures fault { IfErr result (λ e. e ≢ WitnessFault.Memory → FaultAtEnd (end_in outcome.now) end.now e) }
+    ensures memory { IsErrOf result WitnessFault.Memory → 0 < listed outcome.now }
+{
+    match outcome {
+        None => Err(WitnessFault::NotStuck),
+        Some(Outcome::Done) => Err(WitnessFault::NotStuck),
+        Some(Outcome::Leftovers(_)) => Err(WitnessFault::NotStuck),
+        Some(Outcome::Deadlock(calls)) => {
+            let Ok(ids) = calls.ids(alloc) else {
+                return Err(WitnessFault::Memory);
+            };
+            check_calls(&ids.items, end)
+        }
+        Some(Outcome::Trap(traps)) => check_traps(&traps.items, end),
+    }
+}
+
+/// Whether a state is what a witness says that its steps lead to. `Memory` comes only where how the run has ended lists something.
+fn check_end(alloc: Global, core: &Core<'_>, end: &WitnessEnd) -> Result<(), WitnessFault>
+    ensures ok { OnOk result (end_in (outcome core.now.world) ≡ Some end.now) }
+    ensures fault { IfErr result (λ e. e ≢ WitnessFault.Memory → FaultAtEnd (end_in (outcome core.now.world)) end.now e) }
+    ensures memory { IsErrOf result WitnessFault.Memory → 0 < listed (outcome core.now.world) }
+{
+    let outcome = match core.outcome(alloc) {
+        Ok(outcome) => outcome,
+        Err(_) => return Err(WitnessFault::Memory),
+    };
+    let checked = check_outcome(alloc, &outcome, end);
+    drop(outcome);
+    checked
 }
 
 /// Takes the step of a witness that stands at this place. `Memory` comes only where the relation of steps has that step.
@@ -135,22 +217,22 @@ pub fn verify_from(
     core: &mut Core<'_>,
     witness: &Witness,
 ) -> Result<(), WitnessFault>
-    ensures ok { OnOk result ((fold core.old.world witness.now.steps ≡ Some core.new.world) × (outcome core.new.world ≡ Some (Outcome.Deadlock witness.now.blocked))) }
-    ensures fault { IfErr result (λ e. e ≢ WitnessFault.Memory → HasFault core.old.world 0 witness.now.steps witness.now.blocked e) }
+    ensures ok { OnOk result ((fold core.old.world witness.now.steps ≡ Some core.new.world) × (end_in (outcome core.new.world) ≡ Some witness.now.end)) }
+    ensures fault { IfErr result (λ e. e ≢ WitnessFault.Memory → HasFault core.old.world 0 witness.now.steps witness.now.end e) }
     ensures accepted { IsWitnessFrom core.old.world witness.now → IfErr result (λ e. e ≡ WitnessFault.Memory) }
     ensures memory { IsErrOf result WitnessFault.Memory → WantsMemory core.old.world witness.now.steps core.new.world }
     ensures left { IfErr result (IsLeft core.old.world witness.now.steps core.new.world) }
 {
     take_steps(core, &witness.steps.items)?;
-    check_end(alloc, core, &witness.blocked.items)
+    check_end(alloc, core, &witness.end)
 }
 
 /// Whether a witness is one (docs/DEFINITIONS.md, "Witnesses"): its steps are taken from the start, and none is taken back. It is
-/// refused for the first step that is not enabled where it stands (32), else where the end is no deadlock (33), else where other
-/// calls are blocked in it (34). `Memory` is that a growth was refused, for the start or where `verify_from` says.
+/// refused for the first step that is not enabled where it stands (32), else where the end is no deadlock, or no trap where the witness says
+/// that it is one (33), else where other calls are blocked in it, or other ranks trapped, or trapped otherwise (34). `Memory` is that a growth was refused, for the start or where `verify_from` says.
 pub fn verify(alloc: Global, code: &Code, mode: Mode, witness: &Witness) -> Result<(), WitnessFault>
     ensures ok { OnOk result (IsWitness code.now.program mode witness.now) }
-    ensures fault { IfErr result (λ e. e ≢ WitnessFault.Memory → HasFault (start code.now.program mode) 0 witness.now.steps witness.now.blocked e) }
+    ensures fault { IfErr result (λ e. e ≢ WitnessFault.Memory → HasFault (start code.now.program mode) 0 witness.now.steps witness.now.end e) }
     ensures accepted { IsWitness code.now.program mode witness.now → IfErr result (λ e. e ≡ WitnessFault.Memory) }
 {
     let Ok(mut core) = Core::start(alloc, code, mode) else {

@@ -5,10 +5,11 @@ ghost use Rattle.mpd_model.specs.runs.Trail.{done_steps};
 ghost use Rattle.mpd_trail.specs.Views.{AsFound, standing_of};
 ghost use Rattle.mpd_walk.specs.Walk.{run_by, steps_by};
 ghost use Rattle.mpd_walk.specs.Walks.{Beyond};
-ghost use Rattle.mpd_explore.specs.Witness.{witness_by, IsDeadlock};
+ghost use Rattle.mpd_explore.specs.Witness.{witness_by, end_of};
 
-use crate::report::{Ending, Leaf, Witness};
-use mpd_model::{CallList, Outcome, STEPS_MAX, StepList};
+use crate::ends::end_of;
+use crate::report::{Leaf, Witness};
+use mpd_model::{STEPS_MAX, StepList};
 use mpd_trail::Debugger;
 use mpd_walk::{Schedule, follow, put_back};
 use std::alloc::{AllocError, Global};
@@ -63,9 +64,9 @@ fn retraced<S: Schedule>(
     found
 }
 
-/// The witness of a leaf that was listed along a schedule, where that is a deadlock: the steps of its run, made again from where the
-/// debugger stands, behind those that led here. The fuel is the one of that exploration. The debugger is left as found, also where memory
-/// is refused, which is what an `Err` says; that comes only where the leaf is a deadlock.
+/// The witness of a leaf that was listed along a schedule, where that is a deadlock or a trap: the steps of its run, made again from where
+/// the debugger stands, behind those that led here, and what they lead to. The fuel is the one of that exploration. The debugger is left as
+/// found, also where memory is refused, which is what an `Err` says; that comes only where the leaf is a deadlock or a trap.
 pub fn witness_of<S: Schedule>(
     alloc: Global,
     schedule: &S,
@@ -78,16 +79,17 @@ pub fn witness_of<S: Schedule>(
     requires listed { IsSome (run_by S.decides fuel leaf.now.choices debugger.old.world) }
     ensures witness { IfOk result (λ o. o ≡ witness_by (done_steps debugger.old.trail ++ steps_by (run_by S.decides fuel leaf.now.choices debugger.old.world)) leaf.now.ending) }
     ensures as_found { AsFound (standing_of debugger.old) (standing_of debugger.new) }
-    ensures memory { OnErr result (IsDeadlock leaf.now.ending) }
+    ensures memory { OnErr result (IsSome (end_of leaf.now.ending)) }
 {
     debugger.state_is_reached();
-    let Ending::Ended(Outcome::Deadlock(calls)) = &leaf.ending else {
+    let Some(end) = end_of(alloc, &leaf.ending)? else {
         return Ok(None);
     };
-    let blocked = Vec::from_slice(alloc, &calls.items)?;
-    let steps = retraced(alloc, schedule, debugger, fuel, &leaf.choices.items)?;
-    Ok(Some(Witness {
-        steps,
-        blocked: CallList { items: blocked },
-    }))
+    match retraced(alloc, schedule, debugger, fuel, &leaf.choices.items) {
+        Ok(steps) => Ok(Some(Witness { steps, end })),
+        Err(fault) => {
+            drop(end);
+            Err(fault)
+        }
+    }
 }

@@ -34,7 +34,7 @@ pub use limits::{
 };
 pub use lines::{bare_line, cut_line, lines_lose_nothing, without_return};
 pub use mode::mode_of;
-pub use outcome::{CallList, Outcome, TrapList, TrappedRank};
+pub use outcome::{CallList, IssuedCall, IssuedList, Outcome, TrapList, TrappedRank};
 pub use place::{Decl, DeclKind, Place};
 pub use read_fault::{FaultCode, ReadFault};
 pub use script::Script;

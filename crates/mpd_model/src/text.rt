@@ -1,10 +1,11 @@
 //! Printed texts that need no state (docs/FORMATS.md, "Text of show").
 
 ghost use Rattle.std.specs.Prelude.{◌≡◌, ◌++◌, IfOk, OnOk, string_bytes, codes};
+ghost use Rattle.mpd_model.specs.steps.Outcomes.{ids_of};
 ghost use Rattle.mpd_model.specs.texts.Texts.{id_text, step_text, send_word, recv_word, kind_text, any_text, trap_name, set_text, trapped_text, outcome_text, spaced};
 
 use crate::call::{CallKind, MatchSet, Trap};
-use crate::outcome::{Outcome, TrappedRank};
+use crate::outcome::{IssuedCall, Outcome, TrappedRank};
 use crate::step::{CallId, Step};
 use std::alloc::{AllocError, Global};
 use std::fmt;
@@ -161,12 +162,13 @@ pub fn print_outcome(alloc: Global, outcome: &Outcome) -> Result<String, AllocEr
 }
 
 /// Adds a name, and calls with one space before each.
-fn push_calls(out: &mut String, name: &str, calls: &[CallId]) -> Result<(), AllocError>
-    ensures { OnOk result (string_bytes out.new ≡ string_bytes out.old ++ (name.now ++ spaced id_text calls.now)) }
+fn push_calls(out: &mut String, name: &str, calls: &[IssuedCall]) -> Result<(), AllocError>
+    ensures { OnOk result (string_bytes out.new ≡ string_bytes out.old ++ (name.now ++ spaced id_text (ids_of calls.now))) }
 {
     out.push_str(name)?;
     for call in calls {
-        write!(out, " {call}")?;
+        let id = call.id;
+        write!(out, " {id}")?;
     }
     Ok(())
 }

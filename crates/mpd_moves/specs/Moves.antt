@@ -18,14 +18,14 @@ use Rattle.mpd_model.specs.runs.Running.{all_applied, ran_back}
 use Rattle.mpd_model.specs.runs.Trail.{Trail, step_eq, forgotten}
 use Rattle.mpd_model.specs.texts.Texts.{line}
 use Rattle.mpd_model.specs.runs.Breakpoints.{no_breaks, break_at}
-use Rattle.mpd_wire.specs.declared.request.Command.{Command}
-use Rattle.mpd_wire.specs.declared.request.Command.TheVariants as command
-use Rattle.mpd_wire.specs.declared.reply.Answer.{Answer}
-use Rattle.mpd_wire.specs.declared.reply.Answer.TheVariants as answer
-use Rattle.mpd_wire.specs.declared.reply.Refusal.{Refusal}
-use Rattle.mpd_wire.specs.declared.reply.Refusal.TheVariants as refusal
-use Rattle.mpd_wire.specs.declared.reply.Reply.{Reply}
-use Rattle.mpd_wire.specs.declared.reply.Reply.TheVariants as reply
+use Rattle.mpd_request.specs.declared.request.Command.{Command}
+use Rattle.mpd_request.specs.declared.request.Command.TheVariants as command
+use Rattle.mpd_request.specs.declared.reply.Answer.{Answer}
+use Rattle.mpd_request.specs.declared.reply.Answer.TheVariants as answer
+use Rattle.mpd_request.specs.declared.reply.Refusal.{Refusal}
+use Rattle.mpd_request.specs.declared.reply.Refusal.TheVariants as refusal
+use Rattle.mpd_request.specs.declared.reply.Reply.{Reply}
+use Rattle.mpd_request.specs.declared.reply.Reply.TheVariants as reply
 use Rattle.mpd_policy.specs.Single.{single, only_step, ran_on}
 use Rattle.mpd_names.specs.Called.{break_text}
 use Rattle.mpd_view.specs.Steps.{step_words}
@@ -45,11 +45,14 @@ use Rattle.mpd_vocabulary.specs.declared.word.Word.TheVariants as word
 abbrev pub from_one : ℕ → ℕ
 from_one n = if n == 0 then NO_CANDIDATE else n - 1
 
--- whether `next` asks for the step that comes next: where there is one, a number asks for so many
+-- whether `next` asks for the step that comes next, by what is decided: where there is one, a number asks for so many
+abbrev pub asks_by : Decision → Word → Bool
+asks_by d (word.Next None) = true
+asks_by d (word.Next (Some n)) = is_none (single d)
+asks_by d other = false
+
 abbrev pub asks_next : World → Word → Bool
-asks_next w (word.Next None) = true
-asks_next w (word.Next (Some n)) = is_none (only_step w)
-asks_next w other = false
+asks_next w x = asks_by (decision w) x
 
 -- how many steps are undone
 abbrev pub ahead_of : Trail → ℕ
@@ -195,6 +198,11 @@ hit_by stop = if stop.steps == 1 then cause_number stop.cause else None
 -- the lowest breakpoint that the last step hits, before which a run back would stop at once; what is undone doesn't matter
 abbrev pub last_hit : List (Option Break) → Trail → Option ℕ
 last_hit places t = hit_by (ran_back places (forgotten t) (forgotten t).depth)
+
+-- that, where a step was told
+abbrev pub told_hit : List (Option Break) → Trail → List ℕ → Option ℕ
+told_hit places t [] = None
+told_hit places t (b ∷ lead) = last_hit places t
 
 abbrev pub hit_line : List Declared → List (Option Break) → Option ℕ → List ℕ
 hit_line ds places None = []

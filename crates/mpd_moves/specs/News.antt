@@ -1,18 +1,18 @@
 -- What the steps of a word did: what ranks print by them, and the requests that are lost by them (docs/CONSOLE.md, "Answers").
 use Rattle.std.specs.Prelude.{ℕ, ℤ, Bool, true, false, nat_lt, if◌then◌else◌, List, [], ◌∷◌, ◌++◌, length, drop, get_or, slice_get, Option, Some, None, codes}
 use Rattle.std.specs.Fmt.{decimal, signed_decimal}
-use Rattle.std.specs.List.{flat_map, list_any}
+use Rattle.std.specs.List.{flat_map}
 use Rattle.mpd_model.specs.declared.decision.Decision.{Decision}
 use Rattle.mpd_model.specs.declared.decision.Decision.TheVariants.{Forced, Choice, Leaf}
 use Rattle.mpd_model.specs.declared.step.CallId.{CallId}
 use Rattle.mpd_model.specs.script.Program.{Program}
-use Rattle.mpd_model.specs.steps.World.{RankWorld, World, rank_numbers, id_eq}
+use Rattle.mpd_model.specs.steps.World.{RankWorld, World, rank_numbers}
 use Rattle.mpd_model.specs.runs.Decisions.{decision}
 use Rattle.mpd_model.specs.runs.Trail.{Trail}
 use Rattle.mpd_model.specs.texts.Texts.{line, spaced}
 use Rattle.mpd_vocabulary.specs.declared.word.Word.{Word}
 use Rattle.mpd_vocabulary.specs.declared.word.Word.TheVariants as word
-use Rattle.mpd_view.specs.Lost.{lost_line, lost_calls}
+use Rattle.mpd_view.specs.Lost.{lost_told, lost_calls}
 
 -- what is known of a session before a word: how many steps are not undone, how many values each rank has printed, and which requests are lost
 pub record Known : Type 0 where
@@ -60,19 +60,14 @@ prints_of p count (Some r) = prints_behind p count r.out
 abbrev pub prints_text : List ℕ → World → List ℕ
 prints_text counts w = flat_map (λ p. prints_of p (get_or counts p 0) (slice_get w.ranks p)) (rank_numbers w.board)
 
--- ---- requests that are lost, and weren't before
-
-abbrev pub is_among : List CallId → CallId → Bool
-is_among calls c = list_any (id_eq c) calls
-
-abbrev pub new_line : Program → World → List CallId → CallId → List ℕ
-new_line s w before c = if is_among before c then [] else lost_line s w.board c
-
-abbrev pub new_lines : Program → World → List CallId → List CallId → List ℕ
-new_lines s w before calls = flat_map (new_line s w before) calls
+-- ---- requests that are lost, of lines of which none was lost before
 
 abbrev pub losses_text : Program → World → List CallId → List ℕ
-losses_text s w before = new_lines s w before (lost_calls w)
+losses_text s w before = lost_told s w.board before (lost_calls w)
+
+-- those that are lost after a word, where more steps are taken than before it; else nothing is told of them
+abbrev pub lost_after : Known → Trail → World → List CallId
+lost_after k t w = if nat_lt k.depth t.depth then lost_calls w else []
 
 -- an end tells all that are lost
 abbrev pub losses_by : Decision → Program → World → List CallId → List ℕ

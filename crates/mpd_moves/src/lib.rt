@@ -4,8 +4,8 @@
 
 pub mod moves;
 pub mod news;
+mod standing;
 
-pub use moves::{
-    Doing, Scene, doing_of, goto_command, lead_of, lead_text, push_break_line, push_reply,
-};
+pub use moves::{Doing, doing_of, goto_command, lead_of, lead_text, push_break_line, push_reply};
 pub use news::{Known, Lead, known_for};
+pub use standing::Scene;

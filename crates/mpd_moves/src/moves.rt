@@ -11,16 +11,17 @@ ghost use Rattle.mpd_moves.specs.News.{told, known_for};
 ghost use Rattle.mpd_moves.specs.Moves as spec;
 
 use crate::news::{Lead, known_for, push_news};
+use crate::standing::{Scene, standing_of};
 use mpd_code::Code;
 use mpd_core::Core;
 use mpd_model::{Break, Cause, Decision, Decl, Step, Stop};
 use mpd_names::push_break;
-use mpd_policy::{Breaks, decide, only_step, run_back, run_on, sole};
+use mpd_policy::{Breaks, decide, only_step, run_on, sole};
+use mpd_request::{Answer, Command, Refusal, Reply};
 use mpd_runs::{Way, push_count};
 use mpd_trail::Debugger;
 use mpd_view::{push_standing, push_step};
 use mpd_vocabulary::Word;
-use mpd_wire::{Answer, Command, Refusal, Reply};
 use std::alloc::{AllocError, Global};
 
 /// A number of a candidate, from 0, that none has.
@@ -35,17 +36,6 @@ fn from_one(number: usize) -> usize
     } else {
         number - 1
     }
-}
-
-/// Where a session stands after a word, which is what is told of it.
-#[derive(Clone, Copy)]
-pub struct Scene<'s, 'c> {
-    /// Its debugger.
-    pub debugger: &'s Debugger<'c>,
-    /// The text of its script.
-    pub text: &'s [u8],
-    /// Its breakpoints.
-    pub breaks: &'s Breaks,
 }
 
 /// What a word does with the session.
@@ -510,14 +500,14 @@ fn push_removed(out: &mut String, word: Word) -> Result<(), AllocError>
     }
 }
 
-/// Whether a word asks for the step that comes next.
-fn asks_next(alloc: Global, core: &Core<'_>, word: Word) -> Result<bool, AllocError>
-    ensures { IfOk result (λ b. b ≡ spec.asks_next core.now.world word) }
+/// Whether a word asks for the step that comes next, by what is decided.
+fn asks_next(decided: &Decision, word: Word) -> bool
+    ensures { result ≡ spec.asks_by decided.now word }
 {
     match word {
-        Word::Next(None) => Ok(true),
-        Word::Next(Some(_)) => Ok(only_step(alloc, core)?.is_none()),
-        _ => Ok(false),
+        Word::Next(None) => true,
+        Word::Next(Some(_)) => single(decided).is_none(),
+        _ => false,
     }
 }
 
@@ -578,10 +568,11 @@ fn push_refused(
 ) -> Result<(), AllocError>
     ensures { OnOk result (string_bytes out.new ≡ string_bytes out.old ++ spec.refused_text text.now debugger.now.trail debugger.now.world word refusal) }
 {
-    let is_next = asks_next(alloc, debugger.core(), word)?;
+    let decided = decide(alloc, debugger.core())?;
+    let is_next = asks_next(&decided, word);
     out.push_str(refusal_line(is_next, word, refusal))?;
     if stands_behind(is_next, refusal) {
-        push_standing(alloc, debugger, text, out)?;
+        push_standing(alloc, debugger, text, out, decided)?;
     }
     Ok(())
 }
@@ -597,6 +588,7 @@ fn push_run(
 ) -> Result<(), AllocError>
     ensures { OnOk result (string_bytes out.new ≡ string_bytes out.old ++ spec.run_text scene.entry.text.now scene.entry.debugger.now.trail scene.entry.debugger.now.world scene.entry.breaks.now lead.now.word depth stop (told lead.now.known.depth lead.now.known.printed.items lead.now.known.lost.items)) }
 {
+    let standing = standing_of(alloc, scene, lead)?;
     let Scene {
         debugger,
         text,
@@ -604,29 +596,9 @@ fn push_run(
     } = scene;
     let decls = debugger.core().code().decls();
     push_ran(out, lead.word, depth, stop.steps)?;
-    push_news(alloc, debugger, out, &lead.known)?;
+    push_news(debugger, out, &lead.known, &standing)?;
     push_cause(out, decls, breaks, lead.word, stop.cause)?;
-    push_standing(alloc, debugger, text, out)
-}
-
-/// The breakpoint of a run back that undoes one step.
-fn hit_by(stop: Stop) -> Option<usize>
-    ensures { result ≡ spec.hit_by stop }
-{
-    match stop.cause {
-        Cause::Break(number) if stop.steps == 1 => Some(number),
-        _ => None,
-    }
-}
-
-/// The lowest breakpoint that the last step hits, before which a run back would stop at once.
-fn last_hit(debugger: &Debugger<'_>, breaks: &Breaks) -> Result<Option<usize>, AllocError>
-    ensures { IfOk result (λ o. o ≡ spec.last_hit breaks.now debugger.now.trail) }
-{
-    let mut copy = debugger.copy()?;
-    let stop = run_back(&mut copy, breaks);
-    drop(copy);
-    Ok(hit_by(stop))
+    push_standing(alloc, debugger, text, out, standing.decision)
 }
 
 /// Adds the line of a breakpoint that was hit.
@@ -659,19 +631,20 @@ fn along_line(word: Word, hit: Option<usize>) -> &'static str
 
 /// Adds what is told behind a step that was told: the breakpoint that it hits, or why `run` stops behind it.
 fn push_stepped(
-    debugger: &Debugger<'_>,
-    breaks: &Breaks,
+    scene: Scene<'_, '_>,
     out: &mut String,
     word: Word,
     lead: &str,
+    hit: Option<usize>,
 ) -> Result<(), AllocError>
-    ensures { OnOk result (string_bytes out.new ≡ string_bytes out.old ++ spec.stepped_text debugger.now.trail breaks.now word lead.now) }
+    requires hit { hit ≡ spec.told_hit scene.breaks.now scene.debugger.now.trail lead.now }
+    ensures { OnOk result (string_bytes out.new ≡ string_bytes out.old ++ spec.stepped_text scene.entry.debugger.now.trail scene.entry.breaks.now word lead.now) }
 {
     if lead.is_empty() {
         return Ok(());
     }
-    let hit = last_hit(debugger, breaks)?;
-    push_hit(out, debugger.core().code().decls(), breaks, hit)?;
+    let decls = scene.debugger.core().code().decls();
+    push_hit(out, decls, scene.breaks, hit)?;
     out.push_str(along_line(word, hit))
 }
 
@@ -685,16 +658,12 @@ fn push_move(
 ) -> Result<(), AllocError>
     ensures { OnOk result (string_bytes out.new ≡ string_bytes out.old ++ spec.move_text scene.entry.text.now scene.entry.debugger.now.trail scene.entry.debugger.now.world scene.entry.breaks.now lead.now.word depth (string_bytes lead.now.text) (told lead.now.known.depth lead.now.known.printed.items lead.now.known.lost.items)) }
 {
-    let Scene {
-        debugger,
-        text,
-        breaks,
-    } = scene;
+    let standing = standing_of(alloc, scene, lead)?;
     let step = lead.text.as_str();
     push_moved(out, depth, step)?;
-    push_news(alloc, debugger, out, &lead.known)?;
-    push_stepped(debugger, breaks, out, lead.word, step)?;
-    push_standing(alloc, debugger, text, out)
+    push_news(scene.debugger, out, &lead.known, &standing)?;
+    push_stepped(scene, out, lead.word, step, standing.hit)?;
+    push_standing(alloc, scene.debugger, scene.text, out, standing.decision)
 }
 
 /// Adds what is told of a reply to a word after it, by what was told and known before. An `Err` is want of memory.

@@ -2,14 +2,15 @@
 
 ghost use Rattle.std.specs.Prelude.{◌≡◌, ◌++◌, IfOk, OnErr, OnOk, drop, false, get_or, slice_get, string_bytes};
 ghost use Rattle.mpd_model.specs.runs.Decisions.{decision};
+ghost use Rattle.mpd_view.specs.Lost.{lost_calls};
 ghost use Rattle.mpd_moves.specs.News as spec;
 
+use crate::standing::Standing;
 use mpd_core::Core;
 use mpd_model::{CallId, Decision};
 use mpd_names::push_spaced;
-use mpd_policy::decide;
 use mpd_trail::Debugger;
-use mpd_view::{lost_calls, push_lost_line};
+use mpd_view::{lost_calls, push_lost_told};
 use mpd_vocabulary::Word;
 use std::alloc::{AllocError, Global};
 
@@ -17,7 +18,7 @@ use std::alloc::{AllocError, Global};
 #[derive(Drop)]
 pub struct Known {
     /// How many steps are not undone.
-    depth: usize,
+    pub(crate) depth: usize,
     /// How many values each rank has printed.
     printed: Vec<usize>,
     /// The requests that are lost.
@@ -150,67 +151,34 @@ fn push_prints(core: &Core<'_>, out: &mut String, counts: &[usize]) -> Result<()
     Ok(())
 }
 
-/// Whether a call is among some.
-fn is_among(calls: &[CallId], call: CallId) -> bool
-    ensures { result ≡ spec.is_among calls.now call }
-{
-    calls.iter().any(|other| call.rank == other.rank && call.index == other.index)
-}
-
-/// Adds the line of a request that is lost, where it wasn't before.
-fn push_new_line(
-    core: &Core<'_>,
-    out: &mut String,
-    before: &[CallId],
-    call: CallId,
-) -> Result<(), AllocError>
-    ensures { OnOk result (string_bytes out.new ≡ string_bytes out.old ++ spec.new_line core.now.program core.now.world before.now call) }
-{
-    if is_among(before, call) {
-        return Ok(());
-    }
-    push_lost_line(core, out, call)
-}
-
-/// Adds these lines.
-fn push_new_lines(
-    core: &Core<'_>,
-    out: &mut String,
-    before: &[CallId],
-    calls: &[CallId],
-) -> Result<(), AllocError>
-    ensures { OnOk result (string_bytes out.new ≡ string_bytes out.old ++ spec.new_lines core.now.program core.now.world before.now calls.now) }
-{
-    for call in calls {
-        push_new_line(core, out, before, *call)?;
-    }
-    Ok(())
-}
-
-/// Adds the requests that are lost, and weren't before, where the run isn't at an end.
+/// Adds the requests that are lost, of lines of which none was lost before, where the run isn't at an end.
 fn push_losses(
-    alloc: Global,
     core: &Core<'_>,
     out: &mut String,
     before: &[CallId],
+    standing: &Standing,
 ) -> Result<(), AllocError>
-    ensures { OnOk result (string_bytes out.new ≡ string_bytes out.old ++ spec.losses_by (decision core.now.world) core.now.program core.now.world before.now) }
+    requires lost { standing.now.lost.items ≡ lost_calls core.now.world }
+    ensures { OnOk result (string_bytes out.new ≡ string_bytes out.old ++ spec.losses_by standing.now.decision core.now.program core.now.world before.now) }
 {
-    match decide(alloc, core)? {
+    match &standing.decision {
         Decision::Leaf(_) => Ok(()),
         Decision::Forced(_) | Decision::Choice(_) => {
-            push_new_lines(core, out, before, &lost_calls(alloc, core)?)
+            push_lost_told(core, out, before, &standing.lost)
         }
     }
 }
 
-/// Adds what the steps of a word did, where more are taken than before it. An `Err` is want of memory.
+/// Adds what the steps of a word did, where more are taken than before it, by where the session stands after it. An `Err` is want of memory.
+#[tactic(auto, using(crate::proofs::NewsLemmas::lost_here))]
 pub(crate) fn push_news(
-    alloc: Global,
     debugger: &Debugger<'_>,
     out: &mut String,
     known: &Known,
+    standing: &Standing,
 ) -> Result<(), AllocError>
+    requires decision { standing.now.decision ≡ decision debugger.now.world }
+    requires lost { standing.now.lost.items ≡ spec.lost_after (spec.told known.now.depth known.now.printed.items known.now.lost.items) debugger.now.trail debugger.now.world }
     ensures { OnOk result (string_bytes out.new ≡ string_bytes out.old ++ spec.news_text (spec.told known.now.depth known.now.printed.items known.now.lost.items) debugger.now.trail debugger.now.world) }
 {
     if known.depth >= debugger.depth() {
@@ -218,5 +186,5 @@ pub(crate) fn push_news(
     }
     let core = debugger.core();
     push_prints(core, out, &known.printed)?;
-    push_losses(alloc, core, out, &known.lost)
+    push_losses(core, out, &known.lost, standing)
 }

@@ -1,49 +1,25 @@
 -- Leaves that end as no leaf before them does: those of two lists, one after the other, and whether they have an end.
-use Rattle.std.proofs.Common.{◌≡◌, ℕ, zero, suc, ◌==◌, Bool, true, false, cond, ◌&&◌, ◌||◌, not, Some, List, [], ◌∷◌, ◌++◌, slice_get, inl, inr, append-nil, refl, sym, ap, ◌∙◌}
+use Rattle.std.proofs.Common.{◌≡◌, ℕ, zero, suc, ◌==◌, Bool, true, false, cond, ◌&&◌, ◌||◌, not, Some, List, [], ◌∷◌, ◌++◌, slice_get, append-nil, refl, sym, ap, ◌∙◌}
 use Rattle.std.specs.List.{filter, list_all}
 use Rattle.std.proofs.lemmas.Bool.{and_parts, not-true, eqb-true}
 use Rattle.std.proofs.lemmas.List.Elements.{filter-append}
-use Rattle.std.proofs.lemmas.Bool.Decides.{eqb_tells}
 use Rattle.mpd_laws.proofs.ordered.Orderly.{same_id}
 use Rattle.mpd_model.specs.declared.step.CallId.{CallId}
-use Rattle.mpd_model.specs.declared.call.Trap.{Trap}
-use Rattle.mpd_model.specs.declared.call.Trap.TheVariants.{Overflow, ZeroDivisor, BadRank, BadTag, BadIndex, Assertion}
 use Rattle.mpd_model.specs.declared.outcome.Outcome.{Outcome}
 use Rattle.mpd_model.specs.declared.outcome.Outcome.TheVariants as outcome_is
+use Rattle.mpd_model.specs.declared.outcome.IssuedCall.{IssuedCall}
 use Rattle.mpd_model.specs.declared.outcome.TrappedRank.{TrappedRank}
 use Rattle.mpd_model.specs.steps.World.{id_eq}
 use Rattle.mpd_walk.specs.declared.ending.Ending.{Ending}
 use Rattle.mpd_walk.specs.declared.ending.Ending.TheVariants.{Ended, Cut}
 use Rattle.mpd_explore.specs.declared.report.Leaf.{Leaf}
 use Rattle.std.specs.Cmp.Lexicographic.{pointwise}
-use Rattle.mpd_outcomes.specs.Outcomes.{trap_eq, trapped_eq, outcome_eq, ending_eq, same_end, firsts}
+use Rattle.mpd_explore.specs.Traps.{trap_eq}
+use Rattle.mpd_explore.proofs.EndLemmas.{trap_same, trap_each, number_each}
+use Rattle.mpd_outcomes.specs.Outcomes.{trapped_eq, issued_eq, outcome_eq, ending_eq, same_end, firsts}
 use Rattle.mpd_outcomes.specs.Sums.{has_end}
 
 -- ---- the test of ends is one of equality
-
-trap_same : (t u : Trap) → trap_eq t u ≡ true → t ≡ u
-trap_same Overflow Overflow e = refl
-trap_same ZeroDivisor ZeroDivisor e = refl
-trap_same BadRank BadRank e = refl
-trap_same BadTag BadTag e = refl
-trap_same BadIndex BadIndex e = refl
-trap_same Assertion Assertion e = refl
-trap_same t u e = absurd (cc)
-
-trap_each : (t : Trap) → trap_eq t t ≡ true
-trap_each Overflow = refl
-trap_each ZeroDivisor = refl
-trap_each BadRank = refl
-trap_each BadTag = refl
-trap_each BadIndex = refl
-trap_each Assertion = refl
-
-number_each : (n : ℕ) → (n == n) ≡ true
-number_each n =
-    elim (eqb_tells n n) [
-      | inl t ↦ t.0
-      | inr t ↦ absurd (t.1 refl)
-    ]
 
 trapped_same : (a b : TrappedRank) → trapped_eq a b ≡ true → a ≡ b
 trapped_same a b e =
@@ -57,6 +33,14 @@ trapped_each a = λ j. number_each a.rank j && (number_each a.statement j && tra
 id_each : (c : CallId) → id_eq c c ≡ true
 id_each c = λ j. number_each c.rank j && number_each c.index j
 
+issued_same : (c d : IssuedCall) → issued_eq c d ≡ true → c ≡ d
+issued_same c d e =
+    let parts = and_parts (c.statement == d.statement) (id_eq c.id d.id) e in
+    λ i. record { id = same_id c.id d.id parts.1 i; statement = eqb-true c.statement d.statement parts.0 i }
+
+issued_each : (c : IssuedCall) → issued_eq c c ≡ true
+issued_each c = λ j. number_each c.statement j && id_each c.id j
+
 lists_same : {A : Type 0} (E : A → A → Bool) → ((a b : A) → E a b ≡ true → a ≡ b) → (xs ys : List A) → pointwise E xs ys ≡ true → xs ≡ ys
 lists_same E same [] [] e = refl
 lists_same E same [] (y ∷ ys) e = absurd (cc)
@@ -69,15 +53,15 @@ lists_each E each (x ∷ xs) = λ j. each x j && lists_each E each xs j
 
 outcome_same : (o k : Outcome) → outcome_eq o k ≡ true → o ≡ k
 outcome_same outcome_is.Done outcome_is.Done e = refl
-outcome_same (outcome_is.Leftovers cs) (outcome_is.Leftovers ds) e = ap (λ l. outcome_is.Leftovers l) (lists_same id_eq same_id cs ds e)
-outcome_same (outcome_is.Deadlock cs) (outcome_is.Deadlock ds) e = ap (λ l. outcome_is.Deadlock l) (lists_same id_eq same_id cs ds e)
+outcome_same (outcome_is.Leftovers cs) (outcome_is.Leftovers ds) e = ap (λ l. outcome_is.Leftovers l) (lists_same issued_eq issued_same cs ds e)
+outcome_same (outcome_is.Deadlock cs) (outcome_is.Deadlock ds) e = ap (λ l. outcome_is.Deadlock l) (lists_same issued_eq issued_same cs ds e)
 outcome_same (outcome_is.Trap ts) (outcome_is.Trap us) e = ap (λ l. outcome_is.Trap l) (lists_same trapped_eq trapped_same ts us e)
 outcome_same o k e = absurd (cc)
 
 outcome_each : (o : Outcome) → outcome_eq o o ≡ true
 outcome_each outcome_is.Done = refl
-outcome_each (outcome_is.Leftovers cs) = lists_each id_eq id_each cs
-outcome_each (outcome_is.Deadlock cs) = lists_each id_eq id_each cs
+outcome_each (outcome_is.Leftovers cs) = lists_each issued_eq issued_each cs
+outcome_each (outcome_is.Deadlock cs) = lists_each issued_eq issued_each cs
 outcome_each (outcome_is.Trap ts) = lists_each trapped_eq trapped_each ts
 
 pub ending_same : (e f : Ending) → ending_eq e f ≡ true → e ≡ f

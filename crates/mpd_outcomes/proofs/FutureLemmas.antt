@@ -7,6 +7,7 @@ use Rattle.std.proofs.lemmas.Bool.Decides.{eqb_tells}
 use Rattle.std.proofs.lemmas.List.Folds.{flat_map-map}
 use Rattle.std.proofs.lemmas.List.FromFn.{length-map-range_with_len}
 use Rattle.mpd_model.specs.declared.step.CallId.{CallId}
+use Rattle.mpd_model.specs.declared.call.Call.{Call}
 use Rattle.mpd_model.specs.declared.call.CallKind.{CallKind}
 use Rattle.mpd_model.specs.declared.call.CallKind.TheVariants.{Recv}
 use Rattle.mpd_model.specs.declared.call.StatusCells.{StatusCells}
@@ -16,7 +17,7 @@ use Rattle.mpd_model.specs.script.Tree.{Tree}
 use Rattle.mpd_model.specs.steps.World.{RankWorld, World, Board, call_id, kind_at, partner, buffer, rank_numbers, call_numbers, calls_of, awaited, last_call}
 use Rattle.mpd_model.specs.steps.Next.{is_blocked, writes_of, status_writes}
 use Rattle.mpd_model.specs.steps.Outcomes.{first_number}
-use Rattle.mpd_states.specs.Future.{open_kind, still_asked, Seen, seen, seen_held, BlockedOn, seen_last, RankKey, key_by, quieted, rank_key, Key, key_of, SameFuture}
+use Rattle.mpd_states.specs.Future.{open_call, still_asked, Seen, seen, seen_held, BlockedOn, last_statement, seen_last, RankKey, key_by, quieted, rank_key, Key, key_of, SameFuture}
 use Rattle.mpd_outcomes.specs.Words.{number_word, flag_word, sized, asked_words, received_words, writes_words, seen_words}
 use Rattle.mpd_outcomes.specs.Keys.{place_words, held_words, numbered_words, call_words, target_words, blocked_words, part_of, part_at, key_words, left_from, IsKey}
 
@@ -62,22 +63,22 @@ held_is b p [] = refl
 held_is b p (None ∷ hs) = ap (λ ws. (pos 0 ∷ []) ++ ws) (held_is b p hs)
 held_is b p (Some i ∷ hs) = λ k. (pos 1 ∷ number_word i ∷ seen_is b (call_id p i) k) ++ held_is b p hs k
 
-numbered_parts : ℕ → List (Option CallKind) → List ℤ
+numbered_parts : ℕ → List (Option Call) → List ℤ
 numbered_parts i [] = []
 numbered_parts i (k ∷ ks) = numbered_words i k ++ numbered_parts (i + 1) ks
 
-numbered_is : (f : ℕ → Option CallKind) (i n : ℕ) → flat_map (λ j. numbered_words j (f j)) (range_with_len i n) ≡ numbered_parts i (map f (range_with_len i n))
+numbered_is : (f : ℕ → Option Call) (i n : ℕ) → flat_map (λ j. numbered_words j (f j)) (range_with_len i n) ≡ numbered_parts i (map f (range_with_len i n))
 unfolding numbered_parts
 numbered_is f i zero = refl
 numbered_is f i (suc n) = ap (λ ws. numbered_words i (f i) ++ ws) (numbered_is f (i + 1) n)
 
-call_parts : List (Option CallKind) → List ℤ
+call_parts : List (Option Call) → List ℤ
 call_parts ks = number_word (length ks) ∷ (numbered_parts 0 ks ++ pos 0 ∷ [])
 
-calls_is : (b : Board) (p : ℕ) → call_words b p ≡ call_parts (map (λ i. open_kind b (call_id p i)) (call_numbers b p))
+calls_is : (b : Board) (p : ℕ) → call_words b p ≡ call_parts (map (λ i. open_call b (call_id p i)) (call_numbers b p))
 unfolding call_parts
 calls_is b p =
-    let f = λ (i : ℕ). open_kind b (call_id p i) in
+    let f = λ (i : ℕ). open_call b (call_id p i) in
     let n = length (calls_of b p) in
     λ k. number_word (sym (length-map-range_with_len f 0 n) k) ∷ (numbered_is f 0 n k ++ pos 0 ∷ [])
 
@@ -92,12 +93,12 @@ target_is b (Some c) = ap (λ ws. pos 1 ∷ ws) (seen_is b c)
 
 blocked_part : Option BlockedOn → List ℤ
 blocked_part None = []
-blocked_part (Some o) = seen_part o.last ++ target_part o.target
+blocked_part (Some o) = number_word o.statement ∷ (seen_part o.last ++ target_part o.target)
 
 blocked_is : (b : Board) (p : ℕ) (x : Bool) → blocked_words b p x ≡ blocked_part (seen_last b p x)
 unfolding blocked_part
 blocked_is b p false = refl
-blocked_is b p true = λ k. seen_is b (last_call b p) k ++ target_is b (awaited b (last_call b p)) k
+blocked_is b p true = λ k. number_word (last_statement b p) ∷ (seen_is b (last_call b p) k ++ target_is b (awaited b (last_call b p)) k)
 
 rank_part : Option RankKey → List ℤ
 rank_part None = []

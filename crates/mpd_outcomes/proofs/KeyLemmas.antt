@@ -4,6 +4,7 @@ use Rattle.std.specs.Prelude.{ℤ, pos, negsuc, slice_get, slice_index_or, IfSom
 use Rattle.std.specs.Option.{option_map}
 use Rattle.std.specs.List.{flat_map, range_with_len}
 use Rattle.mpd_model.specs.declared.step.CallId.{CallId}
+use Rattle.mpd_model.specs.declared.call.Call.{Call}
 use Rattle.mpd_model.specs.declared.call.CallKind.{CallKind}
 use Rattle.mpd_model.specs.declared.call.CallKind.TheVariants.{Send, Recv, Wait, Waitany, Barrier}
 use Rattle.mpd_model.specs.declared.call.SendCall.{SendCall}
@@ -19,9 +20,9 @@ use Rattle.mpd_model.specs.script.Program.{Program}
 use Rattle.mpd_model.specs.steps.World.{RankWorld, World, Board, call_id, kind_at, partner, buffer, rank_numbers, call_numbers, calls_of, awaited, last_call}
 use Rattle.mpd_model.specs.steps.Next.{is_blocked, writes_of, status_writes}
 use Rattle.mpd_model.specs.steps.Outcomes.{first_number}
-use Rattle.mpd_states.specs.Future.{overwritten, live_vars, open_kind, still_asked, seen, seen_held, seen_last, RankKey, key_by, rank_key, SameFuture}
+use Rattle.mpd_states.specs.Future.{overwritten, live_vars, open_call, still_asked, seen, seen_held, last_statement, seen_last, RankKey, key_by, rank_key, SameFuture}
 use Rattle.mpd_outcomes.specs.Words.{number_word, flag_word, sized, source_word, tag_word, kind_words, asked_words, received_words, writes_words, seen_words, activity_word}
-use Rattle.mpd_outcomes.specs.Keys.{place_words, held_words, handle_words, numbered_words, call_words, target_words, blocked_words, rank_words, part_of, part_at, left_from, IsKey}
+use Rattle.mpd_outcomes.specs.Keys.{place_words, held_words, handle_words, open_words, numbered_words, call_words, target_words, blocked_words, rank_words, part_of, part_at, left_from, IsKey}
 use Rattle.mpd_outcomes.proofs.SplitLemmas.{Splits, both, mapped, behind, apart, number_told, flag_told, option_told, sized_told}
 
 -- ---- activities
@@ -225,20 +226,20 @@ handles_split b d p hs js =
 Later : ℕ → List ℤ → Type 0
 Later i xs = ((rest : List ℤ) × (xs ≡ pos 0 ∷ rest)) ⊎ ((j : ℕ) × ((i < j) × ((rest : List ℤ) × (xs ≡ pos 1 ∷ number_word j ∷ rest))))
 
-later_by : (o : Option CallKind) (i k : ℕ) (xs : List ℤ) → k < i → Later k xs → Later k (numbered_words i o ++ xs)
+later_by : (o : Option Call) (i k : ℕ) (xs : List ℤ) → k < i → Later k xs → Later k (numbered_words i o ++ xs)
 unfolding Later
 later_by None i k xs lt h = h
-later_by (Some kind) i k xs lt h = inr (i, (lt, (kind_words kind ++ xs, refl)))
+later_by (Some c) i k xs lt h = inr (i, (lt, (open_words c ++ xs, refl)))
 
 -- the free calls of a range of numbers, and the end
-numbered_from : (ℕ → Option CallKind) → ℕ → ℕ → List ℤ
+numbered_from : (ℕ → Option Call) → ℕ → ℕ → List ℤ
 numbered_from f i n = flat_map (λ j. numbered_words j (f j)) (range_with_len i n) ++ pos 0 ∷ []
 
-numbered_next : (f : ℕ → Option CallKind) (i n : ℕ) → numbered_from f i (suc n) ≡ numbered_words i (f i) ++ numbered_from f (i + 1) n
+numbered_next : (f : ℕ → Option Call) (i n : ℕ) → numbered_from f i (suc n) ≡ numbered_words i (f i) ++ numbered_from f (i + 1) n
 unfolding numbered_from
 numbered_next f i n = append_assoc (numbered_words i (f i)) (flat_map (λ j. numbered_words j (f j)) (range_with_len (i + 1) n)) (pos 0 ∷ [])
 
-later_all : (f : ℕ → Option CallKind) (i n k : ℕ) → k < i → Later k (numbered_from f i n)
+later_all : (f : ℕ → Option Call) (i n k : ℕ) → k < i → Later k (numbered_from f i n)
 unfolding Later numbered_from
 later_all f i zero k lt = inl ([], refl)
 later_all f i (suc n) k lt = subst (Later k) (sym (numbered_next f i n)) (later_by (f i) i k (numbered_from f (i + 1) n) lt (later_all f (i + 1) n k (omega (arith, lt))))
@@ -251,15 +252,24 @@ not_later i xs rest u v h e =
       | inr t ↦ (let is = t.1.1.1 in let same = number_told t.0 i (cc) in let lt = t.1.0 in omega (arith, same, lt))
     ]
 
-one_free_split : (i : ℕ) (o q : Option CallKind) {xs ys : List ℤ} {P : Type 0} → Later i xs → Later i ys → Splits xs ys P
+call_same : (c d : Call) → c.statement ≡ d.statement → Some c.kind ≡ Some d.kind → Some c ≡ Some d
+call_same c d e f = λ k. Some (record { statement = e k; kind = kind_in (f k) })
+  where
+    kind_in : Option CallKind → CallKind
+    kind_in None = c.kind
+    kind_in (Some kind) = kind
+
+one_free_split : (i : ℕ) (o q : Option Call) {xs ys : List ℤ} {P : Type 0} → Later i xs → Later i ys → Splits xs ys P
     → Splits (numbered_words i o ++ xs) (numbered_words i q ++ ys) ((o ≡ q) × P)
 one_free_split i None None left right s = mapped (λ t. (refl, t)) s
-one_free_split i None (Some k) {xs = xs} {ys = ys} left right s = record { split = λ u v e. absurd (not_later i xs (kind_words k ++ ys ++ v) u v left e) }
-one_free_split i (Some k) None {xs = xs} {ys = ys} left right s = record { split = λ u v e. absurd (not_later i ys (kind_words k ++ xs ++ u) v u right (sym e)) }
-one_free_split i (Some k) (Some l) left right s =
-    mapped (λ t. (t.1.1.0, t.1.1.1)) (behind (pos 1) (pos 1) (λ e. e) (λ _. behind (number_word i) (number_word i) (λ e. e) (λ _. both (asked_split (Some k) (Some l)) (λ _. s))))
+one_free_split i None (Some c) {xs = xs} {ys = ys} left right s = record { split = λ u v e. absurd (not_later i xs (open_words c ++ ys ++ v) u v left e) }
+one_free_split i (Some c) None {xs = xs} {ys = ys} left right s = record { split = λ u v e. absurd (not_later i ys (open_words c ++ xs ++ u) v u right (sym e)) }
+one_free_split i (Some c) (Some d) left right s =
+    mapped (λ t. (call_same c d t.1.1.0 t.1.1.1.0, t.1.1.1.1))
+    (behind (pos 1) (pos 1) (λ e. e) (λ _. behind (number_word i) (number_word i) (λ e. e)
+    (λ _. behind (number_word c.statement) (number_word d.statement) (number_told c.statement d.statement) (λ _. both (asked_split (Some c.kind) (Some d.kind)) (λ _. s)))))
 
-free_split : (f g : ℕ → Option CallKind) (i n : ℕ) → Splits (numbered_from f i n) (numbered_from g i n) (map f (range_with_len i n) ≡ map g (range_with_len i n))
+free_split : (f g : ℕ → Option Call) (i n : ℕ) → Splits (numbered_from f i n) (numbered_from g i n) (map f (range_with_len i n) ≡ map g (range_with_len i n))
 unfolding numbered_from
 free_split f g i zero = record { split = λ u v e. (refl, (cc)) }
 free_split f g i (suc n) =
@@ -269,11 +279,11 @@ free_split f g i (suc n) =
     (mapped (λ t. λ k. t.0 k ∷ t.1 k)
     (one_free_split i (f i) (g i) (later_all f (i + 1) n i (omega arith)) (later_all g (i + 1) n i (omega arith)) (free_split f g (i + 1) n))))
 
-calls_split : (b d : Board) (p : ℕ) → Splits (call_words b p) (call_words d p) (map (λ i. open_kind b (call_id p i)) (call_numbers b p) ≡ map (λ i. open_kind d (call_id p i)) (call_numbers d p))
+calls_split : (b d : Board) (p : ℕ) → Splits (call_words b p) (call_words d p) (map (λ i. open_call b (call_id p i)) (call_numbers b p) ≡ map (λ i. open_call d (call_id p i)) (call_numbers d p))
 unfolding numbered_from
 calls_split b d p =
-    let f = λ (i : ℕ). open_kind b (call_id p i) in
-    let g = λ (i : ℕ). open_kind d (call_id p i) in
+    let f = λ (i : ℕ). open_call b (call_id p i) in
+    let g = λ (i : ℕ). open_call d (call_id p i) in
     let n = length (calls_of b p) in
     mapped (λ t. t.1) (behind (number_word n) (number_word (length (calls_of d p))) (number_told n (length (calls_of d p)))
     (λ same. subst (λ (m : ℕ). Splits (numbered_from f 0 n) (numbered_from g 0 m) (map f (range_with_len 0 n) ≡ map g (range_with_len 0 m))) same (free_split f g 0 n)))
@@ -291,8 +301,9 @@ blocked_split b d p false false e = record { split = λ u v h. (refl, h) }
 blocked_split b d p false true e = absurd (cc)
 blocked_split b d p true false e = absurd (cc)
 blocked_split b d p true true e =
-    mapped (λ t. λ k. Some (record { last = t.0 k; target = t.1 k }))
-    (both (seen_split b d (last_call b p) (last_call d p)) (λ _. target_split b d (awaited b (last_call b p)) (awaited d (last_call d p))))
+    mapped (λ t. λ k. Some (record { last = t.1.0 k; statement = t.0 k; target = t.1.1 k }))
+    (behind (number_word (last_statement b p)) (number_word (last_statement d p)) (number_told (last_statement b p) (last_statement d p))
+    (λ _. both (seen_split b d (last_call b p) (last_call d p)) (λ _. target_split b d (awaited b (last_call b p)) (awaited d (last_call d p)))))
 
 -- ---- ranks
 

@@ -73,12 +73,14 @@ meeting = record {
 }
 
 -- it goes on at statement 2 and is blocked; of its four variables the three that the receive overwrites are 0; a handle, which holds none;
--- a call, which isn't free; it is paired and writes 9 to cell 0, 1 to cell 1 and 3 to cell 2; the same call is what it waits for
+-- a call, which isn't free; statement 1 issued it; it is paired and writes 9 to cell 0, 1 to cell 1 and 3 to cell 2; the same call is what
+-- it waits for
 pub row_blocked : part_at meeting 0
     ≡ pos 1 ∷ pos 2 ∷ pos 1
     ∷ pos 4 ∷ pos 0 ∷ pos 0 ∷ pos 0 ∷ pos 4
     ∷ pos 1 ∷ pos 0
     ∷ pos 1 ∷ pos 0
+    ∷ pos 1
     ∷ pos 0 ∷ pos 1 ∷ pos 2 ∷ pos 0 ∷ pos 9 ∷ pos 1 ∷ pos 1 ∷ pos 2 ∷ pos 3
     ∷ pos 1 ∷ pos 0 ∷ pos 1 ∷ pos 2 ∷ pos 0 ∷ pos 9 ∷ pos 1 ∷ pos 1 ∷ pos 2 ∷ pos 3
     ∷ []
@@ -86,16 +88,16 @@ unfolding number_word
 row_blocked = refl
 
 -- no statement, running; no variable that is read; a handle, which holds call 1: a send that isn't paired and writes nothing; two calls, of
--- which call 1 is free
+-- which call 1 is free, which statement 5 issued
 pub row_ended : part_at meeting 1
     ≡ pos 0 ∷ pos 0 ∷ pos 0
     ∷ pos 0
     ∷ pos 1 ∷ pos 1 ∷ pos 1 ∷ pos 1 ∷ pos 0 ∷ pos 4 ∷ pos 8 ∷ pos 0 ∷ pos 0 ∷ pos 0 ∷ pos 0 ∷ pos 0
-    ∷ pos 2 ∷ pos 1 ∷ pos 1 ∷ pos 1 ∷ pos 0 ∷ pos 4 ∷ pos 8 ∷ pos 0 ∷ pos 0 ∷ pos 0 ∷ pos 0
+    ∷ pos 2 ∷ pos 1 ∷ pos 1 ∷ pos 5 ∷ pos 1 ∷ pos 0 ∷ pos 4 ∷ pos 8 ∷ pos 0 ∷ pos 0 ∷ pos 0 ∷ pos 0
     ∷ []
 unfolding number_word
 row_ended = refl
 
 -- both parts, each behind its length
-pub row_lengths : length (part_at meeting 0) ∷ length (part_at meeting 1) ∷ length (key_words meeting) ∷ [] ≡ 31 ∷ 27 ∷ 60 ∷ []
+pub row_lengths : length (part_at meeting 0) ∷ length (part_at meeting 1) ∷ length (key_words meeting) ∷ [] ≡ 32 ∷ 28 ∷ 62 ∷ []
 row_lengths = refl

@@ -2,7 +2,7 @@
 use Rattle.std.specs.Prelude.{◌≡◌, ◌<◌, ℕ, ℤ, pos, Bool, true, false, List, [], ◌∷◌, ◌++◌, length, slice_get, Option, Some, None, is_some, IfSome}
 use Rattle.std.specs.List.{flat_map}
 use Rattle.mpd_model.specs.declared.step.CallId.{CallId}
-use Rattle.mpd_model.specs.declared.call.CallKind.{CallKind}
+use Rattle.mpd_model.specs.declared.call.Call.{Call}
 use Rattle.mpd_model.specs.declared.call.Activity.{Activity}
 use Rattle.mpd_model.specs.script.Tree.{Tree}
 use Rattle.mpd_model.specs.script.Program.{Program}
@@ -10,7 +10,7 @@ use Rattle.mpd_model.specs.steps.World.{RankWorld, World, Board, call_id, kind_a
 use Rattle.mpd_model.specs.steps.Next.{is_blocked}
 use Rattle.mpd_model.specs.steps.Outcomes.{first_number}
 use Rattle.mpd_code.specs.Left.{left_at}
-use Rattle.mpd_states.specs.Future.{overwritten, live_vars, open_kind, SameFuture}
+use Rattle.mpd_states.specs.Future.{overwritten, live_vars, open_call, last_statement, SameFuture}
 use Rattle.mpd_outcomes.specs.Words.{number_word, flag_word, number_or_zero, sized, kind_words, seen_words, activity_word}
 
 -- where a rank goes on, and what it is doing
@@ -25,13 +25,17 @@ held_words b p (Some i) = pos 1 ∷ number_word i ∷ seen_words b (call_id p i)
 abbrev pub handle_words : Board → ℕ → List (Option ℕ) → List ℤ
 handle_words b p handles = number_word (length handles) ∷ flat_map (held_words b p) handles
 
--- the call of a number, where it asks for something while it is free
-abbrev pub numbered_words : ℕ → Option CallKind → List ℤ
+-- which statement issued a call, and what it asks for
+abbrev pub open_words : Call → List ℤ
+open_words c = number_word c.statement ∷ kind_words c.kind
+
+-- the call of a number, where it is free
+abbrev pub numbered_words : ℕ → Option Call → List ℤ
 numbered_words i None = []
-numbered_words i (Some kind) = pos 1 ∷ number_word i ∷ kind_words kind
+numbered_words i (Some c) = pos 1 ∷ number_word i ∷ open_words c
 
 abbrev pub free_words : Board → ℕ → ℕ → List ℤ
-free_words b p i = numbered_words i (open_kind b (call_id p i))
+free_words b p i = numbered_words i (open_call b (call_id p i))
 
 -- how many calls a rank has issued, and the free ones; a 0 ends them
 abbrev pub call_words : Board → ℕ → List ℤ
@@ -42,10 +46,10 @@ abbrev pub target_words : Board → Option CallId → List ℤ
 target_words b None = pos 0 ∷ []
 target_words b (Some c) = pos 1 ∷ seen_words b c
 
--- what a blocked rank is blocked on
+-- which statement issued the call that a blocked rank is blocked on, and what may still be learnt there
 abbrev pub blocked_words : Board → ℕ → Bool → List ℤ
 blocked_words b p false = []
-blocked_words b p true = seen_words b (last_call b p) ++ target_words b (awaited b (last_call b p))
+blocked_words b p true = number_word (last_statement b p) ∷ (seen_words b (last_call b p) ++ target_words b (awaited b (last_call b p)))
 
 -- a rank's part
 abbrev pub rank_words : Board → ℕ → RankWorld → List ℤ

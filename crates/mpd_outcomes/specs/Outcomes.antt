@@ -2,10 +2,9 @@
 use Rattle.std.specs.Prelude.{◌≡◌, ◌≤◌, ℕ, Bool, true, false, not, ◌&&◌, ◌==◌, ◌^◌, ◌+◌, if◌then◌else◌, nat_lt, take, List, [], ◌∷◌, length, map}
 use Rattle.std.specs.List.{filter}
 use Rattle.std.specs.Cmp.Lexicographic.{pointwise}
-use Rattle.mpd_model.specs.declared.call.Trap.{Trap}
-use Rattle.mpd_model.specs.declared.call.Trap.TheVariants.{Overflow, ZeroDivisor, BadRank, BadTag, BadIndex, Assertion}
 use Rattle.mpd_model.specs.declared.outcome.Outcome.{Outcome}
 use Rattle.mpd_model.specs.declared.outcome.Outcome.TheVariants as outcome_is
+use Rattle.mpd_model.specs.declared.outcome.IssuedCall.{IssuedCall}
 use Rattle.mpd_model.specs.declared.outcome.TrappedRank.{TrappedRank}
 use Rattle.mpd_model.specs.steps.World.{World, id_eq}
 use Rattle.mpd_walk.specs.Walk.{wide_walk}
@@ -13,28 +12,24 @@ use Rattle.mpd_walk.specs.declared.ending.Ending.{Ending}
 use Rattle.mpd_walk.specs.declared.ending.Ending.TheVariants.{Ended, Cut}
 use Rattle.mpd_explore.specs.declared.report.Leaf.{Leaf}
 use Rattle.mpd_explore.specs.Report.{shown}
+use Rattle.mpd_explore.specs.Traps.{trap_eq}
 use Rattle.mpd_outcomes.specs.declared.report.Count.{Count}
 use Rattle.mpd_outcomes.specs.declared.report.Count.TheVariants.{Exactly, More}
 use Rattle.mpd_outcomes.specs.declared.report.Outcomes.{Outcomes}
 
 -- ---- ends that are the same
 
-abbrev pub trap_eq : Trap → Trap → Bool
-trap_eq Overflow Overflow = true
-trap_eq ZeroDivisor ZeroDivisor = true
-trap_eq BadRank BadRank = true
-trap_eq BadTag BadTag = true
-trap_eq BadIndex BadIndex = true
-trap_eq Assertion Assertion = true
-trap_eq t u = false
-
 abbrev pub trapped_eq : TrappedRank → TrappedRank → Bool
 trapped_eq a b = (a.rank == b.rank) && ((a.statement == b.statement) && trap_eq a.trap b.trap)
 
+-- the same call, which the same statement issued
+abbrev pub issued_eq : IssuedCall → IssuedCall → Bool
+issued_eq c d = (c.statement == d.statement) && id_eq c.id d.id
+
 abbrev pub outcome_eq : Outcome → Outcome → Bool
 outcome_eq outcome_is.Done outcome_is.Done = true
-outcome_eq (outcome_is.Leftovers cs) (outcome_is.Leftovers ds) = pointwise id_eq cs ds
-outcome_eq (outcome_is.Deadlock cs) (outcome_is.Deadlock ds) = pointwise id_eq cs ds
+outcome_eq (outcome_is.Leftovers cs) (outcome_is.Leftovers ds) = pointwise issued_eq cs ds
+outcome_eq (outcome_is.Deadlock cs) (outcome_is.Deadlock ds) = pointwise issued_eq cs ds
 outcome_eq (outcome_is.Trap ts) (outcome_is.Trap us) = pointwise trapped_eq ts us
 outcome_eq o k = false
 

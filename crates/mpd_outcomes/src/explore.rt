@@ -180,7 +180,7 @@ fn find(
     told
 }
 
-/// The text of the witness of a run that its choices tell, where that is a deadlock. The debugger is left anywhere beyond where it stood.
+/// The text of the witness of a run that its choices tell, where that is a deadlock or a trap. The debugger is left anywhere beyond where it stood.
 fn text_there(
     alloc: Global,
     debugger: &mut Debugger<'_>,

@@ -8,7 +8,7 @@ ghost use Rattle.mpd_model.specs.steps.Outcomes.{first_number};
 ghost use Rattle.mpd_model.specs.steps.Next.{is_blocked};
 ghost use Rattle.mpd_code.specs.Left.{left_at};
 ghost use Rattle.mpd_rank.specs.Views.{rank_of};
-ghost use Rattle.mpd_states.specs.Future.{overwritten, blanked, live_vars, open_kind as kind_open};
+ghost use Rattle.mpd_states.specs.Future.{overwritten, blanked, live_vars, open_call as call_open, last_statement as statement_last};
 ghost use Rattle.mpd_outcomes.specs.Words.{sized};
 ghost use Rattle.mpd_outcomes.specs.Keys as spec;
 
@@ -19,7 +19,7 @@ use crate::words::{
 use mpd_code::Code;
 use mpd_core::Core;
 use mpd_match::Board;
-use mpd_model::{Activity, CallId, CallKind};
+use mpd_model::{Activity, Call, CallId, CallKind};
 use mpd_rank::RankState;
 use std::alloc::{AllocError, Global};
 
@@ -144,26 +144,26 @@ fn push_handles(
     push_all_held(words, board, rank, handles)
 }
 
-/// What a call asks for while it is free.
-fn open_kind(board: &Board, call: CallId) -> Option<CallKind>
-    ensures { result ≡ kind_open board.now.board call }
+/// A call while it is free.
+fn open_call(board: &Board, call: CallId) -> Option<Call>
+    ensures { result ≡ call_open board.now.board call }
 {
     if board.is_free(call) {
-        board.kind(call)
+        board.call(call)
     } else {
         None
     }
 }
 
-/// Adds a call, where it is free: its number, and what it asks for.
+/// Adds a call, where it is free: its number, the statement that issued it, and what it asks for.
 fn push_free(words: &mut Vec<i64>, board: &Board, call: CallId) -> Result<(), AllocError>
     ensures { OnOk result (words.new.items ≡ words.old.items ++ spec.free_words board.now.board call.rank call.index) }
 {
-    match open_kind(board, call) {
+    match open_call(board, call) {
         None => Ok(()),
-        Some(kind) => {
-            words.extend_from_slice(&[1, number_word(call.index)])?;
-            push_kind(words, kind)
+        Some(open) => {
+            words.extend_from_slice(&[1, number_word(call.index), number_word(open.statement)])?;
+            push_kind(words, open.kind)
         }
     }
 }
@@ -205,14 +205,26 @@ fn push_target(
     }
 }
 
-/// Adds what a rank is blocked on, where it is blocked.
+/// The statement that issued the last call of a rank, 0 where it has issued none.
+fn last_statement(board: &Board, rank: usize) -> usize
+    ensures { result ≡ statement_last board.now.board rank }
+{
+    match board.call(board.last_call(rank)) {
+        None => 0,
+        Some(call) => call.statement,
+    }
+}
+
+/// Adds what a rank is blocked on, where it is blocked: the statement that issued its last call, and what may still be learnt there.
 fn push_blocked(words: &mut Vec<i64>, board: &Board, state: &RankState) -> Result<(), AllocError>
     ensures { OnOk result (words.new.items ≡ words.old.items ++ spec.blocked_words board.now.board state.now.rank (is_blocked state.now.activity)) }
 {
     match state.activity() {
         Activity::Running | Activity::Trapped(_) => Ok(()),
         Activity::Blocked => {
-            let last = board.last_call(state.number());
+            let rank = state.number();
+            let last = board.last_call(rank);
+            words.push(number_word(last_statement(board, rank)))?;
             push_seen(words, board, last)?;
             push_target(words, board, board.awaited(last))
         }

@@ -67,7 +67,7 @@ pub struct StateLimits {
     pub kept: usize,
     /// How many states are come to at most, kept or not.
     pub visited: usize,
-    /// Whether the witnesses of deadlocks are wanted.
+    /// Whether the witnesses of deadlocks and traps are wanted.
     pub witnesses: bool,
     /// For which end the search stops, as soon as a run is found that ends so. Without one all runs are come to.
     pub until: Option<Goal>,

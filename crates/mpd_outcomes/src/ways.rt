@@ -1,28 +1,38 @@
 //! Ways that runs end, each once.
 
 ghost use Rattle.std.specs.Prelude.{◌≡◌, false, IfSome, IfNone};
-ghost use Rattle.mpd_model.specs.steps.World.{id_eq};
 ghost use Rattle.std.specs.Cmp.Lexicographic.{pointwise};
-ghost use Rattle.mpd_outcomes.specs.Outcomes.{ending_eq, outcome_eq, trap_eq, trapped_eq};
+ghost use Rattle.mpd_outcomes.specs.Outcomes.{ending_eq, issued_eq, outcome_eq, trapped_eq};
 ghost use Rattle.mpd_outcomes.specs.Sums.{has_end, IsWay};
 ghost use Rattle.mpd_outcomes.specs.Goals.{ends_at};
 
 use crate::report::Goal;
-use mpd_explore::{Ending, Leaf};
-use mpd_model::{CallId, Outcome, Trap, TrappedRank};
+use mpd_explore::{Ending, Leaf, same_trap};
+use mpd_model::{IssuedCall, Outcome, TrappedRank};
 
-/// Whether two lists of calls are the same.
-fn same_calls(one: &[CallId], other: &[CallId]) -> bool
-    ensures { result ≡ pointwise id_eq one.now other.now }
+/// Whether two calls are the same, which the same statement issued.
+fn same_call(one: IssuedCall, other: IssuedCall) -> bool
+    ensures { result ≡ issued_eq one other }
 {
-    one == other
+    one.statement == other.statement
+        && one.id.rank == other.id.rank
+        && one.id.index == other.id.index
 }
 
-/// Whether two traps are the same.
-fn same_trap(one: Trap, other: Trap) -> bool
-    ensures { result ≡ trap_eq one other }
+/// Whether two lists of calls are the same.
+fn same_calls(one: &[IssuedCall], other: &[IssuedCall]) -> bool
+    ensures { result ≡ pointwise issued_eq one.now other.now }
 {
-    one == other
+    if one.len() != other.len() {
+        return false;
+    }
+    let many = one.len();
+    for number in 0..many {
+        if !same_call(one[number], other[number]) {
+            return false;
+        }
+    }
+    true
 }
 
 /// Whether two trapped ranks are the same.

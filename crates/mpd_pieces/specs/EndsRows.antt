@@ -4,13 +4,14 @@ use Rattle.std.specs.Prelude.{◌≡◌, ℕ, pos, Bool, true, false, map, List,
 use Rattle.mpd_model.specs.declared.place.DeclKind.TheVariants.{Variable}
 use Rattle.mpd_model.specs.declared.expr.BinaryOp.TheVariants.{Equal, Less, Remainder}
 use Rattle.mpd_model.specs.declared.call.Mode.TheVariants.{Rendezvous, Slots}
-use Rattle.mpd_model.specs.declared.step.CallId.{CallId}
+use Rattle.mpd_model.specs.declared.outcome.IssuedCall.{IssuedCall}
 use Rattle.mpd_model.specs.declared.outcome.Outcome.TheVariants as o
 use Rattle.mpd_model.specs.declared.stmt.Simple.TheVariants as st
 use Rattle.mpd_model.specs.script.Term.{Term, lit, own_rank, op2, Target}
 use Rattle.mpd_model.specs.script.Tree.{Tree, simple, branch, no_more, then_more}
 use Rattle.mpd_model.specs.script.Program.{Program}
 use Rattle.mpd_model.specs.steps.World.{call_id, start}
+use Rattle.mpd_model.specs.steps.Outcomes.{issued_by}
 use Rattle.mpd_model.specs.runs.Decisions.{decision}
 use Rattle.mpd_explore.specs.declared.report.Leaf as leaf
 use Rattle.mpd_explore.specs.declared.report.Limits.{Limits}
@@ -79,8 +80,8 @@ three_sends = record {
 abbrev asked : Bool → Limits
 asked ends = record { runs = 9; fuel = 30; witnesses = false; until_bad = false; ends = ends }
 
-abbrev last_send : List CallId
-last_send = call_id 0 2 ∷ []
+abbrev last_send : List IssuedCall
+last_send = issued_by 3 (call_id 0 2) ∷ []
 
 -- With one slot the second send comes before the match of the first one, and finds none, or after it; and so does the third. Below the match,
 -- where the second send was tried before it, the third one isn't asleep: both are the local step of rank 0.

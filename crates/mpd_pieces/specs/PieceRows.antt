@@ -11,6 +11,7 @@ use Rattle.mpd_model.specs.script.Term.{Term, lit, own_rank, cell, op2}
 use Rattle.mpd_model.specs.script.Tree.{Tree, simple, branch, no_more, then_more}
 use Rattle.mpd_model.specs.script.Program.{Program}
 use Rattle.mpd_model.specs.steps.World.{World, call_id, start}
+use Rattle.mpd_model.specs.steps.Outcomes.{issued_by}
 use Rattle.mpd_model.specs.runs.Decisions.{decision}
 use Rattle.mpd_walk.specs.declared.ending.Ending.{Ending}
 use Rattle.mpd_walk.specs.declared.ending.Ending.TheVariants.{Ended}
@@ -75,11 +76,11 @@ abbrev end_of : leaf.Leaf → List ℕ × Ending
 end_of l = (l.choices, l.ending)
 
 abbrev both : List (List ℕ × Ending)
-both = (0 ∷ 0 ∷ [], Ended o.Done) ∷ (1 ∷ [], Ended (o.Deadlock (call_id 1 0 ∷ []))) ∷ []
+both = (0 ∷ 0 ∷ [], Ended o.Done) ∷ (1 ∷ [], Ended (o.Deadlock (issued_by 4 (call_id 1 0) ∷ []))) ∷ []
 
 -- the runs by some choices: there is no third candidate, and none after a run's end
 pub row_parts : map {B = List (List ℕ × Ending)} (λ (cs : List ℕ). map end_of (part (up_to false 2) cs begun)) ([] ∷ (0 ∷ []) ∷ (1 ∷ []) ∷ (2 ∷ []) ∷ (1 ∷ 0 ∷ []) ∷ [])
-    ≡ both ∷ ((0 ∷ 0 ∷ [], Ended o.Done) ∷ []) ∷ ((1 ∷ [], Ended (o.Deadlock (call_id 1 0 ∷ []))) ∷ []) ∷ [] ∷ [] ∷ []
+    ≡ both ∷ ((0 ∷ 0 ∷ [], Ended o.Done) ∷ []) ∷ ((1 ∷ [], Ended (o.Deadlock (issued_by 4 (call_id 1 0) ∷ []))) ∷ []) ∷ [] ∷ [] ∷ []
 unfolding walk_from awake_by decision
 row_parts = refl
 
@@ -94,7 +95,7 @@ row_more = refl
 
 -- where rank 1 comes first, nobody takes what rank 2 sent; else both are taken
 abbrev first_bad : List (List ℕ × Ending)
-first_bad = (0 ∷ [], Ended (o.Deadlock (call_id 2 0 ∷ []))) ∷ []
+first_bad = (0 ∷ [], Ended (o.Deadlock (issued_by 4 (call_id 2 0) ∷ []))) ∷ []
 
 -- up to the first bad leaf, cut by no choice and by one, and each piece of one choice
 pub row_until_bad : map {B = List (List ℕ × Ending)} (λ (q : ℕ × ℕ). map end_of (split_report q.0 (up_to true q.1) turned_begun)) ((0, 2) ∷ (1, 2) ∷ (1, 1) ∷ (1, 0) ∷ []) ≡ first_bad ∷ first_bad ∷ first_bad ∷ [] ∷ []

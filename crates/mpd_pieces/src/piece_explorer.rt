@@ -124,7 +124,7 @@ fn explore_piece<S: Schedule, W: Watch>(
 }
 
 /// The first leaves of the runs from here that begin with some choices, and whether there are others of these (docs/DEFINITIONS.md,
-/// "Pieces"). Fuel counts from here, and so do the choices and the text of each leaf, which has a run, and a deadlock a witness, as those
+/// "Pieces"). Fuel counts from here, and so do the choices and the text of each leaf, which has a run, and a deadlock or a trap a witness, as those
 /// of `explore` do. Some run has these choices, as those of each piece of `split` by these limits; no undone step is kept, and the depth and
 /// the fuel are at most 1,000,000 steps together. The debugger is left as found, also where memory is refused, which is what an `Err` says;
 /// that comes only where a leaf is asked for, or there is a choice. `watch` is told of each leaf as `explore` tells it, counted from 1.

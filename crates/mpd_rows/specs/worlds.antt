@@ -1,5 +1,6 @@
 -- Rows of worlds, steps and decisions.
 pub mod DecisionRows
+pub mod EndRows
 pub mod KindRows
 pub mod LeftRows
 pub mod MoreRows

@@ -95,8 +95,8 @@ pub record LeadsTo (w : World) (steps : List Step) (e : Ending) : Type 0 where
   pub leads : fold w steps ≡ Some last
   pub ends : EndsAs last e
 
--- A run that begins with the steps of a trail that are not undone. It leads to a world that ends as it says; where that is a deadlock, its
--- steps are a witness of it.
+-- A run that begins with the steps of a trail that are not undone. It leads to a world that ends as it says; where that is a deadlock or a
+-- trap, its steps are a witness of it.
 pub record LiesAhead (t : Trail) (r : WholeRun) : Type 0 where
   pub begins : take t.depth r.steps ≡ done_steps t
   pub run : IsRun t.program t.mode r.steps

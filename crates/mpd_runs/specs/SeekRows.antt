@@ -14,6 +14,7 @@ use Rattle.mpd_model.specs.script.Term.{Term, lit, own_rank, op2}
 use Rattle.mpd_model.specs.script.Tree.{Tree, simple, branch, no_more, then_more}
 use Rattle.mpd_model.specs.script.Program.{Program}
 use Rattle.mpd_model.specs.steps.World.{World, call_id, start}
+use Rattle.mpd_model.specs.steps.Outcomes.{issued_by}
 use Rattle.mpd_model.specs.texts.Texts.{line}
 use Rattle.mpd_policy.specs.Wide.{wide_decision}
 use Rattle.mpd_walk.specs.declared.ending.Ending.TheVariants.{Ended}
@@ -60,10 +61,10 @@ pair = Match (call_id 0 0) (call_id 1 0)
 
 -- the second send finds no slot, and nothing receives it; or it finds one
 abbrev stuck : WholeRun
-stuck = record { steps = five ++ Local 0 ∷ pair ∷ Wake 1 ∷ []; ending = Ended (o.Deadlock (call_id 0 1 ∷ [])) }
+stuck = record { steps = five ++ Local 0 ∷ pair ∷ Wake 1 ∷ []; ending = Ended (o.Deadlock (issued_by 2 (call_id 0 1) ∷ [])) }
 
 abbrev left_over : WholeRun
-left_over = record { steps = five ++ pair ∷ Local 0 ∷ Wake 0 ∷ Wake 1 ∷ []; ending = Ended (o.Leftovers (call_id 0 1 ∷ [])) }
+left_over = record { steps = five ++ pair ∷ Local 0 ∷ Wake 0 ∷ Wake 1 ∷ []; ending = Ended (o.Leftovers (issued_by 2 (call_id 0 1) ∷ [])) }
 
 pub row_found : map {B = Option WholeRun} (λ (x : Way). option_map (whole_run [] 9 begun) (first_in x (first_runs 9 9 begun))) (way.Deadlock ∷ way.Leftovers ∷ way.Done ∷ []) ≡ Some stuck ∷ Some left_over ∷ None ∷ []
 unfolding awake_by wide_decision run_by

@@ -20,7 +20,7 @@ use crate::listing::{first_runs, fuel_at, is_number, push_ending};
 use crate::states::{ByStates, STATES_VISITED, by_states};
 use crate::way::{Way, first_in};
 use mpd_explore::{Ending, Leaf, Report};
-use mpd_model::{CallList, Outcome, RUNS_MAX, STEPS_MAX, StepList, TrapList};
+use mpd_model::{IssuedList, Outcome, RUNS_MAX, STEPS_MAX, StepList, TrapList};
 use mpd_policy::wide_decisions_can_be_followed;
 use mpd_trail::Debugger;
 use mpd_walk::Wide;
@@ -70,10 +70,10 @@ fn copy_outcome(alloc: Global, outcome: &Outcome) -> Result<Outcome, AllocError>
 {
     match outcome {
         Outcome::Done => Ok(Outcome::Done),
-        Outcome::Leftovers(calls) => Ok(Outcome::Leftovers(CallList {
+        Outcome::Leftovers(calls) => Ok(Outcome::Leftovers(IssuedList {
             items: Vec::from_slice(alloc, &calls.items)?,
         })),
-        Outcome::Deadlock(calls) => Ok(Outcome::Deadlock(CallList {
+        Outcome::Deadlock(calls) => Ok(Outcome::Deadlock(IssuedList {
             items: Vec::from_slice(alloc, &calls.items)?,
         })),
         Outcome::Trap(ranks) => Ok(Outcome::Trap(TrapList {

@@ -3,3 +3,4 @@ pub mod HasLemmas
 pub mod KeepLemmas
 pub mod DrawLemmas
 pub mod SampleLemmas
+pub mod UntilLemmas

@@ -1,22 +1,23 @@
 //! Sampling from where a debugger stands.
 
-ghost use Rattle.std.specs.Prelude.{◌≡◌, ◌+◌, ◌<◌, ◌≤◌, true, false, [], length, map, nat_lt, IfOk, OnOk, OnErr, string_bytes};
-ghost use Rattle.std.specs.List.{AllByRecursion};
+ghost use Rattle.std.specs.Prelude.{◌≡◌, ◌+◌, ◌<◌, ◌≤◌, ℕ, true, false, List, [], length, map, take, nat_lt, IfOk, OnOk, OnErr, string_bytes};
+ghost use Rattle.std.specs.List.{AllByRecursion, position};
 ghost use Rattle.mpd_model.specs.runs.Trail.{done_steps, gone_back, forgotten};
 ghost use Rattle.mpd_trail.specs.Views.{AsFound, standing_of};
 ghost use Rattle.mpd_policy.specs.Wide.{wide_decision};
 ghost use Rattle.mpd_walk.specs.Walk.{wide_walk};
-ghost use Rattle.mpd_explore.specs.Report.{shown};
+ghost use Rattle.mpd_explore.specs.declared.report.Leaf as leaves;
+ghost use Rattle.mpd_explore.specs.Report.{shown, is_bad, up_to_bad, ended_by};
 ghost use Rattle.mpd_explore.specs.Witness.{HasWitness};
 ghost use Rattle.mpd_explore.specs.WitnessTexts.{witness_texts};
 ghost use Rattle.mpd_sample.specs.Order.{Rises};
 ghost use Rattle.mpd_sample.specs.Drawn.{seeded, draws, sampled, is_listed};
 ghost use Rattle.mpd_walk.specs.Walks.{Beyond};
-ghost use Rattle.mpd_sample.specs.Drawing.{IsEven, Adds, Samples, leaves_in, texts_in};
+ghost use Rattle.mpd_sample.specs.Drawing.{IsEven, TextsAre, Adds, Samples, leaves_in, texts_in};
 
 use crate::draw::draw_leaf;
 use crate::keep::{Held, keep_leaf, report_of};
-use mpd_explore::{Limits, Report, Unwatched, Watch, explore_with};
+use mpd_explore::{Leaf, Limits, Report, Unwatched, Watch, explore_with};
 use mpd_model::STEPS_MAX;
 use mpd_policy::wide_decisions_can_be_followed;
 use mpd_trail::Debugger;
@@ -120,6 +121,37 @@ fn collect<W: Watch>(
     }
 }
 
+/// Where the first deadlock or trap stands.
+fn place_of_bad(leaves: &[Leaf]) -> Option<usize>
+    ensures { result ≡ position (λ l. is_bad l.ending) leaves.now }
+{
+    leaves.iter().position(|leaf| leaf.is_bad())
+}
+
+/// How many leaves stand up to the first deadlock or trap, and with it; all of them if there is none.
+#[tactic(auto, using(crate::proofs::UntilLemmas::up_to_found, crate::proofs::UntilLemmas::up_to_all))]
+fn count_to_bad(leaves: &[Leaf]) -> usize
+    ensures { up_to_bad leaves.now ≡ take result leaves.now }
+{
+    match place_of_bad(leaves) {
+        Some(place) => place + 1,
+        None => leaves.len(),
+    }
+}
+
+/// Ends a report after its first deadlock or trap, if that is asked for.
+fn end_at_bad(limits: Limits, report: &mut Report)
+    ensures leaves { report.new.leaves.items ≡ ended_by limits.until_bad report.old.leaves.items }
+    ensures texts { (text : leaves.Leaf → List ℕ) → TextsAre limits.witnesses text report.old.leaves.items (map string_bytes report.old.witnesses.items) → TextsAre limits.witnesses text report.new.leaves.items (map string_bytes report.new.witnesses.items) }
+{
+    if !limits.until_bad {
+        return;
+    }
+    let count = count_to_bad(&report.leaves);
+    report.leaves.truncate(count);
+    report.witnesses.truncate(count);
+}
+
 /// Whether there are more runs of the wide walk from here than so many.
 fn has_more(
     alloc: Global,
@@ -146,10 +178,10 @@ fn has_more(
 
 /// A sample of the runs of the wide walk from here, in which no step is asleep: so many are made, one after another, and at each choice of
 /// one a candidate is drawn, each as likely as the other, by a generator that is seeded with this number. The report has each different
-/// list of choices once, in the order of the walk, and `more` says whether the walk has others. Where that is asked for, the drawing ends
-/// behind the first run drawn that ends in a deadlock or a trap. Fuel counts from here. The debugger is left as found, also where memory is
+/// list of choices once, in the order of the walk, and `more` says whether the walk has others. If that is asked for, the drawing ends with
+/// the first run drawn that ends in a deadlock or a trap, and so does the report. Fuel counts from here. The debugger is left as found, also where memory is
 /// refused, which is what an `Err` says; that comes only where a run is asked for. No undone step is kept, and the depth and the fuel are
-/// at most 1,000,000 steps together. Each leaf has a run, and each deadlock a witness; where witnesses are wanted, their texts are made as
+/// at most 1,000,000 steps together. Each leaf has a run, and each deadlock and each trap a witness; where witnesses are wanted, their texts are made as
 /// the runs are drawn. `watch` is told of each run that is drawn, with how many there are so far; nothing else depends on it.
 pub fn sample<W: Watch>(
     alloc: Global,
@@ -160,8 +192,8 @@ pub fn sample<W: Watch>(
 ) -> Result<Report, AllocError>
     requires clean { length debugger.old.trail.steps ≡ debugger.old.trail.depth }
     requires fits { debugger.old.trail.depth + limits.fuel ≤ STEPS_MAX }
-    ensures leaves { IfOk result (λ r. r.leaves.items ≡ map shown (sampled (draws limits.until_bad limits.fuel limits.runs debugger.old.world (seeded seed)) limits.fuel debugger.old.world)) }
-    ensures drawn { IfOk result (λ r. AllByRecursion (λ cs. is_listed r.leaves.items cs ≡ true) (draws limits.until_bad limits.fuel limits.runs debugger.old.world (seeded seed))) }
+    ensures leaves { IfOk result (λ r. r.leaves.items ≡ ended_by limits.until_bad (map shown (sampled (draws limits.until_bad limits.fuel limits.runs debugger.old.world (seeded seed)) limits.fuel debugger.old.world))) }
+    ensures drawn { IfOk result (λ r. limits.until_bad ≡ false → AllByRecursion (λ cs. is_listed r.leaves.items cs ≡ true) (draws limits.until_bad limits.fuel limits.runs debugger.old.world (seeded seed))) }
     ensures rises { IfOk result (λ r. Rises r.leaves.items) }
     ensures few { IfOk result (λ r. length r.leaves.items ≤ limits.runs) }
     ensures some { IfOk result (λ r. 0 < limits.runs → 0 < length r.leaves.items) }
@@ -175,6 +207,7 @@ pub fn sample<W: Watch>(
     wide_decisions_can_be_followed();
     debugger.state_is_reached();
     let mut report = collect(alloc, debugger, seed, limits, watch)?;
+    end_at_bad(limits, &mut report);
     match has_more(alloc, debugger, limits, report.leaves.len()) {
         Ok(more) => {
             report.more = more;

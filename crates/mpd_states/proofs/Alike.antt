@@ -6,7 +6,7 @@ use Rattle.mpd_model.specs.declared.call.CallKind.{CallKind}
 use Rattle.mpd_model.specs.declared.call.CallKind.TheVariants.{Send}
 use Rattle.mpd_model.specs.steps.World.{World, Board, calls_of, kind_at, partner, is_message_kind, awaited, last_call, receives}
 use Rattle.mpd_model.specs.steps.Next.{waits, held_in}
-use Rattle.mpd_states.specs.Future.{quieted, open_kind, seen}
+use Rattle.mpd_states.specs.Future.{quieted, open_call, seen, last_statement}
 
 -- A call that a handle holds, or that a blocked rank waits at or for.
 abbrev pub IsHeld : World → CallId → Type 0
@@ -24,8 +24,9 @@ pub record Alike (w v : World) : Type 0 where
   pub mode : w.board.mode ≡ v.board.mode
   pub many : length w.board.calls ≡ length v.board.calls
   pub counts : (p : ℕ) → length (calls_of w.board p) ≡ length (calls_of v.board p)
-  pub opens : (c : CallId) → open_kind w.board c ≡ open_kind v.board c
+  pub opens : (c : CallId) → open_call w.board c ≡ open_call v.board c
   pub due : (c : CallId) → Due w c → seen w.board c ≡ seen v.board c
+  pub stands : (p : ℕ) → waits (slice_get w.ranks p) ≡ true → last_statement w.board p ≡ last_statement v.board p
 
 abbrev pub is_send : Option CallKind → Bool
 is_send (Some (Send s)) = true

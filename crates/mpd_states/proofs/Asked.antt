@@ -5,17 +5,32 @@ use Rattle.std.specs.Option.{option_map}
 use Rattle.mpd_laws.proofs.ordered.Splits.{mapped_from}
 use Rattle.std.specs.List.{filter, list_any, range_with_len}
 use Rattle.mpd_model.specs.declared.step.CallId.{CallId}
+use Rattle.mpd_model.specs.declared.call.Call.{Call}
 use Rattle.mpd_model.specs.declared.call.CallKind.{CallKind}
 use Rattle.mpd_model.specs.declared.call.SendCall.{SendCall}
 use Rattle.mpd_model.specs.declared.call.RecvCall.{RecvCall}
 use Rattle.mpd_model.specs.declared.call.CallKind.TheVariants.{Send, Recv, Wait, Waitany}
-use Rattle.mpd_model.specs.steps.World.{World, Board, RankWorld, call_id, calls_of, kind_at, rank_numbers, call_numbers, partner, is_message_kind, is_free, fitting, fits, sends_to, receives, is_pending, is_posted, pending, posted, eligible, is_buffered, holds_slot, slots_used, is_done, awaited_by, awaited, has_own_step, complete_by, complete, last_call}
+use Rattle.mpd_model.specs.steps.World.{World, Board, RankWorld, call_id, call_at, calls_of, kind_of, kind_at, rank_numbers, call_numbers, partner, is_message_kind, is_free, fitting, fits, sends_to, receives, is_pending, is_posted, pending, posted, eligible, is_buffered, holds_slot, slots_used, is_done, awaited_by, awaited, has_own_step, complete_by, complete, last_call}
 use Rattle.mpd_model.specs.steps.Next.{local, local_at, buffers_one, has_buffer, waits, can_wake, writes_by, own_writes, cleared_by, wake_writes, wake_clears}
-use Rattle.mpd_states.specs.Future.{quieted, open_kind, Seen, still_asked, seen}
+use Rattle.mpd_states.specs.Future.{quieted, open_call, Seen, still_asked, seen}
 use Rattle.mpd_states.proofs.Alike.{Alike}
 use Rattle.mpd_states.proofs.Quiet.{quiet, local_quiet}
 
 -- ---- free calls
+
+-- what a call asks for while it is free
+abbrev pub open_kind : Board → CallId → Option CallKind
+open_kind b c = cond (is_free b c) (kind_at b c) None
+
+pub opened_kind : (b : Board) (c : CallId) → kind_of (open_call b c) ≡ open_kind b c
+opened_kind b c = by_free (is_free b c) (call_at b c)
+  where
+    by_free : (x : Bool) (o : Option Call) → kind_of (cond x o None) ≡ cond x (kind_of o) None
+    by_free true o = refl
+    by_free false o = refl
+
+pub opened_is : (b : Board) (c : CallId) → is_free b c ≡ true → open_call b c ≡ call_at b c
+opened_is b c e = ap (λ (x : Bool). cond x (call_at b c) None) e
 
 free_by : (k : Option CallKind) (x : Bool) → (is_message_kind k && x) ≡ is_some (cond (is_message_kind k && x) k None)
 free_by (Some (Send s)) true = refl
@@ -165,7 +180,7 @@ pub done_told : (b e : Board) (c : CallId) → seen b c ≡ seen e c → is_done
 done_told b e c is =
     sym (done_by (is_some (partner b.sets c)) (kind_at b c)) ∙ ap (λ (s : Seen). s.paired || is_buffered s.kind) is ∙ done_by (is_some (partner e.sets c)) (kind_at e c)
 
-waits_quiet : (b : Board) (p : ℕ) (o : Option RankWorld) → waits (option_map (quieted b p) o) ≡ waits o
+pub waits_quiet : (b : Board) (p : ℕ) (o : Option RankWorld) → waits (option_map (quieted b p) o) ≡ waits o
 waits_quiet b p None = refl
 waits_quiet b p (Some r) = refl
 
@@ -178,8 +193,11 @@ awaited_rank c k d e = let is : c ≡ d = cc in sym (ap (λ (x : CallId). x.rank
 -- ---- what alike worlds agree on
 
 module _ (w v : World) (h : Alike w v) where
+  pub asks_alike : (c : CallId) → open_kind w.board c ≡ open_kind v.board c
+  asks_alike c = sym (opened_kind w.board c) ∙ ap kind_of (h.opens c) ∙ opened_kind v.board c
+
   pub asks : open_kind w.board ≡ open_kind v.board
-  asks = λ j c. h.opens c j
+  asks = λ j c. asks_alike c j
 
   pub numbers : call_numbers w.board ≡ call_numbers v.board
   numbers = λ j p. range_with_len 0 (h.counts p j)

@@ -8,22 +8,24 @@ use Rattle.mpd_laws.proofs.ordered.Splits.{mapped_from}
 use Rattle.mpd_model.specs.declared.step.CallId.{CallId}
 use Rattle.mpd_model.specs.declared.step.Step.{Step}
 use Rattle.mpd_model.specs.declared.step.Step.TheVariants.{Local, Match, Wake, WakeAny, Release}
+use Rattle.mpd_model.specs.declared.call.Call.{Call}
 use Rattle.mpd_model.specs.declared.call.CallKind.{CallKind}
 use Rattle.mpd_model.specs.declared.call.CallKind.TheVariants.{Send, Recv}
 use Rattle.mpd_model.specs.declared.decision.Decision.TheVariants.{Leaf}
 use Rattle.mpd_model.specs.declared.outcome.Outcome.{Outcome}
 use Rattle.mpd_model.specs.declared.outcome.Outcome.TheVariants.{Deadlock}
+use Rattle.mpd_model.specs.declared.outcome.IssuedCall.{IssuedCall}
 use Rattle.mpd_model.specs.declared.outcome.TrappedRank.{TrappedRank}
 use Rattle.mpd_model.specs.steps.World.{World, RankWorld, call_id, kind_at, rank_numbers, call_numbers, is_message_kind, is_free, is_limited, is_buffered, eligible, awaited_by, has_own_step, is_barrier, complete_by, complete, last_call, Board}
 use Rattle.mpd_model.specs.steps.Next.{Ran, local_at, stepped, waits, can_wake, woken, requests_of, request_handle, held_in, any_handle, any_call, is_complete_some, can_wake_any, woken_any, is_at_barrier, can_release, released, is_enabled, any_wakes_of, any_wakes_in, matches_in, steps_of, enabled}
-use Rattle.mpd_model.specs.steps.Outcomes.{has_ended, free_calls, traps_at, traps_in, blocked_at, blocked_calls, ended_with, ending_by, ending}
+use Rattle.mpd_model.specs.steps.Outcomes.{statement_of, issued_by, issued_call, has_ended, free_of, free_calls, traps_at, traps_in, blocked_at, blocked_calls, ended_with, ending_by, ending}
 use Rattle.mpd_model.specs.steps.Why.{first_in, or_else}
 use Rattle.mpd_policy.specs.Wide.{is_full, issues_standard, lacks_slot, is_quiet, wide_decided, wide_decision}
 use Rattle.mpd_model.specs.runs.Decisions.{is_local, is_release, is_wake, any_rank, names_source, takes_any, is_named_match, is_open_match, first_enabled, forced_step, is_of, or_those, choices, chosen_from, decided, decision}
-use Rattle.mpd_states.specs.Future.{quieted, seen}
+use Rattle.mpd_states.specs.Future.{quieted, open_call, seen, last_statement}
 use Rattle.mpd_states.proofs.Alike.{IsHeld, Alike, Tidy}
 use Rattle.mpd_states.proofs.Quiet.{quiet}
-use Rattle.mpd_states.proofs.Asked.{free_is, open_is, filter_same, kind_told, done_told, asks, numbers, ranks_numbered, eligible_alike, slots_alike, last_alike, waits_alike, local_alike, last_seen, can_wake_alike}
+use Rattle.mpd_states.proofs.Asked.{open_kind, free_is, open_is, opened_is, filter_same, kind_told, done_told, asks_alike, asks, numbers, ranks_numbered, eligible_alike, slots_alike, last_alike, waits_alike, local_alike, last_seen, can_wake_alike}
 
 -- ---- lists
 
@@ -71,16 +73,35 @@ traps_quiet : (b : Board) (p : ℕ) (o : Option RankWorld) → traps_at p (optio
 traps_quiet b p None = refl
 traps_quiet b p (Some r) = refl
 
-abbrev last_if : CallId → Bool → List CallId
-last_if c b = cond b (c ∷ []) []
+abbrev last_if : CallId → ℕ → Bool → List IssuedCall
+last_if c number b = cond b (issued_by number c ∷ []) []
 
-blocked_by_last : (x : World) (p : ℕ) (o : Option RankWorld) → last_if (last_call x.board p) (waits o) ≡ blocked_at x p o
+blocked_by_last : (x : World) (p : ℕ) (o : Option RankWorld) → last_if (last_call x.board p) (last_statement x.board p) (waits o) ≡ blocked_at x p o
 blocked_by_last x p None = refl
 blocked_by_last x p (Some r) = refl
 
 ended_quiet : (b : Board) (p : ℕ) (o : Option RankWorld) → option_map has_ended (option_map (quieted b p) o) ≡ option_map has_ended o
 ended_quiet b p None = refl
 ended_quiet b p (Some r) = refl
+
+-- what is made of those that pass a test is asked of no other
+map_passed : {A : Type 0} (t : ℕ → Bool) (f g : ℕ → A) (xs : List ℕ) → ((i : ℕ) → t i ≡ true → f i ≡ g i) → map f (filter t xs) ≡ map g (filter t xs)
+map_passed t f g [] h = refl
+map_passed {A = A} t f g (x ∷ xs) h = one (t x) refl (map_passed t f g xs h)
+  where
+    one : (b : Bool) → t x ≡ b → map f (filter t xs) ≡ map g (filter t xs) → map f (cond b (x ∷ filter t xs) (filter t xs)) ≡ map g (cond b (x ∷ filter t xs) (filter t xs))
+    one true e more = λ j. h x e j ∷ more j
+    one false e more = more
+
+-- a free call as its end tells it, read off what is open
+abbrev open_issued : Option Call → CallId → IssuedCall
+open_issued o c = issued_by (statement_of o) c
+
+free_opened : (b : Board) (p : ℕ) → free_of b p ≡ map (λ i. open_issued (open_call b (call_id p i)) (call_id p i)) (filter (λ i. is_some (open_kind b (call_id p i))) (call_numbers b p))
+free_opened b p =
+    map_passed (λ i. is_free b (call_id p i)) (λ i. issued_call b (call_id p i)) (λ i. open_issued (open_call b (call_id p i)) (call_id p i)) (call_numbers b p)
+    (λ i e. ap (λ (o : Option Call). open_issued o (call_id p i)) (sym (opened_is b (call_id p i) e)))
+    ∙ (λ j. map (λ i. open_issued (open_call b (call_id p i)) (call_id p i)) (filter (λ i. free_is b (call_id p i) j) (call_numbers b p)))
 
 all_mapped : {A : Type 0} (t : A → Bool) (xs : List A) → list_all (λ b. b) (map t xs) ≡ list_all t xs
 all_mapped t [] = refl
@@ -213,8 +234,8 @@ module _ (w v : World) (h : Alike w v) (tidy_w : Tidy w) (tidy_v : Tidy v) where
   recv_kind_alike s r e =
       let ew : eligible w.board s r ≡ true = sym (some_cond (eligible w.board s r) _) ∙ e in
       let fw : is_free w.board r ≡ true = (and_parts (is_free w.board r) _ (and_parts (is_free w.board s) _ ew).1).0 in
-      let fv : is_free v.board r ≡ true = free_is v.board r ∙ sym (ap (λ (o : Option CallKind). is_some o) (h.opens r)) ∙ sym (free_is w.board r) ∙ fw in
-      sym (open_is w.board r fw) ∙ h.opens r ∙ open_is v.board r fv
+      let fv : is_free v.board r ≡ true = free_is v.board r ∙ sym (ap (λ (o : Option CallKind). is_some o) (asks_alike w v h r)) ∙ sym (free_is w.board r) ∙ fw in
+      sym (open_is w.board r fw) ∙ asks_alike w v h r ∙ open_is v.board r fv
 
   named_alike : (a : Step) → is_enabled w a ≡ true → is_named_match w.board a ≡ is_named_match v.board a
   named_alike (Match s r) e = ap names_source (recv_kind_alike s r e)
@@ -242,9 +263,9 @@ module _ (w v : World) (h : Alike w v) (tidy_w : Tidy w) (tidy_v : Tidy v) where
 
   free_calls_alike : free_calls w.board ≡ free_calls v.board
   free_calls_alike =
-      (λ j. flat_map (λ p. map (call_id p) (filter (λ i. free_is w.board (call_id p i) j) (call_numbers w.board p))) (rank_numbers w.board))
-      ∙ (λ j. flat_map (λ p. map (call_id p) (filter (λ i. is_some (asks w v h j (call_id p i))) (numbers w v h j p))) (ranks_numbered w v h j))
-      ∙ (λ j. flat_map (λ p. map (call_id p) (filter (λ i. sym (free_is v.board (call_id p i)) j) (call_numbers v.board p))) (rank_numbers v.board))
+      (λ j. flat_map (λ p. free_opened w.board p j) (rank_numbers w.board))
+      ∙ (λ j. flat_map (λ p. map (λ i. open_issued (h.opens (call_id p i) j) (call_id p i)) (filter (λ i. is_some (asks w v h j (call_id p i))) (numbers w v h j p))) (ranks_numbered w v h j))
+      ∙ (λ j. flat_map (λ p. sym (free_opened v.board p) j) (rank_numbers v.board))
 
   traps_alike : traps_in w ≡ traps_in v
   traps_alike =
@@ -252,10 +273,19 @@ module _ (w v : World) (h : Alike w v) (tidy_w : Tidy w) (tidy_v : Tidy v) where
       ∙ (λ j. flat_map (λ p. traps_at p (h.ranks p j)) (ranks_numbered w v h j))
       ∙ (λ j. flat_map (λ p. traps_quiet v.board p (slice_get v.ranks p) j) (rank_numbers v.board))
 
+  last_if_alike : (p : ℕ) → last_if (last_call w.board p) (last_statement w.board p) (waits (slice_get w.ranks p)) ≡ last_if (last_call v.board p) (last_statement v.board p) (waits (slice_get v.ranks p))
+  last_if_alike p = both (waits (slice_get w.ranks p)) refl
+    where
+      both : (b : Bool) → waits (slice_get w.ranks p) ≡ b → last_if (last_call w.board p) (last_statement w.board p) (waits (slice_get w.ranks p)) ≡ last_if (last_call v.board p) (last_statement v.board p) (waits (slice_get v.ranks p))
+      both true e = λ j. last_if (last_alike w v h p j) (h.stands p e j) (waits_alike w v h p j)
+      both false e =
+          (λ j. last_if (last_call w.board p) (last_statement w.board p) (e j))
+          ∙ (λ j. last_if (last_call v.board p) (last_statement v.board p) (sym (sym (waits_alike w v h p) ∙ e) j))
+
   blocked_alike : blocked_calls w ≡ blocked_calls v
   blocked_alike =
       (λ j. flat_map (λ p. sym (blocked_by_last w p (slice_get w.ranks p)) j) (rank_numbers w.board))
-      ∙ (λ j. flat_map (λ p. last_if (last_alike w v h p j) (waits_alike w v h p j)) (ranks_numbered w v h j))
+      ∙ (λ j. flat_map (λ p. last_if_alike p j) (ranks_numbered w v h j))
       ∙ (λ j. flat_map (λ p. blocked_by_last v p (slice_get v.ranks p) j) (rank_numbers v.board))
 
   ended_at : (p : ℕ) → slice_get (map has_ended w.ranks) p ≡ slice_get (map has_ended v.ranks) p
@@ -301,8 +331,8 @@ module _ (w v : World) (h : Alike w v) (tidy_w : Tidy w) (tidy_v : Tidy v) where
   send_kind_alike s r e =
       let ew : eligible w.board s r ≡ true = sym (some_cond (eligible w.board s r) _) ∙ e in
       let fw : is_free w.board s ≡ true = (and_parts (is_free w.board s) _ ew).0 in
-      let fv : is_free v.board s ≡ true = free_is v.board s ∙ sym (ap (λ (o : Option CallKind). is_some o) (h.opens s)) ∙ sym (free_is w.board s) ∙ fw in
-      sym (open_is w.board s fw) ∙ h.opens s ∙ open_is v.board s fv
+      let fv : is_free v.board s ≡ true = free_is v.board s ∙ sym (ap (λ (o : Option CallKind). is_some o) (asks_alike w v h s)) ∙ sym (free_is w.board s) ∙ fw in
+      sym (open_is w.board s fw) ∙ asks_alike w v h s ∙ open_is v.board s fv
 
   quiet_alike : (a : Step) → is_enabled w a ≡ true → is_quiet w a ≡ is_quiet v a
   quiet_alike (Local p) e = λ j. not (lacks_alike p j)

@@ -12,9 +12,9 @@ use Rattle.mpd_model.specs.declared.call.Call.{Call}
 use Rattle.mpd_model.specs.declared.call.CallKind.{CallKind}
 use Rattle.mpd_model.specs.declared.call.Mode.{Mode}
 use Rattle.mpd_model.specs.script.Program.{Program}
-use Rattle.mpd_model.specs.steps.World.{World, Board, RankWorld, start, start_rank, call_id, listed_calls, calls_of, kind_of, kind_at, rank_numbers, call_numbers, is_message_kind, awaited_by, awaited, last_call}
+use Rattle.mpd_model.specs.steps.World.{World, Board, RankWorld, start, start_rank, call_id, listed_calls, calls_of, call_at, kind_of, kind_at, rank_numbers, call_numbers, is_message_kind, awaited_by, awaited, last_call}
 use Rattle.mpd_model.specs.steps.Next.{is_blocked, waits, held_in, next, fold}
-use Rattle.mpd_states.specs.Future.{quieted, open_kind, Seen, seen, seen_held, BlockedOn, seen_last, RankKey, key_by, rank_key, Key, SameFuture}
+use Rattle.mpd_states.specs.Future.{quieted, open_call, Seen, seen, seen_held, BlockedOn, last_statement, seen_last, RankKey, key_by, rank_key, Key, SameFuture}
 use Rattle.mpd_states.proofs.Alike.{Due, Alike, Tidy}
 use Rattle.mpd_states.proofs.Asked.{kind_told}
 use Rattle.mpd_states.proofs.Comes.{read_map}
@@ -61,19 +61,19 @@ less_or_not (suc a) (suc b) =
 none_key : (w : World) → Tidy w → (p : ℕ) → length w.board.calls ≤ p → rank_key w p ≡ None
 none_key w tidy p le = ap (option_map (key_by w.board p)) (beyond w.ranks p (let e = tidy.sized in omega (arith, e, le)))
 
-abbrev calls_told : Option RankKey → List (Option CallKind)
+abbrev calls_told : Option RankKey → List (Option Call)
 calls_told None = []
 calls_told (Some k) = k.calls
 
-calls_are : (w : World) → Tidy w → (p : ℕ) → calls_told (rank_key w p) ≡ map (λ i. open_kind w.board (call_id p i)) (call_numbers w.board p)
+calls_are : (w : World) → Tidy w → (p : ℕ) → calls_told (rank_key w p) ≡ map (λ i. open_call w.board (call_id p i)) (call_numbers w.board p)
 calls_are w tidy p = by_rank (slice_get w.ranks p) refl
   where
-    by_rank : (o : Option RankWorld) → slice_get w.ranks p ≡ o → calls_told (option_map (key_by w.board p) o) ≡ map (λ i. open_kind w.board (call_id p i)) (call_numbers w.board p)
+    by_rank : (o : Option RankWorld) → slice_get w.ranks p ≡ o → calls_told (option_map (key_by w.board p) o) ≡ map (λ i. open_call w.board (call_id p i)) (call_numbers w.board p)
     by_rank (Some r) e = refl
     by_rank None e =
         elim (less_or_not p (length w.board.calls)) [
           | inl lt ↦ absurd (is_there w.ranks p e (let s = tidy.sized in omega (arith, s, lt)))
-          | inr le ↦ ap (λ (l : Option (List Call)). map (λ i. open_kind w.board (call_id p i)) (range_with_len 0 (length (listed_calls l)))) (sym (beyond w.board.calls p le))
+          | inr le ↦ ap (λ (l : Option (List Call)). map (λ i. open_call w.board (call_id p i)) (range_with_len 0 (length (listed_calls l)))) (sym (beyond w.board.calls p le))
         ]
       where
         is_there : {A : Type 0} (xs : List A) (i : ℕ) → slice_get xs i ≡ None → i < length xs → ⊥
@@ -81,9 +81,9 @@ calls_are w tidy p = by_rank (slice_get w.ranks p) refl
         is_there (x ∷ xs) zero f lt = cc
         is_there (x ∷ xs) (suc i) f lt = is_there xs i f (omega (arith, lt))
 
--- what a list of calls' kinds tells of one call
-abbrev asked_at : List (Option CallKind) → ℕ → Option CallKind
-asked_at kinds i = slice_index_or kinds i None
+-- what a list of open calls tells of one call
+abbrev asked_at : List (Option Call) → ℕ → Option Call
+asked_at calls i = slice_index_or calls i None
 
 index_get : {A : Type 0} (xs : List (Option A)) (i : ℕ) (x : Option A) → slice_get xs i ≡ Some x → slice_index_or xs i None ≡ x
 index_get [] i x e = absurd (cc)
@@ -95,16 +95,16 @@ index_beyond [] i e = refl
 index_beyond (y ∷ ys) zero e = absurd (cc)
 index_beyond (y ∷ ys) (suc i) e = index_beyond ys i e
 
-unknown_asks_nothing : (k : Option CallKind) (x : Bool) → k ≡ None → cond (is_message_kind k && x) k None ≡ None
-unknown_asks_nothing k x e = ap (λ (z : Option CallKind). cond (is_message_kind z && x) z None) e
+unknown_is_not_open : (o : Option Call) (x : Bool) → o ≡ None → cond (is_message_kind (kind_of o) && x) o None ≡ None
+unknown_is_not_open o x e = ap (λ (z : Option Call). cond (is_message_kind (kind_of z) && x) z None) e
 
-asked_is : (b : Board) (p i : ℕ) → asked_at (map (λ i. open_kind b (call_id p i)) (call_numbers b p)) i ≡ open_kind b (call_id p i)
+asked_is : (b : Board) (p i : ℕ) → asked_at (map (λ i. open_call b (call_id p i)) (call_numbers b p)) i ≡ open_call b (call_id p i)
 asked_is b p i =
     elim (less_or_not i (length (calls_of b p))) [
-      | inl lt ↦ index_get (map (λ i. open_kind b (call_id p i)) (call_numbers b p)) i (open_kind b (call_id p i)) (numbered_read (λ i. open_kind b (call_id p i)) (length (calls_of b p)) i lt)
+      | inl lt ↦ index_get (map (λ i. open_call b (call_id p i)) (call_numbers b p)) i (open_call b (call_id p i)) (numbered_read (λ i. open_call b (call_id p i)) (length (calls_of b p)) i lt)
       | inr le ↦
-          index_beyond (map (λ i. open_kind b (call_id p i)) (call_numbers b p)) i (numbered_beyond (λ i. open_kind b (call_id p i)) (length (calls_of b p)) i le)
-          ∙ sym (unknown_asks_nothing (kind_at b (call_id p i)) _ (ap kind_of (beyond (calls_of b p) i le)))
+          index_beyond (map (λ i. open_call b (call_id p i)) (call_numbers b p)) i (numbered_beyond (λ i. open_call b (call_id p i)) (length (calls_of b p)) i le)
+          ∙ sym (unknown_is_not_open (call_at b (call_id p i)) _ (beyond (calls_of b p) i le))
     ]
 
 module _ (w v : World) (same : SameFuture w v) (tidy_w : Tidy w) (tidy_v : Tidy v) where
@@ -124,17 +124,17 @@ module _ (w v : World) (same : SameFuture w v) (tidy_w : Tidy w) (tidy_v : Tidy 
         | inr le ↦ none_key w tidy_w p le ∙ sym (none_key v tidy_v p (let e = many in omega (arith, e, le)))
       ]
 
-  calls_same : (p : ℕ) → map (λ i. open_kind w.board (call_id p i)) (call_numbers w.board p) ≡ map (λ i. open_kind v.board (call_id p i)) (call_numbers v.board p)
+  calls_same : (p : ℕ) → map (λ i. open_call w.board (call_id p i)) (call_numbers w.board p) ≡ map (λ i. open_call v.board (call_id p i)) (call_numbers v.board p)
   calls_same p = sym (calls_are w tidy_w p) ∙ ap calls_told (rank_same p) ∙ calls_are v tidy_v p
 
   counts_same : (p : ℕ) → length (calls_of w.board p) ≡ length (calls_of v.board p)
   counts_same p =
-      sym (length-map (call_numbers w.board p) (λ i. open_kind w.board (call_id p i)) ∙ range_length 0 (length (calls_of w.board p)))
-      ∙ ap (λ (l : List (Option CallKind)). length l) (calls_same p)
-      ∙ (length-map (call_numbers v.board p) (λ i. open_kind v.board (call_id p i)) ∙ range_length 0 (length (calls_of v.board p)))
+      sym (length-map (call_numbers w.board p) (λ i. open_call w.board (call_id p i)) ∙ range_length 0 (length (calls_of w.board p)))
+      ∙ ap (λ (l : List (Option Call)). length l) (calls_same p)
+      ∙ (length-map (call_numbers v.board p) (λ i. open_call v.board (call_id p i)) ∙ range_length 0 (length (calls_of v.board p)))
 
-  opens_same : (c : CallId) → open_kind w.board c ≡ open_kind v.board c
-  opens_same c = sym (asked_is w.board c.rank c.index) ∙ ap (λ (l : List (Option CallKind)). asked_at l c.index) (calls_same c.rank) ∙ asked_is v.board c.rank c.index
+  opens_same : (c : CallId) → open_call w.board c ≡ open_call v.board c
+  opens_same c = sym (asked_is w.board c.rank c.index) ∙ ap (λ (l : List (Option Call)). asked_at l c.index) (calls_same c.rank) ∙ asked_is v.board c.rank c.index
 
   rank_told : (b : Board) (p : ℕ) (o : Option RankWorld) → option_map (λ (k : RankKey). k.rank) (option_map (key_by b p) o) ≡ option_map (quieted b p) o
   rank_told b p None = refl
@@ -203,6 +203,22 @@ module _ (w v : World) (same : SameFuture w v) (tidy_w : Tidy w) (tidy_v : Tidy 
           let one : Some (seen w.board c) ≡ Some (seen v.board c) = sym (ap (option_map (seen w.board)) at) ∙ targets ∙ ap (option_map (seen v.board)) there in
           ap seen_of one
 
+  -- and where it is blocked, which statement issued its last call
+  stands_by : (p : ℕ) (x y : Option RankWorld) → slice_get w.ranks p ≡ x → slice_get v.ranks p ≡ y → option_map (key_by w.board p) x ≡ option_map (key_by v.board p) y
+      → waits (slice_get w.ranks p) ≡ true → last_statement w.board p ≡ last_statement v.board p
+  stands_by p None y ex ey e d = let f : waits None ≡ true = sym (ap waits ex) ∙ d in absurd (cc)
+  stands_by p (Some r) None ex ey e d = absurd (cc)
+  stands_by p (Some r) (Some s) ex ey e d =
+      let keys : key_by w.board p r ≡ key_by v.board p s = cc in
+      let on_w : is_blocked r.activity ≡ true = sym (ap waits ex) ∙ d in
+      let on_v : is_blocked s.activity ≡ true = sym (ap (λ (k : RankKey). is_blocked k.rank.activity) keys) ∙ on_w in
+      let both : seen_last w.board p true ≡ seen_last v.board p true = ap (seen_last w.board p) (sym on_w) ∙ ap (λ (k : RankKey). k.blocked) keys ∙ ap (seen_last v.board p) on_v in
+      ap statement_in both
+    where
+      statement_in : Option BlockedOn → ℕ
+      statement_in None = 0
+      statement_in (Some b) = b.statement
+
   pub alike : Alike w v
   alike = record {
     ranks = ranks_same;
@@ -212,6 +228,7 @@ module _ (w v : World) (same : SameFuture w v) (tidy_w : Tidy w) (tidy_v : Tidy 
     counts = counts_same;
     opens = opens_same;
     due = λ c d. due_by c (slice_get w.ranks c.rank) (slice_get v.ranks c.rank) refl refl (rank_same c.rank) d;
+    stands = λ p d. stands_by p (slice_get w.ranks p) (slice_get v.ranks p) refl refl (rank_same p) d;
   }
 
 -- ---- every world of a run is tidy

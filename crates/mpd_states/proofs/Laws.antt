@@ -9,7 +9,7 @@ use Rattle.mpd_model.specs.steps.Next.{is_blocked, waits, held_in}
 use Rattle.mpd_states.specs.Future.{quieted, seen, seen_held, seen_last, key_by, SameFuture}
 use Rattle.mpd_states.specs.StateLaws.{IsRunTo, GoOnAlike, OneWalk}
 use Rattle.mpd_states.proofs.Alike.{Alike, Tidy}
-use Rattle.mpd_states.proofs.Asked.{asks, numbers, ranks_numbered, last_seen, awaited_alike, awaited_seen}
+use Rattle.mpd_states.proofs.Asked.{numbers, ranks_numbered, last_seen, awaited_alike, awaited_seen}
 use Rattle.mpd_states.proofs.Comes.{all_enabled_alike, decision_alike, wide_decision_alike, ending_alike}
 use Rattle.mpd_states.proofs.Follow.{follow}
 use Rattle.mpd_states.proofs.Keys.{alike, start_tidy, fold_tidy}
@@ -31,6 +31,7 @@ module _ (w v : World) (h : Alike w v) where
   blocked_same p false e = refl
   blocked_same p true e = λ j. Some (record {
     last = last_seen w v h p e j;
+    statement = h.stands p e j;
     target = (option_same (seen w.board) (seen v.board) (awaited w.board (last_call w.board p)) (awaited_seen w v h p e) ∙ ap (option_map (seen v.board)) (awaited_alike w v h p e)) j;
   })
 
@@ -42,7 +43,7 @@ module _ (w v : World) (h : Alike w v) where
       let same : quieted w.board p r ≡ quieted v.board p s = ap rank_or e in
       λ j. Some (record {
         rank = same j;
-        calls = map (λ i. asks w v h j (call_id p i)) (numbers w v h j p);
+        calls = map (λ i. h.opens (call_id p i) j) (numbers w v h j p);
         held = (held_same ∙ ap (λ (u : RankWorld). seen_held v.board p u.handles) same) j;
         blocked = (blocked_same p (is_blocked r.activity) (ap waits ex) ∙ ap (λ (u : RankWorld). seen_last v.board p (is_blocked u.activity)) same) j;
       })

@@ -13,16 +13,17 @@ use Rattle.mpd_model.specs.declared.call.Activity.TheVariants.{Running, Blocked,
 use Rattle.mpd_model.specs.script.Tree.{Tree}
 use Rattle.mpd_model.specs.declared.call.CallKind.TheVariants.{Send, Recv}
 use Rattle.mpd_model.specs.declared.call.CallKind.{CallKind}
+use Rattle.mpd_model.specs.declared.call.Call.{Call}
 use Rattle.mpd_model.specs.declared.call.MatchSet.TheVariants.{Pair}
 use Rattle.mpd_model.specs.declared.call.MatchSet.TheVariants as set
-use Rattle.mpd_model.specs.steps.World.{World, Board, RankWorld, id_eq, kind_at, partner, is_message_kind, is_free, message_of, eligible, receives, sends_to, is_barrier, last_call}
+use Rattle.mpd_model.specs.steps.World.{World, Board, RankWorld, id_eq, call_at, kind_of, kind_at, partner, is_message_kind, is_free, message_of, eligible, receives, sends_to, is_barrier, last_call}
 use Rattle.mpd_model.specs.steps.Next.{waits, writes_of, held_in, going_on, released, is_blocked, is_at_barrier, can_release}
 use Rattle.mpd_model.specs.steps.Why.{or_else}
-use Rattle.mpd_states.specs.Future.{quieted, live_vars, overwritten, blanked, open_kind, still_asked, Seen, seen}
+use Rattle.mpd_states.specs.Future.{quieted, live_vars, overwritten, blanked, open_call, still_asked, Seen, seen}
 use Rattle.mpd_meaning.proofs.moving.Sets.{partner_more, else_none, partner_by}
 use Rattle.mpd_meaning.proofs.moving.Moves.{paired}
 use Rattle.mpd_states.proofs.Alike.{IsHeld, Due, Alike, Tidy, is_send}
-use Rattle.mpd_states.proofs.Asked.{open_is, eligible_alike}
+use Rattle.mpd_states.proofs.Asked.{open_is, asks_alike, eligible_alike}
 use Rattle.mpd_states.proofs.Comes.{read_map}
 
 -- ---- what is seen of a call with a partner
@@ -34,17 +35,17 @@ and_false : (a : Bool) → (a && false) ≡ false
 and_false true = refl
 and_false false = refl
 
-open_by : (k : Option CallKind) (p q : Option CallId)
-    → cond (is_message_kind k && is_none (or_else p q)) k None ≡ cond (is_none q) (cond (is_message_kind k && is_none p) k None) None
-open_by k None None = refl
-open_by k (Some d) None = refl
-open_by k None (Some e) = ap (λ (b : Bool). cond b k None) (and_false (is_message_kind k))
-open_by k (Some d) (Some e) = ap (λ (b : Bool). cond b k None) (and_false (is_message_kind k))
+open_by : (o : Option Call) (p q : Option CallId)
+    → cond (is_message_kind (kind_of o) && is_none (or_else p q)) o None ≡ cond (is_none q) (cond (is_message_kind (kind_of o) && is_none p) o None) None
+open_by o None None = refl
+open_by o (Some d) None = refl
+open_by o None (Some e) = ap (λ (b : Bool). cond b o None) (and_false (is_message_kind (kind_of o)))
+open_by o (Some d) (Some e) = ap (λ (b : Bool). cond b o None) (and_false (is_message_kind (kind_of o)))
 
-open_paired : (w : World) (s r c : CallId) → open_kind (paired w s r).board c ≡ cond (is_none (partner (Pair s r ∷ []) c)) (open_kind w.board c) None
+open_paired : (w : World) (s r c : CallId) → open_call (paired w s r).board c ≡ cond (is_none (partner (Pair s r ∷ []) c)) (open_call w.board c) None
 open_paired w s r c =
-    (λ j. cond (is_message_kind (kind_at w.board c) && is_none (partner_more w.board.sets (Pair s r ∷ []) c j)) (kind_at w.board c) None)
-    ∙ open_by (kind_at w.board c) (partner w.board.sets c) (partner (Pair s r ∷ []) c)
+    (λ j. cond (is_message_kind (kind_at w.board c) && is_none (partner_more w.board.sets (Pair s r ∷ []) c j)) (call_at w.board c) None)
+    ∙ open_by (call_at w.board c) (partner w.board.sets c) (partner (Pair s r ∷ []) c)
 
 none_is : {A : Type 0} (o : Option A) → is_none o ≡ true → o ≡ None
 none_is None e = refl
@@ -113,10 +114,10 @@ module _ (w v : World) (h : Alike w v) (s r : CallId) (e : eligible w.board s r 
   there = sym (eligible_alike w v h s r) ∙ e
 
   send_same : kind_at w.board s ≡ kind_at v.board s
-  send_same = sym (open_is w.board s (agrees w.board s r e).send_free) ∙ h.opens s ∙ open_is v.board s (agrees v.board s r there).send_free
+  send_same = sym (open_is w.board s (agrees w.board s r e).send_free) ∙ asks_alike w v h s ∙ open_is v.board s (agrees v.board s r there).send_free
 
   recv_same : kind_at w.board r ≡ kind_at v.board r
-  recv_same = sym (open_is w.board r (agrees w.board s r e).recv_free) ∙ h.opens r ∙ open_is v.board r (agrees v.board s r there).recv_free
+  recv_same = sym (open_is w.board r (agrees w.board s r e).recv_free) ∙ asks_alike w v h r ∙ open_is v.board r (agrees v.board s r there).recv_free
 
   -- of a call of the pair
   seen_named : (b : Board) (c d : CallId) → partner b.sets c ≡ None → partner (Pair s r ∷ []) c ≡ Some d
@@ -153,8 +154,9 @@ module _ (w v : World) (h : Alike w v) (s r : CallId) (e : eligible w.board s r 
     mode = h.mode;
     many = h.many;
     counts = h.counts;
-    opens = λ c. open_paired w s r c ∙ ap (λ (k : Option CallKind). cond (is_none (partner (Pair s r ∷ []) c)) k None) (h.opens c) ∙ sym (open_paired v s r c);
+    opens = λ c. open_paired w s r c ∙ ap (λ (o : Option Call). cond (is_none (partner (Pair s r ∷ []) c)) o None) (h.opens c) ∙ sym (open_paired v s r c);
     due = λ c d. due_paired c (partner (Pair s r ∷ []) c) refl d;
+    stands = h.stands;
   }
 
 -- ---- a release
@@ -180,8 +182,8 @@ released_due w c (inr k) = absurd (none_waits (slice_get w.ranks c.rank) (sym (a
 released_seen : (w : World) (c : CallId) → seen (released w).board c ≡ seen w.board c
 released_seen w c = λ j. seen_by (kind_at w.board) (released_partner w c j) c
 
-released_open : (w : World) (c : CallId) → open_kind (released w).board c ≡ open_kind w.board c
-released_open w c = λ j. cond (is_message_kind (kind_at w.board c) && is_none (released_partner w c j)) (kind_at w.board c) None
+released_open : (w : World) (c : CallId) → open_call (released w).board c ≡ open_call w.board c
+released_open w c = λ j. cond (is_message_kind (kind_at w.board c) && is_none (released_partner w c j)) (call_at w.board c) None
 
 no_receive : (k : Option CallKind) → is_barrier k ≡ true → overwritten k ≡ []
 no_receive (Some (Recv r)) e = absurd (cc)
@@ -236,4 +238,5 @@ released_alike w v h can_w can_v = record {
   counts = h.counts;
   opens = λ c. released_open w c ∙ h.opens c ∙ sym (released_open v c);
   due = λ c d. released_seen w c ∙ h.due c (released_due w c d) ∙ sym (released_seen v c);
+  stands = λ q e. absurd (none_waits (slice_get w.ranks q) (sym (ap waits (read_map going_on w.ranks q)) ∙ e));
 }

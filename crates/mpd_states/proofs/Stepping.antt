@@ -12,11 +12,13 @@ use Rattle.mpd_model.specs.declared.call.Activity.TheVariants.{Running, Blocked,
 use Rattle.mpd_model.specs.script.Tree.{Tree}
 use Rattle.mpd_model.specs.declared.call.Call.{Call}
 use Rattle.mpd_model.specs.declared.call.CallKind.{CallKind}
-use Rattle.mpd_model.specs.steps.World.{World, RankWorld, call_id, listed_calls, calls_of, kind_of, kind_at, partner, is_message_kind, message_of, awaited_by, awaited, last_call, receives}
+use Rattle.mpd_model.specs.steps.World.{World, RankWorld, call_id, listed_calls, calls_of, call_at, kind_of, kind_at, partner, is_message_kind, message_of, awaited_by, awaited, last_call, receives}
 use Rattle.mpd_model.specs.steps.Next.{is_blocked, waits, writes_of, held_in}
-use Rattle.mpd_states.specs.Future.{open_kind, still_asked, seen, quieted, live_vars, overwritten}
+use Rattle.mpd_model.specs.steps.Outcomes.{statement_of}
+use Rattle.mpd_states.specs.Future.{open_call, still_asked, seen, last_statement, quieted, live_vars, overwritten}
 use Rattle.mpd_meaning.proofs.moving.Moves.{issued_calls, moved, calls_elsewhere, kind_kept, partner_formed}
 use Rattle.mpd_states.proofs.Alike.{IsHeld, IsWaitedFor, Due, Alike, Tidy, is_send}
+use Rattle.mpd_states.proofs.Asked.{waits_quiet}
 
 -- ---- lists
 
@@ -82,27 +84,33 @@ module _ (w : World) (p : ℕ) (r : RankWorld) (o : Option Call) (m : Option Cal
   calls_apart : (q : ℕ) → q ≢ p → calls_of (moved w p r o m).board q ≡ calls_of w.board q
   calls_apart q ne = ap listed_calls (calls_elsewhere w.board.calls p q o ne)
 
-  kind_new : is_some o ≡ true → kind_at (moved w p r o m).board (call_id p (length (calls_of w.board p))) ≡ kind_of o
-  kind_new some = ap (λ (l : List Call). kind_of (slice_get l (length (calls_of w.board p)))) calls_moved ∙ by_call o some
+  call_new : is_some o ≡ true → call_at (moved w p r o m).board (call_id p (length (calls_of w.board p))) ≡ o
+  call_new some = ap (λ (l : List Call). slice_get l (length (calls_of w.board p))) calls_moved ∙ by_call o some
     where
-      by_call : (k : Option Call) → is_some k ≡ true → kind_of (slice_get (calls_of w.board p ++ more k) (length (calls_of w.board p))) ≡ kind_of k
+      by_call : (k : Option Call) → is_some k ≡ true → slice_get (calls_of w.board p ++ more k) (length (calls_of w.board p)) ≡ k
       by_call None e = absurd (cc)
-      by_call (Some c) e = ap kind_of (end_read (calls_of w.board p) c)
+      by_call (Some c) e = end_read (calls_of w.board p) c
 
-  kind_was_here : (i : ℕ) → (IsNew w p o (call_id p i) → ⊥) → kind_at (moved w p r o m).board (call_id p i) ≡ kind_at w.board (call_id p i)
-  kind_was_here i old = ap (λ (l : List Call). kind_of (slice_get l i)) calls_moved ∙ by_call o old
+  kind_new : is_some o ≡ true → kind_at (moved w p r o m).board (call_id p (length (calls_of w.board p))) ≡ kind_of o
+  kind_new some = ap kind_of (call_new some)
+
+  call_was_here : (i : ℕ) → (IsNew w p o (call_id p i) → ⊥) → call_at (moved w p r o m).board (call_id p i) ≡ call_at w.board (call_id p i)
+  call_was_here i old = ap (λ (l : List Call). slice_get l i) calls_moved ∙ by_call o old
     where
-      by_call : (k : Option Call) → (IsNew w p k (call_id p i) → ⊥) → kind_of (slice_get (calls_of w.board p ++ more k) i) ≡ kind_of (slice_get (calls_of w.board p) i)
-      by_call None e = ap (λ (l : List Call). kind_of (slice_get l i)) (append-nil (calls_of w.board p))
-      by_call (Some c) e = ap kind_of (read_before (calls_of w.board p) c i (λ is. e (refl, refl, is)))
+      by_call : (k : Option Call) → (IsNew w p k (call_id p i) → ⊥) → slice_get (calls_of w.board p ++ more k) i ≡ slice_get (calls_of w.board p) i
+      by_call None e = ap (λ (l : List Call). slice_get l i) (append-nil (calls_of w.board p))
+      by_call (Some c) e = read_before (calls_of w.board p) c i (λ is. e (refl, refl, is))
 
-  kind_was : (c : CallId) → (IsNew w p o c → ⊥) → kind_at (moved w p r o m).board c ≡ kind_at w.board c
-  kind_was c old =
+  call_was : (c : CallId) → (IsNew w p o c → ⊥) → call_at (moved w p r o m).board c ≡ call_at w.board c
+  call_was c old =
       elim (eqb_tells c.rank p) [
         | inl at ↦
-            subst (λ (q : ℕ). (IsNew w p o (call_id q c.index) → ⊥) → kind_at (moved w p r o m).board (call_id q c.index) ≡ kind_at w.board (call_id q c.index)) (sym at.1) (kind_was_here c.index) old
-        | inr off ↦ ap (λ (l : List Call). kind_of (slice_get l c.index)) (calls_apart c.rank off.1)
+            subst (λ (q : ℕ). (IsNew w p o (call_id q c.index) → ⊥) → call_at (moved w p r o m).board (call_id q c.index) ≡ call_at w.board (call_id q c.index)) (sym at.1) (call_was_here c.index) old
+        | inr off ↦ ap (λ (l : List Call). slice_get l c.index) (calls_apart c.rank off.1)
       ]
+
+  kind_was : (c : CallId) → (IsNew w p o c → ⊥) → kind_at (moved w p r o m).board c ≡ kind_at w.board c
+  kind_was c old = ap kind_of (call_was c old)
 
   new_is : (c : CallId) → IsNew w p o c → c ≡ call_id p (length (calls_of w.board p))
   new_is c n = λ j. call_id (n.1 j) (n.2 j)
@@ -116,16 +124,19 @@ module _ (w : World) (p : ℕ) (r : RankWorld) (o : Option Call) (m : Option Cal
           let none : kind_at w.board c ≡ None = ap (kind_at w.board) (new_is c n) ∙ ap kind_of (end_none (calls_of w.board p)) in
           absurd (clash (sym (ap (λ (k : Option CallKind). is_some k) none) ∙ (tidy.known c d e).0) refl)
 
+  call_of_new : (c : CallId) → IsNew w p o c → call_at (moved w p r o m).board c ≡ o
+  call_of_new c n = ap (call_at (moved w p r o m).board) (new_is c n) ∙ call_new n.0
+
   kind_of_new : (c : CallId) → IsNew w p o c → kind_at (moved w p r o m).board c ≡ kind_of o
-  kind_of_new c n = ap (kind_at (moved w p r o m).board) (new_is c n) ∙ kind_new n.0
+  kind_of_new c n = ap kind_of (call_of_new c n)
 
-  -- ---- what it asks for, and what is seen of it
+  -- ---- whether it is open, and what is seen of it
 
-  pub open_new : (c : CallId) → IsNew w p o c → open_kind (moved w p r o m).board c ≡ cond (is_message_kind (kind_of o) && true) (kind_of o) None
-  open_new c n = λ j. cond (is_message_kind (kind_of_new c n j) && is_none (new_unpaired c n j)) (kind_of_new c n j) None
+  pub open_new : (c : CallId) → IsNew w p o c → open_call (moved w p r o m).board c ≡ cond (is_message_kind (kind_of o) && true) o None
+  open_new c n = λ j. cond (is_message_kind (kind_of_new c n j) && is_none (new_unpaired c n j)) (call_of_new c n j) None
 
-  pub open_was : (c : CallId) → (IsNew w p o c → ⊥) → open_kind (moved w p r o m).board c ≡ open_kind w.board c
-  open_was c old = λ j. cond (is_message_kind (kind_was c old j) && is_none (partner_formed w.board.sets m c j)) (kind_was c old j) None
+  pub open_was : (c : CallId) → (IsNew w p o c → ⊥) → open_call (moved w p r o m).board c ≡ open_call w.board c
+  open_was c old = λ j. cond (is_message_kind (kind_was c old j) && is_none (partner_formed w.board.sets m c j)) (call_was c old j) None
 
   pub seen_new : (c : CallId) → IsNew w p o c → seen (moved w p r o m).board c ≡ record { kind = kind_of o; paired = false; writes = writes_of (kind_of o) None }
   seen_new c n = λ j. record {
@@ -160,8 +171,11 @@ module _ (w : World) (p : ℕ) (r : RankWorld) (o : Option Call) (m : Option Cal
       by_call None e = absurd (cc)
       by_call (Some c) e = ap (call_id p) (let l = length-append (calls_of w.board p) (c ∷ []) in omega (arith, l))
 
+  last_issued : is_some o ≡ true → call_at (moved w p r o m).board (last_call (moved w p r o m).board p) ≡ o
+  last_issued some = ap (call_at (moved w p r o m).board) (last_here some) ∙ call_new some
+
   kind_last : is_some o ≡ true → kind_at (moved w p r o m).board (last_call (moved w p r o m).board p) ≡ kind_of o
-  kind_last some = ap (kind_at (moved w p r o m).board) (last_here some) ∙ kind_new some
+  kind_last some = ap kind_of (last_issued some)
 
   pub quieted_new : quieted (moved w p r o m).board p r ≡ record { rest = r.rest; vars = live_vars (overwritten (kind_of o)) r.activity r.rest r.vars; handles = r.handles; out = []; activity = r.activity }
   quieted_new = λ j. record { rest = r.rest; vars = by_blocked (is_blocked r.activity) refl j; handles = r.handles; out = []; activity = r.activity }
@@ -216,6 +230,13 @@ module _ (w : World) (p : ℕ) (r : RankWorld) (o : Option Call) (m : Option Cal
 
   last_apart : (q : ℕ) → q ≢ p → last_call (moved w p r o m).board q ≡ last_call w.board q
   last_apart q ne = ap (λ (l : List Call). call_id q (length l - 1)) (calls_apart q ne)
+
+  -- where a rank is blocked, which statement issued its last call
+  stands_here : waits (slice_get (moved w p r o m).ranks p) ≡ true → last_statement (moved w p r o m).board p ≡ statement_of o
+  stands_here e = ap statement_of (last_issued (f.issued (sym (ap waits rank_here) ∙ e)))
+
+  stands_apart : (q : ℕ) → q ≢ p → last_statement (moved w p r o m).board q ≡ last_statement w.board q
+  stands_apart q ne = ap (λ (l : List Call). statement_of (slice_get l (length l - 1))) (calls_apart q ne)
 
   awaited_apart : (q : ℕ) → q ≢ p → awaited (moved w p r o m).board (last_call (moved w p r o m).board q) ≡ awaited w.board (last_call w.board q)
   awaited_apart q ne = ap (λ (l : List Call). awaited_by (call_id q (length l - 1)) (kind_of (slice_get l (length l - 1)))) (calls_apart q ne)
@@ -306,7 +327,7 @@ module _ (w v : World) (h : Alike w v) (p : ℕ) (r s : RankWorld) (o : Option C
             ap (λ (l : List Call). length l) (calls_apart w p r o m f tidy_w q off.1) ∙ h.counts q ∙ sym (ap (λ (l : List Call). length l) (calls_apart v p s o n g tidy_v q off.1))
       ]
 
-  opens_moved : (c : CallId) → open_kind (moved w p r o m).board c ≡ open_kind (moved v p s o n).board c
+  opens_moved : (c : CallId) → open_call (moved w p r o m).board c ≡ open_call (moved v p s o n).board c
   opens_moved c =
       elim (new_or_not w p o c) [
         | inl new ↦ open_new w p r o m f tidy_w c new ∙ sym (open_new v p s o n g tidy_v c (new_there c new))
@@ -324,6 +345,23 @@ module _ (w v : World) (h : Alike w v) (p : ℕ) (r s : RankWorld) (o : Option C
       was_due (inl was) old = was
       was_due (inr new) old = absurd (old new)
 
+  waits_moved : (q : ℕ) → waits (slice_get (moved w p r o m).ranks q) ≡ true → waits (slice_get (moved v p s o n).ranks q) ≡ true
+  waits_moved q e =
+      sym (waits_quiet (moved v p s o n).board q (slice_get (moved v p s o n).ranks q)) ∙ ap waits (sym (rank_moved q)) ∙ waits_quiet (moved w p r o m).board q (slice_get (moved w p r o m).ranks q) ∙ e
+
+  stands_moved : (q : ℕ) → waits (slice_get (moved w p r o m).ranks q) ≡ true → last_statement (moved w p r o m).board q ≡ last_statement (moved v p s o n).board q
+  stands_moved q e =
+      elim (eqb_tells q p) [
+        | inl at ↦
+            subst (λ (x : ℕ). waits (slice_get (moved w p r o m).ranks x) ≡ true → waits (slice_get (moved v p s o n).ranks x) ≡ true → last_statement (moved w p r o m).board x ≡ last_statement (moved v p s o n).board x)
+            (sym at.1)
+            (λ a b. stands_here w p r o m f tidy_w a ∙ sym (stands_here v p s o n g tidy_v b))
+            e
+            (waits_moved q e)
+        | inr off ↦
+            stands_apart w p r o m f tidy_w q off.1 ∙ h.stands q (ap waits (sym (rank_apart w p r o m f tidy_w q off.1)) ∙ e) ∙ sym (stands_apart v p s o n g tidy_v q off.1)
+      ]
+
   pub moved_alike : Alike (moved w p r o m) (moved v p s o n)
   moved_alike = record {
     ranks = rank_moved;
@@ -333,4 +371,5 @@ module _ (w v : World) (h : Alike w v) (p : ℕ) (r s : RankWorld) (o : Option C
     counts = counts_moved;
     opens = opens_moved;
     due = due_moved;
+    stands = stands_moved;
   }

@@ -1,12 +1,16 @@
 -- Worked rows: what is forgotten, and what isn't.
-use Rattle.std.specs.Prelude.{◌≡◌, ℕ, ℤ, ◌+◌, pos, Bool, true, map, List, [], ◌∷◌, ◌++◌, replicate, Option, Some, None, is_some, codes, refl}
+use Rattle.std.specs.Prelude.{◌≡◌, ℕ, ℤ, ◌+◌, pos, Bool, true, false, map, List, [], ◌∷◌, ◌++◌, replicate, Option, Some, None, is_some, codes, refl}
 use Rattle.std.proofs.Common.{ap}
 use Rattle.mpd_model.specs.declared.place.DeclKind.TheVariants.{Variable, Handle}
 use Rattle.mpd_model.specs.declared.place.Place.{Place}
 use Rattle.mpd_model.specs.declared.expr.BinaryOp.TheVariants.{Equal}
 use Rattle.mpd_model.specs.declared.step.Step.{Step}
 use Rattle.mpd_model.specs.declared.step.Step.TheVariants.{Local, Match, Wake}
+use Rattle.mpd_model.specs.declared.call.Call.{Call}
 use Rattle.mpd_model.specs.declared.call.CallKind.{CallKind}
+use Rattle.mpd_model.specs.declared.call.CallKind.TheVariants.{Send, Barrier}
+use Rattle.mpd_model.specs.declared.call.Activity.{Activity}
+use Rattle.mpd_model.specs.declared.call.Activity.TheVariants.{Running, Blocked}
 use Rattle.mpd_model.specs.declared.call.Mode.TheVariants.{Rendezvous}
 use Rattle.mpd_model.specs.declared.outcome.Outcome.TheVariants.{Done}
 use Rattle.mpd_model.specs.declared.call.MatchSet.{MatchSet}
@@ -69,7 +73,7 @@ world_of (Some w) = w
 abbrev behind : Program → List Step → World
 behind s steps = world_of (fold (start s Rendezvous) steps)
 
-abbrev parts : Option RankKey → List (Option CallKind) × Option BlockedOn
+abbrev parts : Option RankKey → List (Option Call) × Option BlockedOn
 parts None = ([], None)
 parts (Some k) = (k.calls, k.blocked)
 
@@ -101,9 +105,9 @@ row_two_worlds = refl
 pub row_one_future : SameFuture (behind (gathering (n 1) two_receives) (in_order 1 2)) (behind (gathering (n 1) two_receives) (in_order 2 1))
 row_one_future = refl
 
--- what is left of them: rank 0 waits for a receive that is paired and writes 1, and the others have ended
-pub row_key : map {B = List (Option CallKind) × Option BlockedOn} (λ (k : Option RankKey). parts k) (key_of (behind (gathering (n 1) two_receives) (in_order 2 1))).ranks
-    ≡ (None ∷ None ∷ [], Some (record { last = record { kind = None; paired = true; writes = (0, pos 1) ∷ [] }; target = Some (record { kind = None; paired = true; writes = (0, pos 1) ∷ [] }) }))
+-- what is left of them: rank 0 waits for a receive of statement 3 that is paired and writes 1, and the others have ended
+pub row_key : map {B = List (Option Call) × Option BlockedOn} (λ (k : Option RankKey). parts k) (key_of (behind (gathering (n 1) two_receives) (in_order 2 1))).ranks
+    ≡ (None ∷ None ∷ [], Some (record { last = record { kind = None; paired = true; writes = (0, pos 1) ∷ [] }; statement = 3; target = Some (record { kind = None; paired = true; writes = (0, pos 1) ∷ [] }) }))
     ∷ (None ∷ [], None) ∷ (None ∷ [], None) ∷ []
 row_key = refl
 
@@ -118,6 +122,55 @@ row_two_futures e = differ (ap (λ (k : Key). first_value (first_writes k.ranks)
 -- but once rank 0 has ended, what it holds is read by nothing
 pub row_ended : SameFuture (behind (gathering own_rank two_receives) (in_order 1 2 ++ Wake 0 ∷ [])) (behind (gathering own_rank two_receives) (in_order 2 1 ++ Wake 0 ∷ []))
 row_ended = refl
+
+-- ---- which statement issued a call
+
+-- one rank, which has issued one call by the statement of this number and paired it or not
+abbrev issuing : CallKind → Activity → List MatchSet → ℕ → World
+issuing kind activity sets number = record {
+  ranks = record { rest = []; vars = []; handles = Some 0 ∷ []; out = []; activity = activity } ∷ [];
+  board = record { mode = Rendezvous; calls = (record { statement = number; kind = kind } ∷ []) ∷ []; sets = sets };
+}
+
+abbrev to_itself : CallKind
+to_itself = Send (record { to = 0; tag = 0; value = pos 1; synchronous = false; blocks = false; buffered = false })
+
+abbrev free_statement : List (Option Call) → ℕ
+free_statement (Some c ∷ calls) = c.statement
+free_statement calls = 0
+
+abbrev blocked_statement : Option BlockedOn → ℕ
+blocked_statement None = 0
+blocked_statement (Some b) = b.statement
+
+abbrev first_statement : List (Option RankKey) → ℕ × ℕ
+first_statement (Some k ∷ ranks) = (free_statement k.calls, blocked_statement k.blocked)
+first_statement ranks = (0, 0)
+
+-- a free call's, and that of the call at which a rank is blocked; none of a call that is paired, or of a barrier behind which its rank is
+pub row_statements : map {B = ℕ × ℕ} (λ (w : ℕ → World). first_statement (key_of (w 4)).ranks)
+    (issuing to_itself Running [] ∷ issuing to_itself Blocked [] ∷ issuing to_itself Running (Pair (call_id 0 0) (call_id 0 1) ∷ []) ∷ issuing Barrier Blocked [] ∷ issuing Barrier Running [] ∷ [])
+    ≡ (4, 0) ∷ (4, 4) ∷ (0, 0) ∷ (0, 4) ∷ (0, 0) ∷ []
+row_statements = refl
+
+pub row_free_elsewhere : SameFuture (issuing to_itself Running [] 4) (issuing to_itself Running [] 5) → ⊥
+row_free_elsewhere e = differ (ap (λ (k : Key). pos (first_statement k.ranks).0) e)
+  where
+    differ : pos 4 ≡ pos 5 → ⊥
+    differ f = cc
+
+pub row_blocked_elsewhere : SameFuture (issuing Barrier Blocked [] 4) (issuing Barrier Blocked [] 5) → ⊥
+row_blocked_elsewhere e = differ (ap (λ (k : Key). pos (first_statement k.ranks).1) e)
+  where
+    differ : pos 4 ≡ pos 5 → ⊥
+    differ f = cc
+
+-- a call that no end will tell is the same wherever it was issued
+pub row_paired_elsewhere : SameFuture (issuing to_itself Running (Pair (call_id 0 0) (call_id 0 1) ∷ []) 4) (issuing to_itself Running (Pair (call_id 0 0) (call_id 0 1) ∷ []) 5)
+row_paired_elsewhere = refl
+
+pub row_passed_elsewhere : SameFuture (issuing Barrier Running [] 4) (issuing Barrier Running [] 5)
+row_passed_elsewhere = refl
 
 -- ---- its runs
 

@@ -1,3 +1,4 @@
 pub mod ShownLemmas
 pub mod PastLemmas
 pub mod LostLemmas
+pub mod StandingLemmas

@@ -7,9 +7,9 @@ use Rattle.std.proofs.lemmas.Option.{slice_get_past}
 use Rattle.std.specs.List.{filter, flat_map, list_any, range_with_len}
 use Rattle.mpd_model.specs.declared.call.Call.{Call}
 use Rattle.mpd_model.specs.declared.step.CallId.{CallId}
-use Rattle.mpd_model.specs.steps.World.{World, call_id, listed_calls, kind_of, calls_of, call_numbers, complete}
+use Rattle.mpd_model.specs.steps.World.{World, call_id, listed_calls, kind_at, kind_of, calls_of, call_numbers, complete}
 use Rattle.mpd_model.specs.runs.Breakpoints.{is_number}
-use Rattle.mpd_view.specs.Lost.{is_request, is_kept, has_waitany, is_lost, lost_calls_of}
+use Rattle.mpd_view.specs.Lost.{is_request, is_kept, has_waitany, is_send, is_lost, lost_calls_of}
 
 -- ---- kept
 
@@ -69,7 +69,7 @@ none_pass t (x ∷ xs) h = ap (λ b. cond b (x ∷ filter t xs) (filter t xs)) (
 
 pub none_lost : (w : World) (p : ℕ) (old : List CallId) → list_any is_issued (calls_of w.board p) ≡ false → old ≡ old ++ lost_calls_of w p
 none_lost w p old e =
-    let each : (i : ℕ) → is_lost w (call_id p i) ≡ false = λ i. ap (λ b. b && (not (is_kept w (call_id p i)) && not (has_waitany (calls_of w.board p) && complete w.board (call_id p i)))) (request_at (calls_of w.board p) i e) in
+    let each : (i : ℕ) → is_lost w (call_id p i) ≡ false = λ i. ap (λ b. b && (not (is_kept w (call_id p i)) && not ((is_send (kind_at w.board (call_id p i)) || has_waitany (calls_of w.board p)) && complete w.board (call_id p i)))) (request_at (calls_of w.board p) i e) in
     sym (ap (λ xs. old ++ flat_map (one_call p) xs) (none_pass (λ i. is_lost w (call_id p i)) (call_numbers w.board p) each) ∙ append-nil old)
 
 -- a rank that isn't there

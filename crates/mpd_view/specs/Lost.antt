@@ -1,17 +1,18 @@
 -- Requests that are lost: nobody can wait for them any more (docs/CONSOLE.md, "Answers").
-use Rattle.std.specs.Prelude.{ℕ, Bool, true, false, ◌&&◌, ◌||◌, not, List, [], ◌∷◌, ◌++◌, slice_get, Option, Some, None, codes}
+use Rattle.std.specs.Prelude.{ℕ, Bool, true, false, ◌&&◌, ◌||◌, ◌==◌, not, nat_lt, if◌then◌else◌, List, [], ◌∷◌, ◌++◌, length, slice_get, Option, Some, None, codes}
 use Rattle.std.specs.Fmt.{decimal}
 use Rattle.std.specs.List.{filter, flat_map, list_any}
 use Rattle.mpd_model.specs.declared.step.CallId.{CallId}
 use Rattle.mpd_model.specs.declared.call.Call.{Call}
 use Rattle.mpd_model.specs.declared.call.CallKind.{CallKind}
-use Rattle.mpd_model.specs.declared.call.CallKind.TheVariants.{Wait, Waitany}
+use Rattle.mpd_model.specs.declared.call.CallKind.TheVariants.{Send, Wait, Waitany}
 use Rattle.mpd_model.specs.script.Program.{Program}
-use Rattle.mpd_model.specs.steps.World.{RankWorld, World, Board, call_id, kind_at, calls_of, rank_numbers, call_numbers, complete}
+use Rattle.mpd_model.specs.steps.World.{RankWorld, World, Board, call_id, call_at, id_eq, kind_at, calls_of, rank_numbers, call_numbers, complete}
 use Rattle.mpd_model.specs.steps.Next.{blocks}
+use Rattle.mpd_model.specs.steps.Why.{first_in}
 use Rattle.mpd_model.specs.runs.Breakpoints.{is_number}
-use Rattle.mpd_model.specs.texts.Texts.{line}
-use Rattle.mpd_names.specs.Placed.{placed}
+use Rattle.mpd_model.specs.texts.Texts.{line, id_text}
+use Rattle.mpd_names.specs.Placed.{issue_line, kind_words, placed}
 
 -- a call that its rank doesn't wait for as it issues it
 abbrev pub is_request : Option CallKind → Bool
@@ -44,24 +45,68 @@ has_waitany calls = list_any (λ (c : Call). is_waitany c.kind) calls
 abbrev pub is_kept : World → CallId → Bool
 is_kept w c = is_held (slice_get w.ranks c.rank) c.index || is_waited (calls_of w.board c.rank) c.index
 
--- It is neither. One that is complete may have been what a waitany went on by.
+abbrev pub is_send : Option CallKind → Bool
+is_send (Some (Send s)) = true
+is_send kind = false
+
+-- It is neither. Nothing is left to wait for of a send that is complete; and one that is complete may have been what a waitany went on by.
 abbrev pub is_lost : World → CallId → Bool
-is_lost w c = is_request (kind_at w.board c) && (not (is_kept w c) && not (has_waitany (calls_of w.board c.rank) && complete w.board c))
+is_lost w c = is_request (kind_at w.board c) && (not (is_kept w c) && not ((is_send (kind_at w.board c) || has_waitany (calls_of w.board c.rank)) && complete w.board c))
+
+-- ---- one line for all that a rank has lost of one line of the script
+
+-- two calls of one rank and one line
+abbrev pub is_beside : Program → Board → CallId → CallId → Bool
+is_beside s b c d = (c.rank == d.rank) && (issue_line s.lines (call_at b c) == issue_line s.lines (call_at b d))
+
+abbrev pub is_this : CallId → Option CallId → Bool
+is_this c None = false
+is_this c (Some d) = id_eq d c
+
+-- the first of some that is beside a call, and how many are
+abbrev pub first_beside : Program → Board → CallId → List CallId → Option CallId
+first_beside s b c ds = first_in (filter (is_beside s b c) ds)
+
+abbrev pub count_beside : Program → Board → CallId → List CallId → ℕ
+count_beside s b c ds = length (filter (is_beside s b c) ds)
+
+abbrev pub one_words : Program → Board → CallId → List ℕ
+one_words s b c = codes " has lost a request: " ++ placed s b c
+
+abbrev pub many_words : ℕ → List ℕ
+many_words count = codes " has lost " ++ decimal count
+
+abbrev pub of_line_words : ℕ → List ℕ
+of_line_words number = codes " requests of line " ++ decimal number
+
+abbrev pub first_words : Board → CallId → List ℕ
+first_words b c = codes ", the first " ++ id_text c ++ kind_words (kind_at b c)
+
+abbrev pub several_words : Program → Board → ℕ → CallId → List ℕ
+several_words s b count c = many_words count ++ of_line_words (issue_line s.lines (call_at b c)) ++ first_words b c
 
 -- `rank 0 has lost a request: line 4, 0.0 isend to 1 tag 7 value 5`
-abbrev pub lost_line : Program → Board → CallId → List ℕ
-lost_line s b c = line (codes "rank " ++ decimal c.rank ++ codes " has lost a request: " ++ placed s b c)
+-- `rank 0 has lost 3 requests of line 4, the first 0.0 isend to 1 tag 7 value 5`
+abbrev pub lost_line : Program → Board → ℕ → CallId → List ℕ
+lost_line s b count c = line (codes "rank " ++ decimal c.rank ++ (if nat_lt 1 count then several_words s b count c else one_words s b c))
+
+-- of some calls each line is told at its first, unless one of it was lost before
+abbrev pub lost_entry : Program → Board → List CallId → List CallId → CallId → List ℕ
+lost_entry s b before calls c = if is_this c (first_beside s b c calls) && not (list_any (is_beside s b c) before) then lost_line s b (count_beside s b c calls) c else []
+
+abbrev pub lost_told : Program → Board → List CallId → List CallId → List ℕ
+lost_told s b before calls = flat_map (lost_entry s b before calls) calls
 
 -- those of a rank, in the order of issue
 abbrev pub lost_calls_of : World → ℕ → List CallId
 lost_calls_of w p = flat_map (λ i. call_id p i ∷ []) (filter (λ i. is_lost w (call_id p i)) (call_numbers w.board p))
 
 abbrev pub lost_text : Program → World → ℕ → List ℕ
-lost_text s w p = flat_map (lost_line s w.board) (lost_calls_of w p)
+lost_text s w p = lost_told s w.board [] (lost_calls_of w p)
 
 -- and those of all ranks
 abbrev pub lost_calls : World → List CallId
 lost_calls w = flat_map (lost_calls_of w) (rank_numbers w.board)
 
 abbrev pub lost_lines : Program → World → List ℕ
-lost_lines s w = flat_map (lost_line s w.board) (lost_calls w)
+lost_lines s w = lost_told s w.board [] (lost_calls w)

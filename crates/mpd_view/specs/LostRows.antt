@@ -13,7 +13,7 @@ use Rattle.mpd_model.specs.script.Tree.{simple}
 use Rattle.mpd_model.specs.script.Program.{Program}
 use Rattle.mpd_model.specs.steps.World.{RankWorld, World, call_id}
 use Rattle.mpd_model.specs.texts.Texts.{line}
-use Rattle.mpd_view.specs.Lost.{is_lost, lost_lines}
+use Rattle.mpd_view.specs.Lost.{is_lost, lost_lines, lost_told}
 
 -- statement k stands on line k + 10
 abbrev script : Program
@@ -59,3 +59,42 @@ pub row_lines : lost_lines script here
     ≡ flat_map line (codes "rank 0 has lost a request: line 11, 0.1 isend to 1 tag 7 value 5" ∷ codes "rank 0 has lost a request: line 15, 0.5 irecv from any tag 7" ∷ codes "rank 1 has lost a request: line 15, 1.2 irecv from any tag 7" ∷ [])
 unfolding digits
 row_lines = refl
+
+-- ---- a line each: rank 0 has lost three requests of line 11, and one of line 12; rank 1 two of line 11
+
+abbrev many : World
+many = record {
+  ranks = rank [] ∷ rank [] ∷ [];
+  board = record {
+    mode = Rendezvous;
+    calls =
+        (call 1 (send 1 false) ∷ call 2 irecv ∷ call 1 (send 1 false) ∷ call 1 irecv ∷ [])
+        ∷ (call 1 irecv ∷ call 1 irecv ∷ []) ∷ [];
+    sets = [];
+  };
+}
+
+pub row_many : lost_lines script many
+    ≡ flat_map line (codes "rank 0 has lost 3 requests of line 11, the first 0.0 isend to 1 tag 7 value 5" ∷ codes "rank 0 has lost a request: line 12, 0.1 irecv from any tag 7" ∷ codes "rank 1 has lost 2 requests of line 11, the first 1.0 irecv from any tag 7" ∷ [])
+unfolding digits
+row_many = refl
+
+-- a request of line 11 of rank 0 was lost before
+pub row_before : lost_told script many.board (call_id 0 2 ∷ []) (call_id 0 1 ∷ call_id 0 2 ∷ call_id 0 3 ∷ call_id 1 1 ∷ [])
+    ≡ flat_map line (codes "rank 0 has lost a request: line 12, 0.1 irecv from any tag 7" ∷ codes "rank 1 has lost a request: line 11, 1.1 irecv from any tag 7" ∷ [])
+unfolding digits
+row_before = refl
+
+-- a send that is complete is not lost, and a receive that is is
+abbrev over : World
+over = record {
+  ranks = rank [] ∷ rank [] ∷ [];
+  board = record {
+    mode = Rendezvous;
+    calls = (call 0 (send 1 false) ∷ call 1 (send 1 false) ∷ []) ∷ (call 2 irecv ∷ call 3 irecv ∷ []) ∷ [];
+    sets = Pair (call_id 0 0) (call_id 1 0) ∷ [];
+  };
+}
+
+pub row_over : map {B = Bool} (is_lost over) (call_id 0 0 ∷ call_id 0 1 ∷ call_id 1 0 ∷ call_id 1 1 ∷ []) ≡ false ∷ true ∷ true ∷ true ∷ []
+row_over = refl

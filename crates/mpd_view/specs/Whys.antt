@@ -34,19 +34,19 @@ partner_line s b e = line (can_words e.1 ++ placed s b e.0 ++ holder_words s b e
 abbrev pub lonely_line : Board → CallId → List ℕ
 lonely_line b c = line (codes "  has no partner yet: " ++ wish c.rank (kind_at b c))
 
-abbrev pub lonely_text : Program → Board → CallId → List ℕ
-lonely_text s b c = lonely_line b c ++ helps s b c
+abbrev pub lonely_text : Program → World → CallId → List ℕ
+lonely_text s w c = lonely_line w.board c ++ helps s w c
 
-abbrev pub partners_text : Program → Board → CallId → List (CallId × Option CallId) → List ℕ
-partners_text s b c [] = lonely_text s b c
-partners_text s b c (e ∷ es) = flat_map (partner_line s b) (e ∷ es)
+abbrev pub partners_text : Program → World → CallId → List (CallId × Option CallId) → List ℕ
+partners_text s w c [] = lonely_text s w c
+partners_text s w c (e ∷ es) = flat_map (partner_line s w.board) (e ∷ es)
 
 -- what is told of a send or a receive that is free; of another call nothing is
-abbrev pub partners_of : Program → Board → CallId → List ℕ
-partners_of s b c = if is_free b c then partners_text s b c (why b c) else []
+abbrev pub partners_of : Program → World → CallId → List ℕ
+partners_of s w c = if is_free w.board c then partners_text s w c (why w.board c) else []
 
-abbrev pub match_text : Program → Board → CallId → List ℕ
-match_text s b c = call_line s b c ++ partners_of s b c
+abbrev pub match_text : Program → World → CallId → List ℕ
+match_text s w c = call_line s w.board c ++ partners_of s w c
 
 -- ---- a wait, a waitany and a barrier
 
@@ -55,7 +55,7 @@ abbrev pub waits_in : World → CallId → Bool
 waits_in w c = waits (slice_get w.ranks c.rank) && id_eq (last_call w.board c.rank) c
 
 abbrev pub requests_text : Program → World → CallId → Option CallKind → List ℕ
-requests_text s w c kind = flat_map (match_text s w.board) (requests w c.rank kind)
+requests_text s w c kind = flat_map (match_text s w) (requests w c.rank kind)
 
 -- What a waitany is for, and who isn't at a barrier, is told only while the rank waits there: what a rank has gone on from waits for nothing.
 abbrev pub waitany_text : Program → World → CallId → Option CallKind → List ℕ
@@ -74,7 +74,7 @@ waited_text s w c kind = []
 
 abbrev pub why_by : Program → World → CallId → Option CallKind → List ℕ
 why_by s w c None = []
-why_by s w c (Some kind) = match_text s w.board c ++ waited_text s w c kind
+why_by s w c (Some kind) = match_text s w c ++ waited_text s w c kind
 
 -- of a call, none where it isn't there
 abbrev pub why_text : Program → World → CallId → List ℕ

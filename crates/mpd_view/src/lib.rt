@@ -11,7 +11,7 @@ pub mod why;
 
 pub use history::{push_history, push_words};
 pub use looks::{push_call, push_calls, push_enabled, push_queues, push_ranks};
-pub use lost::{lost_calls, push_all_lost, push_lost, push_lost_line};
+pub use lost::{lost_calls, push_all_lost, push_lost, push_lost_told};
 pub use place::push_standing;
 pub use steps::{push_step, push_step_line};
 pub use why::{push_why, push_why_rank, push_why_ranks};

@@ -1,6 +1,6 @@
 //! Requests that are lost: nobody can wait for them any more (docs/CONSOLE.md, "Answers").
 
-ghost use Rattle.std.specs.Prelude.{◌≡◌, ◌<◌, ◌++◌, ◌||◌, ◌∷◌, ℕ, false, if◌then◌else◌, [], IfOk, OnOk, get_or, length, slice_get, string_bytes};
+ghost use Rattle.std.specs.Prelude.{◌≡◌, ◌<◌, ◌++◌, ◌||◌, ◌∷◌, ℕ, false, if◌then◌else◌, nat_lt, [], IfOk, OnOk, get_or, length, slice_get, string_bytes};
 ghost use Rattle.std.specs.List.{flat_map, list_any};
 ghost use Rattle.mpd_model.specs.steps.World.{call_id, calls_of};
 ghost use Rattle.mpd_model.specs.runs.Breakpoints.{is_number};
@@ -8,7 +8,7 @@ ghost use Rattle.mpd_view.specs.Lost as lost;
 
 use mpd_core::Core;
 use mpd_model::{Call, CallId, CallKind, blocks};
-use mpd_names::push_placed;
+use mpd_names::{issue_line, push_placed};
 use std::alloc::{AllocError, Global};
 
 /// Whether its rank doesn't wait for a call of this kind as it issues it.
@@ -103,15 +103,26 @@ fn kept_calls(alloc: Global, core: &Core<'_>, rank: usize) -> Result<Vec<bool>, 
     Ok(kept)
 }
 
+/// Whether it is a send.
+fn is_send(kind: Option<CallKind>) -> bool
+    ensures { result ≡ lost.is_send kind }
+{
+    match kind {
+        Some(CallKind::Send(_)) => true,
+        _ => false,
+    }
+}
+
 /// Whether a request of a rank is lost, where it is known whether it is kept and whether the rank has issued a waitany.
 fn is_lost(core: &Core<'_>, call: CallId, is_kept: bool, has_waitany: bool) -> bool
     requires kept { is_kept ≡ lost.is_kept core.now.world call }
     requires waitany { has_waitany ≡ lost.has_waitany (calls_of core.now.world.board call.rank) }
     ensures { result ≡ lost.is_lost core.now.world call }
 {
-    is_request(core.board().kind(call))
+    let kind = core.board().kind(call);
+    is_request(kind)
         && !is_kept
-        && !(has_waitany && core.board().is_complete(call))
+        && !((is_send(kind) || has_waitany) && core.board().is_complete(call))
 }
 
 /// Lists a call where it is lost.
@@ -186,22 +197,163 @@ pub fn lost_calls(alloc: Global, core: &Core<'_>) -> Result<Vec<CallId>, AllocEr
     Ok(calls)
 }
 
-/// Adds the line of a request that is lost. An `Err` is want of memory.
-pub fn push_lost_line(core: &Core<'_>, out: &mut String, call: CallId) -> Result<(), AllocError>
-    ensures { OnOk result (string_bytes out.new ≡ string_bytes out.old ++ lost.lost_line core.now.program core.now.world.board call) }
+/// Whether two calls are of one rank and one line.
+fn is_beside(core: &Core<'_>, call: CallId, other: CallId) -> bool
+    ensures { result ≡ lost.is_beside core.now.program core.now.world.board call other }
+{
+    call.rank == other.rank && issue_line(core, call) == issue_line(core, other)
+}
+
+/// Whether one of some calls is beside another.
+fn has_beside(core: &Core<'_>, call: CallId, calls: &[CallId]) -> bool
+    ensures { result ≡ list_any (lost.is_beside core.now.program core.now.world.board call) calls.now }
+{
+    calls.iter().any(|other| is_beside(core, call, *other))
+}
+
+/// The first of some calls that is beside another.
+fn first_beside(core: &Core<'_>, call: CallId, calls: &[CallId]) -> Option<CallId>
+    ensures { result ≡ lost.first_beside core.now.program core.now.world.board call calls.now }
+{
+    for other in calls {
+        if is_beside(core, call, *other) {
+            return Some(*other);
+        }
+    }
+    None
+}
+
+/// How many of some calls are beside another.
+fn count_beside(core: &Core<'_>, call: CallId, calls: &[CallId]) -> usize
+    ensures { result ≡ lost.count_beside core.now.program core.now.world.board call calls.now }
+{
+    let mut count = 0;
+    for other in calls {
+        if is_beside(core, call, *other) {
+            count += 1;
+        }
+    }
+    count
+}
+
+/// Whether it is this call.
+fn is_this(call: CallId, other: Option<CallId>) -> bool
+    ensures { result ≡ lost.is_this call other }
+{
+    match other {
+        None => false,
+        Some(other) => other.rank == call.rank && other.index == call.index,
+    }
+}
+
+/// Adds that a request is lost.
+fn push_one(core: &Core<'_>, out: &mut String, call: CallId) -> Result<(), AllocError>
+    ensures { OnOk result (string_bytes out.new ≡ string_bytes out.old ++ lost.one_words core.now.program core.now.world.board call) }
+{
+    out.push_str(" has lost a request: ")?;
+    push_placed(core, out, call)
+}
+
+/// Adds that so many are lost.
+fn push_many(out: &mut String, count: usize) -> Result<(), AllocError>
+    ensures { OnOk result (string_bytes out.new ≡ string_bytes out.old ++ lost.many_words count) }
+{
+    write!(out, " has lost {count}")
+}
+
+/// Adds that they are requests of a line.
+fn push_of_line(out: &mut String, line: usize) -> Result<(), AllocError>
+    ensures { OnOk result (string_bytes out.new ≡ string_bytes out.old ++ lost.of_line_words line) }
+{
+    write!(out, " requests of line {line}")?;
+    Ok(())
+}
+
+/// Adds the first of them.
+fn push_first(core: &Core<'_>, out: &mut String, call: CallId) -> Result<(), AllocError>
+    ensures { OnOk result (string_bytes out.new ≡ string_bytes out.old ++ lost.first_words core.now.world.board call) }
+{
+    write!(out, ", the first {call}")?;
+    if let Some(kind) = core.board().kind(call) {
+        write!(out, " {kind}")?;
+    }
+    Ok(())
+}
+
+/// Adds that so many requests of a line are lost, and the first of them.
+fn push_several(
+    core: &Core<'_>,
+    out: &mut String,
+    count: usize,
+    call: CallId,
+) -> Result<(), AllocError>
+    ensures { OnOk result (string_bytes out.new ≡ string_bytes out.old ++ lost.several_words core.now.program core.now.world.board count call) }
+{
+    push_many(out, count)?;
+    push_of_line(out, issue_line(core, call))?;
+    push_first(core, out, call)?;
+    Ok(())
+}
+
+/// Adds that a request is lost, or so many of its line.
+fn push_loss(
+    core: &Core<'_>,
+    out: &mut String,
+    count: usize,
+    call: CallId,
+) -> Result<(), AllocError>
+    ensures { OnOk result (string_bytes out.new ≡ string_bytes out.old ++ (if nat_lt 1 count then lost.several_words core.now.program core.now.world.board count call else lost.one_words core.now.program core.now.world.board call)) }
+{
+    if 1 < count {
+        push_several(core, out, count, call)
+    } else {
+        push_one(core, out, call)
+    }
+}
+
+/// Adds the line of so many requests that are lost, of which this is the first.
+fn push_lost_line(
+    core: &Core<'_>,
+    out: &mut String,
+    count: usize,
+    call: CallId,
+) -> Result<(), AllocError>
+    ensures { OnOk result (string_bytes out.new ≡ string_bytes out.old ++ lost.lost_line core.now.program core.now.world.board count call) }
 {
     let rank = call.rank;
-    write!(out, "rank {rank} has lost a request: ")?;
-    push_placed(core, out, call)?;
+    write!(out, "rank {rank}")?;
+    push_loss(core, out, count, call)?;
     out.push('\n')
 }
 
-/// Adds these lines.
-fn push_lost_lines(core: &Core<'_>, out: &mut String, calls: &[CallId]) -> Result<(), AllocError>
-    ensures { OnOk result (string_bytes out.new ≡ string_bytes out.old ++ flat_map (lost.lost_line core.now.program core.now.world.board) calls.now) }
+/// Adds that line, where the call is the first of its line, and none of it was lost before.
+fn push_lost_entry(
+    core: &Core<'_>,
+    out: &mut String,
+    before: &[CallId],
+    calls: &[CallId],
+    call: CallId,
+) -> Result<(), AllocError>
+    ensures { OnOk result (string_bytes out.new ≡ string_bytes out.old ++ lost.lost_entry core.now.program core.now.world.board before.now calls.now call) }
+{
+    if is_this(call, first_beside(core, call, calls)) && !has_beside(core, call, before) {
+        return push_lost_line(core, out, count_beside(core, call, calls), call);
+    }
+    Ok(())
+}
+
+/// Adds a line for each line of the script of which a rank has lost requests, of all that are lost, but for those of which some were lost
+/// before. An `Err` is want of memory.
+pub fn push_lost_told(
+    core: &Core<'_>,
+    out: &mut String,
+    before: &[CallId],
+    calls: &[CallId],
+) -> Result<(), AllocError>
+    ensures { OnOk result (string_bytes out.new ≡ string_bytes out.old ++ lost.lost_told core.now.program core.now.world.board before.now calls.now) }
 {
     for call in calls {
-        push_lost_line(core, out, *call)?;
+        push_lost_entry(core, out, before, calls, *call)?;
     }
     Ok(())
 }
@@ -212,7 +364,7 @@ pub fn push_lost(core: &Core<'_>, out: &mut String, rank: usize) -> Result<(), A
 {
     let mut calls = Vec::new(*out.allocator());
     list_lost(core, &mut calls, rank)?;
-    push_lost_lines(core, out, &calls)
+    push_lost_told(core, out, &[], &calls)
 }
 
 /// Adds those of all ranks. An `Err` is want of memory.
@@ -220,5 +372,5 @@ pub fn push_all_lost(core: &Core<'_>, out: &mut String) -> Result<(), AllocError
     ensures { OnOk result (string_bytes out.new ≡ string_bytes out.old ++ lost.lost_lines core.now.program core.now.world) }
 {
     let calls = lost_calls(*out.allocator(), core)?;
-    push_lost_lines(core, out, &calls)
+    push_lost_told(core, out, &[], &calls)
 }

@@ -12,7 +12,7 @@ use mpd_explain::push_told;
 use mpd_explore::Ending;
 use mpd_model::{CallId, Decision, Outcome, Step, print_outcome};
 use mpd_names::{issue_line, push_source, rank_line};
-use mpd_policy::{decide, sole};
+use mpd_policy::sole;
 use mpd_trail::Debugger;
 use std::alloc::{AllocError, Global};
 
@@ -272,32 +272,22 @@ fn push_decided(
     }
 }
 
-/// Adds how many steps are undone and the first of them, and what is decided in a state.
-fn push_here(
-    alloc: Global,
-    core: &Core<'_>,
-    text: &[u8],
-    out: &mut String,
-    count: usize,
-    undone: Option<Step>,
-) -> Result<(), AllocError>
-    ensures { OnOk result (string_bytes out.new ≡ string_bytes out.old ++ standing.standing_by text.now core.now.program core.now.world count undone) }
-{
-    push_ahead(core, text, out, count, undone)?;
-    push_decided(alloc, core, text, out, undone, decide(alloc, core)?)
-}
-
-/// Adds where a debugger stands, given the text of the script: the steps that are undone, and the choice, the end, or the step that comes
-/// next. An `Err` is want of memory.
+/// Adds where a debugger stands, given the text of the script and what is decided there: the steps that are undone, and the choice, the end,
+/// or the step that comes next. An `Err` is want of memory.
+#[tactic(auto, using(crate::proofs::StandingLemmas::stood))]
 pub fn push_standing(
     alloc: Global,
     debugger: &Debugger<'_>,
     text: &[u8],
     out: &mut String,
+    decided: Decision,
 ) -> Result<(), AllocError>
+    requires decided { decided ≡ decision debugger.now.world }
     ensures { OnOk result (string_bytes out.new ≡ string_bytes out.old ++ standing.standing_text text.now debugger.now.trail debugger.now.world) }
 {
     let undone = debugger.next_undone();
     let count = debugger.steps().len() - debugger.depth();
-    push_here(alloc, debugger.core(), text, out, count, undone)
+    let core = debugger.core();
+    push_ahead(core, text, out, count, undone)?;
+    push_decided(alloc, core, text, out, undone, decided)
 }

@@ -78,7 +78,7 @@ fn push_lonely(
     out: &mut String,
     call: CallId,
 ) -> Result<(), AllocError>
-    ensures { OnOk result (string_bytes out.new ≡ string_bytes out.old ++ whys.lonely_text core.now.program core.now.world.board call) }
+    ensures { OnOk result (string_bytes out.new ≡ string_bytes out.old ++ whys.lonely_text core.now.program core.now.world call) }
 {
     push_lonely_line(core, out, call)?;
     push_helps(alloc, core, out, call)
@@ -92,7 +92,7 @@ fn push_partners_or_lonely(
     call: CallId,
     partners: &[(CallId, Option<CallId>)],
 ) -> Result<(), AllocError>
-    ensures { OnOk result (string_bytes out.new ≡ string_bytes out.old ++ whys.partners_text core.now.program core.now.world.board call partners.now) }
+    ensures { OnOk result (string_bytes out.new ≡ string_bytes out.old ++ whys.partners_text core.now.program core.now.world call partners.now) }
 {
     if partners.is_empty() {
         return push_lonely(alloc, core, out, call);
@@ -107,7 +107,7 @@ fn push_free(
     out: &mut String,
     call: CallId,
 ) -> Result<(), AllocError>
-    ensures { OnOk result (string_bytes out.new ≡ string_bytes out.old ++ whys.partners_of core.now.program core.now.world.board call) }
+    ensures { OnOk result (string_bytes out.new ≡ string_bytes out.old ++ whys.partners_of core.now.program core.now.world call) }
 {
     if !core.board().is_free(call) {
         return Ok(());
@@ -123,7 +123,7 @@ fn push_match(
     out: &mut String,
     call: CallId,
 ) -> Result<(), AllocError>
-    ensures { OnOk result (string_bytes out.new ≡ string_bytes out.old ++ whys.match_text core.now.program core.now.world.board call) }
+    ensures { OnOk result (string_bytes out.new ≡ string_bytes out.old ++ whys.match_text core.now.program core.now.world call) }
 {
     push_call(core, out, call)?;
     push_free(alloc, core, out, call)
@@ -136,7 +136,7 @@ fn push_matches(
     out: &mut String,
     calls: &[CallId],
 ) -> Result<(), AllocError>
-    ensures { OnOk result (string_bytes out.new ≡ string_bytes out.old ++ flat_map (whys.match_text core.now.program core.now.world.board) calls.now) }
+    ensures { OnOk result (string_bytes out.new ≡ string_bytes out.old ++ flat_map (whys.match_text core.now.program core.now.world) calls.now) }
 {
     for call in calls {
         push_match(alloc, core, out, *call)?;

@@ -3,6 +3,7 @@ mod TextLemmas
 mod VerdictLemmas
 mod ClearTexts
 mod RoundTrip
+mod FirstLine
 mod ReportRead
 mod WholeReport
 mod ReportLemmas

@@ -1,15 +1,15 @@
 -- What is read of the lines of a report.
 use Rattle.std.proofs.Common.{◌≡◌, ℕ, zero, suc, ◌+◌, ◌-◌, ◌<◌, ◌≤◌, ◌==◌, nat_le, Bool, true, false, ◌&&◌, if◌then◌else◌, List, [], ◌∷◌, length, drop, Option, Some, None, Result, Ok, Err, refl, ap, sym, ◌∙◌, arith}
 use Rattle.std.specs.Prelude.{bytes_eq, codes, filter}
-use Rattle.mpd_model.specs.declared.step.CallId.{CallId}
 use Rattle.mpd_model.specs.declared.step.Step.{Step}
 use Rattle.mpd_model.specs.texts.Words.{number_of}
+use Rattle.mpd_explore.specs.declared.report.WitnessEnd.{WitnessEnd}
 use Rattle.mpd_explore.specs.declared.report.Witness.{Witness}
 use Rattle.mpd_witness.specs.declared.report_lines.LineKind.{LineKind}
 use Rattle.mpd_witness.specs.declared.report_lines.LineKind.TheVariants.{OfLeaf, OfWitness, Wrong}
 use Rattle.mpd_witness.specs.declared.report_text.ReportFault.{ReportFault}
 use Rattle.mpd_witness.specs.declared.report_text.ReportFault.TheVariants.{BadLine, NoWitness, SeveralWitnesses, NoSuchLeaf, NoDeadlock, Engine}
-use Rattle.mpd_witness.specs.WitnessText.{parts_at, cut_at, line_of, blocked_of, steps_of, witness_of}
+use Rattle.mpd_witness.specs.WitnessText.{parts_at, cut_at, line_of, end_read, steps_of, witness_of}
 use Rattle.mpd_witness.specs.ReadBack.{second_number, number_behind, numbered, number_and, numbered_either, first_in, group_first, leaf_of, before_cut, is_indented, is_passed, kind_of, may_follow, leaf_number, wrong_line, is_witness, is_leaf, witness_from, unless_other, sole_from, sole_leaf, leaf_from, unwitnessed, witnessed, named_from, named_leaf, leaf_wanted, with_both, witness_at, witness_of_leaf, unless_wrong, is_filled, are_two, are_alone, as_two, witness_of_report, ReadsReport}
 
 -- ---- a number behind a word
@@ -195,15 +195,15 @@ pub ruleset choosing = (none_there, several_there, one_there, no_leaf, last_leaf
 
 -- ---- the witness of a leaf
 
-pub leaf_refused : (i k : ℕ) (read : Option (List CallId)) (steps : Option (List Step)) (n : ℕ) → (read ≡ None) × (k ≡ 1) → n ≡ i + 1 → with_both i read steps ≡ Err (BadLine n)
+pub leaf_refused : (i k : ℕ) (read : Option WitnessEnd) (steps : Option (List Step)) (n : ℕ) → (read ≡ None) × (k ≡ 1) → n ≡ i + 1 → with_both i read steps ≡ Err (BadLine n)
 leaf_refused i k read steps n h e = ap (λ o. with_both i o steps) h.0 ∙ ap (λ (j : ℕ). let r : Result Witness ReportFault = Err (BadLine j) in r) (let s : suc i ≡ n = omega (arith, e) in s)
 
-pub steps_refused : (i : ℕ) (calls : List CallId) (read : Option (List CallId)) (steps : Option (List Step)) (n : ℕ) → read ≡ Some calls → steps ≡ None → n ≡ i + 2 → with_both i read steps ≡ Err (BadLine n)
-steps_refused i calls read steps n h k e =
-    ap (λ o. with_both i o steps) h ∙ ap (λ (o : Option (List Step)). with_both i (Some calls) o) k ∙ ap (λ (j : ℕ). let r : Result Witness ReportFault = Err (BadLine j) in r) (let s : suc (suc i) ≡ n = omega (arith, e) in s)
+pub steps_refused : (i : ℕ) (end : WitnessEnd) (read : Option WitnessEnd) (steps : Option (List Step)) (n : ℕ) → read ≡ Some end → steps ≡ None → n ≡ i + 2 → with_both i read steps ≡ Err (BadLine n)
+steps_refused i end read steps n h k e =
+    ap (λ o. with_both i o steps) h ∙ ap (λ (o : Option (List Step)). with_both i (Some end) o) k ∙ ap (λ (j : ℕ). let r : Result Witness ReportFault = Err (BadLine j) in r) (let s : suc (suc i) ≡ n = omega (arith, e) in s)
 
-pub both_there : (i : ℕ) (calls : List CallId) (xs : List Step) (read : Option (List CallId)) (steps : Option (List Step)) → read ≡ Some calls → steps ≡ Some xs → with_both i read steps ≡ Ok (record { steps = xs; blocked = calls })
-both_there i calls xs read steps h k = ap (λ o. with_both i o steps) h ∙ ap (λ (o : Option (List Step)). with_both i (Some calls) o) k
+pub both_there : (i : ℕ) (end : WitnessEnd) (xs : List Step) (read : Option WitnessEnd) (steps : Option (List Step)) → read ≡ Some end → steps ≡ Some xs → with_both i read steps ≡ Ok (record { steps = xs; end = end })
+both_there i end xs read steps h k = ap (λ o. with_both i o steps) h ∙ ap (λ (o : Option (List Step)). with_both i (Some end) o) k
 
 pub past_none : (n : ℕ) (ls all : List (List ℕ)) → n ≡ 0 → ls ≡ all → ls ≡ drop n all
 past_none n ls all e h = h ∙ ap (λ k. drop k all) (sym e)
@@ -234,10 +234,10 @@ no_line i ls ms all e d n = ap (λ (x : List (List ℕ)). witness_at i x) (ap (d
 pub no_second : (i : ℕ) (ls ms ks all : List (List ℕ)) (l : List ℕ) → ls ≡ all → ms ≡ drop i ls → ms ≡ l ∷ ks → ks ≡ [] → witness_at i (drop i all) ≡ Err NoWitness
 no_second i ls ms ks all l e d n o = ap (λ (x : List (List ℕ)). witness_at i x) (ap (drop i) (sym e) ∙ sym d ∙ n) ∙ ap (λ (x : List (List ℕ)). witness_at i (l ∷ x)) o
 
-pub both_lines : (i : ℕ) (ls ms ks js all : List (List ℕ)) (l m : List ℕ) (r : Result Witness ReportFault) → ls ≡ all → ms ≡ drop i ls → ms ≡ l ∷ ks → ks ≡ m ∷ js → ReadsReport (with_both i (blocked_of (line_of l)) (steps_of (line_of m))) r
+pub both_lines : (i : ℕ) (ls ms ks js all : List (List ℕ)) (l m : List ℕ) (r : Result Witness ReportFault) → ls ≡ all → ms ≡ drop i ls → ms ≡ l ∷ ks → ks ≡ m ∷ js → ReadsReport (with_both i (end_read (line_of l)) (steps_of (line_of m))) r
     → ReadsReport (witness_at i (drop i all)) r
 both_lines i ls ms ks js all l m r e d n o h =
-    let same : witness_at i (drop i all) ≡ with_both i (blocked_of (line_of l)) (steps_of (line_of m)) = ap (λ (x : List (List ℕ)). witness_at i x) (ap (drop i) (sym e) ∙ sym d ∙ n) ∙ ap (λ (x : List (List ℕ)). witness_at i (l ∷ x)) o in
+    let same : witness_at i (drop i all) ≡ with_both i (end_read (line_of l)) (steps_of (line_of m)) = ap (λ (x : List (List ℕ)). witness_at i x) (ap (drop i) (sym e) ∙ sym d ∙ n) ∙ ap (λ (x : List (List ℕ)). witness_at i (l ∷ x)) o in
     rw same h
 
 pub ruleset joining = (leaf_refused, steps_refused, both_there, no_line, no_second, both_lines)

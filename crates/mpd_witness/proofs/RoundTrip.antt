@@ -1,20 +1,17 @@
--- What a report writes of a deadlock and of its witness is read as that witness.
-use Rattle.std.proofs.Common.{◌≡◌, ℕ, ◌^◌, ◌<◌, Bool, true, false, if◌then◌else◌, List, [], ◌∷◌, ◌++◌, length, length-append, map, Option, Some, Ok, refl, ap, sym, ◌∙◌, arith, append_assoc}
-use Rattle.std.specs.Prelude.{option_map, bytes_eq, codes}
+-- The steps that a report writes of a witness are read as these, and so are calls.
+use Rattle.std.proofs.Common.{◌≡◌, ℕ, ◌^◌, ◌<◌, Bool, true, false, List, [], ◌∷◌, ◌++◌, length, length-append, map, Option, Some, refl, ap, sym, ◌∙◌, arith, append_assoc}
+use Rattle.std.specs.Prelude.{option_map, codes}
 use Rattle.std.specs.Char.{is_ascii_digit}
 use Rattle.std.specs.Fmt.{decimal}
 use Rattle.std.specs.List.{flat_map, AllByRecursion}
-use Rattle.std.proofs.lemmas.Slice.Eq.{bytes_eq-Decides}
 use Rattle.mpd_model.specs.declared.step.CallId.{CallId}
 use Rattle.mpd_model.specs.declared.step.Step.{Step}
 use Rattle.mpd_model.specs.declared.step.Step.TheVariants.{Local, Match, Wake, WakeAny, Release}
 use Rattle.mpd_model.specs.texts.Words.{number_of, both_of, call_with, call_of, step_in, step_of, pair_of}
-use Rattle.mpd_model.specs.texts.Texts.{id_text, step_text, steps_text, spaced, line}
-use Rattle.mpd_explore.specs.declared.report.Witness.{Witness}
-use Rattle.mpd_explore.specs.ReportText.{choices_text}
-use Rattle.mpd_witness.specs.WitnessText.{parts_at, put_first, each_read, behind_word, some_read, blocked_of, behind_cut, steps_of, line_of, with_steps, with_blocked, witness_in, witness_of}
-use Rattle.mpd_witness.specs.WitnessLaws.{IsShortCall, IsShortStep, IsShort}
-use Rattle.mpd_witness.proofs.ClearTexts.{is_clear, clear_join, parts_next, parts_listed, cut_next, line_clear, words_next, words_last, decimal_clear, decimal_some, number_read}
+use Rattle.mpd_model.specs.texts.Texts.{id_text, step_text, steps_text}
+use Rattle.mpd_witness.specs.WitnessText.{parts_at, put_first, each_read, behind_cut, steps_of}
+use Rattle.mpd_witness.specs.WitnessLaws.{IsShortCall, IsShortStep}
+use Rattle.mpd_witness.proofs.ClearTexts.{is_clear, clear_join, parts_listed, cut_next, words_next, words_last, decimal_clear, decimal_some, number_read}
 use Rattle.mpd_witness.proofs.TextLemmas.{call_is}
 
 -- ---- bytes that aren't in calls, steps and lines
@@ -94,7 +91,7 @@ listed_clear c f (x ∷ xs) h = clear_join c (f x) (flat_map f xs) h.0 (listed_c
 
 -- ---- a call and a step are read
 
-call_read : (c : CallId) → IsShortCall c → call_of (id_text c) ≡ Some c
+pub call_read : (c : CallId) → IsShortCall c → call_of (id_text c) ≡ Some c
 call_read c h =
     call_is (id_text c) (decimal c.rank) (decimal c.index) (cut_next 46 (decimal c.rank) (decimal c.index) (decimal_clear 46 c.rank refl (wide c.rank h.0)))
     ∙ ap (λ o. call_with o (number_of (decimal c.index))) (number_read c.rank h.0) ∙ ap (call_with (Some c.rank)) (number_read c.index h.1)
@@ -127,7 +124,7 @@ step_read (WakeAny p i) h =
     ∙ ap (λ o. option_map (λ q. WakeAny q.0 q.1) (both_of (Some p) o)) (number_read i h.1)
 step_read Release h = refl
 
-all_read : {A : Type 0} (read : List ℕ → Option A) (f : A → List ℕ) (P : A → Type 0) → ((x : A) → P x → read (f x) ≡ Some x) → (xs : List A) → AllByRecursion P xs → each_read read (map f xs) ≡ Some xs
+pub all_read : {A : Type 0} (read : List ℕ → Option A) (f : A → List ℕ) (P : A → Type 0) → ((x : A) → P x → read (f x) ≡ Some x) → (xs : List A) → AllByRecursion P xs → each_read read (map f xs) ≡ Some xs
 all_read read f P r [] h = refl
 all_read {A} read f P r (x ∷ xs) h = ap (λ (o : Option A). put_first o (each_read read (map f xs))) (r x h.0) ∙ ap (put_first (Some x)) (all_read read f P r xs h.1)
 
@@ -166,100 +163,3 @@ pub second_clear : (c m : ℕ) → IsNoLine c → (steps : List Step) → m < 2 
 second_clear c m k steps big h =
     clear_join c (codes "witness " ++ decimal m) (58 ∷ steps_text steps) (clear_join c (codes "witness ") (decimal m) k.shows (decimal_clear c m k.apart.digit big))
     (clear_join c (58 ∷ []) (steps_text steps) k.colon (steps_clear c k steps h))
-
--- ---- the first line
-
-abbrev pub first_text : ℕ → List ℕ → List CallId → List ℕ
-first_text n choices calls = codes "leaf " ++ decimal n ++ codes " [" ++ choices_text choices ++ codes "] " ++ (codes "deadlock" ++ spaced id_text calls)
-
-abbrev word : List ℕ
-word = codes "deadlock"
-
-no_word : (a : List ℕ) → is_clear 100 a ≡ true → bytes_eq a word ≡ false
-no_word a e =
-    elim (bytes_eq a word) as (λ v. bytes_eq a word ≡ v → v ≡ false) [
-      | true ↦ λ k. absurd (let same : a ≡ word = (bytes_eq-Decides a word).0 k in let t : is_clear 100 word ≡ true = ap (is_clear 100) (sym same) ∙ e in let x : ⊥ = cc in x)
-      | false ↦ λ k. refl
-    ] refl
-
-skipped : (a z : List ℕ) → is_clear 32 a ≡ true → is_clear 100 a ≡ true → behind_word word (parts_at 32 (a ++ 32 ∷ z)) ≡ behind_word word (parts_at 32 z)
-skipped a z e h =
-    ap (behind_word word) (parts_next 32 a z e) ∙ ap (λ (v : Bool). if v then Some (parts_at 32 z) else behind_word word (parts_at 32 z)) (no_word a h)
-
-abbrev pub Fits : ℕ → Type 0
-Fits n = n < 2 ^ 64
-
-choices_skipped : (a : List ℕ) (cs : List ℕ) (z : List ℕ) → is_clear 32 a ≡ true → is_clear 100 a ≡ true → AllByRecursion Fits cs
-    → behind_word word (parts_at 32 (a ++ (flat_map (λ d. 32 ∷ decimal d) cs ++ 93 ∷ 32 ∷ z))) ≡ behind_word word (parts_at 32 z)
-choices_skipped a [] z e h k =
-    ap (λ t. behind_word word (parts_at 32 t)) (sym (append_assoc a (93 ∷ []) (32 ∷ z))) ∙ skipped (a ++ 93 ∷ []) z (clear_join 32 a (93 ∷ []) e refl) (clear_join 100 a (93 ∷ []) h refl)
-choices_skipped a (d ∷ ds) z e h k =
-    ap (λ t. behind_word word (parts_at 32 (a ++ 32 ∷ t))) (append_assoc (decimal d) (flat_map (λ x. 32 ∷ decimal x) ds) (93 ∷ 32 ∷ z))
-    ∙ skipped a (decimal d ++ (flat_map (λ x. 32 ∷ decimal x) ds ++ 93 ∷ 32 ∷ z)) e h
-    ∙ choices_skipped (decimal d) ds z (decimal_clear 32 d refl k.0) (decimal_clear 100 d refl k.0) k.1
-
-bracket_skipped : (cs z : List ℕ) → AllByRecursion Fits cs → behind_word word (parts_at 32 ((91 ∷ []) ++ (choices_text cs ++ 93 ∷ 32 ∷ z))) ≡ behind_word word (parts_at 32 z)
-bracket_skipped [] z k = skipped (91 ∷ 93 ∷ []) z refl refl
-bracket_skipped (c ∷ cs) z k =
-    ap (λ t. behind_word word (parts_at 32 (91 ∷ t))) (append_assoc (decimal c) (flat_map (λ d. 32 ∷ decimal d) cs) (93 ∷ 32 ∷ z))
-    ∙ choices_skipped (91 ∷ decimal c) cs z (clear_join 32 (91 ∷ []) (decimal c) refl (decimal_clear 32 c refl k.0)) (clear_join 100 (91 ∷ []) (decimal c) refl (decimal_clear 100 c refl k.0)) k.1
-
--- the parts of the line, grouped to the right
-regrouped : (a b c d e z : List ℕ) → a ++ b ++ c ++ d ++ e ++ z ≡ a ++ (b ++ (c ++ (d ++ (e ++ z))))
-regrouped a b c d e z = simp append_assoc
-
-behind_deadlock : (n : ℕ) (cs : List ℕ) (calls : List CallId) → Fits n → AllByRecursion Fits cs → AllByRecursion IsShortCall calls
-    → behind_word word (parts_at 32 (first_text n cs calls)) ≡ Some (map id_text calls)
-behind_deadlock n cs calls f k h =
-    let z : List ℕ = codes "deadlock" ++ spaced id_text calls in
-    ap (λ t. behind_word word (parts_at 32 t)) (regrouped (codes "leaf ") (decimal n) (codes " [") (choices_text cs) (codes "] ") z)
-    ∙ skipped (codes "leaf") (decimal n ++ 32 ∷ ((91 ∷ []) ++ (choices_text cs ++ 93 ∷ 32 ∷ z))) refl refl
-    ∙ skipped (decimal n) ((91 ∷ []) ++ (choices_text cs ++ 93 ∷ 32 ∷ z)) (decimal_clear 32 n refl f) (decimal_clear 100 n refl f)
-    ∙ bracket_skipped cs z k
-    ∙ ap (behind_word word) (parts_listed 32 id_text (codes "deadlock") calls refl (each_so IsShortCall (λ c. is_clear 32 (id_text c) ≡ true) (call_clear 32 refl refl) calls h))
-
-some_calls : (calls : List CallId) → AllByRecursion IsShortCall calls → 0 < length calls → some_read call_of (Some (map id_text calls)) ≡ Some calls
-some_calls [] h l = absurd (omega arith)
-some_calls (c ∷ calls) h l = all_read call_of id_text IsShortCall call_read (c ∷ calls) h
-
-pub first_read_back : (n : ℕ) (cs : List ℕ) (calls : List CallId) → Fits n → AllByRecursion Fits cs → AllByRecursion IsShortCall calls → 0 < length calls → blocked_of (first_text n cs calls) ≡ Some calls
-first_read_back n cs calls f k h l = ap (some_read call_of) (behind_deadlock n cs calls f k h) ∙ some_calls calls h l
-
-pub choices_clear : (c : ℕ) → IsNoLine c → (cs : List ℕ) → AllByRecursion Fits cs → is_clear c (choices_text cs) ≡ true
-choices_clear c k [] h = refl
-choices_clear c k (d ∷ ds) h =
-    clear_join c (decimal d) (flat_map (λ x. 32 ∷ decimal x) ds) (decimal_clear c d k.apart.digit h.0)
-    (listed_clear c (λ x. 32 ∷ decimal x) ds (each_so Fits (λ x. is_clear c (32 ∷ decimal x) ≡ true) (λ x f. clear_join c (32 ∷ []) (decimal x) k.apart.blank (decimal_clear c x k.apart.digit f)) ds h.1))
-
-first_clear : (c n : ℕ) → IsNoLine c → (cs : List ℕ) (calls : List CallId) → Fits n → AllByRecursion Fits cs → AllByRecursion IsShortCall calls → is_clear c (first_text n cs calls) ≡ true
-first_clear c n k cs calls f g h =
-    let calls_clear : is_clear c (spaced id_text calls) ≡ true =
-    listed_clear c (λ x. 32 ∷ id_text x) calls
-    (each_so IsShortCall (λ x. is_clear c (32 ∷ id_text x) ≡ true) (λ x s. clear_join c (32 ∷ []) (id_text x) k.apart.blank (call_clear c k.apart.digit k.apart.dot x s)) calls h) in
-    let a = clear_join c (codes "leaf ") (decimal n) k.leaf (decimal_clear c n k.apart.digit f) in
-    let b = clear_join c (codes "leaf " ++ decimal n) (codes " [") a k.opens in
-    let d = clear_join c (codes "leaf " ++ decimal n ++ codes " [") (choices_text cs) b (choices_clear c k cs g) in
-    let e = clear_join c (codes "leaf " ++ decimal n ++ codes " [" ++ choices_text cs) (codes "] ") d k.closes in
-    clear_join c (codes "leaf " ++ decimal n ++ codes " [" ++ choices_text cs ++ codes "] ") (codes "deadlock" ++ spaced id_text calls) e (clear_join c (codes "deadlock") (spaced id_text calls) k.stuck calls_clear)
-
--- ---- both
-
-two_lines : (a b : List ℕ) → is_clear 10 a ≡ true → is_clear 10 b ≡ true → parts_at 10 (line a ++ line b) ≡ a ∷ b ∷ [] ∷ []
-two_lines a b e h =
-    ap (parts_at 10) (append_assoc a (10 ∷ []) (line b)) ∙ parts_next 10 a (line b) e ∙ ap (λ ps. a ∷ ps) (parts_next 10 b [] h)
-
-lines_read : (a b : List ℕ) (calls : List CallId) (steps : List Step) → line_of a ≡ a → line_of b ≡ b → blocked_of a ≡ Some calls → steps_of b ≡ Some steps
-    → witness_in (a ∷ b ∷ [] ∷ []) ≡ Ok (record { steps = steps; blocked = calls })
-lines_read a b calls steps p q e h =
-    ap (λ x. with_blocked (blocked_of x) (b ∷ [] ∷ [])) p ∙ ap (λ o. with_blocked o (b ∷ [] ∷ [])) e
-    ∙ ap (λ x. with_steps calls (steps_of x) true) q ∙ ap (λ (o : Option (List Step)). with_steps calls o true) h
-
-pub written_is_read : (n m : ℕ) (cs : List ℕ) (x : Witness) → Fits n → Fits m → AllByRecursion Fits cs → IsShort x → witness_of (line (first_text n cs x.blocked) ++ line (second_text m x.steps)) ≡ Ok x
-written_is_read n m cs x f g k h =
-    let a : List ℕ = first_text n cs x.blocked in
-    let b : List ℕ = second_text m x.steps in
-    let a10 : is_clear 10 a ≡ true = first_clear 10 n feed_apart cs x.blocked f k h.calls in
-    let b10 : is_clear 10 b ≡ true = second_clear 10 m feed_apart x.steps g h.steps in
-    ap witness_in (two_lines a b a10 b10)
-    ∙ lines_read a b x.blocked x.steps (line_clear a a10 (first_clear 13 n return_apart cs x.blocked f k h.calls)) (line_clear b b10 (second_clear 13 m return_apart x.steps g h.steps))
-    (first_read_back n cs x.blocked f k h.calls h.some_call) (second_read_back m x.steps g h.steps h.some_step)

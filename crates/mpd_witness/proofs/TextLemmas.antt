@@ -1,5 +1,5 @@
 -- What is read of the pieces of a witness's text.
-use Rattle.std.proofs.Common.{◌≡◌, ℕ, Bool, true, false, ◌==◌, if◌then◌else◌, List, [], ◌∷◌, ◌++◌, length, Option, Some, None, Result, Ok, Err, refl, ap, sym, ◌∙◌, arith, append_assoc, append-nil, ◌<◌}
+use Rattle.std.proofs.Common.{◌≡◌, ℕ, Bool, true, false, ◌==◌, if◌then◌else◌, List, [], ◌∷◌, ◌++◌, length, Option, Some, None, IfSome, Result, Ok, Err, refl, ap, sym, ◌∙◌, arith, append_assoc, append-nil, ◌<◌}
 use Rattle.std.proofs.lemmas.Slice.Eq.{bytes_eq-Decides}
 use Rattle.std.specs.Prelude.{option_map, bytes_eq, codes}
 use Rattle.mpd_model.specs.declared.step.CallId.{CallId}
@@ -7,8 +7,11 @@ use Rattle.mpd_model.specs.declared.step.Step.{Step}
 use Rattle.mpd_model.specs.declared.words.TraceWord.{TraceWord}
 use Rattle.mpd_model.specs.declared.words.TraceWord.TheVariants as trace_word
 use Rattle.mpd_model.specs.texts.Words.{cut_at_dot, number_of, call_with, call_of, words, only_number, alone, step_named, step_in, step_of, trace_word_named, trace_word_in, trace_word_of}
+use Rattle.mpd_explore.specs.declared.report.RankTrap.{RankTrap}
+use Rattle.mpd_explore.specs.declared.report.WitnessEnd.{WitnessEnd}
+use Rattle.mpd_explore.specs.declared.report.WitnessEnd.TheVariants as end_is
 use Rattle.mpd_explore.specs.declared.report.Witness.{Witness}
-use Rattle.mpd_witness.specs.WitnessText.{parts_at, cut_at, put_first, each_read, some_read, blocked_of, steps_of, line_of, all_empty, with_steps, with_blocked, witness_in, witness_of, ReadsLine, ReadsText}
+use Rattle.mpd_witness.specs.WitnessText.{parts_at, cut_at, put_first, each_read, rank_trap_of, pairs_read, behind_word, some_of, end_with, end_read, steps_of, line_of, all_empty, with_steps, with_end, witness_in, witness_of, PairRead, ReadsLine, ReadsText}
 use Rattle.mpd_witness.specs.declared.witness_text.WitnessTextFault.{WitnessTextFault}
 use Rattle.mpd_witness.specs.declared.witness_text.WitnessTextFault.TheVariants.{BadLine, Memory}
 
@@ -115,17 +118,39 @@ read_over {A} read all xs old h o = h ∙ ap (λ zs. joined_to xs (each_read rea
 
 pub ruleset going = (read_none, read_more, read_wrong, read_over)
 
--- ---- the first line
+-- ---- pieces that are read two by two
 
-pub blocked_refused : {A : Type 0} (read : List ℕ → Option A) (behind : Option (List (List ℕ))) (ps : List (List ℕ)) (e : WitnessTextFault) → behind ≡ Some ps → ReadsLine {A = List A} 1 (each_read read ps) (Err e)
-    → ReadsLine {A = List A} 1 (some_read read behind) (Err e)
-blocked_refused read behind ps Memory b r = tt
-blocked_refused read behind [] (BadLine k) b r = absurd (let e : _ = r.0 in let h : ⊥ = cc in h)
-blocked_refused {A} read behind (z ∷ zs) (BadLine k) b r = (ap (λ (o : Option (List (List ℕ))). some_read read o) b ∙ r.0, r.1)
+pub pairs_none : {A : Type 0} (all : Option (List A)) (xs : List A) → xs ≡ [] → all ≡ joined_to xs all
+pairs_none all xs e = read_none all xs e
 
-blocked_some : {A : Type 0} (read : List ℕ → Option A) (ps : List (List ℕ)) (xs : List A) → each_read read ps ≡ Some xs → 0 < length xs → some_read read (Some ps) ≡ Some xs
-blocked_some {A} read [] xs e l = absurd (let s : xs ≡ [] = cc in omega (arith, ap length s))
-blocked_some read (z ∷ zs) xs e l = e
+pub pairs_more : {A : Type 0} (read : List ℕ → List ℕ → Option A) (all : Option (List A)) (xs items : List A) (x : A) (one : List ℕ) (old mid new : List (List ℕ)) → all ≡ joined_to xs (pairs_read read old) → old ≡ one ∷ mid
+    → pairs_read read (one ∷ mid) ≡ put_first (Some x) (pairs_read read new) → items ≡ xs ++ x ∷ [] → all ≡ joined_to items (pairs_read read new)
+pairs_more {A} read all xs items x one old mid new h o r i =
+    h ∙ ap (λ zs. joined_to xs (pairs_read read zs)) o ∙ ap (joined_to xs) r ∙ joined_more xs x (pairs_read read new) ∙ ap (λ (zs : List A). joined_to zs (pairs_read read new)) (sym i)
+
+pub pair_wrong : {A : Type 0} (read : List ℕ → List ℕ → Option A) (all : Option (List A)) (xs : List A) (one : List ℕ) (old mid : List (List ℕ)) → all ≡ joined_to xs (pairs_read read old) → old ≡ one ∷ mid → pairs_read read (one ∷ mid) ≡ None → all ≡ None
+pair_wrong read all xs one old mid h o r = h ∙ ap (λ zs. joined_to xs (pairs_read read zs)) o ∙ ap (joined_to xs) r
+
+pub pairs_over : {A : Type 0} (read : List ℕ → List ℕ → Option A) (all : Option (List A)) (xs : List A) (old : List (List ℕ)) → all ≡ joined_to xs (pairs_read read old) → old ≡ [] → all ≡ Some xs
+pairs_over {A} read all xs old h o = h ∙ ap (λ zs. joined_to xs (pairs_read read zs)) o ∙ ap (λ (zs : List A). Some zs) (append-nil xs)
+
+pub ruleset trapping = (pairs_none, pairs_more, pair_wrong, pairs_over)
+
+-- one pair
+pub pair_missing : {A : Type 0} (read : List ℕ → List ℕ → Option A) (one : List ℕ) (old : List (List ℕ)) → old ≡ [] → pairs_read read (one ∷ old) ≡ None
+pair_missing read one old e = ap (λ (zs : List (List ℕ)). pairs_read read (one ∷ zs)) e
+
+pub pair_there : {A : Type 0} (read : List ℕ → List ℕ → Option A) (one two : List ℕ) (old new : List (List ℕ)) (r : Option A) → old ≡ two ∷ new → r ≡ read one two → PairRead read one old new r
+pair_there read one two old new None e h = ap (λ (zs : List (List ℕ)). pairs_read read (one ∷ zs)) e ∙ ap (λ q. put_first q (pairs_read read new)) (sym h)
+pair_there read one two old new (Some x) e h = ap (λ (zs : List (List ℕ)). pairs_read read (one ∷ zs)) e ∙ ap (λ q. put_first q (pairs_read read new)) (sym h)
+
+pub fewer_left : {A : Type 0} (two : List ℕ) (old new : List (List ℕ)) (r : Option A) → old ≡ two ∷ new → IfSome r (λ x. length new < length old)
+fewer_left two old new None e = tt
+fewer_left two old new (Some x) e = omega (arith, ap length e)
+
+pub ruleset pairing = (pair_missing, pair_there, fewer_left)
+
+-- ---- one at least
 
 put_some : {A : Type 0} (o : Option A) (all : Option (List A)) (xs : List A) → put_first o all ≡ Some xs → length xs ≡ 0 → ⊥
 put_some None all xs e l = let h : ⊥ = cc in h
@@ -133,61 +158,108 @@ put_some (Some x) None xs e l = let h : ⊥ = cc in h
 put_some (Some x) (Some ys) [] e l = let h : ⊥ = cc in h
 put_some (Some x) (Some ys) (y ∷ xs) e l = omega arith
 
-blocked_none : {A : Type 0} (read : List ℕ → Option A) (ps : List (List ℕ)) (xs : List A) → each_read read ps ≡ Some xs → length xs ≡ 0 → some_read read (Some ps) ≡ None
-blocked_none read [] xs e l = refl
-blocked_none read (z ∷ zs) xs e l = absurd (put_some (read z) (each_read read zs) xs e l)
+pub blocked_refused : (ps : List (List ℕ)) (e : WitnessTextFault) → ReadsLine {A = List CallId} 1 (each_read call_of ps) (Err e) → ReadsLine {A = List CallId} 1 (some_of (each_read call_of) ps) (Err e)
+blocked_refused ps Memory r = tt
+blocked_refused [] (BadLine k) r = (refl, r.1)
+blocked_refused (z ∷ zs) (BadLine k) r = r
 
-pub blocked_is : {A : Type 0} (read : List ℕ → Option A) (behind : Option (List (List ℕ))) (ps : List (List ℕ)) (xs : List A) → behind ≡ Some ps → each_read read ps ≡ Some xs → 0 < length xs → some_read read behind ≡ Some xs
-blocked_is read behind ps xs b e l = ap (λ o. some_read read o) b ∙ blocked_some read ps xs e l
+pub blocked_is : (ps : List (List ℕ)) (xs : List CallId) → each_read call_of ps ≡ Some xs → 0 < length xs → some_of (each_read call_of) ps ≡ Some xs
+blocked_is [] xs e l = absurd (let s : xs ≡ [] = cc in omega (arith, ap length s))
+blocked_is (z ∷ zs) xs e l = e
 
-pub blocked_missing : {A : Type 0} (read : List ℕ → Option A) (behind : Option (List (List ℕ))) (ps : List (List ℕ)) (xs : List A) → behind ≡ Some ps → each_read read ps ≡ Some xs → length xs ≡ 0 → some_read read behind ≡ None
-blocked_missing read behind ps xs b e l = ap (λ o. some_read read o) b ∙ blocked_none read ps xs e l
+pub blocked_missing : (ps : List (List ℕ)) (xs : List CallId) → each_read call_of ps ≡ Some xs → length xs ≡ 0 → some_of (each_read call_of) ps ≡ None
+blocked_missing [] xs e l = refl
+blocked_missing (z ∷ zs) xs e l = absurd (put_some (call_of z) (each_read call_of zs) xs e l)
+
+pub ruleset blocking = (blocked_refused, blocked_is, blocked_missing)
+
+pub trapped_refused : (ps : List (List ℕ)) (e : WitnessTextFault) → ReadsLine {A = List RankTrap} 1 (pairs_read rank_trap_of ps) (Err e) → ReadsLine {A = List RankTrap} 1 (some_of (pairs_read rank_trap_of) ps) (Err e)
+trapped_refused ps Memory r = tt
+trapped_refused [] (BadLine k) r = (refl, r.1)
+trapped_refused (z ∷ zs) (BadLine k) r = r
+
+pub trapped_is : (ps : List (List ℕ)) (xs : List RankTrap) → pairs_read rank_trap_of ps ≡ Some xs → 0 < length xs → some_of (pairs_read rank_trap_of) ps ≡ Some xs
+trapped_is [] xs e l = absurd (let s : xs ≡ [] = cc in omega (arith, ap length s))
+trapped_is (z ∷ zs) xs e l = e
+
+pub trapped_missing : (ps : List (List ℕ)) (xs : List RankTrap) → pairs_read rank_trap_of ps ≡ Some xs → length xs ≡ 0 → some_of (pairs_read rank_trap_of) ps ≡ None
+trapped_missing [] xs e l = refl
+trapped_missing (y ∷ []) xs e l = refl
+trapped_missing (y ∷ z ∷ zs) xs e l = absurd (put_some (rank_trap_of y z) (pairs_read rank_trap_of zs) xs e l)
+
+pub ruleset trapped = (trapped_refused, trapped_is, trapped_missing)
+
+-- ---- the first line
+
+deadlock_line : (l : List ℕ) (ps : List (List ℕ)) → behind_word (codes "deadlock") (parts_at 32 l) ≡ Some ps → end_read l ≡ option_map end_is.Deadlock (some_of (each_read call_of) ps)
+deadlock_line l ps e = ap (λ o. end_with o (behind_word (codes "trap") (parts_at 32 l))) e
+
+trap_line : (l : List ℕ) (o : Option (List (List ℕ))) → behind_word (codes "deadlock") (parts_at 32 l) ≡ None → behind_word (codes "trap") (parts_at 32 l) ≡ o → end_read l ≡ end_with None o
+trap_line l o e h = ap (λ q. end_with q (behind_word (codes "trap") (parts_at 32 l))) e ∙ ap (λ q. end_with None q) h
+
+pub deadlock_refused : (l : List ℕ) (ps : List (List ℕ)) (e : WitnessTextFault) → behind_word (codes "deadlock") (parts_at 32 l) ≡ Some ps → ReadsLine {A = List CallId} 1 (some_of (each_read call_of) ps) (Err e) → ReadsLine {A = WitnessEnd} 1 (end_read l) (Err e)
+deadlock_refused l ps Memory b r = tt
+deadlock_refused l ps (BadLine k) b r = (deadlock_line l ps b ∙ ap (option_map end_is.Deadlock) r.0, r.1)
+
+pub deadlock_read : (l : List ℕ) (ps : List (List ℕ)) (calls : List CallId) → behind_word (codes "deadlock") (parts_at 32 l) ≡ Some ps → some_of (each_read call_of) ps ≡ Some calls → end_read l ≡ Some (end_is.Deadlock calls)
+deadlock_read l ps calls b r = deadlock_line l ps b ∙ ap (option_map end_is.Deadlock) r
+
+pub no_end : (l : List ℕ) → behind_word (codes "deadlock") (parts_at 32 l) ≡ None → behind_word (codes "trap") (parts_at 32 l) ≡ None → end_read l ≡ None
+no_end l e h = trap_line l None e h
+
+pub trap_refused : (l : List ℕ) (ps : List (List ℕ)) (e : WitnessTextFault) → behind_word (codes "deadlock") (parts_at 32 l) ≡ None → behind_word (codes "trap") (parts_at 32 l) ≡ Some ps → ReadsLine {A = List RankTrap} 1 (some_of (pairs_read rank_trap_of) ps) (Err e)
+    → ReadsLine {A = WitnessEnd} 1 (end_read l) (Err e)
+trap_refused l ps Memory n b r = tt
+trap_refused l ps (BadLine k) n b r = (trap_line l (Some ps) n b ∙ ap (option_map end_is.Trap) r.0, r.1)
+
+pub trap_read : (l : List ℕ) (ps : List (List ℕ)) (ranks : List RankTrap) → behind_word (codes "deadlock") (parts_at 32 l) ≡ None → behind_word (codes "trap") (parts_at 32 l) ≡ Some ps → some_of (pairs_read rank_trap_of) ps ≡ Some ranks → end_read l ≡ Some (end_is.Trap ranks)
+trap_read l ps ranks n b r = trap_line l (Some ps) n b ∙ ap (option_map end_is.Trap) r
+
+pub ruleset ending = (deadlock_refused, deadlock_read, no_end, trap_refused, trap_read)
 
 -- ---- the lines
 
 pub no_line : (z : List ℕ) (ls : List (List ℕ)) → ls ≡ parts_at 10 z → ls ≡ [] → witness_of z ≡ Err 1
 no_line z ls e n = ap witness_in (sym e ∙ n)
 
-first_line : (z l bytes : List ℕ) (ls ms : List (List ℕ)) → ls ≡ parts_at 10 z → ls ≡ l ∷ ms → bytes ≡ line_of l → witness_of z ≡ with_blocked (blocked_of bytes) ms
-first_line z l bytes ls ms e n b = ap witness_in (sym e ∙ n) ∙ ap (λ x. with_blocked (blocked_of x) ms) (sym b)
+first_line : (z l bytes : List ℕ) (ls ms : List (List ℕ)) → ls ≡ parts_at 10 z → ls ≡ l ∷ ms → bytes ≡ line_of l → witness_of z ≡ with_end (end_read bytes) ms
+first_line z l bytes ls ms e n b = ap witness_in (sym e ∙ n) ∙ ap (λ x. with_end (end_read x) ms) (sym b)
 
-pub first_refused : (z l bytes : List ℕ) (ls ms : List (List ℕ)) (e : WitnessTextFault) → ls ≡ parts_at 10 z → ls ≡ l ∷ ms → bytes ≡ line_of l → ReadsLine 1 (blocked_of bytes) (Err e)
+pub first_refused : (z l bytes : List ℕ) (ls ms : List (List ℕ)) (e : WitnessTextFault) → ls ≡ parts_at 10 z → ls ≡ l ∷ ms → bytes ≡ line_of l → ReadsLine 1 (end_read bytes) (Err e)
     → ReadsText (witness_of z) (Err e)
 first_refused z l bytes ls ms Memory p n b r = tt
-first_refused z l bytes ls ms (BadLine k) p n b r = first_line z l bytes ls ms p n b ∙ ap (λ o. with_blocked o ms) r.0 ∙ ap (λ (i : ℕ). let x : Result Witness ℕ = Err i in x) (sym r.1)
+first_refused z l bytes ls ms (BadLine k) p n b r = first_line z l bytes ls ms p n b ∙ ap (λ o. with_end o ms) r.0 ∙ ap (λ (i : ℕ). let x : Result Witness ℕ = Err i in x) (sym r.1)
 
-first_read : (z l bytes : List ℕ) (ls ms : List (List ℕ)) (calls : List CallId) → ls ≡ parts_at 10 z → ls ≡ l ∷ ms → bytes ≡ line_of l → blocked_of bytes ≡ Some calls
-    → witness_of z ≡ with_blocked (Some calls) ms
-first_read z l bytes ls ms calls p n b r = first_line z l bytes ls ms p n b ∙ ap (λ o. with_blocked o ms) r
+first_read : (z l bytes : List ℕ) (ls ms : List (List ℕ)) (end : WitnessEnd) → ls ≡ parts_at 10 z → ls ≡ l ∷ ms → bytes ≡ line_of l → end_read bytes ≡ Some end
+    → witness_of z ≡ with_end (Some end) ms
+first_read z l bytes ls ms end p n b r = first_line z l bytes ls ms p n b ∙ ap (λ o. with_end o ms) r
 
-pub second_missing : (z l bytes : List ℕ) (ls ms : List (List ℕ)) (calls : List CallId) → ls ≡ parts_at 10 z → ls ≡ l ∷ ms → bytes ≡ line_of l → blocked_of bytes ≡ Some calls → ms ≡ []
+pub second_missing : (z l bytes : List ℕ) (ls ms : List (List ℕ)) (end : WitnessEnd) → ls ≡ parts_at 10 z → ls ≡ l ∷ ms → bytes ≡ line_of l → end_read bytes ≡ Some end → ms ≡ []
     → witness_of z ≡ Err 2
-second_missing z l bytes ls ms calls p n b r o = first_read z l bytes ls ms calls p n b r ∙ ap (λ (ks : List (List ℕ)). with_blocked (Some calls) ks) o
+second_missing z l bytes ls ms end p n b r o = first_read z l bytes ls ms end p n b r ∙ ap (λ (ks : List (List ℕ)). with_end (Some end) ks) o
 
-second_line : (z l bytes m second : List ℕ) (ls ms ks : List (List ℕ)) (calls : List CallId) → ls ≡ parts_at 10 z → ls ≡ l ∷ ms → bytes ≡ line_of l → blocked_of bytes ≡ Some calls → ms ≡ m ∷ ks → second ≡ line_of m
-    → witness_of z ≡ with_steps calls (steps_of second) (all_empty ks)
-second_line z l bytes m second ls ms ks calls p n b r o s =
-    first_read z l bytes ls ms calls p n b r ∙ ap (λ (js : List (List ℕ)). with_blocked (Some calls) js) o ∙ ap (λ x. with_steps calls (steps_of x) (all_empty ks)) (sym s)
+second_line : (z l bytes m second : List ℕ) (ls ms ks : List (List ℕ)) (end : WitnessEnd) → ls ≡ parts_at 10 z → ls ≡ l ∷ ms → bytes ≡ line_of l → end_read bytes ≡ Some end → ms ≡ m ∷ ks → second ≡ line_of m
+    → witness_of z ≡ with_steps end (steps_of second) (all_empty ks)
+second_line z l bytes m second ls ms ks end p n b r o s =
+    first_read z l bytes ls ms end p n b r ∙ ap (λ (js : List (List ℕ)). with_end (Some end) js) o ∙ ap (λ x. with_steps end (steps_of x) (all_empty ks)) (sym s)
 
-pub second_refused : (z l bytes m second : List ℕ) (ls ms ks : List (List ℕ)) (calls : List CallId) (e : WitnessTextFault) → ls ≡ parts_at 10 z → ls ≡ l ∷ ms → bytes ≡ line_of l → blocked_of bytes ≡ Some calls
+pub second_refused : (z l bytes m second : List ℕ) (ls ms ks : List (List ℕ)) (end : WitnessEnd) (e : WitnessTextFault) → ls ≡ parts_at 10 z → ls ≡ l ∷ ms → bytes ≡ line_of l → end_read bytes ≡ Some end
     → ms ≡ m ∷ ks → second ≡ line_of m → ReadsLine 2 (steps_of second) (Err e) → ReadsText (witness_of z) (Err e)
-second_refused z l bytes m second ls ms ks calls Memory p n b r o s q = tt
-second_refused z l bytes m second ls ms ks calls (BadLine k) p n b r o s q =
-    second_line z l bytes m second ls ms ks calls p n b r o s ∙ ap (λ (x : Option (List Step)). with_steps calls x (all_empty ks)) q.0 ∙ ap (λ (i : ℕ). let x : Result Witness ℕ = Err i in x) (sym q.1)
+second_refused z l bytes m second ls ms ks end Memory p n b r o s q = tt
+second_refused z l bytes m second ls ms ks end (BadLine k) p n b r o s q =
+    second_line z l bytes m second ls ms ks end p n b r o s ∙ ap (λ (x : Option (List Step)). with_steps end x (all_empty ks)) q.0 ∙ ap (λ (i : ℕ). let x : Result Witness ℕ = Err i in x) (sym q.1)
 
-second_read : (z l bytes m second : List ℕ) (ls ms ks : List (List ℕ)) (calls : List CallId) (steps : List Step) (over : Bool) → ls ≡ parts_at 10 z → ls ≡ l ∷ ms → bytes ≡ line_of l → blocked_of bytes ≡ Some calls
-    → ms ≡ m ∷ ks → second ≡ line_of m → steps_of second ≡ Some steps → over ≡ all_empty ks → witness_of z ≡ with_steps calls (Some steps) over
-second_read z l bytes m second ls ms ks calls steps over p n b r o s q v =
-    second_line z l bytes m second ls ms ks calls p n b r o s ∙ ap (λ (x : Option (List Step)). with_steps calls x (all_empty ks)) q ∙ ap (λ x. with_steps calls (Some steps) x) (sym v)
+second_read : (z l bytes m second : List ℕ) (ls ms ks : List (List ℕ)) (end : WitnessEnd) (steps : List Step) (over : Bool) → ls ≡ parts_at 10 z → ls ≡ l ∷ ms → bytes ≡ line_of l → end_read bytes ≡ Some end
+    → ms ≡ m ∷ ks → second ≡ line_of m → steps_of second ≡ Some steps → over ≡ all_empty ks → witness_of z ≡ with_steps end (Some steps) over
+second_read z l bytes m second ls ms ks end steps over p n b r o s q v =
+    second_line z l bytes m second ls ms ks end p n b r o s ∙ ap (λ (x : Option (List Step)). with_steps end x (all_empty ks)) q ∙ ap (λ x. with_steps end (Some steps) x) (sym v)
 
-pub more_behind : (z l bytes m second : List ℕ) (ls ms ks : List (List ℕ)) (calls : List CallId) (steps : List Step) (over : Bool) → ls ≡ parts_at 10 z → ls ≡ l ∷ ms → bytes ≡ line_of l → blocked_of bytes ≡ Some calls
+pub more_behind : (z l bytes m second : List ℕ) (ls ms ks : List (List ℕ)) (end : WitnessEnd) (steps : List Step) (over : Bool) → ls ≡ parts_at 10 z → ls ≡ l ∷ ms → bytes ≡ line_of l → end_read bytes ≡ Some end
     → ms ≡ m ∷ ks → second ≡ line_of m → steps_of second ≡ Some steps → over ≡ all_empty ks → over ≡ false → witness_of z ≡ Err 2
-more_behind z l bytes m second ls ms ks calls steps over p n b r o s q v f = second_read z l bytes m second ls ms ks calls steps over p n b r o s q v ∙ ap (λ x. with_steps calls (Some steps) x) f
+more_behind z l bytes m second ls ms ks end steps over p n b r o s q v f = second_read z l bytes m second ls ms ks end steps over p n b r o s q v ∙ ap (λ x. with_steps end (Some steps) x) f
 
-pub both_read : (z l bytes m second : List ℕ) (ls ms ks : List (List ℕ)) (calls : List CallId) (steps : List Step) (over : Bool) → ls ≡ parts_at 10 z → ls ≡ l ∷ ms → bytes ≡ line_of l → blocked_of bytes ≡ Some calls
-    → ms ≡ m ∷ ks → second ≡ line_of m → steps_of second ≡ Some steps → over ≡ all_empty ks → over ≡ true → witness_of z ≡ Ok (record { steps = steps; blocked = calls })
-both_read z l bytes m second ls ms ks calls steps over p n b r o s q v f = second_read z l bytes m second ls ms ks calls steps over p n b r o s q v ∙ ap (λ x. with_steps calls (Some steps) x) f
+pub both_read : (z l bytes m second : List ℕ) (ls ms ks : List (List ℕ)) (end : WitnessEnd) (steps : List Step) (over : Bool) → ls ≡ parts_at 10 z → ls ≡ l ∷ ms → bytes ≡ line_of l → end_read bytes ≡ Some end
+    → ms ≡ m ∷ ks → second ≡ line_of m → steps_of second ≡ Some steps → over ≡ all_empty ks → over ≡ true → witness_of z ≡ Ok (record { steps = steps; end = end })
+both_read z l bytes m second ls ms ks end steps over p n b r o s q v f = second_read z l bytes m second ls ms ks end steps over p n b r o s q v ∙ ap (λ x. with_steps end (Some steps) x) f
 
 pub ruleset reading = (no_line, first_refused, second_missing, second_refused, more_behind, both_read)
-
-pub ruleset blocking = (blocked_refused, blocked_is, blocked_missing)

@@ -2,7 +2,6 @@
 use Rattle.std.proofs.Common.{◌≡◌, ◌≢◌, ℕ, ◌+◌, ◌≤◌, List, [], ◌++◌, length, ◌∷◌, Some, Ok, Err, codes, sym, ap, subst, ◌∙◌, append_assoc, arith}
 use Rattle.std.specs.Io.KnownBytes.{Appends}
 use Rattle.mpd_model.specs.declared.call.Mode.{Mode}
-use Rattle.mpd_model.specs.declared.outcome.Outcome.TheVariants.{Deadlock}
 use Rattle.mpd_model.specs.script.Program.{Program}
 use Rattle.mpd_model.specs.steps.World.{World}
 use Rattle.mpd_model.specs.steps.Next.{fold}
@@ -12,7 +11,7 @@ use Rattle.mpd_device.specs.Seen.{SinkSeen}
 use Rattle.mpd_explore.specs.declared.report.Witness.{Witness}
 use Rattle.mpd_explore.specs.declared.verifier.WitnessFault.{WitnessFault}
 use Rattle.mpd_explore.specs.declared.verifier.WitnessFault.TheVariants.{NoSuchStep, NotStuck, WrongBlocked, Memory}
-use Rattle.mpd_explore.specs.Witness.{IsWitnessFrom, HasFault}
+use Rattle.mpd_explore.specs.Witness.{end_in, IsWitnessFrom, HasFault}
 use Rattle.mpd_explore.specs.Faults.{witness_fault_name}
 use Rattle.mpd_lines.specs.declared.engine.EngineFault.TheVariants.{WriteFailed}
 use Rattle.mpd_lines.specs.declared.verdict.Verdict.{Verdict}
@@ -37,11 +36,11 @@ line_joined old new a b c d e number name part h i j k l m = rw (m, l, k, j, i, 
 
 -- ---- the verdict where the verifier has accepted, and where it has found this fault
 
-pub is_accepted : (w last : World) (x : Witness) (old new : List ℕ) (verdict : Verdict) → (fold w x.steps ≡ Some last) × (outcome last ≡ Some (Deadlock x.blocked)) → old ≡ [] → new ≡ old ++ accepted_line → verdict ≡ Good
+pub is_accepted : (w last : World) (x : Witness) (old new : List ℕ) (verdict : Verdict) → (fold w x.steps ≡ Some last) × (end_in (outcome last) ≡ Some x.end) → old ≡ [] → new ≡ old ++ accepted_line → verdict ≡ Good
     → IsVerdictFrom w x new verdict
 is_accepted w last x old new verdict h e t is =
     let P : Verdict → Type 0 = λ v. IsVerdictFrom w x new v in
-    subst P (sym is) (record { last = last; leads = h.0; stuck = h.1 }, t ∙ ap (λ (zs : List ℕ). zs ++ accepted_line) e)
+    subst P (sym is) (record { last = last; leads = h.0; ends = h.1 }, t ∙ ap (λ (zs : List ℕ). zs ++ accepted_line) e)
 
 -- a fault of the witness itself
 abbrev pub IsOfWitness : WitnessFault → Type 0
@@ -56,11 +55,11 @@ no_memory NotStuck i h = let x : ⊥ = cc in x
 no_memory WrongBlocked i h = let x : ⊥ = cc in x
 no_memory Memory i h = i
 
-pub is_refused : (w : World) (x : Witness) (f e : WitnessFault) (old new : List ℕ) (verdict : Verdict) → f ≡ e → IsOfWitness e → (f ≢ Memory → HasFault w 0 x.steps x.blocked f) → (IsWitnessFrom w x → f ≡ Memory)
+pub is_refused : (w : World) (x : Witness) (f e : WitnessFault) (old new : List ℕ) (verdict : Verdict) → f ≡ e → IsOfWitness e → (f ≢ Memory → HasFault w 0 x.steps x.end f) → (IsWitnessFrom w x → f ≡ Memory)
     → old ≡ [] → new ≡ old ++ refused_line e → verdict ≡ Bad → IsVerdictFrom w x new verdict
 is_refused w x f e old new verdict is i h n b t k =
     let not : f ≢ Memory = λ m. no_memory e i (sym is ∙ m) in
-    let P : WitnessFault → Type 0 = λ y. HasFault w 0 x.steps x.blocked y in
+    let P : WitnessFault → Type 0 = λ y. HasFault w 0 x.steps x.end y in
     let Q : Verdict → Type 0 = λ v. IsVerdictFrom w x new v in
     subst Q (sym k) (e, subst P is (h not), (λ z. not (n z)), t ∙ ap (λ (zs : List ℕ). zs ++ refused_line e) b)
 

@@ -1,36 +1,32 @@
--- From the text of a whole report the witness of each deadlock is read by the number of its leaf.
+-- From the text of a whole report the witness of each deadlock and of each trap is read by the number of its leaf.
 use Rattle.std.proofs.Common.{◌≡◌, ℕ, zero, suc, ◌+◌, ◌-◌, ◌<◌, ◌≤◌, ◌==◌, Bool, true, false, if◌then◌else◌, List, [], ◌∷◌, ◌++◌, length, drop, slice_get, Option, Some, None, Result, Ok, Err, refl, ap, sym, ◌∙◌, arith, append_assoc}
 use Rattle.std.specs.Prelude.{codes}
+use Rattle.std.specs.Char.{is_ascii_digit}
 use Rattle.std.specs.Fmt.{decimal}
 use Rattle.std.specs.List.{AllByRecursion}
 use Rattle.std.proofs.lemmas.Bool.Decides.{Decides-eqb}
 use Rattle.std.proofs.lemmas.Option.{slice_get_within}
-use Rattle.mpd_model.specs.declared.call.Trap.{Trap}
-use Rattle.mpd_model.specs.declared.call.Trap.TheVariants.{Overflow, ZeroDivisor, BadRank, BadTag, BadIndex, Assertion}
-use Rattle.mpd_model.specs.declared.outcome.TrappedRank.{TrappedRank}
-use Rattle.mpd_model.specs.declared.outcome.Outcome.TheVariants as o
-use Rattle.mpd_model.specs.declared.step.CallId.{CallId}
 use Rattle.mpd_model.specs.declared.step.Step.{Step}
 use Rattle.mpd_model.specs.texts.Lines.{is_none}
 use Rattle.mpd_model.specs.steps.World.{World}
-use Rattle.mpd_model.specs.texts.Texts.{id_text, spaced, line, trap_name, trapped_text, steps_text}
-use Rattle.mpd_walk.specs.declared.ending.Ending.{Ending}
-use Rattle.mpd_walk.specs.declared.ending.Ending.TheVariants.{Ended, Cut}
+use Rattle.mpd_model.specs.texts.Texts.{line, steps_text}
 use Rattle.mpd_explore.specs.declared.report.Leaf.{Leaf}
+use Rattle.mpd_explore.specs.declared.report.WitnessEnd.{WitnessEnd}
 use Rattle.mpd_explore.specs.declared.report.Witness.{Witness}
 use Rattle.mpd_model.specs.declared.decision.Decision.{Decision}
 use Rattle.mpd_walk.specs.Walk.{run_by, steps_by}
-use Rattle.mpd_explore.specs.Witness.{witness_by}
+use Rattle.mpd_explore.specs.Witness.{end_of, witness_to, witness_by}
 use Rattle.mpd_explore.specs.ReportText.{choices_text, ending_text, leaf_text, leaf_line, witness_lines, leaves_text, more_text, report_text}
 use Rattle.mpd_witness.specs.declared.report_lines.LineKind.{LineKind}
 use Rattle.mpd_witness.specs.declared.report_lines.LineKind.TheVariants.{Passed, OfLeaf, OfWitness}
 use Rattle.mpd_witness.specs.declared.report_text.ReportFault.{ReportFault}
-use Rattle.mpd_witness.specs.WitnessText.{parts_at, cut_at, line_of, blocked_of, steps_of}
-use Rattle.mpd_witness.specs.WitnessLaws.{IsShortCall, IsShortStep, IsShort, IsShortEnding, AreShortSteps, IsShortLeaf, witness_at_leaf}
+use Rattle.mpd_witness.specs.WitnessText.{parts_at, cut_at, line_of, end_read, steps_of}
+use Rattle.mpd_witness.specs.WitnessLaws.{IsShortStep, IsShort, IsShortEnding, AreShortSteps, IsShortLeaf, witness_at_leaf}
 use Rattle.mpd_witness.specs.ReadBack.{number_behind, numbered, first_in, group_first, before_cut, is_indented, kind_of, may_follow, leaf_number, wrong_line, is_witness, is_leaf, leaf_from, unwitnessed, witnessed, named_from, named_leaf, with_both, witness_at, witness_of_leaf, unless_wrong, witness_of_report}
 use Rattle.mpd_witness.proofs.ClearTexts.{is_clear, clear_join, parts_next, parts_last, cut_next, line_clear, decimal_clear, number_read, same_byte}
 use Rattle.mpd_witness.proofs.ReportRead.{grouped}
-use Rattle.mpd_witness.proofs.RoundTrip.{IsNoLine, feed_apart, return_apart, wide, call_clear, each_so, listed_clear, choices_clear, Fits, second_clear, second_read_back, first_text, first_read_back}
+use Rattle.mpd_witness.proofs.RoundTrip.{feed_apart, return_apart, wide, second_clear, second_read_back}
+use Rattle.mpd_witness.proofs.FirstLine.{Fits, IsNoEnd, feed_end, return_end, ending_clear, choices_clear, first_read_back}
 
 -- ---- what a line is
 
@@ -88,32 +84,11 @@ total_is n more h = is_total_by n (total_words n more) refl refl (ap (number_beh
 
 -- ---- no line has a line feed or a carriage return
 
-record IsNoEnd (c : ℕ) : Type 0 where
-  line : IsNoLine c
-  finishes : is_clear c (codes "done") ≡ true
-  leaves : is_clear c (codes "leftovers") ≡ true
-  traps : is_clear c (codes "trap") ≡ true
-  cuts : is_clear c (codes "cut") ≡ true
-  names : (t : Trap) → is_clear c (trap_name t) ≡ true
+record IsNoTotal (c : ℕ) : Type 0 where
+  digit : is_ascii_digit c ≡ false
   total : is_clear c (codes "leaves ") ≡ true
   others : is_clear c (codes " more ") ≡ true
   answers : (b : Bool) → is_clear c (more_text b) ≡ true
-
-feed_name : (t : Trap) → is_clear 10 (trap_name t) ≡ true
-feed_name Overflow = refl
-feed_name ZeroDivisor = refl
-feed_name BadRank = refl
-feed_name BadTag = refl
-feed_name BadIndex = refl
-feed_name Assertion = refl
-
-return_name : (t : Trap) → is_clear 13 (trap_name t) ≡ true
-return_name Overflow = refl
-return_name ZeroDivisor = refl
-return_name BadRank = refl
-return_name BadTag = refl
-return_name BadIndex = refl
-return_name Assertion = refl
 
 feed_more : (b : Bool) → is_clear 10 (more_text b) ≡ true
 feed_more true = refl
@@ -123,30 +98,11 @@ return_more : (b : Bool) → is_clear 13 (more_text b) ≡ true
 return_more true = refl
 return_more false = refl
 
-feed_end : IsNoEnd 10
-feed_end = record { line = feed_apart; finishes = refl; leaves = refl; traps = refl; cuts = refl; names = feed_name; total = refl; others = refl; answers = feed_more }
+feed_total : IsNoTotal 10
+feed_total = record { digit = refl; total = refl; others = refl; answers = feed_more }
 
-return_end : IsNoEnd 13
-return_end = record { line = return_apart; finishes = refl; leaves = refl; traps = refl; cuts = refl; names = return_name; total = refl; others = refl; answers = return_more }
-
-calls_clear : (c : ℕ) → IsNoEnd c → (calls : List CallId) → AllByRecursion IsShortCall calls → is_clear c (spaced id_text calls) ≡ true
-calls_clear c k calls h =
-    listed_clear c (λ x. 32 ∷ id_text x) calls
-    (each_so IsShortCall (λ x. is_clear c (32 ∷ id_text x) ≡ true) (λ x s. clear_join c (32 ∷ []) (id_text x) k.line.apart.blank (call_clear c k.line.apart.digit k.line.apart.dot x s)) calls h)
-
-trapped_clear : (c : ℕ) → IsNoEnd c → (t : TrappedRank) → t.rank < 1000000000 → is_clear c (32 ∷ trapped_text t) ≡ true
-trapped_clear c k t h =
-    clear_join c (32 ∷ []) (trapped_text t) k.line.apart.blank
-    (clear_join c (decimal t.rank) (32 ∷ trap_name t.trap) (decimal_clear c t.rank k.line.apart.digit (wide t.rank h)) (clear_join c (32 ∷ []) (trap_name t.trap) k.line.apart.blank (k.names t.trap)))
-
-ending_clear : (c : ℕ) → IsNoEnd c → (e : Ending) → IsShortEnding e → is_clear c (ending_text e) ≡ true
-ending_clear c k Cut h = k.cuts
-ending_clear c k (Ended o.Done) h = k.finishes
-ending_clear c k (Ended (o.Leftovers calls)) h = clear_join c (codes "leftovers") (spaced id_text calls) k.leaves (calls_clear c k calls h)
-ending_clear c k (Ended (o.Deadlock calls)) h = clear_join c (codes "deadlock") (spaced id_text calls) k.line.stuck (calls_clear c k calls h)
-ending_clear c k (Ended (o.Trap ranks)) h =
-    clear_join c (codes "trap") (spaced trapped_text ranks) k.traps
-    (listed_clear c (λ t. 32 ∷ trapped_text t) ranks (each_so (λ (t : TrappedRank). t.rank < 1000000000) (λ t. is_clear c (32 ∷ trapped_text t) ≡ true) (trapped_clear c k) ranks h))
+return_total : IsNoTotal 13
+return_total = record { digit = refl; total = refl; others = refl; answers = return_more }
 
 leaf_clear : (c n : ℕ) → IsNoEnd c → (l : Leaf) → n < 1000000000 → AllByRecursion Fits l.choices → IsShortEnding l.ending → is_clear c (leaf_words n (leaf_text l)) ≡ true
 leaf_clear c n k l f g h =
@@ -156,10 +112,10 @@ leaf_clear c n k l f g h =
     let e = clear_join c (32 ∷ codes "[" ++ choices_text l.choices) (codes "] ") d k.line.closes in
     clear_join c (codes "leaf " ++ decimal n) (32 ∷ leaf_text l) a (clear_join c (32 ∷ codes "[" ++ choices_text l.choices ++ codes "] ") (ending_text l.ending) e (ending_clear c k l.ending h))
 
-total_clear : (c n : ℕ) → IsNoEnd c → (more : Bool) → n < 1000000000 → is_clear c (total_words n more) ≡ true
+total_clear : (c n : ℕ) → IsNoTotal c → (more : Bool) → n < 1000000000 → is_clear c (total_words n more) ≡ true
 total_clear c n k more h =
     clear_join c (codes "leaves " ++ decimal n ++ codes " more ") (more_text more)
-    (clear_join c (codes "leaves " ++ decimal n) (codes " more ") (clear_join c (codes "leaves ") (decimal n) k.total (decimal_clear c n k.line.apart.digit (wide n h))) k.others) (k.answers more)
+    (clear_join c (codes "leaves " ++ decimal n) (codes " more ") (clear_join c (codes "leaves ") (decimal n) k.total (decimal_clear c n k.digit (wide n h))) k.others) (k.answers more)
 
 -- ---- the lines of a report
 
@@ -287,27 +243,21 @@ module _ (decide : World → Decision) (before : List Step) (fuel : ℕ) (w : Wo
   is_there n i [] = tt
   is_there n i (l ∷ ls) = there_by (is_leaf n (kind_of (line_of l))) n i l ls (is_there n (suc i) ls)
 
-  stuck_at : (steps : List Step) (e : Ending) (x : Witness) → witness_by steps e ≡ Some x → e ≡ Ended (o.Deadlock x.blocked)
-  stuck_at steps Cut x h = absurd (let z : ⊥ = cc in z)
-  stuck_at steps (Ended o.Done) x h = absurd (let z : ⊥ = cc in z)
-  stuck_at steps (Ended (o.Leftovers calls)) x h = absurd (let z : ⊥ = cc in z)
-  stuck_at steps (Ended (o.Trap ranks)) x h = absurd (let z : ⊥ = cc in z)
-  stuck_at steps (Ended (o.Deadlock calls)) x h = let same : calls ≡ x.blocked = cc in ap (λ (cs : List CallId). Ended (o.Deadlock cs)) same
+  end_at : (steps : List Step) (end : Option WitnessEnd) (x : Witness) → witness_to steps end ≡ Some x → end ≡ Some x.end
+  end_at steps None x h = absurd (let z : ⊥ = cc in z)
+  end_at steps (Some end) x h = let same : end ≡ x.end = cc in ap (λ (e : WitnessEnd). Some e) same
 
-  first_is : (n : ℕ) (l : Leaf) (x : Witness) → l.ending ≡ Ended (o.Deadlock x.blocked) → leaf_words n (leaf_text l) ≡ first_text n l.choices x.blocked
-  first_is n l x e =
-      grouped (codes "leaf " ++ decimal n) (choices_text l.choices) (ending_text l.ending) ∙ ap (λ (y : Ending). codes "leaf " ++ decimal n ++ codes " [" ++ choices_text l.choices ++ codes "] " ++ ending_text y) e
-
-  both_read : (n p : ℕ) (l : Leaf) (x : Witness) → n < 1000000000 → IsShortLeaf decide before fuel w l → told l ≡ Some x → IsShort x → with_both p (blocked_of (line_of (leaf_words n (leaf_text l)))) (steps_of (line_of (witness_words n (steps_text x.steps)))) ≡ Ok x
+  both_read : (n p : ℕ) (l : Leaf) (x : Witness) → n < 1000000000 → IsShortLeaf decide before fuel w l → told l ≡ Some x → IsShort x → with_both p (end_read (line_of (leaf_words n (leaf_text l)))) (steps_of (line_of (witness_words n (steps_text x.steps)))) ≡ Ok x
   both_read n p l x f h t s =
       let a : List ℕ = leaf_words n (leaf_text l) in
       let b : List ℕ = witness_words n (steps_text x.steps) in
       let bare_a : line_of a ≡ a = line_clear a (leaf_clear 10 n feed_end l f h.choices h.ending) (leaf_clear 13 n return_end l f h.choices h.ending) in
       let bare_b : line_of b ≡ b = line_clear b (second_clear 10 n feed_apart x.steps (wide n f) s.steps) (second_clear 13 n return_apart x.steps (wide n f) s.steps) in
-      let first : blocked_of (line_of a) ≡ Some x.blocked =
-      ap blocked_of (bare_a ∙ first_is n l x (stuck_at (before ++ steps_by (run_by decide fuel l.choices w)) l.ending x t)) ∙ first_read_back n l.choices x.blocked (wide n f) h.choices s.calls s.some_call in
+      let end : end_of l.ending ≡ Some x.end = end_at (before ++ steps_by (run_by decide fuel l.choices w)) (end_of l.ending) x t in
+      let first : end_read (line_of a) ≡ Some x.end =
+      ap end_read (bare_a ∙ grouped (codes "leaf " ++ decimal n) (choices_text l.choices) (ending_text l.ending)) ∙ first_read_back n l.choices l.ending x.end (wide n f) h.choices end s.end in
       let second : steps_of (line_of b) ≡ Some x.steps = ap steps_of bare_b ∙ second_read_back n x.steps (wide n f) s.steps s.some_step in
-      ap (λ (q : Option (List CallId)). with_both p q (steps_of (line_of b))) first ∙ ap (λ (q : Option (List Step)). with_both p (Some x.blocked) q) second
+      ap (λ (q : Option WitnessEnd). with_both p q (steps_of (line_of b))) first ∙ ap (λ (q : Option (List Step)). with_both p (Some x.end) q) second
 
   named_is : (n p : ℕ) (ls more : List (List ℕ)) (l : Leaf) (x : Witness) → n < 1000000000 → AllByRecursion IsShortStep x.steps → told l ≡ Some x → leaf_from n 0 ls ≡ Some (p, leaf_words n (leaf_text l) ∷ row n (told l) more) → named_leaf n ls ≡ Ok p
   named_is n p ls more l x f h t e =
@@ -342,8 +292,8 @@ module _ (decide : World → Decision) (before : List Step) (fuel : ℕ) (w : Wo
       let k : ℕ = length leaves in
       let total : List ℕ = total_words k more in
       let behind : List (List ℕ) = total ∷ [] ∷ [] in
-      let last : parts_at 10 (line total) ≡ behind = parts_next 10 total [] (total_clear 10 k feed_end more f) in
-      let bare : line_of total ≡ total = line_clear total (total_clear 10 k feed_end more f) (total_clear 13 k return_end more f) in
+      let last : parts_at 10 (line total) ≡ behind = parts_next 10 total [] (total_clear 10 k feed_total more f) in
+      let bare : line_of total ≡ total = line_clear total (total_clear 10 k feed_total more f) (total_clear 13 k return_total more f) in
       let ends : NoneWrong behind = λ i b. on_kind i b Passed total ([] ∷ []) (ap kind_of bare ∙ total_is k more f) refl (λ j c. refl) in
       let cut : parts_at 10 (report_text decide true before fuel w leaves more) ≡ rows 0 leaves behind = leaves_parts 0 leaves (line total) behind (omega (arith, f)) h last in
       ap (λ (ls : List (List ℕ)). unless_wrong (wrong_line 1 None ls) (Some n) ls) cut

@@ -1,16 +1,16 @@
 -- The text of a whole report, and which of its witnesses is read.
 use Rattle.std.specs.Prelude.{◌≡◌, ℕ, suc, ◌-◌, Bool, true, false, not, ◌&&◌, ◌||◌, ◌==◌, nat_le, bytes_eq, if◌then◌else◌, List, [], ◌∷◌, length, drop, filter, Option, Some, None, is_some, Result, Ok, Err, codes}
-use Rattle.mpd_model.specs.declared.step.CallId.{CallId}
 use Rattle.mpd_model.specs.declared.step.Step.{Step}
 use Rattle.mpd_model.specs.texts.Lines.{is_none}
 use Rattle.mpd_model.specs.texts.Words.{number_of}
+use Rattle.mpd_explore.specs.declared.report.WitnessEnd.{WitnessEnd}
 use Rattle.mpd_explore.specs.declared.report.Witness.{Witness}
 use Rattle.mpd_lines.specs.declared.engine.EngineFault.TheVariants as engine
 use Rattle.mpd_witness.specs.declared.report_lines.LineKind.{LineKind}
 use Rattle.mpd_witness.specs.declared.report_lines.LineKind.TheVariants.{Passed, OfLeaf, OfWitness, Wrong}
 use Rattle.mpd_witness.specs.declared.report_text.ReportFault.{ReportFault}
 use Rattle.mpd_witness.specs.declared.report_text.ReportFault.TheVariants.{BadLine, NoWitness, SeveralWitnesses, NoSuchLeaf, NoDeadlock, Engine}
-use Rattle.mpd_witness.specs.WitnessText.{parts_at, cut_at, behind_word, blocked_of, steps_of, line_of, witness_in}
+use Rattle.mpd_witness.specs.WitnessText.{parts_at, cut_at, behind_word, end_read, steps_of, line_of, witness_in}
 
 -- ---- what a line is
 
@@ -139,9 +139,13 @@ abbrev pub leaf_from : ℕ → ℕ → List (List ℕ) → Option (ℕ × List (
 leaf_from n i [] = None
 leaf_from n i (l ∷ ls) = if is_leaf n (kind_of (line_of l)) then Some (i, l ∷ ls) else leaf_from n (suc i) ls
 
--- what is wrong with a leaf's line without a witness behind it
+-- a piece of it is this word
+abbrev pub has_word : List ℕ → List ℕ → Bool
+has_word word l = is_some (behind_word word (parts_at 32 l))
+
+-- what is wrong with a leaf's line without a witness behind it: that it has none, where it is a deadlock or a trap, or that it is neither
 abbrev pub unwitnessed : List ℕ → ReportFault
-unwitnessed l = if is_some (behind_word (codes "deadlock") (parts_at 32 l)) then NoWitness else NoDeadlock
+unwitnessed l = if has_word (codes "deadlock") l || has_word (codes "trap") l then NoWitness else NoDeadlock
 
 abbrev pub witnessed : ℕ → List (List ℕ) → Result ℕ ReportFault
 witnessed i [] = Err NoSuchLeaf
@@ -162,16 +166,16 @@ leaf_wanted (Some n) ls = named_leaf n ls
 
 -- ---- the witness
 
-abbrev pub with_both : ℕ → Option (List CallId) → Option (List Step) → Result Witness ReportFault
+abbrev pub with_both : ℕ → Option WitnessEnd → Option (List Step) → Result Witness ReportFault
 with_both i None steps = Err (BadLine (suc i))
-with_both i (Some calls) None = Err (BadLine (suc (suc i)))
-with_both i (Some calls) (Some steps) = Ok (record { steps = steps; blocked = calls })
+with_both i (Some end) None = Err (BadLine (suc (suc i)))
+with_both i (Some end) (Some steps) = Ok (record { steps = steps; end = end })
 
 -- the witness whose leaf has so many lines before it
 abbrev pub witness_at : ℕ → List (List ℕ) → Result Witness ReportFault
 witness_at i [] = Err NoSuchLeaf
 witness_at i (l ∷ []) = Err NoWitness
-witness_at i (l ∷ m ∷ ls) = with_both i (blocked_of (line_of l)) (steps_of (line_of m))
+witness_at i (l ∷ m ∷ ls) = with_both i (end_read (line_of l)) (steps_of (line_of m))
 
 abbrev pub witness_of_leaf : Result ℕ ReportFault → List (List ℕ) → Result Witness ReportFault
 witness_of_leaf (Err fault) ls = Err fault
@@ -197,7 +201,7 @@ abbrev pub are_alone : Option ℕ → List (List ℕ) → Bool
 are_alone None ls = are_two ls
 are_alone (Some n) ls = false
 
--- Where no leaf is asked for, two lines alone are a witness, whatever stands before the first's `deadlock` and the second's colon. Else the text
+-- Where no leaf is asked for, two lines alone are a witness, whatever stands before the first's word and the second's colon. Else the text
 -- is a report, no line of which may be wrong, and the witness is the only one that it has, or that of the leaf of this number.
 abbrev pub witness_in_report : Option ℕ → List (List ℕ) → Result Witness ReportFault
 witness_in_report leaf ls = if are_alone leaf ls then as_two (witness_in ls) else unless_wrong (wrong_line 1 None ls) leaf ls

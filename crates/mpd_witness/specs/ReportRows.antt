@@ -1,9 +1,12 @@
 -- Texts of reports and what is read of them, worked by hand.
 use Rattle.std.specs.Prelude.{◌≡◌, ℕ, List, [], ◌∷◌, map, Some, None, Result, Ok, Err, codes, refl}
+use Rattle.mpd_model.specs.declared.call.Trap.TheVariants.{Overflow, Assertion}
 use Rattle.mpd_model.specs.declared.step.CallId.{CallId}
 use Rattle.mpd_model.specs.declared.step.Step.{Step}
 use Rattle.mpd_model.specs.declared.step.Step.TheVariants.{Local, Wake}
 use Rattle.mpd_model.specs.steps.World.{call_id}
+use Rattle.mpd_explore.specs.declared.report.RankTrap.{RankTrap}
+use Rattle.mpd_explore.specs.declared.report.WitnessEnd.TheVariants as end_is
 use Rattle.mpd_explore.specs.declared.report.Witness.{Witness}
 use Rattle.mpd_witness.specs.declared.report_text.ReportFault.{ReportFault}
 use Rattle.mpd_witness.specs.declared.report_text.ReportFault.TheVariants.{BadLine, NoWitness, SeveralWitnesses, NoSuchLeaf, NoDeadlock}
@@ -11,7 +14,10 @@ use Rattle.mpd_witness.specs.declared.report_lines.LineKind.TheVariants.{Passed,
 use Rattle.mpd_witness.specs.ReadBack.{kind_of, witness_of_report}
 
 abbrev read : List Step → List CallId → Result Witness ReportFault
-read steps blocked = Ok (record { steps = steps; blocked = blocked })
+read steps blocked = Ok (record { steps = steps; end = end_is.Deadlock blocked })
+
+abbrev read_traps : List Step → List RankTrap → Result Witness ReportFault
+read_traps steps ranks = Ok (record { steps = steps; end = end_is.Trap ranks })
 
 abbrev refused : ReportFault → Result Witness ReportFault
 refused fault = Err fault
@@ -89,8 +95,9 @@ pub row_groups_wrong : map alone (
     ≡ wrong 2 ∷ refused NoWitness ∷ []
 row_groups_wrong = refl
 
+-- leaf 2 is a trap, and has no witness
 pub row_one : map (λ leaf. witness_of_report leaf one) (None ∷ Some 1 ∷ Some 0 ∷ Some 2 ∷ Some 3 ∷ [])
-    ≡ read (Local 0 ∷ Wake 1 ∷ []) (call_id 0 1 ∷ call_id 1 0 ∷ []) ∷ read (Local 0 ∷ Wake 1 ∷ []) (call_id 0 1 ∷ call_id 1 0 ∷ []) ∷ refused NoDeadlock ∷ refused NoDeadlock ∷ refused NoSuchLeaf ∷ []
+    ≡ read (Local 0 ∷ Wake 1 ∷ []) (call_id 0 1 ∷ call_id 1 0 ∷ []) ∷ read (Local 0 ∷ Wake 1 ∷ []) (call_id 0 1 ∷ call_id 1 0 ∷ []) ∷ refused NoDeadlock ∷ refused NoWitness ∷ refused NoSuchLeaf ∷ []
 row_one = refl
 
 -- the last deadlock has no witness
@@ -105,12 +112,29 @@ pub row_none : map alone (
     ∷ codes "leaf 0 [0] deadlock 0.1\nwitness 0: local 0\nwitness 0: local 0\n"
     ∷ codes "witness 0: local 0\nleaf 0 [0] deadlock 0.1\nleaves 1 more no\n"
     ∷ codes "leaf 0 [0] deadlock 0.1\nwitness 0: local 0\nleaves 1 more no\nx\n"
-    ∷ codes "leaf 0 [0] trap 0 overflow\nwitness 0: local 0\nleaves 1 more no\n"
+    ∷ codes "leaf 0 [0] leftovers 0.0\nwitness 0: local 0\nleaves 1 more no\n"
     ∷ codes "leaf 0 [0] deadlock 0.1\nwitness 0: back\nleaves 1 more no\n"
     ∷ codes "deadlock 0.1\nlocal 0\nleaf 1 [1] done\n"
     ∷ [])
     ≡ refused NoWitness ∷ wrong 3 ∷ wrong 2 ∷ wrong 3 ∷ wrong 1 ∷ wrong 4 ∷ wrong 1 ∷ wrong 2 ∷ wrong 1 ∷ []
 row_none = refl
+
+-- the witnesses of traps, of leaves, of ways to end and of those that end in one way
+abbrev traps : List ℕ
+traps = codes "leaf 0 [0] trap 0 overflow\nwitness 0: local 1, local 0\nleaf 1 [1] deadlock 0.1\nwitness 1: local 0\nleaf 2 [2] trap 1 assert 3 overflow\nleaves 3 more no\n"
+
+pub row_traps : map (λ leaf. witness_of_report leaf traps) (None ∷ Some 0 ∷ Some 1 ∷ Some 2 ∷ [])
+    ≡ refused SeveralWitnesses ∷ read_traps (Local 1 ∷ Local 0 ∷ []) (record { rank = 0; trap = Overflow } ∷ []) ∷ read (Local 0 ∷ []) (call_id 0 1 ∷ []) ∷ refused NoWitness ∷ []
+row_traps = refl
+
+pub row_traps_told : map alone (
+    codes "outcome 0 runs 3 first [0] done\noutcome 1 runs 2 first [1] trap 1 assert 3 overflow\nwitness 1: wake 1\noutcomes 2 runs 5 more no\n"
+    ∷ codes "end 0 leaves 3 first 0 done\nend 1 leaves 1 first 3 trap 1 assert 3 overflow\nwitness 3: wake 1\nleaves 4 more no\n"
+    ∷ codes "leaf 0 [0] trap 1\nwitness 0: wake 1\nleaves 1 more no\n"
+    ∷ [])
+    ≡ read_traps (Wake 1 ∷ []) (record { rank = 1; trap = Assertion } ∷ record { rank = 3; trap = Overflow } ∷ [])
+    ∷ read_traps (Wake 1 ∷ []) (record { rank = 1; trap = Assertion } ∷ record { rank = 3; trap = Overflow } ∷ []) ∷ wrong 1 ∷ []
+row_traps_told = refl
 
 -- with the number of a leaf, two lines alone are a report too
 pub row_asked : map (λ q. witness_of_report (Some 3) q) (codes "leaf 3 [0] deadlock 0.1\nwitness 3: local 0\n" ∷ codes "leaf 4 [0] deadlock 0.1\nwitness 4: local 0\n" ∷ codes "deadlock 0.1\nlocal 0\n" ∷ codes "leaf 3 [0] deadlock 0.1\nlocal 0\n" ∷ [] ∷ [])

@@ -35,7 +35,7 @@ refused_line e = line (codes "refused " ++ decimal (witness_fault_number e) ++ 3
 -- a witness that is one from here is accepted, and one that is none is refused for its first fault
 abbrev pub IsVerdictFrom : World → Witness → List ℕ → Verdict → Type 0
 IsVerdictFrom w x text Good = IsWitnessFrom w x × (text ≡ accepted_line)
-IsVerdictFrom w x text Bad = (e : WitnessFault) × HasFault w 0 x.steps x.blocked e × (IsWitnessFrom w x → ⊥) × (text ≡ refused_line e)
+IsVerdictFrom w x text Bad = (e : WitnessFault) × HasFault w 0 x.steps x.end e × (IsWitnessFrom w x → ⊥) × (text ≡ refused_line e)
 IsVerdictFrom w x text NotWhole = ⊥
 
 -- the same from the start of a script

@@ -8,9 +8,13 @@ use Rattle.mpd_model.specs.declared.step.Step.TheVariants.{Local, Match, Wake, W
 use Rattle.mpd_model.specs.declared.outcome.TrappedRank.{TrappedRank}
 use Rattle.mpd_model.specs.declared.outcome.Outcome.TheVariants.{Done, Leftovers, Deadlock, Trap}
 use Rattle.mpd_model.specs.steps.World.{World}
+use Rattle.mpd_model.specs.steps.Outcomes.{ids_of}
 use Rattle.mpd_walk.specs.declared.ending.Ending.{Ending}
 use Rattle.mpd_walk.specs.declared.ending.Ending.TheVariants.{Ended, Cut}
 use Rattle.mpd_explore.specs.declared.report.Leaf.{Leaf}
+use Rattle.mpd_explore.specs.declared.report.RankTrap.{RankTrap}
+use Rattle.mpd_explore.specs.declared.report.WitnessEnd.{WitnessEnd}
+use Rattle.mpd_explore.specs.declared.report.WitnessEnd.TheVariants as end_is
 use Rattle.mpd_explore.specs.declared.report.Witness.{Witness}
 use Rattle.mpd_walk.specs.Walk.{run_by, steps_by}
 use Rattle.mpd_explore.specs.Witness.{witness_by}
@@ -26,27 +30,31 @@ IsShortStep (Wake p) = p < 1000000000
 IsShortStep (WakeAny p i) = (p < 1000000000) × (i < 1000000000)
 IsShortStep Release = Unit {0}
 
--- a step and a blocked call at least, and no number of more than nine digits
+-- a blocked call or a trapped rank at least
+abbrev pub IsShortEnd : WitnessEnd → Type 0
+IsShortEnd (end_is.Deadlock calls) = AllByRecursion IsShortCall calls × (0 < length calls)
+IsShortEnd (end_is.Trap ranks) = AllByRecursion (λ (t : RankTrap). t.rank < 1000000000) ranks × (0 < length ranks)
+
+-- a step, and a blocked call or a trapped rank at least, and no number of more than nine digits
 pub record IsShort (x : Witness) : Type 0 where
   pub steps : AllByRecursion IsShortStep x.steps
-  pub calls : AllByRecursion IsShortCall x.blocked
   pub some_step : 0 < length x.steps
-  pub some_call : 0 < length x.blocked
+  pub end : IsShortEnd x.end
 
 -- ---- a whole report
 
 abbrev pub IsShortEnding : Ending → Type 0
 IsShortEnding Cut = Unit {0}
 IsShortEnding (Ended Done) = Unit {0}
-IsShortEnding (Ended (Leftovers calls)) = AllByRecursion IsShortCall calls
-IsShortEnding (Ended (Deadlock calls)) = AllByRecursion IsShortCall calls
+IsShortEnding (Ended (Leftovers calls)) = AllByRecursion IsShortCall (ids_of calls)
+IsShortEnding (Ended (Deadlock calls)) = AllByRecursion IsShortCall (ids_of calls)
 IsShortEnding (Ended (Trap ranks)) = AllByRecursion (λ (t : TrappedRank). t.rank < 1000000000) ranks
 
 abbrev pub AreShortSteps : Option Witness → Type 0
 AreShortSteps None = Unit {0}
 AreShortSteps (Some x) = AllByRecursion IsShortStep x.steps
 
--- the witness of a leaf, where it is a deadlock; what comes next along its run is told by a function
+-- the witness of a leaf, where it is a deadlock or a trap; what comes next along its run is told by a function
 abbrev pub witness_at_leaf : (World → Decision) → List Step → ℕ → World → Leaf → Option Witness
 witness_at_leaf decide before fuel w l = witness_by (before ++ steps_by (run_by decide fuel l.choices w)) l.ending
 

@@ -1,14 +1,24 @@
 -- Texts of witnesses and what is read of them, worked by hand.
 use Rattle.std.specs.Prelude.{◌≡◌, ℕ, List, [], ◌∷◌, map, Result, Ok, Err, codes, refl}
+use Rattle.mpd_model.specs.declared.call.Trap.{Trap}
+use Rattle.mpd_model.specs.declared.call.Trap.TheVariants.{Overflow, ZeroDivisor, BadRank, BadTag, BadIndex, Assertion}
 use Rattle.mpd_model.specs.declared.step.CallId.{CallId}
 use Rattle.mpd_model.specs.declared.step.Step.{Step}
 use Rattle.mpd_model.specs.declared.step.Step.TheVariants.{Local, Match, Wake, WakeAny, Release}
 use Rattle.mpd_model.specs.steps.World.{call_id}
+use Rattle.mpd_explore.specs.declared.report.RankTrap.{RankTrap}
+use Rattle.mpd_explore.specs.declared.report.WitnessEnd.TheVariants as end_is
 use Rattle.mpd_explore.specs.declared.report.Witness.{Witness}
 use Rattle.mpd_witness.specs.WitnessText.{witness_of}
 
 abbrev read : List Step → List CallId → Result Witness ℕ
-read steps blocked = Ok (record { steps = steps; blocked = blocked })
+read steps blocked = Ok (record { steps = steps; end = end_is.Deadlock blocked })
+
+abbrev trapped : ℕ → Trap → RankTrap
+trapped p t = record { rank = p; trap = t }
+
+abbrev read_traps : List Step → List RankTrap → Result Witness ℕ
+read_traps steps ranks = Ok (record { steps = steps; end = end_is.Trap ranks })
 
 abbrev wrong : ℕ → Result Witness ℕ
 wrong n = Err n
@@ -49,11 +59,40 @@ first_wrong : map witness_of (
     ∷ codes "deadlock  0.1\nlocal 0\n"
     ∷ codes "deadlock 0\nlocal 0\n"
     ∷ codes "deadlocked 0.1\nlocal 0\n"
-    ∷ codes "leaf 1 [1] trap 0 overflow\nlocal 0\n"
+    ∷ codes "trap 0 deadlock\nlocal 0\n"
     ∷ codes "\ndeadlock 0.1\nlocal 0\n"
     ∷ codes "deadlock 0.1000000000\nlocal 0\n"
     ∷ []) ≡ wrong 1 ∷ wrong 1 ∷ wrong 1 ∷ wrong 1 ∷ wrong 1 ∷ wrong 1 ∷ wrong 1 ∷ wrong 1 ∷ wrong 1 ∷ wrong 1 ∷ wrong 1 ∷ []
 first_wrong = refl
+
+-- what a trap's witness leads to: ranks and names as a report has them
+trap_as_written : map witness_of (
+    codes "leaf 1 [1] trap 0 overflow\nwitness 1: local 1, local 0\n"
+    ∷ codes "outcome 3 runs 2 first [0 1] trap 0 assert 2 zero-divisor\nwitness 3: local 0\n"
+    ∷ codes "trap 1 bad-rank 2 bad-tag 12 bad-index\nlocal 0\n"
+    ∷ []) ≡ read_traps (Local 1 ∷ Local 0 ∷ []) (trapped 0 Overflow ∷ []) ∷ read_traps (Local 0 ∷ []) (trapped 0 Assertion ∷ trapped 2 ZeroDivisor ∷ [])
+    ∷ read_traps (Local 0 ∷ []) (trapped 1 BadRank ∷ trapped 2 BadTag ∷ trapped 12 BadIndex ∷ []) ∷ []
+trap_as_written = refl
+
+-- where `deadlock` stands too, it is the word that counts, wherever it stands
+trap_before_deadlock : map witness_of (codes "trap 0 assert deadlock 0.1\nlocal 0\n" ∷ codes "deadlock 0.1 trap\nlocal 0\n" ∷ []) ≡ read (Local 0 ∷ []) (call_id 0 1 ∷ []) ∷ wrong 1 ∷ []
+trap_before_deadlock = refl
+
+-- no rank, no trap, a trap that is none, a rank alone, a rank that is none, or too many blanks
+trap_wrong : map witness_of (
+    codes "trap\nlocal 0\n"
+    ∷ codes "trap 0\nlocal 0\n"
+    ∷ codes "trap 0 overflows\nlocal 0\n"
+    ∷ codes "trap 0 Overflow\nlocal 0\n"
+    ∷ codes "trap 0 overflow 1\nlocal 0\n"
+    ∷ codes "trap overflow 0\nlocal 0\n"
+    ∷ codes "trap 0.1 overflow\nlocal 0\n"
+    ∷ codes "trap  0 overflow\nlocal 0\n"
+    ∷ codes "trap 0 overflow \nlocal 0\n"
+    ∷ codes "traps 0 overflow\nlocal 0\n"
+    ∷ codes "trap 1000000000 overflow\nlocal 0\n"
+    ∷ []) ≡ wrong 1 ∷ wrong 1 ∷ wrong 1 ∷ wrong 1 ∷ wrong 1 ∷ wrong 1 ∷ wrong 1 ∷ wrong 1 ∷ wrong 1 ∷ wrong 1 ∷ wrong 1 ∷ []
+trap_wrong = refl
 
 -- the second is, or something stands behind it
 second_wrong : map witness_of (

@@ -1,4 +1,4 @@
-//! Witnesses of deadlocks from texts and files, alone or in a whole report, and what is answered to them.
+//! Witnesses of deadlocks and traps from texts and files, alone or in a whole report, and what is answered to them.
 #![tactic(auto)]
 
 pub mod judgement;

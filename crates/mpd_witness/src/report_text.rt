@@ -3,15 +3,13 @@
 ghost use Rattle.std.specs.Prelude.{◌≡◌, ◌≤◌, ◌<◌, ◌+◌, ◌^◌, Ok, Err, IfOk, drop, length};
 ghost use Rattle.mpd_witness.specs.FaultTexts.{report_fault_shown};
 ghost use Rattle.mpd_witness.specs.WitnessText.{parts_at, line_of};
-ghost use Rattle.mpd_witness.specs.ReadBack.{unwitnessed, sole_leaf, named_leaf, leaf_wanted, witness_at, are_alone, as_two, witness_of_report, ReadsReport};
-ghost use Rattle.mpd_witness.specs.WitnessText.{witness_of, blocked_of, steps_of};
+ghost use Rattle.mpd_witness.specs.ReadBack.{has_word, unwitnessed, sole_leaf, named_leaf, leaf_wanted, witness_at, are_alone, as_two, witness_of_report, ReadsReport};
+ghost use Rattle.mpd_witness.specs.WitnessText.{witness_of, end_read, steps_of};
 ghost use Rattle.mpd_witness.specs.ReadBack.{with_both};
 
 use crate::pieces::Pieces;
 use crate::report_lines::{are_two, is_witness, next_leaf, next_witness, wrong_line};
-use crate::witness_text::{
-    WitnessTextFault, read_blocked, read_steps, read_witness, skip_to_blocked,
-};
+use crate::witness_text::{WitnessTextFault, pieces_behind, read_end, read_steps, read_witness};
 use mpd_explore::Witness;
 use mpd_lines::EngineFault;
 use mpd_model::without_return;
@@ -24,13 +22,13 @@ use std::fmt;
 pub enum ReportFault {
     /// This line, from 1, is the first that is wrong: 2 where the text is too long, whatever is in it.
     BadLine(usize),
-    /// There is none, or none behind the leaf that is asked for, which is a deadlock.
+    /// There is none, or none behind the leaf that is asked for, which is a deadlock or a trap.
     NoWitness,
     /// There are several, and no leaf is asked for.
     SeveralWitnesses,
     /// No leaf has the number that is asked for.
     NoSuchLeaf,
-    /// The leaf that is asked for is no deadlock.
+    /// The leaf that is asked for is neither a deadlock nor a trap.
     NoDeadlock,
     /// A read failed, or memory was refused.
     Engine(EngineFault),
@@ -55,12 +53,19 @@ impl fmt::Display for ReportFault {
 
 impl Error for ReportFault {}
 
+/// Whether a piece of a line is a word.
+fn has_word(line: &[u8], word: &[u8]) -> bool
+    ensures { result ≡ has_word word.now line.now }
+{
+    pieces_behind(line, word).is_some()
+}
+
 /// What is wrong with a leaf that has no witness.
 fn unwitnessed(line: &[u8]) -> ReportFault
     ensures { result ≡ unwitnessed (line_of line.now) }
 {
-    let mut pieces = Pieces::new(without_return(line), b' ');
-    if skip_to_blocked(&mut pieces) {
+    let line = without_return(line);
+    if has_word(line, b"deadlock") || has_word(line, b"trap") {
         ReportFault::NoWitness
     } else {
         ReportFault::NoDeadlock
@@ -136,17 +141,17 @@ fn read_both(
     witness: &[u8],
 ) -> Result<Witness, ReportFault>
     requires { place + 2 < 2 ^ 64 }
-    ensures { ReadsReport (with_both place (blocked_of (line_of leaf.now)) (steps_of (line_of witness.now))) result }
+    ensures { ReadsReport (with_both place (end_read (line_of leaf.now)) (steps_of (line_of witness.now))) result }
 {
-    let blocked = match read_blocked(alloc, without_return(leaf)) {
-        Ok(calls) => calls,
+    let end = match read_end(alloc, without_return(leaf)) {
+        Ok(end) => end,
         Err(WitnessTextFault::BadLine(_)) => return Err(ReportFault::BadLine(place + 1)),
         Err(WitnessTextFault::Memory) => return Err(ReportFault::Engine(EngineFault::Memory)),
     };
     match read_steps(alloc, without_return(witness)) {
-        Ok(steps) => Ok(Witness { steps, blocked }),
+        Ok(steps) => Ok(Witness { steps, end }),
         Err(fault) => {
-            drop(blocked);
+            drop(end);
             Err(match fault {
                 WitnessTextFault::BadLine(_) => ReportFault::BadLine(place + 2),
                 WitnessTextFault::Memory => ReportFault::Engine(EngineFault::Memory),
@@ -196,7 +201,7 @@ fn read_two(alloc: Global, text: &[u8]) -> Result<Witness, ReportFault>
 
 /// Reads a witness from the text of a report, as `check --witness` writes it, or of two lines alone (docs/FORMATS.md, "Witnesses"): the only
 /// one there, or that of the leaf of this number. `BadLine` tells the first line that is wrong; where none is, there is no witness, or no
-/// single one, or no such leaf, or it is no deadlock. `Memory` is that a growth was refused.
+/// single one, or no such leaf, or it is neither a deadlock nor a trap. `Memory` is that a growth was refused.
 #[tactic(auto, using(crate::proofs::ReportLemmas::reporting))]
 pub fn read_report(alloc: Global, text: &[u8], leaf: Option<usize>) -> Result<Witness, ReportFault>
     ensures { ReadsReport (witness_of_report leaf text.now) result }

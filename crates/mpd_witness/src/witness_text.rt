@@ -1,14 +1,15 @@
 //! The text of a witness, as a report has it (docs/FORMATS.md, "Witnesses").
 
-ghost use Rattle.std.specs.Prelude.{◌≡◌, codes};
+ghost use Rattle.std.specs.Prelude.{◌≡◌, ◌<◌, Some, None, IfSome, bytes_eq, length, MatchOption};
+ghost use Rattle.mpd_model.specs.texts.Texts.{trap_name};
 ghost use Rattle.mpd_model.specs.texts.Words.{call_of, step_of};
 ghost use Rattle.mpd_witness.specs.FaultTexts.{text_fault_shown};
-ghost use Rattle.mpd_witness.specs.WitnessText.{behind_word, each_read, blocked_of, behind_cut, cut_at, steps_of, all_empty, witness_of, Skipped, ReadsLine, ReadsText};
+ghost use Rattle.mpd_witness.specs.WitnessText.{parts_at, behind_word, trap_of, rank_trap_of, pairs_read, each_read, some_of, end_read, behind_cut, cut_at, steps_of, all_empty, witness_of, Skipped, PairRead, ReadsLine, ReadsText};
 
 use crate::pieces::{Pieces, cut};
-use mpd_explore::Witness;
+use mpd_explore::{RankTrap, RankTrapList, Witness, WitnessEnd};
 use mpd_model::{
-    CallId, CallList, Step, StepList, TraceWord, call_of, trace_word_of, without_return,
+    CallList, Step, StepList, TraceWord, Trap, call_of, number_of, trace_word_of, without_return,
 };
 use std::alloc::Global;
 use std::error::Error;
@@ -54,16 +55,28 @@ fn step_of(text: &[u8]) -> Option<Step>
     }
 }
 
-/// Goes behind the first piece that is `deadlock`, and answers whether there is one.
-pub(crate) fn skip_to_blocked(pieces: &mut Pieces<'_>) -> bool
-    ensures { Skipped (behind_word (codes "deadlock") pieces.old) pieces.new result }
+/// Goes behind the first piece that is a word, and answers whether there is one.
+fn skip_to(pieces: &mut Pieces<'_>, word: &[u8]) -> bool
+    ensures { Skipped (behind_word word.now pieces.old) pieces.new result }
 {
     while let Some(piece) = pieces.next() {
-        if piece == b"deadlock".as_slice() {
+        if piece == word {
             return true;
         }
     }
     false
+}
+
+/// The pieces of a line behind the first that is a word, where there is one.
+pub(crate) fn pieces_behind<'a>(line: &'a [u8], word: &[u8]) -> Option<Pieces<'a>>
+    ensures { MatchOption result (behind_word word.now (parts_at 32 line.now) ≡ None) (λ pieces. behind_word word.now (parts_at 32 line.now) ≡ Some pieces) }
+{
+    let mut pieces = Pieces::new(line, b' ');
+    if skip_to(&mut pieces, word) {
+        Some(pieces)
+    } else {
+        None
+    }
 }
 
 /// Reads calls. `BadLine(1)` is that a piece is none.
@@ -83,20 +96,114 @@ fn read_calls(alloc: Global, pieces: &mut Pieces<'_>) -> Result<CallList, Witnes
     Ok(CallList { items })
 }
 
-/// Reads the first line: behind `deadlock` the blocked calls, one or more.
+/// Reads the blocked calls of a deadlock, one or more.
 #[tactic(auto, using(crate::proofs::TextLemmas::blocking))]
-pub(crate) fn read_blocked(alloc: Global, line: &[u8]) -> Result<CallList, WitnessTextFault>
-    ensures { ReadsLine 1 (blocked_of line.now) result }
+fn read_blocked(alloc: Global, pieces: &mut Pieces<'_>) -> Result<CallList, WitnessTextFault>
+    ensures { ReadsLine 1 (some_of (each_read call_of) pieces.old) result }
 {
-    let mut pieces = Pieces::new(line, b' ');
-    if !skip_to_blocked(&mut pieces) {
-        return Err(WitnessTextFault::BadLine(1));
-    }
-    let calls = read_calls(alloc, &mut pieces)?;
+    let calls = read_calls(alloc, pieces)?;
     if calls.items.is_empty() {
         return Err(WitnessTextFault::BadLine(1));
     }
     Ok(calls)
+}
+
+/// Whether a text is the name of a trap.
+fn is_named(text: &[u8], trap: Trap) -> bool
+    ensures { result ≡ bytes_eq text.now (trap_name trap) }
+{
+    text == trap.name().as_bytes()
+}
+
+/// The trap that has this name.
+fn trap_of(text: &[u8]) -> Option<Trap>
+    ensures { result ≡ trap_of text.now }
+{
+    if is_named(text, Trap::Overflow) {
+        return Some(Trap::Overflow);
+    }
+    if is_named(text, Trap::ZeroDivisor) {
+        return Some(Trap::ZeroDivisor);
+    }
+    if is_named(text, Trap::BadRank) {
+        return Some(Trap::BadRank);
+    }
+    if is_named(text, Trap::BadTag) {
+        return Some(Trap::BadTag);
+    }
+    if is_named(text, Trap::BadIndex) {
+        return Some(Trap::BadIndex);
+    }
+    if is_named(text, Trap::Assertion) {
+        return Some(Trap::Assertion);
+    }
+    None
+}
+
+/// A rank and its trap.
+fn rank_trap_of(rank: &[u8], trap: &[u8]) -> Option<RankTrap>
+    ensures { result ≡ rank_trap_of rank.now trap.now }
+{
+    let rank = number_of(rank)?;
+    let trap = trap_of(trap)?;
+    Some(RankTrap { rank, trap })
+}
+
+/// A rank, whose piece was taken, with its trap, which is the next piece.
+#[tactic(auto, using(crate::proofs::TextLemmas::pairing))]
+fn next_trap(pieces: &mut Pieces<'_>, rank: &[u8]) -> Option<RankTrap>
+    ensures pair { PairRead rank_trap_of rank.now pieces.old pieces.new result }
+    ensures fewer { IfSome result (λ _. length pieces.new < length pieces.old) }
+{
+    let Some(trap) = pieces.next() else {
+        return None;
+    };
+    rank_trap_of(rank, trap)
+}
+
+/// Reads ranks, each with its trap. `BadLine(1)` is that two pieces are none, or that a rank has no trap.
+#[tactic(auto, using(crate::proofs::TextLemmas::trapping))]
+fn read_traps(alloc: Global, pieces: &mut Pieces<'_>) -> Result<RankTrapList, WitnessTextFault>
+    ensures { ReadsLine 1 (pairs_read rank_trap_of pieces.old) result }
+{
+    let mut items = Vec::new(alloc);
+    while let Some(rank) = pieces.next() {
+        let Some(trapped) = next_trap(pieces, rank) else {
+            return Err(WitnessTextFault::BadLine(1));
+        };
+        if items.push(trapped).is_err() {
+            return Err(WitnessTextFault::Memory);
+        }
+    }
+    Ok(RankTrapList { items })
+}
+
+/// Reads the trapped ranks of a trap, one or more.
+#[tactic(auto, using(crate::proofs::TextLemmas::trapped))]
+fn read_trapped(alloc: Global, pieces: &mut Pieces<'_>) -> Result<RankTrapList, WitnessTextFault>
+    ensures { ReadsLine 1 (some_of (pairs_read rank_trap_of) pieces.old) result }
+{
+    let ranks = read_traps(alloc, pieces)?;
+    if ranks.items.is_empty() {
+        return Err(WitnessTextFault::BadLine(1));
+    }
+    Ok(ranks)
+}
+
+/// Reads the first line: behind `deadlock` the blocked calls, or else behind `trap` the trapped ranks, one or more.
+#[tactic(auto, using(crate::proofs::TextLemmas::ending))]
+pub(crate) fn read_end(alloc: Global, line: &[u8]) -> Result<WitnessEnd, WitnessTextFault>
+    ensures { ReadsLine 1 (end_read line.now) result }
+{
+    if let Some(mut pieces) = pieces_behind(line, b"deadlock") {
+        let calls = read_blocked(alloc, &mut pieces)?;
+        return Ok(WitnessEnd::Deadlock(calls));
+    }
+    let Some(mut pieces) = pieces_behind(line, b"trap") else {
+        return Err(WitnessTextFault::BadLine(1));
+    };
+    let ranks = read_trapped(alloc, &mut pieces)?;
+    Ok(WitnessEnd::Trap(ranks))
 }
 
 /// What stands behind the first colon; all, where there is none.
@@ -149,7 +256,7 @@ pub fn read_witness(alloc: Global, text: &[u8]) -> Result<Witness, WitnessTextFa
     let Some(first) = lines.next() else {
         return Err(WitnessTextFault::BadLine(1));
     };
-    let blocked = read_blocked(alloc, without_return(first))?;
+    let end = read_end(alloc, without_return(first))?;
     let Some(second) = lines.next() else {
         return Err(WitnessTextFault::BadLine(2));
     };
@@ -157,5 +264,5 @@ pub fn read_witness(alloc: Global, text: &[u8]) -> Result<Witness, WitnessTextFa
     if !are_empty(&mut lines) {
         return Err(WitnessTextFault::BadLine(2));
     }
-    Ok(Witness { steps, blocked })
+    Ok(Witness { steps, end })
 }

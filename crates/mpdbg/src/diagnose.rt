@@ -5,15 +5,18 @@ ghost use Rattle.mpd_ranks.specs.Ranks.{AreRanks};
 ghost use Rattle.mpd_ranks.specs.Spans.{IsSpan};
 
 use crate::tell::Fault;
-use mpd_code::Subject;
+use mpd_code::{Code, Subject};
 use mpd_device::Sink;
-use mpd_diagnose::{DiagnosisPlan, diagnose, ranks_command, ranks_line, verdict_of};
+use mpd_diagnose::{
+    DiagnosisPlan, closing_of, diagnose, diagnose_mode, full_command, modes_up_to, ranks_line,
+    verdict_of, worst_of,
+};
 use mpd_lines::{EngineFault, Verdict, write_all};
 use mpd_model::Mode;
 use mpd_outcomes::StateLimits;
 use mpd_ranks::{RankSpan, code_of_text};
 use mpd_runs::{FUEL, STATES_KEPT, STATES_VISITED};
-use std::alloc::Global;
+use std::alloc::{AllocError, Global};
 
 /// How many states the search for the ways to end comes to at most, kept or not.
 const VISITED_MAX: usize = 4_000_000;
@@ -95,13 +98,10 @@ fn diagnose_number<'a, W: Sink>(
     Ok(verdict_of(&told, script.strict))
 }
 
-/// What two verdicts come to: bad where one is, else not whole where one is.
-fn joined(one: Verdict, other: Verdict) -> Verdict {
-    match (one, other) {
-        (Verdict::Bad, _) | (_, Verdict::Bad) => Verdict::Bad,
-        (Verdict::NotWhole, _) | (_, Verdict::NotWhole) => Verdict::NotWhole,
-        _ => Verdict::Good,
-    }
+/// Adds a verdict to others.
+fn add(verdicts: &mut Vec<Verdict>, verdict: Verdict) -> Result<(), AllocError> {
+    verdicts.push(verdict)?;
+    Ok(())
 }
 
 /// Says by a line each what the runs of a script come to for several numbers of ranks, and then how to see more of the first that is bad.
@@ -114,19 +114,56 @@ pub(crate) fn diagnose_each<'a, W: Sink>(
 ) -> Result<Verdict, Fault<'a>>
     requires { IsSpan span }
 {
-    let mut worst = Verdict::Good;
+    let mut verdicts = Vec::new(alloc);
     let mut first_bad = None;
     for ranks in span.first..span.last + 1 {
         let verdict = diagnose_number(alloc, script, ranks, sink)?;
         if verdict == Verdict::Bad && first_bad.is_none() {
             first_bad = Some(ranks);
         }
-        worst = joined(worst, verdict);
+        add(&mut verdicts, verdict)?;
     }
     if let Some(ranks) = first_bad {
-        let more = ranks_command(alloc, script.file, ranks, script.mode, script.strict)?;
+        let ranks = Some(ranks);
+        let more = full_command(alloc, script.file, ranks, script.mode, script.strict)?;
         write_told(sink, b"\n")?;
         write_told(sink, &more)?;
     }
-    Ok(worst)
+    Ok(worst_of(&verdicts))
+}
+
+/// A script that is diagnosed in several modes: how it is named, and for how many ranks where that was asked for.
+#[derive(Clone, Copy)]
+pub(crate) struct ScriptInModes<'s> {
+    pub(crate) file: &'s str,
+    pub(crate) ranks: Option<usize>,
+    /// Whether calls that can be left over count.
+    pub(crate) strict: bool,
+}
+
+/// Says by a line each what the runs of a script come to in rendezvous, with 1 slot and more up to `most`, and in buffered, and then how to
+/// see more of the worst mode. Answers what the verdicts come to. Each line is written as soon as it is known.
+pub(crate) fn diagnose_modes<'a, W: Sink>(
+    alloc: Global,
+    code: &Code,
+    script: ScriptInModes<'_>,
+    most: usize,
+    sink: &mut W,
+) -> Result<Verdict, Fault<'a>> {
+    let ScriptInModes {
+        file,
+        ranks,
+        strict,
+    } = script;
+    let modes = modes_up_to(alloc, most)?;
+    let mut verdicts = Vec::new(alloc);
+    for mode in &modes {
+        let subject = Subject { code, mode: *mode };
+        let told = diagnose_mode(alloc, subject, plan_of(file, ranks), strict)?;
+        write_told(sink, &told.line)?;
+        add(&mut verdicts, told.verdict)?;
+    }
+    let more = closing_of(alloc, file, ranks, strict, &modes, &verdicts)?;
+    write_told(sink, &more)?;
+    Ok(worst_of(&verdicts))
 }

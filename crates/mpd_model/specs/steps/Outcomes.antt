@@ -5,11 +5,13 @@ use Rattle.std.specs.Option.{unwrap_or}
 use Rattle.mpd_model.specs.declared.step.CallId.{CallId}
 use Rattle.mpd_model.specs.declared.call.Activity.{Activity}
 use Rattle.mpd_model.specs.declared.call.Activity.TheVariants.{Running, Blocked, Trapped}
+use Rattle.mpd_model.specs.declared.call.Call.{Call}
+use Rattle.mpd_model.specs.declared.outcome.IssuedCall.{IssuedCall}
 use Rattle.mpd_model.specs.declared.outcome.TrappedRank.{TrappedRank}
 use Rattle.mpd_model.specs.declared.outcome.Outcome.{Outcome}
 use Rattle.mpd_model.specs.declared.outcome.Outcome.TheVariants.{Done, Leftovers, Deadlock, Trap}
 use Rattle.mpd_model.specs.script.Tree.{Tree}
-use Rattle.mpd_model.specs.steps.World.{RankWorld, World, Board, call_id, rank_numbers, call_numbers, is_free, last_call}
+use Rattle.mpd_model.specs.steps.World.{RankWorld, World, Board, call_id, call_at, rank_numbers, call_numbers, is_free, last_call}
 use Rattle.mpd_model.specs.steps.Next.{steps_of, is_enabled, is_blocked}
 
 abbrev pub no_statement : List (ℕ × Tree) → Bool
@@ -40,25 +42,39 @@ abbrev pub traps_at : ℕ → Option RankWorld → List TrappedRank
 traps_at p None = []
 traps_at p (Some r) = trap_by p (first_number r.rest) r.activity
 
+-- A call with the number of the statement that issued it; one that there isn't would be told as the first's, and none such is told.
+abbrev pub statement_of : Option Call → ℕ
+statement_of None = 0
+statement_of (Some c) = c.statement
+
+abbrev pub issued_by : ℕ → CallId → IssuedCall
+issued_by number c = record { id = c; statement = number }
+
+abbrev pub issued_call : Board → CallId → IssuedCall
+issued_call b c = issued_by (statement_of (call_at b c)) c
+
+abbrev pub ids_of : List IssuedCall → List CallId
+ids_of calls = map (λ (c : IssuedCall). c.id) calls
+
 -- the trapped ranks, the blocked calls and the free calls, by rank and number
 abbrev pub traps_in : World → List TrappedRank
 traps_in w = flat_map (λ p. traps_at p (slice_get w.ranks p)) (rank_numbers w.board)
 
-abbrev pub blocked_at : World → ℕ → Option RankWorld → List CallId
+abbrev pub blocked_at : World → ℕ → Option RankWorld → List IssuedCall
 blocked_at w p None = []
-blocked_at w p (Some r) = if is_blocked r.activity then last_call w.board p ∷ [] else []
+blocked_at w p (Some r) = if is_blocked r.activity then issued_call w.board (last_call w.board p) ∷ [] else []
 
-abbrev pub blocked_calls : World → List CallId
+abbrev pub blocked_calls : World → List IssuedCall
 blocked_calls w = flat_map (λ p. blocked_at w p (slice_get w.ranks p)) (rank_numbers w.board)
 
-abbrev pub free_of : Board → ℕ → List CallId
-free_of b p = map (call_id p) (filter (λ i. is_free b (call_id p i)) (call_numbers b p))
+abbrev pub free_of : Board → ℕ → List IssuedCall
+free_of b p = map (λ i. issued_call b (call_id p i)) (filter (λ i. is_free b (call_id p i)) (call_numbers b p))
 
-abbrev pub free_calls : Board → List CallId
+abbrev pub free_calls : Board → List IssuedCall
 free_calls b = flat_map (free_of b) (rank_numbers b)
 
 -- the first of trap, done, leftovers and deadlock that holds
-abbrev pub ended_with : List CallId → Outcome
+abbrev pub ended_with : List IssuedCall → Outcome
 ended_with [] = Done
 ended_with (c ∷ cs) = Leftovers (c ∷ cs)
 

@@ -21,7 +21,7 @@ use Rattle.mpd_model.specs.declared.outcome.Outcome.{Outcome}
 use Rattle.mpd_model.specs.declared.outcome.Outcome.TheVariants as ending
 use Rattle.mpd_model.specs.script.Program.{Program}
 use Rattle.mpd_model.specs.steps.World.{RankWorld, World, Board, call_id, rank_numbers, call_numbers, kind_at, partner, is_free, is_buffered, is_limited, buffer, last_call, pending, posted}
-use Rattle.mpd_model.specs.steps.Outcomes.{first_number, outcome}
+use Rattle.mpd_model.specs.steps.Outcomes.{first_number, ids_of, outcome}
 
 -- ---- lists of values: one space before each
 
@@ -144,8 +144,8 @@ trapped_text t = decimal t.rank ++ 32 ∷ trap_name t.trap
 
 abbrev pub outcome_text : Outcome → List ℕ
 outcome_text ending.Done = codes "done"
-outcome_text (ending.Leftovers calls) = codes "leftovers" ++ spaced id_text calls
-outcome_text (ending.Deadlock calls) = codes "deadlock" ++ spaced id_text calls
+outcome_text (ending.Leftovers calls) = codes "leftovers" ++ spaced id_text (ids_of calls)
+outcome_text (ending.Deadlock calls) = codes "deadlock" ++ spaced id_text (ids_of calls)
 outcome_text (ending.Trap traps) = codes "trap" ++ spaced trapped_text traps
 
 -- ---- the lines of `show`

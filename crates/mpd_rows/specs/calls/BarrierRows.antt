@@ -21,7 +21,7 @@ use Rattle.mpd_model.specs.script.Term.{own_rank, op2}
 use Rattle.mpd_model.specs.steps.World.{Board, RankWorld, call_id, start_board, is_free, fitting, message_of, complete}
 use Rattle.mpd_model.specs.steps.Next.{next, enabled, writes_of, cleared_by}
 use Rattle.mpd_model.specs.steps.Order.{matches_first, waits_for, blocks_rank, before, names, is_exit}
-use Rattle.mpd_model.specs.steps.Outcomes.{outcome}
+use Rattle.mpd_model.specs.steps.Outcomes.{issued_by, outcome}
 use Rattle.mpd_model.specs.steps.Why.{why}
 use Rattle.mpd_rows.specs.worlds.Statements.{check, recv, isend, wait, barrier}
 use Rattle.mpd_rows.specs.calls.RequestRows.{n, whole, x, does, blocks, variable, request, script, two_parts, trace, after}
@@ -85,7 +85,7 @@ row_one_trapped = refl
 abbrev one_receives : Program
 one_receives = script 2 (variable (codes "x") ∷ []) (branch (op2 Equal own_rank (n 0)) (then_more (recv (whole x) (n 1) (n 0)) no_more) no_more ∷ barrier ∷ [])
 
-pub row_one_receives : option_map outcome (after one_receives (Local 0 ∷ Local 0 ∷ Local 1 ∷ Local 1 ∷ [])) ≡ Some (Some (o.Deadlock (call_id 0 0 ∷ call_id 1 0 ∷ [])))
+pub row_one_receives : option_map outcome (after one_receives (Local 0 ∷ Local 0 ∷ Local 1 ∷ Local 1 ∷ [])) ≡ Some (Some (o.Deadlock (issued_by 1 (call_id 0 0) ∷ issued_by 2 (call_id 1 0) ∷ [])))
 row_one_receives = refl
 
 -- the last of three that comes
@@ -115,7 +115,7 @@ once = Local 0 ∷ Local 1 ∷ Release ∷ Local 0 ∷ []
 pub row_again : map {B = Option (List Step)} (λ steps. steps_behind again (once ++ steps)) ([] ∷ (Local 0 ∷ []) ∷ (Local 0 ∷ Local 1 ∷ []) ∷ []) ≡ Some (Local 0 ∷ Local 1 ∷ []) ∷ Some (Local 1 ∷ []) ∷ Some [] ∷ []
 row_again = refl
 
-pub row_again_stuck : option_map outcome (after again (once ++ (Local 0 ∷ Local 1 ∷ []))) ≡ Some (Some (o.Deadlock (call_id 0 1 ∷ [])))
+pub row_again_stuck : option_map outcome (after again (once ++ (Local 0 ∷ Local 1 ∷ []))) ≡ Some (Some (o.Deadlock (issued_by 2 (call_id 0 1) ∷ [])))
 row_again_stuck = refl
 
 -- ---- a barrier completes no other call, is never free, and is never complete

@@ -22,7 +22,7 @@ use Rattle.mpd_model.specs.script.Tree.{Tree, branch, no_more, then_more, Block}
 use Rattle.mpd_model.specs.script.Program.{Program}
 use Rattle.mpd_model.specs.steps.World.{RankWorld, World, call_id, start, pending, posted, is_free, complete}
 use Rattle.mpd_model.specs.steps.Next.{next, fold, enabled}
-use Rattle.mpd_model.specs.steps.Outcomes.{outcome}
+use Rattle.mpd_model.specs.steps.Outcomes.{issued_by, outcome}
 use Rattle.mpd_model.specs.runs.Trail.{Trail, Standing, opening, applied, taken_back, first_standing, world_of}
 use Rattle.mpd_model.specs.texts.Lines.{lines_of}
 use Rattle.mpd_model.specs.texts.Answers.{line_answer}
@@ -389,7 +389,7 @@ pub row_stuck : trace stuck (codes "local 0\nlocal 0\nwake 0\nshow\n")
 unfolding digits
 row_stuck = refl
 
-pub row_buffered : option_map outcome (fold (start stuck Buffered) (Local 0 ∷ Local 0 ∷ Wake 0 ∷ [])) ≡ Some (Some (o.Leftovers (call_id 0 0 ∷ [])))
+pub row_buffered : option_map outcome (fold (start stuck Buffered) (Local 0 ∷ Local 0 ∷ Wake 0 ∷ [])) ≡ Some (Some (o.Leftovers (issued_by 0 (call_id 0 0) ∷ [])))
 row_buffered = refl
 
 pub row_buffered_cells : cells (fold (start stuck Buffered) (Local 0 ∷ Local 0 ∷ Wake 0 ∷ [])) ≡ Some ((pos 0 ∷ [], None ∷ []) ∷ [])

@@ -13,7 +13,7 @@ use Rattle.mpd_model.specs.declared.outcome.Outcome.TheVariants as o
 use Rattle.mpd_model.specs.script.Declaration.{Declared}
 use Rattle.mpd_model.specs.texts.Lines.{lines_of}
 use Rattle.mpd_model.specs.texts.Modes.{mode_of}
-use Rattle.mpd_model.specs.steps.Outcomes.{outcome}
+use Rattle.mpd_model.specs.steps.Outcomes.{issued_by, outcome}
 use Rattle.mpd_model.specs.script.Program.{Program}
 use Rattle.mpd_model.specs.script.Term.{Term, own_rank, op2}
 use Rattle.mpd_model.specs.runs.Trail.{opening}
@@ -173,10 +173,10 @@ three_messages = script 2 one_x
 abbrev ends : ℕ → Program → List Step → Option Outcome
 ends count s steps = option_and_then outcome (in_slots count s steps)
 
-pub row_no_slot : ends 0 three_messages (Local 0 ∷ Local 0 ∷ Local 1 ∷ Local 1 ∷ []) ≡ Some (o.Deadlock (call_id 0 0 ∷ call_id 1 0 ∷ []))
+pub row_no_slot : ends 0 three_messages (Local 0 ∷ Local 0 ∷ Local 1 ∷ Local 1 ∷ []) ≡ Some (o.Deadlock (issued_by 1 (call_id 0 0) ∷ issued_by 4 (call_id 1 0) ∷ []))
 row_no_slot = refl
 
-pub row_one_slot : ends 1 three_messages (Local 0 ∷ Local 0 ∷ Wake 0 ∷ Local 0 ∷ Local 1 ∷ Local 1 ∷ []) ≡ Some (o.Deadlock (call_id 0 1 ∷ call_id 1 0 ∷ []))
+pub row_one_slot : ends 1 three_messages (Local 0 ∷ Local 0 ∷ Wake 0 ∷ Local 0 ∷ Local 1 ∷ Local 1 ∷ []) ≡ Some (o.Deadlock (issued_by 2 (call_id 0 1) ∷ issued_by 4 (call_id 1 0) ∷ []))
 row_one_slot = refl
 
 -- the third send is paired at once, and needs none
@@ -205,7 +205,7 @@ pub row_synchronous_held : held 1 behind_a_synchronous_one 0 ((Local 0 ∷ []) �
 row_synchronous_held = refl
 
 -- ssend 1 to 0 tag 0;
-pub row_ssend_waits : ends 9 (script 1 [] (ssend (n 1) (n 0) (n 0) ∷ [])) (Local 0 ∷ []) ≡ Some (o.Deadlock (call_id 0 0 ∷ []))
+pub row_ssend_waits : ends 9 (script 1 [] (ssend (n 1) (n 0) (n 0) ∷ [])) (Local 0 ∷ []) ≡ Some (o.Deadlock (issued_by 0 (call_id 0 0) ∷ []))
 row_ssend_waits = refl
 
 -- two ranks, each of which sends twice to the other: isend r[0] 1 to 1 - rank tag 0; isend r[1] 2 to 1 - rank tag 0;
@@ -235,7 +235,7 @@ two_sends = script 1 [] (send (n 1) (n 0) (n 0) ∷ send (n 2) (n 0) (n 0) ∷ [
 pub row_wake_frees_none : held 1 two_sends 0 ((Local 0 ∷ []) ∷ (Local 0 ∷ Wake 0 ∷ []) ∷ (Local 0 ∷ Wake 0 ∷ Local 0 ∷ []) ∷ []) ≡ Some 1 ∷ Some 1 ∷ Some 1 ∷ []
 row_wake_frees_none = refl
 
-pub row_second_waits : map {B = Option Outcome} (λ count. ends count two_sends (Local 0 ∷ Wake 0 ∷ Local 0 ∷ [])) (1 ∷ 2 ∷ []) ≡ Some (o.Deadlock (call_id 0 1 ∷ [])) ∷ None ∷ []
+pub row_second_waits : map {B = Option Outcome} (λ count. ends count two_sends (Local 0 ∷ Wake 0 ∷ Local 0 ∷ [])) (1 ∷ 2 ∷ []) ≡ Some (o.Deadlock (issued_by 1 (call_id 0 1) ∷ [])) ∷ None ∷ []
 row_second_waits = refl
 
 -- isend r[0] 1 to 0 tag 0; wait r[0]; isend r[0] 2 to 0 tag 0; wait r[0];
@@ -243,7 +243,7 @@ abbrev waited_for : Program
 waited_for = script 1 x_and_three (isend (part r (n 0)) (n 1) (n 0) (n 0) ∷ wait (part r (n 0)) ∷ isend (part r (n 0)) (n 2) (n 0) (n 0) ∷ wait (part r (n 0)) ∷ [])
 
 -- nor does a wait for the send
-pub row_wait_frees_none : ends 1 waited_for (Local 0 ∷ Local 0 ∷ Wake 0 ∷ Local 0 ∷ Local 0 ∷ []) ≡ Some (o.Deadlock (call_id 0 3 ∷ []))
+pub row_wait_frees_none : ends 1 waited_for (Local 0 ∷ Local 0 ∷ Wake 0 ∷ Local 0 ∷ Local 0 ∷ []) ≡ Some (o.Deadlock (issued_by 3 (call_id 0 3) ∷ []))
 row_wait_frees_none = refl
 
 -- isend r[0] 1 to 0 tag 0; isend r[0] 2 to 0 tag 0; isend r[0] 3 to 0 tag 0;

@@ -19,6 +19,7 @@ use Rattle.mpd_model.specs.script.Tree.{no_more, then_more}
 use Rattle.mpd_model.specs.script.Program.{Program}
 use Rattle.mpd_model.specs.steps.World.{call_id}
 use Rattle.mpd_model.specs.steps.Next.{next}
+use Rattle.mpd_model.specs.steps.Outcomes.{issued_by}
 use Rattle.mpd_model.specs.runs.Decisions.{decision}
 use Rattle.mpd_model.specs.runs.Breakpoints.{is_hit, no_breaks, lowest_free}
 use Rattle.mpd_model.specs.runs.Running.{Ran, ran, ran_back}
@@ -59,7 +60,7 @@ pub row_race : map {B = Option Decision} (decided_behind racing)
     ∷ (of_one ++ Wake 0 ∷ Local 0 ∷ Wake 1 ∷ []) ∷ (of_two ++ Wake 0 ∷ Local 0 ∷ []) ∷ (of_two ++ Wake 0 ∷ Local 0 ∷ Wake 2 ∷ []) ∷ [])
     ≡ Some (Forced (Local 0)) ∷ Some (Forced (Local 0)) ∷ Some (Forced (Local 1)) ∷ Some (Forced (Local 0))
     ∷ Some (Choice (Match (call_id 1 0) (call_id 0 0) ∷ Match (call_id 2 0) (call_id 0 0) ∷ [])) ∷ Some (Forced (Wake 0)) ∷ Some (Forced (Local 0)) ∷ Some (Forced (Wake 0)) ∷ Some (Forced (Wake 1))
-    ∷ Some (Forced (Match (call_id 2 0) (call_id 0 1))) ∷ Some (Forced (Wake 2)) ∷ Some (Leaf (o.Deadlock (call_id 0 1 ∷ call_id 1 0 ∷ []))) ∷ []
+    ∷ Some (Forced (Match (call_id 2 0) (call_id 0 1))) ∷ Some (Forced (Wake 2)) ∷ Some (Leaf (o.Deadlock (issued_by 2 (call_id 0 1) ∷ issued_by 3 (call_id 1 0) ∷ []))) ∷ []
 unfolding decision
 row_race = refl
 

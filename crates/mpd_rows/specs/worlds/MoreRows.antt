@@ -27,7 +27,7 @@ use Rattle.mpd_model.specs.script.Tree.{Tree, branch, no_more, then_more}
 use Rattle.mpd_model.specs.script.Program.{Program}
 use Rattle.mpd_model.specs.steps.World.{RankWorld, World, call_id, start, calls_of, eligible, is_free, buffer}
 use Rattle.mpd_model.specs.steps.Next.{next, fold, enabled}
-use Rattle.mpd_model.specs.steps.Outcomes.{outcome}
+use Rattle.mpd_model.specs.steps.Outcomes.{issued_by, outcome}
 use Rattle.mpd_model.specs.runs.Trail.{Trail, Standing, opening, applied, first_standing, world_of}
 use Rattle.mpd_model.specs.texts.Lines.{lines_of, ended_lines, divided}
 use Rattle.mpd_model.specs.texts.Texts.{rank_text, show_text}
@@ -506,7 +506,7 @@ rv_w8 = refl
 pub rv_w9 : option_map outcome (go three Buffered (sent_all ++ m_ 1 0 ∷ [])) ≡ Some None
 rv_w9 = refl
 
-pub rv_w10 : option_map outcome (go three Rendezvous (Local 0 ∷ Local 0 ∷ Local 1 ∷ Local 1 ∷ [])) ≡ Some (Some (o.Deadlock (call_id 0 0 ∷ call_id 1 0 ∷ [])))
+pub rv_w10 : option_map outcome (go three Rendezvous (Local 0 ∷ Local 0 ∷ Local 1 ∷ Local 1 ∷ [])) ≡ Some (Some (o.Deadlock (issued_by 1 (call_id 0 0) ∷ issued_by 4 (call_id 1 0) ∷ [])))
 rv_w10 = refl
 
 pub rv_w11 : option_map (λ w. map {B = ℕ} (λ c. c.statement) (calls_of w.board 1)) (go three Rendezvous (Local 1 ∷ Local 1 ∷ [])) ≡ Some (4 ∷ [])
@@ -560,7 +560,7 @@ rv_t6 = refl
 pub rv_t7 : option_map outcome (go (prog 2 (branch own_rank (then_more (recv (into y) (n 0) (n 0)) no_more) (then_more (recv (into y) (n 2) (n 0)) no_more) ∷ [])) Rendezvous (Local 0 ∷ Local 0 ∷ Local 1 ∷ Local 1 ∷ [])) ≡ Some (Some (o.Trap (record { rank = 0; statement = 2; trap = BadRank } ∷ [])))
 rv_t7 = refl
 
-pub rv_t8 : option_map outcome (go (prog 2 (branch own_rank (then_more (recv (into y) (n 0) (n 0)) no_more) no_more ∷ [])) Rendezvous (Local 0 ∷ Local 1 ∷ Local 1 ∷ [])) ≡ Some (Some (o.Deadlock (call_id 1 0 ∷ [])))
+pub rv_t8 : option_map outcome (go (prog 2 (branch own_rank (then_more (recv (into y) (n 0) (n 0)) no_more) no_more ∷ [])) Rendezvous (Local 0 ∷ Local 1 ∷ Local 1 ∷ [])) ≡ Some (Some (o.Deadlock (issued_by 1 (call_id 1 0) ∷ [])))
 rv_t8 = refl
 
 pub rv_t9 : left_of (go (prog 1 (branch (n 1) (then_more (send (n 1) (n 1) (n 0)) (then_more (print (n 1)) no_more)) no_more ∷ print (n 2) ∷ [])) Rendezvous (Local 0 ∷ Local 0 ∷ [])) ≡ Some ((1 ∷ 2 ∷ 3 ∷ []) ∷ [])

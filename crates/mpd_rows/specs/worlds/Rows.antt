@@ -20,7 +20,7 @@ use Rattle.mpd_model.specs.script.Tree.{Tree, branch, no_more, then_more}
 use Rattle.mpd_model.specs.script.Program.{Program}
 use Rattle.mpd_model.specs.steps.World.{RankWorld, World, call_id, start, pending, posted, eligible}
 use Rattle.mpd_model.specs.steps.Next.{next, fold, enabled}
-use Rattle.mpd_model.specs.steps.Outcomes.{outcome}
+use Rattle.mpd_model.specs.steps.Outcomes.{issued_by, outcome}
 use Rattle.mpd_model.specs.runs.Trail.{Trail, opening, applied, taken_back, redone, gone_back, forgotten, with_steps, world_of}
 use Rattle.mpd_rows.specs.worlds.Statements.{print, send, recv}
 
@@ -139,14 +139,14 @@ row_largest_tag = refl
 abbrev to_itself : Program
 to_itself = script 1 (send (n 1) (n 0) (n 0) ∷ recv (into x) (n 0) (n 0) ∷ [])
 
-pub row_to_itself : option_map outcome (fold (start to_itself Rendezvous) (Local 0 ∷ [])) ≡ Some (Some (o.Deadlock (call_id 0 0 ∷ [])))
+pub row_to_itself : option_map outcome (fold (start to_itself Rendezvous) (Local 0 ∷ [])) ≡ Some (Some (o.Deadlock (issued_by 0 (call_id 0 0) ∷ [])))
 row_to_itself = refl
 
 pub row_to_itself_buffered : option_map seen (fold (start to_itself Buffered) (Local 0 ∷ Wake 0 ∷ Local 0 ∷ Match (call_id 0 0) (call_id 0 1) ∷ Wake 0 ∷ [])) ≡ Some ((pos 1 ∷ [], ([], Running)) ∷ [])
 row_to_itself_buffered = refl
 
 -- a buffered send that nobody receives is left over
-pub row_leftover : option_map outcome (fold (start (script 1 (send (n 1) (n 0) (n 0) ∷ [])) Buffered) (Local 0 ∷ Wake 0 ∷ [])) ≡ Some (Some (o.Leftovers (call_id 0 0 ∷ [])))
+pub row_leftover : option_map outcome (fold (start (script 1 (send (n 1) (n 0) (n 0) ∷ [])) Buffered) (Local 0 ∷ Wake 0 ∷ [])) ≡ Some (Some (o.Leftovers (issued_by 0 (call_id 0 0) ∷ [])))
 row_leftover = refl
 
 pub row_empty : outcome (start (script 1 []) Rendezvous) ≡ Some o.Done

@@ -16,7 +16,7 @@ loop-group-preserved c =
     let limits = c.args.limits in
     let text = string_bytes c.in_ok-text.text in
     let place = c.loop-group.group-index in
-    let none : Group = record { first = 0; count = Exactly 0; shown = 0 } in
+    let none : Group = record { first = 0; count = Exactly 0; shown = 0; steps = 0 } in
     let group = get_or c.args.groups.now place none in
     let told : Standing → Group → List ℕ → Type 0 = λ s g t. IsDetailed limits s leaves g.shown t in
     let same = standing_same c.args.debugger.now c.loop-group.debugger i.trail i.world in

@@ -9,5 +9,5 @@ returns c =
     let n = c.args.counts in
     let old = string_bytes c.args.out.now in
     let before = codes "not everything was tried: " in
-    let after : c.deref.result.now ≡ cut_after c.args.fuel = c.deref.ensures ∙ c.in_ok-after.ensures in
-    grown old _ (line_if before n.cut n.total (cut_after c.args.fuel)) (more_line n.more) _ (c.in_ok-push_line_if.ensures ∙ ap (λ (t : List ℕ). old ++ line_if before n.cut n.total t) after) c.in_ok-push_more.ensures
+    let after : c.deref.result.now ≡ cut_after n.cut c.args.fuel = c.deref.ensures ∙ c.in_ok-after.ensures in
+    grown old _ (line_if before n.cut n.total (cut_after n.cut c.args.fuel)) (more_line n.more) _ (c.in_ok-push_line_if.ensures ∙ ap (λ (t : List ℕ). old ++ line_if before n.cut n.total t) after) c.in_ok-push_more.ensures

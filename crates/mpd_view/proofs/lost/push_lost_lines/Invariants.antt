@@ -1,8 +1,0 @@
-use Rattle.std.proofs.Common.{◌≡◌, ◌++◌, drop, string_bytes}
-use Rattle.std.specs.List.{flat_map}
-use Rattle.mpd_view.specs.Lost.{lost_line}
-use Rattle.mpd_view.proofs.lost.push_lost_lines.Given as goal
-
-abbrev pub invariant-loop-call : goal.invariant-loop-call
-invariant-loop-call l =
-    string_bytes l.out ++ flat_map (lost_line l.core.program l.core.world.board) (drop l.call-index l.calls) ≡ string_bytes l.fn.out ++ flat_map (lost_line l.core.program l.core.world.board) l.calls
