@@ -594,10 +594,10 @@ def script_for(seed, random, number, mode):
 
 
 def witness_for(random, script, mode):
-    """The witness of a deadlock, and a text that has it; None where none is found soon."""
+    """The witness of a deadlock or a trap, and a text that has it; None where none is found soon."""
     walked = Debugger(read_script(script), mode)
     for leaf in islice(walk(walked.world, MOST_FUEL), MOST_RUNS):
-        if leaf.outcome.startswith('deadlock'):
+        if explorer.is_bad(leaf):
             first, second = leaf_lines(0, leaf, True)
             short = f'{leaf.outcome}\n{", ".join(map(step_text, leaf.steps))}'
             text = random.choice([f'{first}\n{second}\n', short, f'{first}\n{second}\nleaves 1 more yes\n'])
@@ -613,6 +613,8 @@ def spoiled_witness(random, text):
         return head + tail[len(tail.splitlines()[0]):] if head else text
     if kind == 'none':
         return random.choice([text.partition(b'\n')[0], text.replace(b'local', b'loca', 1), text.replace(b'deadlock', b'deadlok'), b'', b'\xff'])
+    if kind == 'call' and b'deadlock' not in text:
+        return text.replace(b'trap ', b'trap 9 assert ', 1)
     old, new = {'call': (b'deadlock ', b'deadlock 0.9 '), 'step': (b'local 0', b'wake 0'), 'rank': (b'local 0', b'local 1')}[kind]
     return text.replace(old, new, 1)
 

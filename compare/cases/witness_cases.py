@@ -30,8 +30,9 @@ ODD_FRONTS = ('', '', 'leaf 0 [] ', 'leaf 7 [0 1 12] ', 'leaf 1000000000 [] ', '
               'a\t', 'deadlock ', 'deadlock 0.0 ', 'deadlocks ', ': ', 'a,b: ', '\xff ', 'witness 0: local 0 ')
 ODD_NAMES = ('', '', 'witness 7: ', 'witness 0:', 'witness 0:  ', 'witness: ', 'witness ', 'a:', ':', ': ', '::', ' ', '\t', 'witness 0: witness 0: ', 'leaf 0: ',
              'local 0, : ', '\xff:', 'a: b: ')
-ODD_OUTCOMES = ('done', 'leftovers', 'trap', 'cut', 'Deadlock', 'deadlocks', 'dead lock', '', 'outcome deadlock')
-ODD_CALLS = ('', '', '0', '0.', '.0', '0.0.0', '0.-1', '0,0', '1000000000.0', '0.1000000000', '00.00', '0.0,', 'x', '0.x', '999999999.999999999', '\t0.0')
+ODD_OUTCOMES = ('done', 'leftovers', 'trap', 'traps', 'deadlock', 'trap 0 assert deadlock', 'cut', 'Deadlock', 'deadlocks', 'dead lock', '', 'outcome deadlock')
+TRAPS = ('overflow', 'zero-divisor', 'bad-rank', 'bad-tag', 'bad-index', 'assert')
+ODD_CALLS = ('', '', '0', '0.', '.0', '0.0.0', '0.-1', '0,0', '1000000000.0', '0.1000000000', '00.00', '0.0,', 'x', '0 assert', '0 asserts', 'assert', 'overflow 0', '0.x', '999999999.999999999', '\t0.0')
 ENDS = ('', '', '\n\n', '\n\n\n', '\r\n', '\r', '\n\r\n', '\n\r', '\n\r\r\n', '\n ', ' \n', '\t', '\nlocal 0\n', '\nleaves 1 more no\n', '\n\x00', '\n\nx', '\r\r\n', ',\n',
         ', \n', '\x0b\n', '\x0c')
 BETWEEN = (',', ' ,', ',  ', '\t,', ',\t', ' ', ';', ',,', ', ,')
@@ -58,11 +59,11 @@ class Text(NamedTuple):
 
 
 def text_of(number, leaf, version):
-    """The text of a leaf; of one that is no deadlock, the calls that its outcome names are taken for blocked."""
+    """The text of a leaf; of one that is neither a deadlock nor a trap, a call is taken for blocked."""
     found = witness(leaf)
     calls = found.blocked if found else [CallId(0, 0)]
     return Text(f'leaf {number} [{" ".join(map(str, leaf.choices))}] ', tuple(map(str, calls)), f'witness {number}: ',
-                tuple(map(step_text, leaf.steps)), version=version)
+                tuple(map(step_text, leaf.steps)), found.word if found else 'deadlock', version=version)
 
 
 def inserted(parts, place, *others):
@@ -111,8 +112,21 @@ def with_odd_step(random, text):
     return text._replace(steps=text.steps[:place] + (odd,) + behind)
 
 
+def with_other_traps(random, text):
+    """Trapped ranks left out, added, twice, or in another order; another rank with that trap, or another trap of that rank."""
+    ranks, place = list(text.calls), random.randrange(len(text.calls))
+    rank, name = ranks[place].split()
+    more = f'{random.randint(0, 4)} {random.choice(TRAPS)}'
+    return text._replace(calls=tuple(random.choice([
+        ranks[:-1], ranks[::-1], [*ranks, ranks[place]], [*ranks, more], [more, *ranks], [], [*ranks[:place], rank, *ranks[place + 1:]],
+        [*ranks[:place], name, *ranks[place + 1:]], [*ranks[:place], f'{int(rank) + 1} {name}', *ranks[place + 1:]],
+        [*ranks[:place], f'{rank} {random.choice(TRAPS)}', *ranks[place + 1:]]])))
+
+
 def with_other_calls(random, text):
-    """Calls left out, added, twice, or in another order; the next call of a rank in the place of one."""
+    """Calls left out, added, twice, or in another order; the next call of a rank in the place of one. Of a trap the same of its ranks."""
+    if text.word == 'trap':
+        return with_other_traps(random, text)
     calls, place = list(text.calls), random.randrange(len(text.calls))
     rank, number = map(int, calls[place].split('.'))
     more = f'{random.randint(0, 4)}.{random.randint(0, 2)}'

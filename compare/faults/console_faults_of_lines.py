@@ -400,10 +400,16 @@ def held_or_any(world, rank, call, call_id):
     return is_request(call) and not SOUND['may_be_waited_for'](rank, call_id.number)
 
 
+def by_ranks(calls):
+    return [[call_id for call_id in calls if call_id.rank == number] for number in sorted({call_id.rank for call_id in calls})]
+
+
 def lost_faults():
     return [
         *named('is_told_lost', {
             'complete ones beside a wait for any': lost_where(held_or_any),
+            'sends that are complete, too': lost_where(lambda world, rank, call, call_id: held_or_any(world, rank, call, call_id) and not (
+                debugger.is_done(world, call_id) and has_issued_any(rank))),
             'none that is complete': lost_where(lambda world, rank, call, call_id: sound_lost(world, call_id) and not debugger.is_done(world, call_id)),
             'none beside a wait for any': lost_where(lambda world, rank, call, call_id: sound_lost(world, call_id) and not has_issued_any(rank)),
             'a wait for any of another rank': lost_where(lambda world, rank, call, call_id: sound_lost(world, call_id) and not (
@@ -427,7 +433,18 @@ def lost_faults():
         *named('lost_lines', {
             'the last one first': changed('lost_lines', lambda lines, *_: lines[::-1]),
             'the first one alone': changed('lost_lines', lambda lines, *_: lines[:1]),
-            'no line': changed('lost_lines', lambda lines, *_: [re.sub(r'line \d+, ', '', line) for line in lines])})]
+            'no line': changed('lost_lines', lambda lines, *_: [re.sub(r'line \d+, ', '', line) for line in lines])}),
+        *named('lost_by_lines', {
+            'each by itself': lambda at, calls: [SOUND['lost_line'](at, [call_id]) for call_id in calls],
+            'those of a rank together': lambda at, calls: [SOUND['lost_line'](at, found) for found in by_ranks(calls)],
+            'the last of a line': lambda at, calls: SOUND['lost_by_lines'](at, calls[::-1])[::-1],
+            'the first of a line alone': lambda at, calls: [line for line in SOUND['lost_by_lines'](at, calls[:1])]}),
+        *named('lost_line', {
+            'one less': lambda at, found: SOUND['lost_line'](at, found[:1] + found[2:]),
+            'without their number': lambda at, found: SOUND['lost_line'](at, found[:1])}),
+        *named('place_of', {
+            'the line alone': lambda at, call_id: at.lines[call_id], 'the rank alone': lambda at, call_id: call_id.rank,
+            'each call': lambda at, call_id: call_id})]
 
 
 def whole_request(at, number, handle):

@@ -9,6 +9,7 @@ import re
 from faults.policy_faults import Breakage
 from model import diagnosed
 from model.debugger import RENDEZVOUS
+from model.diagnosed import explained_of
 
 SOUND = {name: getattr(diagnosed, name) for name in ('commands', 'file_of', 'script_of', 'word_for', 'pictures', 'bug_lines')}
 
@@ -32,7 +33,7 @@ def with_commas(line):
 
 def of_two_runs(asked, leaf, picture):
     """The commands, of which the second has another run."""
-    return [SOUND['commands'](asked, leaf, picture)[0], SOUND['commands'](asked, leaf._replace(choices=(*leaf.choices, 0)), picture)[1]]
+    return [*SOUND['commands'](asked, leaf, picture)[:1], *SOUND['commands'](asked, leaf._replace(choices=(*leaf.choices, 0)), picture)[1:]]
 
 
 def mode_first(asked):
@@ -49,7 +50,8 @@ def ranks_last(asked):
 
 def of_first(asked, ends, found, picture):
     """What is written with the commands of the first end, in the place of that which is explained."""
-    return [*SOUND['bug_lines'](asked, ends, found, picture)[:-2], *SOUND['commands'](asked, ends[0].leaf, picture)]
+    shown = SOUND['commands'](asked, explained_of(ends).leaf, picture)
+    return [*SOUND['bug_lines'](asked, ends, found, picture)[:-len(shown)], *SOUND['commands'](asked, ends[0].leaf, picture)]
 
 
 def word_by(plain, quoted=lambda path: f"'{path}'"):
@@ -134,7 +136,9 @@ def command_faults():
         ('without its ranks', lambda asked: SOUND['script_of'](asked._replace(ranks=None))),
         ('with a rank more', lambda asked: SOUND['script_of'](asked._replace(ranks=asked.ranks and asked.ranks + 1))),
         ('with ranks though none are asked for', lambda asked: SOUND['script_of'](asked._replace(ranks=asked.ranks or 2))))
-    return [*named('commands', diagnosed, 'commands', [(name, commanded(change)) for name, change in lines]),
+    pictured = (('a picture of each run', lambda leaf: True), ('none of a run of 1,000 steps', lambda leaf: len(leaf.steps) < 1000),
+                ('one of a run of 1,001 steps', lambda leaf: len(leaf.steps) <= 1001))
+    return [*named('commands', diagnosed, 'is_pictured', pictured), *named('commands', diagnosed, 'commands', [(name, commanded(change)) for name, change in lines]),
             *named('commands', diagnosed, 'commands', both), *named('commands', diagnosed, 'file_of', files),
             *named('commands', diagnosed, 'script_of', scripts), *word_faults(), *picture_faults(),
             Breakage('commands: of another end', diagnosed, 'bug_lines', of_first)]

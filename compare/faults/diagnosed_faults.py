@@ -22,7 +22,7 @@ from model.walks import CUT
 
 SOUND = {name: getattr(owner, name) for owner, names in (
     (diagnosed, ('places', 'lines_of', 'ends_of', 'bug_of', 'bugs_of', 'several', 'of_runs', 'runs_of', 'mode_of',
-                 'verdict_lines', 'always', 'well_line', 'tried_next', 'hints', 'verdict', 'heading', 'bug_lines', 'all_bug_lines', 'text_of', 'status',
+                 'verdict_lines', 'always', 'fails_both', 'well_line', 'tried_next', 'hints', 'verdict', 'heading', 'bug_lines', 'all_bug_lines', 'text_of', 'status',
                  'answer', 'drawn_of', 'drawn_lines', 'drawn_verdict')),
     (outcomes, ('explained', 'is_whole'))) for name in names}
 BEHIND, SEARCHED, DRAWN = Counting.behind, Diagnosis.searched, Diagnosis.drawn
@@ -164,6 +164,12 @@ def ends_alike(found, kind, *others):
     return kind in there and there <= {kind, *others}
 
 
+def in_both_ways(found, *others):
+    """Whether some run hangs and some traps, and all others end so, or in some other ways."""
+    there = {word_of(outcome) for outcome in found.ways}
+    return {HANG, TRAP} <= there <= {HANG, TRAP, *others}
+
+
 def always_modes(asked, found, also):
     """The command that is tried next, or that which tries other modes, where something holds."""
     lines = list(SOUND['tried_next'](asked, found))
@@ -188,6 +194,9 @@ def verdict_faults():
         ('messages are left over', changed(lambda line: line.replace('end with calls left over', 'leave messages over'))),
         ('no mode', changed(lambda line: re.sub(r' in (rendezvous|buffered|slots:[0-9]+)', '', line))),
         ('how many states there are is not told', changed(lambda line: re.sub(r', [0-9]+ states?\)', ')', line))),
+        ('were cut of one, too', changed(lambda line: line.replace(' was cut', ' were cut'))),
+        ('was cut of several, too', changed(lambda line: line.replace(' were cut', ' was cut'))),
+        ('it fails as often as it hangs', changed(lambda line: re.sub('hangs in ([0-9]+) of (.*) and traps in [0-9]+', r'hangs in \1 of \2 and traps in \1', line))),
         ('cut after other steps', changed(lambda line: line.replace(' steps', '0 steps'))))
     counts = (
         ('ends that hang', by_ends(HANG)), ('ends that trap', by_ends(TRAP)), ('ends with leftovers', by_ends(LEFT)),
@@ -203,8 +212,14 @@ def verdict_faults():
         ('never', lambda found, kind: False), ('though a run is cut', lambda found, kind: not found.more and ends_alike(found, kind, CUT)),
         ('though there are more', lambda found, kind: CUT not in found.ways and ends_alike(found, kind)),
         ('beside leftovers', lambda found, kind: outcomes.is_whole(found) and ends_alike(found, kind, LEFT)),
-        ('beside what is done', lambda found, kind: outcomes.is_whole(found) and ends_alike(found, kind, 'done')),
-        ('beside what hangs or traps, too', lambda found, kind: outcomes.is_whole(found) and ends_alike(found, kind, HANG, TRAP)))
+        ('beside what is done', lambda found, kind: outcomes.is_whole(found) and ends_alike(found, kind, 'done')))
+    both = (
+        ('never', lambda found: False), ('though there are more', lambda found: CUT not in found.ways and in_both_ways(found)),
+        ('though a run is cut', lambda found: not found.more and in_both_ways(found, CUT)),
+        ('though a run is well', lambda found: outcomes.is_whole(found) and in_both_ways(found, 'done')),
+        ('beside leftovers', lambda found: outcomes.is_whole(found) and in_both_ways(found, LEFT)),
+        ('where all runs hang, too', lambda found: SOUND['fails_both'](found) or SOUND['always'](found, HANG)),
+        ('where all runs trap, too', lambda found: SOUND['fails_both'](found) or SOUND['always'](found, TRAP)))
     modes = (
         ('the usual mode', lambda asked, search, found: SOUND['well_line'](asked._replace(mode=None), search, found)),
         ('the mode as it was given', lambda asked, search, found:
@@ -231,7 +246,7 @@ def verdict_faults():
     return [*named('verdict', diagnosed, 'verdict_lines', lines), *named('verdict', diagnosed, 'runs_of', counts),
             *named('verdict', diagnosed, 'of_runs', (('of as many ends', of_as_many_ends), ('of bad runs alone', of_told_runs))),
             *named('verdict', diagnosed, 'several', words), *named('verdict', diagnosed, 'verdict', commands),
-            *named('always', diagnosed, 'always', always_so), *named('verdict', diagnosed, 'well_line', modes),
+            *named('always', diagnosed, 'always', always_so), *named('both', diagnosed, 'fails_both', both), *named('verdict', diagnosed, 'well_line', modes),
             *named('verdict', diagnosed, 'tried_next', following)]
 
 
@@ -309,7 +324,7 @@ def bug_faults():
     bugs = (
         ('leftovers are one bug', leftovers_together), ('in the order of their first runs', by_first_runs),
         ('leftovers first', sorted_by(lambda bug: bug[0].kind != LEFT)), ('by their lines', sorted_by(lambda bug: bug[0].lines)),
-        ('hangs first', sorted_by(lambda bug: (HANG, TRAP, LEFT).index(bug[0].kind))),
+        ('hangs first', sorted_by(lambda bug: (HANG, TRAP, LEFT, CUT).index(bug[0].kind))),
         ('by their runs', sorted_by(lambda bug: -sum(end.runs for end in bug))),
         ('from the last to the first', lambda ends: SOUND['bugs_of'](ends)[::-1]), ('the first alone', lambda ends: SOUND['bugs_of'](ends)[:1]),
         ('of ends beside each other', neighbours), ('without the last end of one', lambda ends: [bug[:-1] or bug for bug in SOUND['bugs_of'](ends)]))
@@ -320,7 +335,7 @@ def bug_faults():
         ('that with the most runs', lambda ends: max(ends, key=lambda end: end.runs)),
         ('that with the fewest runs', lambda ends: min(ends, key=lambda end: end.runs)))
     ends = (
-        ('no leftovers', without_ends(LEFT)), ('no traps', without_ends(TRAP)), ('no deadlocks', without_ends(HANG)),
+        ('none that is cut', without_ends(CUT)), ('no leftovers', without_ends(LEFT)), ('no traps', without_ends(TRAP)), ('no deadlocks', without_ends(HANG)),
         ('the first run of another end', with_ways(first_runs)), ('the last end is left out', with_ways(lambda ways: dict(list(ways.items())[:-1]))),
         ('no end of one run', with_ways(lambda ways: {outcome: way for outcome, way in ways.items() if way.runs > 1})))
     return [*named('bugs', diagnosed, 'bug_of', together), *named('bugs', diagnosed, 'bugs_of', bugs),
@@ -346,6 +361,11 @@ def standing(where):
     """What has ends of a kind stand elsewhere, by how that was reached, and where they stand."""
     kind, change = where
     return lambda at, of_kind: change(at, SOUND['places'](at, of_kind)) if of_kind == kind else SOUND['places'](at, of_kind)
+
+
+def standing_ranks(at):
+    """The ranks that haven't ended."""
+    return [rank for number, rank in enumerate(at.world.ranks) if diagnosed.standing_line(at, number) is not None]
 
 
 def headed(change):
@@ -375,7 +395,10 @@ def line_faults():
         ('of all calls', (HANG, lambda at, there: list(at.lines.values()))),
         ('of calls that are left over, too', (HANG, lambda at, there: there + SOUND['places'](at, LEFT))),
         ('of the calls of ranks that trapped', (TRAP, lambda at, there: [max(at.lines.values(), default=1)])),
-        ('of the first call that is left over', (LEFT, lambda at, there: there[:1])))
+        ('of the first call that is left over', (LEFT, lambda at, there: there[:1])),
+        ('of ranks that are blocked, where it is cut', (CUT, lambda at, there: [line for line, rank in zip(there, standing_ranks(at)) if rank.mode == 'blocked'])),
+        ('of ranks that are not blocked, where it is cut', (CUT, lambda at, there: [line for line, rank in zip(there, standing_ranks(at)) if rank.mode != 'blocked'])),
+        ('of the calls, where it is cut', (CUT, lambda at, there: [*at.lines.values()])))
     counts = (
         ('the runs of one end', counting(lambda ends, found: ends[0].runs)),
         ('the runs of the last end', counting(lambda ends, found: ends[-1].runs)),
@@ -383,6 +406,8 @@ def line_faults():
         ('all runs of the kind', counting(lambda ends, found: SOUND['runs_of'](found, ends[0].kind))),
         ('of the runs of the kind', of_kind))
     texts = (
+        ('not that one of several is told', lambda line: line.removesuffix(diagnosed.OF_ONE)),
+        ('that one is told, though it is alone', lambda line: f'{line.removesuffix(diagnosed.OF_ONE)}{diagnosed.OF_ONE}'),
         ('no count', lambda line: line.partition(':')[0]), ('line for lines', lambda line: line.replace(' lines ', ' line ')),
         ('lines for line', lambda line: line.replace(' line ', ' lines ')), ('left over at', lambda line: line.replace('from', 'at')),
         ('lines without commas', lambda line: line.replace(', ', ' ')))
@@ -741,6 +766,7 @@ BY_TEXT = {
                 'no command that tries other modes', 'a command that tries other modes beside a deadlock',
                 'a command that tries other modes where there are more', 'a command that tries five modes'),
     'always': ('never', 'though there are more', 'beside what is done', 'beside leftovers'),
+    'both': ('never', 'though a run is well', 'where all runs hang, too'),
     'word': ('as it was given', 'no ./ in front of -', './ in front of the quotes', 'quotes are left out', 'two quotes for one',
              'backslashes before quotes', 'by the first byte', "as it stands with ' '"),
     'hints': ('never', 'always', 'from the start, too', 'twice', 'to where it is run to'),
@@ -751,7 +777,7 @@ BY_TEXT = {
     'explained': ('the first', 'the longest', 'the last of equals', 'that with the most runs'),
     'ends': ('no leftovers', 'no traps', 'the first run of another end', 'no end of one run'),
     'lines': ('not sorted', 'repeated', 'as texts', 'the first alone', 'from 0', 'of all calls', 'of calls that are left over, too'),
-    'heading': ('the runs of one end', 'how many ends', 'of the runs of the kind', 'line for lines'),
+    'heading': ('not that one of several is told', 'that one is told, though it is alone', 'the runs of one end', 'how many ends', 'of the runs of the kind', 'line for lines'),
     'explanation': ('none', 'none of leftovers', 'nothing decides a trap', 'what decides comes first', 'the first line alone'),
     'commands': ('without --ends', 'choices without quotes', 'without a mode', 'with a mode that is usual', 'the picture first', 'no picture',
                  'the picture of another run', 'of all choices but the last', 'of another end'),

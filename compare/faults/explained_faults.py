@@ -14,8 +14,8 @@ from model.language import Binary, Place, Unary
 from model.worlds import CallId
 
 SOUND = {name: getattr(explaining, name) for name in (
-    'reached', 'next_line', 'plain_text', 'call_text', 'wish', 'wishing', 'differences', 'all_free', 'near_misses', 'nearest_miss', 'pairs_taken', 'last_taken',
-    'chances', 'requests', 'has_ended', 'not_there', 'why_not_there', 'behind', 'blocked_lines', 'partners_of', 'waited_for', 'rank_text', 'whom_line',
+    'reached', 'next_line', 'plain_text', 'call_text', 'wish', 'wishing', 'differences', 'all_free', 'near_misses', 'nearest_miss', 'is_due',
+    'pairs_taken', 'last_taken', 'chances', 'requests', 'has_ended', 'not_there', 'why_not_there', 'behind', 'blocked_lines', 'partners_of', 'waited_for', 'rank_text', 'whom_line',
     'next_of', 'cycle_from', 'cycles', 'cycle_line', 'deadlock_lines', 'trap_lines', 'left_lines', 'explanation', 'with_values', 'values_text', 'names_in',
     'names_read', 'places_of', 'expressions_of')}
 SOUND |= {name: getattr(explorer, name) for name in ('leaf_lines', 'group_text', 'explained', 'checked')}
@@ -110,6 +110,8 @@ def wish_faults():
         ('rank any', after('wish', lambda text, *_: text.replace('any rank', 'rank any'))),
         ('tag any', after('wish', lambda text, *_: text.replace('any tag', 'tag any'))),
         ('a wait for any as a wait', after('wish', lambda text, *_: text.replace('one of these requests', 'this request'))),
+        ('a wait for a request that is not named', after('wish', lambda text, *_: re.sub(r'for request \S+', 'for this request', text))),
+        ('the number of a request without its rank', after('wish', lambda text, *_: re.sub(r'for request \d+\.', 'for request ', text))),
         ('the source of a receive as its own rank', lambda at, call_id: SOUND['wish'](at, call_id) if find_call(at.world, call_id).kind != 'recv'
             else f'for a send of rank {call_id.rank} with tag {find_call(at.world, call_id).tag}'))
 
@@ -159,14 +161,46 @@ def first_of_all(world, call_id):
     return next(iter(SOUND['near_misses'](world, call_id)), None)
 
 
+def chosen(world, call_id, key, turned=list):
+    """The near miss that a key puts first, by whether it is due and the place of what differs in the order that holds for the call."""
+    nearer = explaining.NEARER[find_call(world, call_id).kind]
+    return min(turned(SOUND['near_misses'](world, call_id)), key=lambda found: key(SOUND['is_due'](world, found[0]), nearer.index(found[1])), default=None)
+
+
 def last_of_all(world, call_id):
-    kinds = explaining.DIFFERENCES
-    return min(reversed(list(SOUND['near_misses'](world, call_id))), key=lambda found: kinds.index(found[1]), default=None)
+    return chosen(world, call_id, lambda due, place: (not due, place), lambda found: reversed(list(found)))
 
 
 def preferring(*kinds):
-    """What takes the kinds of near misses in another order."""
-    return lambda world, call_id: min(SOUND['near_misses'](world, call_id), key=lambda found: kinds.index(found[1]), default=None)
+    """What takes the kinds of near misses in another order, the same for sends and receives."""
+    return lambda world, call_id: min(SOUND['near_misses'](world, call_id), default=None,
+                                      key=lambda found: (not SOUND['is_due'](world, found[0]), kinds.index(found[1])))
+
+
+def chosen_by(key):
+    return lambda world, call_id: chosen(world, call_id, key)
+
+
+def due_otherwise(change):
+    """What says that other calls are due, by whether they are, the world, the name and the call."""
+    return lambda world, call_id: change(SOUND['is_due'](world, call_id), world, call_id, find_call(world, call_id))
+
+
+def due_faults():
+    return (named('is_due')(
+                ('all', due_otherwise(lambda *_: True)), ('none', due_otherwise(lambda *_: False)), ('the others', due_otherwise(lambda due, *_: not due)),
+                ('no request', due_otherwise(lambda due, world, call_id, call: call.blocks or call.buffered)),
+                ('no buffered send', due_otherwise(lambda due, world, call_id, call: due and not call.buffered)),
+                ('each request of a blocked rank', due_otherwise(lambda due, world, call_id, call: due or world.ranks[call_id.rank].mode == 'blocked')),
+                ('the calls of a rank that has ended', due_otherwise(
+                    lambda due, world, call_id, call: due or explaining.has_ended(world.ranks[call_id.rank]))),
+                ('sends alone', due_otherwise(lambda due, world, call_id, call: due and call.kind == 'send')),
+                ('the first request of a wait for any alone', due_otherwise(
+                    lambda due, world, call_id, call: call.blocks or call.buffered or due and call_id in SOUND['requests'](world, call_id.rank)[:1])))
+            + named('nearest_miss')(
+                ('what differs before whether it is due', chosen_by(lambda due, place: (place, not due))),
+                ('one that is due last', chosen_by(lambda due, place: (due, place))),
+                ('one of another rank before one of the rank that is waited for', chosen_by(lambda due, place: (not due, (0, 2, 1)[place])))))
 
 
 def named_otherwise(one, other):
@@ -188,7 +222,7 @@ def miss_faults():
             + named('differences')(('any tag is no tag', differing_otherwise(by_number)), ('any source is no source', differing_otherwise(by_name)))
             + named('nearest_miss')(
                 ('the first of all kinds', first_of_all), ('the last of its kind', last_of_all), ('the source first', preferring(SOURCE, TAG, DESTINATION)),
-                ('the destination before the source', preferring(TAG, DESTINATION, SOURCE)), ('the destination first', preferring(DESTINATION, TAG, SOURCE)),
+                ('the destination before the source', preferring(TAG, DESTINATION, SOURCE)), ('the source before the destination', preferring(TAG, SOURCE, DESTINATION)), ('the destination first', preferring(DESTINATION, TAG, SOURCE)),
                 ('source for destination', named_otherwise(DESTINATION, SOURCE)), ('destination for source', named_otherwise(SOURCE, DESTINATION)),
                 ('source for tag', named_otherwise(TAG, SOURCE)), ('none', lambda world, call_id: None)))
 
@@ -342,7 +376,11 @@ def whom_faults():
             + named('rank_text')(('never ended', lambda world, number: f'rank {number}'), ('the number alone', lambda world, number: str(number)))
             + named('whom_line')(
                 ('nothing in the place of nobody', after('whom_line', lambda line, *_: line.removesuffix(' nobody'))),
-                ('and before the last', after('whom_line', lambda line, *_: ' and'.join(line.rsplit(',', 1))))))
+                ('and before the last', after('whom_line', lambda line, *_: ' and'.join(line.rsplit(',', 1)))),
+                ('any of all at a barrier', after('whom_line', lambda line, *_: line.replace('all of ', 'any of '))),
+                ('all of any elsewhere', after('whom_line', lambda line, *_: line.replace('any of ', 'all of '))),
+                ('neither any nor all', after('whom_line', lambda line, *_: re.sub('(any|all) of ', '', line))),
+                ('any of one', after('whom_line', lambda line, *_: re.sub(r'waits for rank', 'waits for any of rank', line)))))
 
 
 # ---- cycles
@@ -522,13 +560,13 @@ def before_witness(number, leaf, witnesses):
 def as_first(script, mode, found):
     """What explains each leaf as the first one that ends so."""
     found, known = SOUND['explained'](script, mode, found), {}
-    return found._replace(leaves=tuple(leaf._replace(explained=known.setdefault(leaf.outcome, leaf.explained)) for leaf in found.leaves))
+    return found._replace(leaves=tuple(leaf._replace(explained=known.setdefault(str(leaf.outcome), leaf.explained)) for leaf in found.leaves))
 
 
 def as_last(found, witnesses):
     """What explains each end as the last leaf that ends so."""
-    last = {leaf.outcome: leaf.explained for leaf in found.leaves}
-    return SOUND['group_text'](found._replace(leaves=tuple(leaf._replace(explained=last[leaf.outcome]) for leaf in found.leaves)), witnesses)
+    last = {str(leaf.outcome): leaf.explained for leaf in found.leaves}
+    return SOUND['group_text'](found._replace(leaves=tuple(leaf._replace(explained=last[str(leaf.outcome)]) for leaf in found.leaves)), witnesses)
 
 
 def first_alone(script, mode, found):
@@ -593,5 +631,5 @@ def place_faults():
 
 def breakages():
     """All of them."""
-    return [*line_faults(), *wish_faults(), *miss_faults(), *taken_faults(), *behind_faults(), *whom_faults(), *cycle_faults(),
+    return [*line_faults(), *wish_faults(), *miss_faults(), *due_faults(), *taken_faults(), *behind_faults(), *whom_faults(), *cycle_faults(),
             *value_faults(), *place_faults()]

@@ -208,7 +208,7 @@ def told_otherwise(change):
 
 def accepting(kind):
     """What takes the end of a run for a deadlock that has this outcome, whatever is said of the calls."""
-    def change(refused, script, mode, steps, blocked):
+    def change(refused, script, mode, steps, blocked, word='deadlock'):
         if refused != Refusal(NOT_STUCK):
             return refused
         world = end_of(script, mode, steps)
@@ -216,43 +216,43 @@ def accepting(kind):
     return told_otherwise(change)
 
 
-def ends_not_looked_at(refused, script, mode, steps, blocked):
+def ends_not_looked_at(refused, script, mode, steps, blocked, word='deadlock'):
     """What looks at the steps and the calls alone."""
     if refused != Refusal(NOT_STUCK):
         return refused
     return None if tuple(blocked) == blocked_calls(end_of(script, mode, steps)) else Refusal(WRONG_BLOCKED)
 
 
-def traps_are_stuck(refused, script, mode, steps, blocked):
+def traps_are_stuck(refused, script, mode, steps, blocked, word='deadlock'):
     """What takes blocked ranks for a deadlock where another is trapped."""
     world = end_of(script, mode, steps)
     is_trap = refused == Refusal(NOT_STUCK) and not enabled_steps(world) and blocked_calls(world)
     return (None if tuple(blocked) == blocked_calls(world) else Refusal(WRONG_BLOCKED)) if is_trap else refused
 
 
-def ended_at_wrong_step(refused, script, mode, steps, blocked):
+def ended_at_wrong_step(refused, script, mode, steps, blocked, word='deadlock'):
     """What judges a run by its steps up to the first that isn't enabled, if these are no witness."""
     if refused is None or refused.number != NO_SUCH_STEP:
         return refused
     return refused if is_stuck(end_of(script, mode, steps)) else Refusal(NOT_STUCK)
 
 
-def wrong_steps_passed_over(refused, script, mode, steps, blocked):
+def wrong_steps_passed_over(refused, script, mode, steps, blocked, word='deadlock'):
     """What goes on behind a step that isn't enabled."""
     while refused is not None and refused.number == NO_SUCH_STEP:
         steps = steps[:refused.place] + steps[refused.place + 1:]
-        refused = SOUND.verify(script, mode, steps, blocked)
+        refused = SOUND.verify(script, mode, steps, blocked, word)
     return refused
 
 
-def steps_behind_end(refused, script, mode, steps, blocked):
+def steps_behind_end(refused, script, mode, steps, blocked, word='deadlock'):
     """What doesn't look at steps behind a deadlock."""
     if refused is None or refused.number != NO_SUCH_STEP or not is_stuck(end_of(script, mode, steps)):
         return refused
-    return SOUND.verify(script, mode, steps[:refused.place], blocked)
+    return SOUND.verify(script, mode, steps[:refused.place], blocked, word)
 
 
-def calls_first(refused, script, mode, steps, blocked):
+def calls_first(refused, script, mode, steps, blocked, word='deadlock'):
     """What looks at the calls before it looks whether the end is a deadlock."""
     other_calls = tuple(blocked) != blocked_calls(end_of(script, mode, steps))
     return Refusal(WRONG_BLOCKED) if refused == Refusal(NOT_STUCK) and other_calls else refused
@@ -260,16 +260,29 @@ def calls_first(refused, script, mode, steps, blocked):
 
 def placed(change):
     """What tells another place of a step."""
-    return lambda refused, script, mode, steps, blocked: (
+    return lambda refused, script, mode, steps, blocked, word='deadlock': (
         refused._replace(place=change(refused.place, steps)) if refused and refused.number == NO_SUCH_STEP else refused)
 
 
 def compared(alike):
     """What compares the calls in another way."""
-    def change(refused, script, mode, steps, blocked):
-        is_alike = refused == Refusal(WRONG_BLOCKED) and alike(tuple(blocked), blocked_calls(end_of(script, mode, steps)))
+    def change(refused, script, mode, steps, blocked, word='deadlock'):
+        is_alike = refused == Refusal(WRONG_BLOCKED) and word == 'deadlock' and alike(tuple(blocked), blocked_calls(end_of(script, mode, steps)))
         return None if is_alike else refused
     return told_otherwise(change)
+
+
+def compared_traps(alike):
+    """What takes other trapped ranks for those that trap."""
+    def change(refused, script, mode, steps, blocked, word='deadlock'):
+        is_alike = refused == Refusal(WRONG_BLOCKED) and word == 'trap' and alike(blocked, explorer.traps_of(outcome(end_of(script, mode, steps))))
+        return None if is_alike else refused
+    return told_otherwise(change)
+
+
+def parts_alike(place):
+    """Whether ranks, or their traps, are the same, one by one."""
+    return lambda said, there: [it.split()[place] for it in said] == [it.split()[place] for it in there]
 
 
 def walk_faults():
@@ -336,8 +349,7 @@ def report_faults():
             + [Breakage(name, explorer, 'witness', of_witness(change)) for name, change in witnesses]
             + [Breakage(name, explorer, 'leaf_lines', replacement) for name, replacement in lines]
             + [Breakage(name, explorer, 'is_bad', bad_by(*kinds)) for name, kinds in bad]
-            + [Breakage('a witness of a trap', explorer, 'witness', lambda leaf: SOUND.witness(
-                leaf._replace(outcome=leaf.outcome.replace('trap', 'deadlock')))),
+            + [Breakage('no witness of a trap', explorer, 'witness', lambda leaf: None if leaf.outcome.startswith('trap') else SOUND.witness(leaf)),
                Breakage('a count of leaves that are not listed', explorer, 'report_text', counted_on),
                Breakage('the status of the first leaf', explorer, 'status', lambda found, complete: int(explorer.is_bad(found.leaves[0]))),
                Breakage('the status of the last leaf', explorer, 'status', lambda found, complete: int(explorer.is_bad(found.leaves[-1]))),
@@ -372,6 +384,9 @@ def verify_faults():
     return ([Breakage(name, explorer, 'verify', told_otherwise(change)) for name, change in told]
             + [Breakage(f'accepted for a run that ends in {kind}', explorer, 'verify', accepting(kind))
                for kind in ('done', 'leftovers', 'trap')]
+            + [Breakage(name, explorer, 'verify', compared_traps(alike)) for name, alike in (
+                ('the ranks that trap are not compared', lambda said, there: True), ('another trap of the same rank', parts_alike(0)),
+                ('another rank with the same trap', parts_alike(1)))]
             + [Breakage('the calls are not compared', explorer, 'verify', compared(lambda said, there: True)),
                Breakage('the calls are compared in any order', explorer, 'verify', compared(
                    lambda said, there: sorted(said) == sorted(there))),

@@ -10,7 +10,7 @@ from faults.policy_faults import Breakage
 from model import explorer, outcomes, policy, states, wide
 from model.debugger import Result
 from model.outcomes import MOST_COUNTED
-from model.states import NO_RUNS, Found, Search, Told, Way, of_leaves
+from model.states import NO_RUNS, Found, Search, Told, Way, of_leaves, word_of
 from model.walks import CUT, walk
 
 SOUND = {name: getattr(owner, name) for owner, names in (
@@ -52,6 +52,8 @@ def key_faults():
         ('without requests', 'requests', lambda world, number: ()), ('without which call a request is of', 'requests', read_again),
         ('without whether there is a request', 'requests', lambda world, number: tuple(
             request for request in SOUND['requests'](world, number) if request is not None)),
+        ('without where free calls were issued', 'free', lambda rank: tuple((number, asked) for number, _, asked in SOUND['free'](rank))),
+        ('without where a rank is blocked', 'blocked_on', lambda world, number: SOUND['blocked_on'](world, number)[1:]),
         ('without free calls', 'free', lambda rank: ()), ('without how many calls there are', 'call_count', lambda rank: 0),
         ('without what will be written', 'will_write', lambda world, call_id: ()),
         ('without activity', 'activity', lambda rank: None), ('without which trap', 'activity', lambda rank: rank.mode),
@@ -127,13 +129,15 @@ def of_another(before, later, ways):
             way in ways.items()}
 
 
-def of_words(before, later, ways):
-    """What takes outcomes for one that have the same word."""
-    found = {}
-    for outcome, way in ways.items():
-        same = next((other for other in found if other.split()[0] == outcome.split()[0]), None)
-        found[same or outcome] = way if same is None else found[same]._replace(runs=found[same].runs + way.runs)
-    return found
+def as_one(name_of):
+    """What takes outcomes for one that have the same name."""
+    def change(before, later, ways):
+        found = {}
+        for outcome, way in ways.items():
+            same = next((other for other in found if name_of(other) == name_of(outcome)), None)
+            found[same or outcome] = way if same is None else found[same]._replace(runs=found[same].runs + way.runs)
+        return found
+    return change
 
 
 def other_found(change):
@@ -179,7 +183,8 @@ def count_faults():
         ('a count by multiplying', counted(lambda one, other: one * other)),
         ('the last run in the place of the first', with_first(lambda one, other: other)),
         ('the first run with the most choices', with_first(lambda one, other: max(one, other, key=len))),
-        ('the first run of another outcome', other_joined(of_another)), ('outcomes by their words', other_joined(of_words)))
+        ('the first run of another outcome', other_joined(of_another)), ('outcomes by their words', other_joined(as_one(word_of))),
+        ('outcomes that are told alike are one', other_joined(as_one(str))))
     return ([Breakage(name, states, 'joined', replacement) for name, replacement in joins]
             + [Breakage(name, outcomes, 'count_text', replacement) for name, replacement in (
                 ('at least for the most that is told, too', lambda count: SOUND['count_text'](count if count < MOST_COUNTED

@@ -5,7 +5,7 @@ import re
 from faults.policy_faults import Breakage
 from model import ranks
 
-SOUND = {name: getattr(ranks, name) for name in ('with_ranks', 'number_place', 'numbers_in', 'heading', 'in_short', 'several')}
+SOUND = {name: getattr(ranks, name) for name in ('with_ranks', 'number_place', 'numbers_in', 'heading', 'brief', 'in_short', 'several', 'modes_up_to', 'mode_in_short', 'in_modes')}
 
 
 def put(name, attribute, replacement):
@@ -50,4 +50,21 @@ FAULTS = (
         b''.join(ranks.in_short(number, answer.output.decode(), ranks.RENDEZVOUS).encode() for number, answer in zip(numbers, answers))
         + b''.join([f'\n  {command(number)}\n'.encode() for number, answer in zip(numbers, answers) if answer.status == 1][-1:]), SOUND['several'](numbers, answers, command)[1])),
     put('the status of the last', 'several', lambda numbers, answers, command: (SOUND['several'](numbers, answers, command)[0], answers[-1].status)),
-    put('no status', 'several', lambda numbers, answers, command: (SOUND['several'](numbers, answers, command)[0], 0)))
+    put('no status', 'several', lambda numbers, answers, command: (SOUND['several'](numbers, answers, command)[0], 0)),
+    put('the last mode is left out', 'modes_up_to', lambda most: SOUND['modes_up_to'](most)[:-1]),
+    put('a slot less', 'modes_up_to', lambda most: SOUND['modes_up_to'](max(0, most - 1))),
+    put('slots from 0', 'modes_up_to', lambda most: [mode.replace('slots:1', 'slots:0') for mode in SOUND['modes_up_to'](most)]),
+    put('buffered first', 'modes_up_to', lambda most: SOUND['modes_up_to'](most)[::-1]),
+    put('the mode twice', 'mode_in_short', lambda mode, text: SOUND['brief'](f'{mode}: ', text, f' in {mode}')),
+    put('no mode', 'mode_in_short', lambda mode, text: SOUND['brief']('', text, '')),
+    put('another mode', 'mode_in_short', lambda mode, text: SOUND['mode_in_short']('buffered', text)),
+    put('the runs of the first mode', 'in_modes', lambda modes, answers, command: SOUND['in_modes'](modes, [answers[0]._replace(status=it.status) for it in answers], command)),
+    put('the last bad mode', 'in_modes', lambda modes, answers, command: (
+        b''.join(ranks.mode_in_short(mode, it.output.decode()).encode() for mode, it in zip(modes, answers))
+        + SOUND['in_modes'](modes[::-1], answers[::-1], command)[0].partition(b'\n\n')[2].join([b'\n', b'']), SOUND['in_modes'](modes, answers, command)[1])),
+    put('the first mode that is not whole before a bad one', 'in_modes', lambda modes, answers, command: SOUND['in_modes'](
+        modes, [it._replace(status=0) if it.status == 1 and 4 in {other.status for other in answers} else it for it in answers], command)),
+    put('nothing is said of good modes', 'ALL_GOOD', ''), put('nothing is said of modes that are not whole', 'NOT_ALL', ''),
+    put('the status of the last mode', 'in_modes', lambda modes, answers, command: (SOUND['in_modes'](modes, answers, command)[0], answers[-1].status)),
+    put('a status of 0 with a bad mode', 'in_modes', lambda modes, answers, command: (SOUND['in_modes'](modes, answers, command)[0], 0)),
+    put('both in a line is none', 'unfolded', lambda text: re.sub(r'\n {8}(?=\S)', ' ', text)))

@@ -130,8 +130,8 @@ def other_leaf(change):
 
 
 def until_by_order(found, asked):
-    """What ends behind the first deadlock or trap in the order of choices."""
-    return explorer.up_to_bad(found) if asked.until else found
+    """What goes on to draw, and ends with the first deadlock or trap in the order of choices."""
+    return explorer.up_to_bad(SOUND['sampled'](asked._replace(until=False))) if asked.until else found
 
 
 def said_otherwise(change):
@@ -178,7 +178,8 @@ def saying_faults():
         ('leaves numbered by when they were drawn', lambda said, asked: said._replace(output=said.output.replace(b'leaf 0 ', b'leaf 1 '))),
         ('leaves in the place of groups', lambda said, asked: SOUND['answer'](asked._replace(group=False))),
         ('no witness', lambda said, asked: SOUND['answer'](asked._replace(witnesses=False))))
-    return ([Breakage('more by the runs along decisions', samples, 'wide_walk', walks.walk)]
+    return ([Breakage('more by the runs along decisions', samples, 'wide_walk', walks.walk),
+             Breakage('until: leaves after the first deadlock', samples, 'up_to_bad', lambda found: found)]
             + [Breakage(name, samples, 'sampled', other_report(change)) for name, change in reports]
             + [Breakage(name, samples, 'in_order', change) for name, change in orders]
             + [Breakage(name, samples, 'answer', said_otherwise(change)) for name, change in said])

@@ -127,7 +127,7 @@ def none_called(word):
 
 def leaf_of(witness):
     """The run that a witness tells, without its choices."""
-    return Leaf((), witness.steps, f'deadlock {" ".join(map(str, witness.blocked))}')
+    return Leaf((), witness.steps, f'{witness.word} {" ".join(map(str, witness.blocked))}')
 
 
 class NamedRun(NamedTuple):

@@ -6,7 +6,7 @@ What they are told of is `at`: a world, and the line of each call that was issue
 
 from model import explaining, order
 from model.debugger import call_line, enabled_steps, find_call, is_done, last_call, partner, pending, posted, step_text
-from model.explaining import Reached, call_text, next_line, short_value, wish
+from model.explaining import Reached, call_text, next_line, plain_text, short_value, wish
 from model.language import Branch, While
 from model.worlds import CallId, Step
 
@@ -223,11 +223,11 @@ def may_be_waited_for(rank, number):
 
 
 def is_told_lost(world, call_id):
-    """Whether nobody can wait for a call any more, and no wait for any may have done so."""
+    """Whether nobody can wait for a call any more, there is something left to wait for, and no wait for any may have done so."""
     rank, call = world.ranks[call_id.rank], find_call(world, call_id)
     if call.kind not in MESSAGES or call.blocks or may_be_waited_for(rank, call_id.number):
         return False
-    return not (is_done(world, call_id) and any(other.kind == 'waitany' for other in rank.calls))
+    return not (is_done(world, call_id) and (call.kind == 'send' or any(other.kind == 'waitany' for other in rank.calls)))
 
 
 def lost_calls(world, number):
@@ -236,13 +236,31 @@ def lost_calls(world, number):
     return [call_id for call_id in calls if is_told_lost(world, call_id)]
 
 
-def lost_line(at, call_id):
-    return f'rank {call_id.rank} has lost a request: {call_text(at, call_id)}'
+def place_of(at, call_id):
+    """The rank and the line of a call."""
+    return call_id.rank, at.lines[call_id]
+
+
+def lost_line(at, found):
+    """What is told of the requests that a rank has lost of one line."""
+    first = found[0]
+    told = f'a request: {call_text(at, first)}'
+    if len(found) > 1:
+        told = f'{len(found)} requests of line {at.lines[first]}, the first {first} {plain_text(find_call(at.world, first))}'
+    return f'rank {first.rank} has lost {told}'
+
+
+def lost_by_lines(at, calls):
+    """What is told of some that are lost: a line for each rank and line, where the first of it stands."""
+    places = {}
+    for call_id in calls:
+        places.setdefault(place_of(at, call_id), []).append(call_id)
+    return [lost_line(at, found) for found in places.values()]
 
 
 def lost_lines(at, number):
-    """The requests of a rank that are lost, each in a line."""
-    return [lost_line(at, call_id) for call_id in lost_calls(at.world, number)]
+    """The requests of a rank that are lost, by lines."""
+    return lost_by_lines(at, lost_calls(at.world, number))
 
 
 # ---- what happens on the way
@@ -254,9 +272,10 @@ def print_lines(before, world):
 
 
 def newly_lost_lines(before, at):
-    """The requests that are lost, and weren't in a world that was before."""
-    found = [call_id for number in range(len(before.ranks)) for call_id in lost_calls(at.world, number) if call_id not in lost_calls(before, number)]
-    return [lost_line(at, call_id) for call_id in found]
+    """The requests that are lost, of lines of which a rank had lost none in a world that was before."""
+    ranks = range(len(before.ranks))
+    told = {place_of(at, call_id) for number in ranks for call_id in lost_calls(before, number)}
+    return lost_by_lines(at, [call_id for number in ranks for call_id in lost_calls(at.world, number) if place_of(at, call_id) not in told])
 
 
 # ---- ranks and calls

@@ -66,13 +66,13 @@ def received(statement, blocks, view):
 def issued(rank, statement, view):
     """The rank behind a statement that makes a call."""
     if isinstance(statement, Barrier):
-        return rank._replace(calls=rank.calls + (BarrierCall(),), mode='blocked')
+        return rank._replace(calls=rank.calls + (BarrierCall(line=statement.line),), mode='blocked')
     if isinstance(statement, WaitAny):
         return rank._replace(calls=rank.calls + (waited_for_any(statement, rank, view),), mode='blocked')
     handle = None if statement.handle is None else cell_of(statement.handle, view)
     number = len(rank.calls)
     if isinstance(statement, Wait):
-        return rank._replace(calls=rank.calls + (WaitCall(handle, rank.handles[handle]),), mode='blocked')
+        return rank._replace(calls=rank.calls + (WaitCall(handle, rank.handles[handle], statement.line),), mode='blocked')
     rank = rank._replace(calls=rank.calls + (called(statement, view),), free=rank.free + (number,))
     if handle is None:
         return rank._replace(mode='blocked')
@@ -83,7 +83,7 @@ def waited_for_any(statement, rank, view):
     """The call that a wait for any makes."""
     cell = cell_of(statement.place, view)
     handles = rank.handles[statement.first:statement.first + statement.count]
-    return WaitAnyCall(statement.first, statement.count, cell, any(handle is not None for handle in handles))
+    return WaitAnyCall(statement.first, statement.count, cell, any(handle is not None for handle in handles), statement.line)
 
 
 def written(cells, cell, value):
@@ -409,8 +409,8 @@ def blocked_calls(world):
 
 
 class Outcome(str):
-    """How a run ended, as it is told, and where the statements begin that trapped ranks stand at: an outcome is another one where these are
-    others, though it is told alike. A text alone is the same as one that is told so."""
+    """How a run ended, as it is told, and where the statements begin at which trapped ranks stand, or which issued the calls that it tells: an
+    outcome is another one where these are others, though it is told alike. A text alone is the same as one that is told so."""
 
     def __new__(cls, told, places=()):
         it = super().__new__(cls, told)
@@ -433,9 +433,14 @@ def outcome(world):
     if trapped:
         return Outcome(joined('trap', [f'{number} {rank.trap}' for number, rank in trapped]), tuple(rank.rest[0].line.place for _, rank in trapped))
     if blocked := blocked_calls(world):
-        return joined('deadlock', blocked)
+        return outcome_of('deadlock', world, blocked)
     free = [CallId(number, place) for number, rank in ranks for place in rank.free]
-    return joined('leftovers', free) if free else 'done'
+    return outcome_of('leftovers', world, free) if free else 'done'
+
+
+def outcome_of(word, world, calls):
+    """An outcome that tells calls."""
+    return Outcome(joined(word, calls), tuple(find_call(world, call_id).line.place for call_id in calls))
 
 
 def rank_state(rank):

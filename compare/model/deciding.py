@@ -23,8 +23,8 @@ from model.walks import CUT
 ENDS_WELL = 'done', 'leftovers'
 NOT_COUNTED = 'not all runs from there were counted'
 NOT_KNOWN = f'not known: {NOT_COUNTED}'
-FROM_START, NOT_DECIDED = 'decided from the start: no run ends well', 'not decided: some run still ends well'
-STILL_WELL = 'it can still end well'
+FROM_START, NOT_DECIDED = 'decided from the start: every run hangs or traps', 'not decided: not every run hangs or traps'
+STILL_WELL = 'it need not hang or trap'
 
 
 # ---- what is ahead of a state

@@ -14,7 +14,7 @@ from typing import NamedTuple, Optional
 
 from model import explaining, explorer, outcomes, sampler, states
 from model.console_lines import all_folded
-from model.debugger import BAD_FILE, BAD_MODE, RENDEZVOUS, Debugger, Result, blocked_calls, refusal
+from model.debugger import BAD_FILE, BAD_MODE, RENDEZVOUS, Debugger, Result, blocked_calls, last_call, refusal
 from model.explorer import NOT_WHOLE
 from model.files import held
 from model.language import Fault
@@ -27,9 +27,13 @@ from model.walks import CUT, Leaf, Run
 
 # The kinds of ends that are told, and how it is told where one stands.
 HANG, TRAP, LEFT = 'deadlock', 'trap', 'leftovers'
-STANDS = {HANG: 'deadlock at', TRAP: 'trap at', LEFT: 'left over from'}
+STANDS = {HANG: 'deadlock at', TRAP: 'trap at', LEFT: 'left over from', CUT: 'cut at'}
+# A run of more steps has no picture.
+PICTURED_STEPS = 1000
 NEVER, TAKEN, NOT_FOUND = 'it never hangs or traps in', 'whatever is taken first', 'no hang and no trap was found in'
 LEAVES, UNTRIED, AT_RANDOM = 'it can end with calls left over', 'not everything was tried', 'drawn at random'
+# What stands behind how many runs end in a way, where one of them is told.
+OF_ONE = ', one of them:'
 # What pictures are called of runs that were found, and of those that were drawn.
 RUN, OF_DRAWN = 'run', 'drawn'
 # What is told behind the step that decided.
@@ -137,10 +141,21 @@ class End(NamedTuple):
         return word_of(self.leaf.outcome)
 
 
+def standing_line(at, number):
+    """The line where a rank stands: that of the call that it is blocked in, or else of its next statement; None where it has ended."""
+    rank = at.world.ranks[number]
+    if rank.mode == 'blocked':
+        return at.lines[last_call(at.world, number)]
+    return explaining.next_line(rank) if rank.rest is not None else None
+
+
 def places(at, kind):
-    """The line of each rank that is trapped, of each call that a rank is blocked in, or of each that is left over."""
+    """The line of each rank that is trapped, of each that hasn't ended where a run is cut, of each call that a rank is blocked in, or of each that is
+    left over."""
     if kind == TRAP:
         return [explaining.next_line(rank) for rank in at.world.ranks if rank.mode == 'trapped']
+    if kind == CUT:
+        return [line for number in range(len(at.world.ranks)) if (line := standing_line(at, number)) is not None]
     return [at.lines[call_id] for call_id in (blocked_calls(at.world) if kind == HANG else explaining.all_free(at.world))]
 
 
@@ -165,7 +180,7 @@ def bug_of(end):
 
 def is_left(ends):
     """Whether ends that are told together are neither deadlocks nor traps."""
-    return ends[0].kind == LEFT
+    return ends[0].kind in (LEFT, CUT)
 
 
 def bugs_of(ends):
@@ -226,9 +241,18 @@ def always(found, kind):
     return is_whole(found) and {word_of(outcome) for outcome in found.ways} == {kind}
 
 
+def fails_both(found):
+    """Whether every run hangs or traps, and some do each."""
+    return is_whole(found) and {word_of(outcome) for outcome in found.ways} == {HANG, TRAP}
+
+
 def bad_lines(asked, found):
     """How many runs hang, and how many trap."""
     runs = several(outcomes.total(found), 'run')
+    if fails_both(found):
+        hang, trap = runs_of(found, HANG), runs_of(found, TRAP)
+        yield f'it always fails in {mode_of(asked)}: it hangs in {of_runs(hang, found)} and traps in {count_text(trap)}'
+        return
     for kind, word in ((HANG, 'hang'), (TRAP, 'trap')):
         if always(found, kind):
             yield f'it always {word}s in {mode_of(asked)} ({runs})'
@@ -253,7 +277,7 @@ def verdict_lines(asked, search, found):
     if left:
         yield f'{LEAVES}: {of_runs(left, found)}'
     if cut:
-        yield f'{UNTRIED}: {of_runs(cut, found)} were cut after {asked.limits.fuel} steps'
+        yield f'{UNTRIED}: {of_runs(cut, found)} {"was" if cut == 1 else "were"} cut after {asked.limits.fuel} steps'
     if found.more:
         yield f'{UNTRIED}: there are more runs than these'
 
@@ -264,8 +288,8 @@ def others(asked):
 
 
 def modes_in_turn(asked):
-    """The command that tries the modes in turn."""
-    return f'  ./mpdbg check {script_of(asked)} --modes 4 --outcomes'
+    """The command that diagnoses the modes in turn."""
+    return f'  ./mpdbg diagnose {script_of(asked)} --modes 4'
 
 
 def tried_next(asked, found):
@@ -304,13 +328,19 @@ def heading(ends, found):
     """What is told of ends that are told together: their kind, where they stand, and how many runs end so."""
     lines = ends[0].lines
     where = f'line{"s" if len(lines) > 1 else ""} {", ".join(map(str, lines))}'
-    return f'{STANDS[ends[0].kind]} {where}: {of_runs(sum(end.runs for end in ends), found)}'
+    runs = sum(end.runs for end in ends)
+    return f'{STANDS[ends[0].kind]} {where}: {of_runs(runs, found)}{"" if runs == 1 else OF_ONE}'
+
+
+def is_pictured(leaf):
+    """Whether a picture of a run is named."""
+    return len(leaf.steps) <= PICTURED_STEPS
 
 
 def commands(asked, leaf, picture):
-    """The commands that debug a run, and draw it to a file."""
+    """The commands that debug a run, and draw it to a file, if it is drawn."""
     run = f"{file_of(asked)} --ends --choices '{' '.join(map(str, leaf.choices))}'"
-    return [f'  ./mpdbg debug {run}', f'  ./mpdbg picture {run} > {picture}']
+    return [f'  ./mpdbg debug {run}', *[f'  ./mpdbg picture {run} > {picture}'] * is_pictured(leaf)]
 
 
 def bug_lines(asked, ends, found, picture):

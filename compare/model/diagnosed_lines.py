@@ -15,11 +15,11 @@ RUNS = f'{COUNT} (runs?)'
 RENDEZVOUS = 'rendezvous'
 # What becomes of the runs in a mode, in the order of the lines.
 VERDICT = (
-    ('hang', f'it can hang: {COUNT} of {RUNS}'), ('always hangs', rf'it always hangs in MODE \({RUNS}\)'),
+    ('both', f'it always fails in MODE: it hangs in {COUNT} of {RUNS} and traps in {COUNT}'), ('hang', f'it can hang: {COUNT} of {RUNS}'), ('always hangs', rf'it always hangs in MODE \({RUNS}\)'),
     ('trap', f'it can trap: {COUNT} of {RUNS}'), ('always traps', rf'it always traps in MODE \({RUNS}\)'),
     ('never', rf'it never hangs or traps in MODE, whatever is taken first \({RUNS}, ([0-9]+) (states?)\)'),
     ('none found', f'no hang and no trap was found in {RUNS} in MODE'), ('left', f'it can end with calls left over: {COUNT} of {RUNS}'),
-    ('cut', f'not everything was tried: {COUNT} of {RUNS} were cut after 100000 steps'),
+    ('cut', f'not everything was tried: {COUNT} of {RUNS} (?:was|were) cut after 100000 steps'),
     ('more', 'not everything was tried: there are more runs than these'))
 ALWAYS = {'always hangs': 'hang', 'always traps': 'trap'}
 # What becomes of runs that are drawn, in the order of the lines.
@@ -27,8 +27,9 @@ AT_RANDOM = 'drawn at random: '
 DRAWN = tuple((name, re.compile(f'{AT_RANDOM}{line}')) for name, line in (
     ('hang', f'{COUNT} of {RUNS} hang'), ('trap', f'{COUNT} of {RUNS} trap'), ('none drawn', f'none of {RUNS} hangs or traps'),
     ('left', f'{COUNT} of {RUNS} end with calls left over')))
-HEADING = re.compile(f'(deadlock at|trap at|left over from) (lines?) ([0-9]+(?:, [0-9]+)*): {COUNT} of {RUNS}')
-KINDS = {'deadlock at': 'hang', 'trap at': 'trap', 'left over from': 'left'}
+HEADING = re.compile(f'(deadlock at|trap at|left over from|cut at) (lines?) ([0-9]+(?:, [0-9]+)*): {COUNT} of {RUNS}(, one of them:)?')
+KINDS = {'deadlock at': 'hang', 'trap at': 'trap', 'left over from': 'left', 'cut at': 'cut'}
+WERE_CUT = re.compile('.*: ([0-9]+) of .* (was|were) cut after [0-9]+ steps')
 # What tells the step that decided, and what must follow it.
 DECIDED_AT, HINT = re.compile('  decided at depth [0-9]+: .'), '  at the prompt of `debug`, `blame` goes to this step and `redo all` to the end'
 CHOICES = re.compile('(?:[0-9]+(?: [0-9]+)*)?')
@@ -50,13 +51,14 @@ class Named(NamedTuple):
 
 class Bug(NamedTuple):
     """Ends that are told together: their kind and lines, how many runs end so, the lines that explain one of them, that which tells what decided
-    (None where none does), and the choices of the run that is shown."""
+    (None where none does), the choices of the run that is shown, and whether its picture is named."""
     kind: str
     lines: tuple
     runs: int
     explained: tuple
     decided: Optional[str]
     choices: tuple
+    pictured: bool
 
 
 class Drawn(NamedTuple):
@@ -127,6 +129,13 @@ def verdict_of(lines, patterns):
         name, told = next(((name, told) for name, pattern in names if (told := pattern.fullmatch(line))), (None, None))
         must_be(name is not None, f'a line that is none, or stands too late: {line!r}')
         found[name] = told.groups()
+        cut = WERE_CUT.fullmatch(line)
+        must_be(cut is None or (cut[1] == '1') == (cut[2] == 'was'), line)
+    if 'both' in found:
+        must_be(not {'hang', 'trap'} & set(found), f'{sorted(found)} is told of what always is so')
+        hang, runs, word, trap = found['both']
+        must_be(count_of(hang) + count_of(trap) == count_of(runs) or count_of(runs) > MOST_COUNTED, f'{hang} and {trap} of {runs} runs')
+        found['hang'], found['trap'] = (hang, runs, word), (trap, runs, word)
     return found
 
 
@@ -142,6 +151,8 @@ def counts_in(verdict):
     must_be(not set(ALWAYS) & set(verdict) or set(verdict) < set(ALWAYS), f'{sorted(verdict)} is told of what always is so')
     can = [kind for kind in ('hang', 'trap') if kind in verdict and counts[kind] == told[0] <= MOST_COUNTED]
     must_be(not can or 'more' in verdict, f'{can} is told of every run')
+    is_both = counts['hang'] and counts['trap'] and not {'left', 'cut', 'more'} & set(verdict) and counts['hang'] + counts['trap'] == told[0]
+    must_be(('both' in verdict) == bool(is_both) or told[0] > MOST_COUNTED, f'{sorted(verdict)} is told of {counts} of {told[0]} runs')
     is_bad, is_part = counts['hang'] or counts['trap'], counts['cut'] or 'more' in verdict
     wanted = set() if is_bad else {'none found' if is_part else 'never'}
     must_be({'never', 'none found'} & set(verdict) == wanted, f'{sorted(verdict)} is told')
@@ -181,34 +192,41 @@ def choices_in(line, named, front, behind):
 def bug_in(lines, named, runs, picture):
     """A bug, by its lines, and the file of its picture."""
     told = HEADING.fullmatch(lines[0])
-    must_be(told is not None and len(lines) > 3, f'ends are told by {lines[:4]}')
+    must_be(told is not None and len(lines) > 1 + (told[1] != 'cut at'), f'ends are told by {lines[:4]}')
+    must_be((told[4] == '1') == (told[7] is None), f'{told[0]!r} of one run or several')
     kind, places = KINDS[told[1]], tuple(map(int, told[3].split(', ')))
     must_be(places == tuple(sorted(set(places))) and (told[2] == 'line') == (len(places) == 1), f'{told[2]} {places}')
     must_be(runs_in(told[5], told[6]) == runs, f'{told[0]} of {runs} runs')
+    first = next((place for place, line in enumerate(lines) if line.startswith(COMMAND)), len(lines))
+    must_be(len(lines) - first in (1, 2), f'{lines[first:]} are no commands')
+    must_be((first > 1) == (told[1] != 'cut at'), f'{lines[1:first]} explain {told[0]!r}')
     choices = [choices_in(line, named, f"{COMMAND}{word} {named.words()} --ends --choices '", behind)
-               for line, word, behind in zip(lines[-2:], ('debug', 'picture'), ("'", f"' > {picture}"))]
-    must_be(choices[0] == choices[1], f'commands of two runs, {choices}')
-    explained, decided = lines[1:-2], None
+               for line, word, behind in zip(lines[first:], ('debug', 'picture'), ("'", f"' > {picture}"))]
+    must_be(choices[0] == choices[-1], f'commands of two runs, {choices}')
+    explained, decided = lines[1:first], None
     must_be((HINT in explained) == any(map(DECIDED_AT.match, explained)), f'what to type is told by {explained}')
     if HINT in explained:
         *explained, hint = explained
         must_be(hint == HINT, f'{hint!r} stands behind what to type')
+    if kind == 'cut':
+        must_be(not explained, f'{explained} explains a run that is cut')
+        return Bug(kind, places, count_of(told[4]), (), None, choices[0], len(choices) == 2)
     if kind != 'left':
         *explained, decided = explained
         must_be(decided.startswith('  decided '), f'what decided is {decided!r}')
     stands = {int(place[1]) for line in explained if (place := PLACES[kind].match(line))}
     must_be(stands == set(places), f'it stands at {sorted(stands)}, and not {places}')
-    return Bug(kind, places, count_of(told[4]), tuple(explained), decided, choices[0])
+    return Bug(kind, places, count_of(told[4]), tuple(explained), decided, choices[0], len(choices) == 2)
 
 
 def bugs_in(blocks_of_bugs, named, counts, runs, picture):
     """The bugs of some blocks, each another, which add up to how many runs become what; those that hang or trap come first, and each has a picture."""
     numbers = [''] if len(blocks_of_bugs) == 1 else [f'-{place}' for place in range(1, len(blocks_of_bugs) + 1)]
     bugs = tuple(bug_in(lines, named, runs, f'{picture}{number}.svg') for lines, number in zip(blocks_of_bugs, numbers))
-    left = [bug.kind == 'left' for bug in bugs]
+    left = [bug.kind in ('left', 'cut') for bug in bugs]
     must_be(left == sorted(left), 'what is left over comes before what hangs or traps')
     must_be(len({(bug.kind, bug.lines) for bug in bugs}) == len(bugs), 'a bug twice')
-    for kind in ('hang', 'trap', 'left'):
+    for kind in counts:
         there = sum(bug.runs for bug in bugs if bug.kind == kind)
         must_be(there == counts[kind] or there > MOST_COUNTED < counts[kind], f'{there} runs of {kind}, and not {counts[kind]}')
     return bugs
@@ -217,7 +235,7 @@ def bugs_in(blocks_of_bugs, named, counts, runs, picture):
 def told_and_next(lines, patterns, named):
     """What is told by the lines of a verdict, and the command that is tried next, which stands behind them: None, `others` or `modes`."""
     known = {f'{COMMAND}check {named.words()} --sample 65536 --group --explain': 'others',
-             f'{COMMAND}check {named.script} --modes 4 --outcomes': 'modes'}
+             f'{COMMAND}diagnose {named.script} --modes 4': 'modes'}
     command = known.get(lines[-1])
     must_be(command is None or names_file(lines[-1], named.file), f'{lines[-1]!r} is not of the file {named.file!r}')
     return verdict_of(lines[:-1] if command else lines, patterns), command

@@ -13,8 +13,10 @@ from model.worlds import CallId, Pair
 NEAREST, TAKEN, CYCLE = 'nearest miss', 'the last that fits is taken', 'a cycle, where each waits for the next'
 # So many cells of an array are shown in short.
 SHOWN = 16
-# What may differ of a send and a receive, that which is nearest first.
+# What may differ of a send and a receive.
 DIFFERENCES = TAG, SOURCE, DESTINATION = 'tag', 'source', 'destination'
+# The same for each of the two that looks for the other, that which is nearest first: calls of the rank that it waits for come before others.
+NEARER = {'send': (TAG, SOURCE, DESTINATION), 'recv': (TAG, DESTINATION, SOURCE)}
 
 
 class Reached(NamedTuple):
@@ -71,7 +73,9 @@ def wish(at, call_id):
     if call.kind == 'recv':
         source = 'any rank' if call.other is None else f'rank {call.other}'
         return f'for a send of {source} with {"any tag" if call.tag is None else f"tag {call.tag}"}'
-    return {'wait': 'for this request', 'waitany': 'for one of these requests', 'barrier': 'for all ranks at a barrier'}[call.kind]
+    if call.kind == 'wait':
+        return 'for no request' if call.target is None else f'for request {CallId(call_id.rank, call.target)}'
+    return {'waitany': 'for one of these requests', 'barrier': 'for all ranks at a barrier'}[call.kind]
 
 
 def wishing(at, call_id):
@@ -105,9 +109,16 @@ def near_misses(world, call_id):
             yield other, differs[0]
 
 
+def is_due(world, call_id):
+    """Whether a free call is buffered, or its rank waits for it now: in the call itself, or in a wait that is for it."""
+    call = find_call(world, call_id)
+    return call.blocks or call.buffered or world.ranks[call_id.rank].mode == 'blocked' and call_id in requests(world, call_id.rank)
+
+
 def nearest_miss(world, call_id):
-    """The first free call that differs in its tag alone, else in the source, else in the destination; None where there is none."""
-    return min(near_misses(world, call_id), key=lambda found: DIFFERENCES.index(found[1]), default=None)
+    """The near miss that is due where one is, by what differs, by rank and number; None where there is none."""
+    nearer = NEARER[find_call(world, call_id).kind]
+    return min(near_misses(world, call_id), key=lambda found: (not is_due(world, found[0]), nearer.index(found[1])), default=None)
 
 
 def pairs_taken(world, call_id):
@@ -202,7 +213,8 @@ def rank_text(world, number):
 
 def whom_line(world, number):
     ranks = [rank_text(world, other) for other in waited_for(world, number)]
-    return f'  rank {number} waits for {", ".join(ranks) or "nobody"}'
+    wanted = 'all' if is_at_barrier(world.ranks[number]) else 'any'
+    return f'  rank {number} waits for {f"{wanted} of " * (len(ranks) > 1)}{", ".join(ranks) or "nobody"}'
 
 
 # ---- cycles

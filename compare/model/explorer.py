@@ -1,4 +1,4 @@
-"""The explorer, in the model: the report of the leaves that runs come to, by pieces, and witnesses of deadlocks.
+"""The explorer, in the model: the report of the leaves that runs come to, by pieces, and witnesses of deadlocks and traps.
 
 Runs go along decisions (walks.py), and where each end is asked for once along the wide walk with sleep sets (wide.py).
 compare/rows/worked_explorer.py, compare/rows/worked_pieces.py, compare/rows/worked_ends.py and compare/rows/worked_explained.py have rows of it,
@@ -90,14 +90,24 @@ def report(script, mode, runs, fuel):
 
 
 class Witness(NamedTuple):
-    """The steps from the start to a deadlock, and the calls that are blocked there."""
+    """The steps from the start to a deadlock, and the calls that are blocked there; or to a trap, and the ranks that trap, each with its
+    trap, as `0 assert`."""
     steps: tuple
     blocked: tuple
+    word: str = 'deadlock'
+
+
+def traps_of(outcome_text):
+    """The ranks that trap, each with its trap, of an outcome's text."""
+    words = outcome_text.split()[1:]
+    return tuple(f'{rank} {name}' for rank, name in zip(words[::2], words[1::2]))
 
 
 def witness(leaf):
-    """The witness of a leaf; None where that is no deadlock."""
+    """The witness of a leaf; None where that is neither a deadlock nor a trap."""
     word, *calls = leaf.outcome.split()
+    if word == 'trap':
+        return Witness(leaf.steps, traps_of(leaf.outcome), word)
     return Witness(leaf.steps, tuple(call_id_of(call.encode()) for call in calls)) if word == 'deadlock' else None
 
 
@@ -107,8 +117,9 @@ class Refusal(NamedTuple):
     place: Optional[int] = None
 
 
-def verify(script, mode, steps, blocked):
-    """Why steps and blocked calls are no witness: the first step that isn't enabled, an end that is no deadlock, or other calls.
+def verify(script, mode, steps, blocked, word='deadlock'):
+    """Why steps and blocked calls, or trapped ranks, are no witness: the first step that isn't enabled, an end that isn't the deadlock or the
+    trap that is told, or other calls or ranks.
 
     None where they are one.
     """
@@ -117,9 +128,10 @@ def verify(script, mode, steps, blocked):
         world = next_world(world, step)
         if world is None:
             return Refusal(NO_SUCH_STEP, place)
-    if enabled_steps(world) or not outcome(world).startswith('deadlock'):
+    if enabled_steps(world) or outcome(world).split()[0] != word:
         return Refusal(NOT_STUCK)
-    return None if tuple(blocked) == blocked_calls(world) else Refusal(WRONG_BLOCKED)
+    told = traps_of(outcome(world)) if word == 'trap' else blocked_calls(world)
+    return None if tuple(blocked) == told else Refusal(WRONG_BLOCKED)
 
 
 def leaf_lines(number, leaf, witnesses):

@@ -19,7 +19,7 @@ class Read(NamedTuple):
 
 
 class ReadOutcome(NamedTuple):
-    """An outcome as it is told. Those that trap at different statements may be told alike."""
+    """An outcome as it is told. Those of different statements may be told alike."""
     told: str
     way: Way
 

@@ -1,5 +1,5 @@
-"""The text of a script for another number of ranks (docs/LANGUAGE.md, "Another number of ranks"), and what `diagnose` says of several numbers
-(docs/FORMATS.md, "Several numbers of ranks").
+"""The text of a script for another number of ranks (docs/LANGUAGE.md, "Another number of ranks"), and what `diagnose` says of several numbers, and of
+several modes (docs/FORMATS.md, "Several numbers of ranks", "Several modes").
 
 compare/runs/ranked.py compares a program with it.
 """
@@ -7,7 +7,7 @@ compare/runs/ranked.py compares a program with it.
 import re
 
 from model.console_lines import folded
-from model.debugger import RENDEZVOUS
+from model.debugger import BUFFERED, RENDEZVOUS
 from model.language import Fault, Tokens, read_script
 
 MOST_RANKS = 16
@@ -53,7 +53,7 @@ OPENING = {
     'trap': (rf'it always traps in \S+ \({COUNT} runs?\)', rf'it can trap: {COUNT} of {COUNT} runs?'),
     'none': (rf'it never hangs or traps in \S+, whatever is taken first \({COUNT} runs?, \d+ states?\)', rf'no hang and no trap was found in {COUNT} runs? in \S+'),
     'left': (rf'it can end with calls left over: {COUNT} of {COUNT} runs?',),
-    'cut': (rf'not everything was tried: {COUNT} of {COUNT} runs? were cut after \d+ steps',)}
+    'cut': (rf'not everything was tried: {COUNT} of {COUNT} runs? (?:was|were) cut after \d+ steps',)}
 DRAWN = {
     'hang': (rf'drawn at random: {COUNT} of {COUNT} runs? hang',), 'trap': (rf'drawn at random: {COUNT} of {COUNT} runs? trap',),
     'none': (rf'drawn at random: none of {COUNT} runs? hangs or traps',), 'left': (rf'drawn at random: {COUNT} of {COUNT} runs? end with calls left over',)}
@@ -61,9 +61,14 @@ MORE = 'not everything was tried: there are more runs than these'
 IN_SHORT = {'hang': '{} hang', 'trap': '{} trap', 'none': 'none hangs or traps', 'left': '{} with calls left over', 'cut': '{} cut'}
 
 
+# Where every run fails one line tells what else two tell.
+BOTH = re.compile(rf'it always fails in \S+: it hangs in ({COUNT} of ({COUNT} runs?)) and traps in {COUNT}')
+
+
 def unfolded(text):
-    """A text whose long lines go on in no further lines."""
-    return re.sub(r'\n {8}(?=\S)', ' ', text)
+    """A text whose long lines go on in no further lines, with a line each for how many runs hang and trap."""
+    lines = re.sub(r'\n {8}(?=\S)', ' ', text)
+    return BOTH.sub(r'it can hang: \1\nit can trap: \5 of \3', lines)
 
 
 def counts_in(lines, forms):
@@ -79,12 +84,17 @@ def ways_in(lines, forms, more=''):
     return ', '.join([f'{total} run{"" if total == "1" else "s"}{more}', *(IN_SHORT[name].format(count) for name, (count, _) in counts.items())])
 
 
-def in_short(number, text, mode):
-    """The lines that tell of a number of ranks what becomes of its runs, by what the diagnosis of it says."""
+def brief(head, text, place):
+    """The lines that tell in short what becomes of runs, by what their diagnosis says, with what stands before that and behind how many there are."""
     opening, *others = [part.splitlines() for part in unfolded(text).split('\n\n')]
     drawn = [part for part in others if part[0].startswith('drawn at random: ')]
-    told = [ways_in(opening, OPENING, ' and more' * (MORE in opening) + f' in {mode}'), *(f'drawn at random: {ways_in(part, DRAWN)}' for part in drawn)]
-    return ''.join(f'{line}\n' for line in folded(heading(number) + '; '.join(told)))
+    told = [ways_in(opening, OPENING, ' and more' * (MORE in opening) + place), *(f'drawn at random: {ways_in(part, DRAWN)}' for part in drawn)]
+    return ''.join(f'{line}\n' for line in folded(head + '; '.join(told)))
+
+
+def in_short(number, text, mode):
+    """The lines that tell of a number of ranks what becomes of its runs."""
+    return brief(heading(number), text, f' in {mode}')
 
 
 def several(numbers, answers, command, mode=RENDEZVOUS):
@@ -94,3 +104,30 @@ def several(numbers, answers, command, mode=RENDEZVOUS):
     statuses = [answer.status for answer in answers]
     more = [f'\n  {command(bad[0])}\n'.encode()] if bad else []
     return b''.join(lines + more), next((status for status in (1, 4) if status in statuses), 0)
+
+
+# ---- several modes
+
+ALL_GOOD = 'no run hangs or traps in any of these modes'
+NOT_ALL = 'no hang and no trap was found, but not everything was tried in'
+
+
+def modes_up_to(most):
+    """The modes that are tried up to so many slots."""
+    return [RENDEZVOUS, *(f'slots:{slots}' for slots in range(1, most + 1)), BUFFERED]
+
+
+def mode_in_short(mode, text):
+    """The lines that tell of a mode what becomes of the runs."""
+    return brief(f'{mode}: ', text, '')
+
+
+def in_modes(modes, answers, command):
+    """What is said of several modes, and the status, by what is answered in each; `command` tells how more is seen of one."""
+    lines = [mode_in_short(mode, answer.output.decode()) for mode, answer in zip(modes, answers)]
+    bad, part = ([mode for mode, answer in zip(modes, answers) if answer.status == status] for status in (1, 4))
+    if bad:
+        told = [f'  {command(bad[0])}']
+    else:
+        told = [f'{NOT_ALL} {part[0]}', f'  {command(part[0])}'] if part else [ALL_GOOD]
+    return ''.join([*lines, '\n', *(f'{line}\n' for line in told)]).encode(), 1 if bad else 4 if part else 0

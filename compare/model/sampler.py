@@ -7,7 +7,7 @@ word says whether its further digits carry.
 
 from itertools import islice
 
-from model.explorer import Report, is_bad
+from model.explorer import Report, is_bad, up_to_bad
 from model.walks import Leaf, Run, ending, listed, taken
 from model.wide import followed, wide_walk
 
@@ -60,7 +60,8 @@ def drawn(world, fuel, numbers):
 
 
 def sampled(walked, runs, fuel, seed, until_bad=False):
-    """The report of so many runs that are drawn from where a debugger is: each different one once, in the order of their choices."""
+    """The report of so many runs that are drawn from where a debugger is: each different one once, in the order of their choices. Where that
+    is asked for, the drawing ends with the first deadlock or trap, and so does the report."""
     numbers = words(seed)
     found = {}
     for _ in range(runs):
@@ -70,4 +71,5 @@ def sampled(walked, runs, fuel, seed, until_bad=False):
             break
     before = tuple(walked.steps[:walked.depth])
     leaves = tuple(leaf._replace(steps=before + leaf.steps) for _, leaf in sorted(found.items()))
-    return Report(leaves, len(list(islice(wide_walk(walked.world, fuel), len(leaves) + 1))) > len(leaves))
+    report = Report(leaves, len(list(islice(wide_walk(walked.world, fuel), len(leaves) + 1))) > len(leaves))
+    return up_to_bad(report) if until_bad else report

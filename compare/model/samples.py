@@ -10,7 +10,7 @@ from typing import NamedTuple, Optional
 
 from model import explorer
 from model.debugger import RENDEZVOUS, Result
-from model.explorer import USUAL, Report, is_bad, report_text, status_of
+from model.explorer import USUAL, Report, is_bad, report_text, status_of, up_to_bad
 from model.files import held
 from model.report_lines import NoReport, must_be, read_report
 from model.run_words import BadChoices, run_by
@@ -98,7 +98,8 @@ def sampled(asked):
     """The report of runs that are drawn."""
     begun, seed = asked.begun(), asked.seed or 0
     leaves = in_order(runs_drawn(begun, asked.count, generator(seed), asked.until))
-    return Report(leaves, not is_all(begun, leaves))
+    found = Report(leaves, not is_all(begun, leaves))
+    return up_to_bad(found) if asked.until else found
 
 
 def answer(asked):
@@ -132,7 +133,7 @@ def told_in(asked, result):
     wrong = next((what for leaf in told.leaves if (what := leaf_wrong(asked, begun, leaf)) is not None), None)
     must_be(wrong is None, wrong)
     must_be(told.more != is_all(begun, told.leaves), f'more {"yes" if told.more else "no"}, and {len(told.leaves)} leaves are listed')
-    must_be(not asked.until or sum(map(is_bad, told.leaves)) <= 1, 'several deadlocks or traps, though it ends behind the first')
+    must_be(not asked.until or not any(map(is_bad, told.leaves[:-1])), 'it does not end with its first deadlock or trap')
     status = status_by(asked, Report(told.leaves, told.more))
     must_be(result.status == status, f'status {result.status}, wanted {status}')
     return told
@@ -161,8 +162,10 @@ def until_wrong(asked, base, said):
     """What is wrong with a report up to the first deadlock that is drawn, beside the one that goes on; None where nothing is."""
     other = asked._replace(until=True)
     told = told_in(other, said(other))
-    wanted = first_bad(asked, said) if any(map(is_bad, base.leaves)) else base
-    return None if leaves_of(told) == leaves_of(wanted) and told.more == wanted.more else 'it does not end behind the first deadlock that is drawn'
+    if not any(map(is_bad, base.leaves)):
+        return None if leaves_of(told) == leaves_of(base) and told.more == base.more else 'it ends early, and there is no deadlock or trap'
+    wanted = up_to_bad(first_bad(asked, said))
+    return None if leaves_of(told) == leaves_of(wanted) and told.more == wanted.more else 'it does not end with the first deadlock that is drawn'
 
 
 def grouped(told, asked):

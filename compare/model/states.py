@@ -92,12 +92,17 @@ def call_count(rank):
 
 def asked_by_call(call):
     """What a call asks for, and not where it stands in the script."""
-    return call._replace(line=0) if call.kind in ('send', 'recv') else call
+    return call._replace(line=0)
+
+
+def place_of(call):
+    """Where the statement begins that issued a call, which an end tells."""
+    return call.line.place
 
 
 def free(rank):
-    """What the calls of a rank ask for that are free."""
-    return tuple((number, asked_by_call(rank.calls[number])) for number in rank.free)
+    """What the calls of a rank ask for that are free, and where they were issued."""
+    return tuple((number, place_of(rank.calls[number]), asked_by_call(rank.calls[number])) for number in rank.free)
 
 
 def will_write(world, call_id):
@@ -117,13 +122,13 @@ def requests(world, number):
 
 
 def blocked_on(world, number):
-    """What is told of the call on which a rank is blocked, and of that which it waits for."""
+    """Where the call was issued on which a rank is blocked, what is told of it, and of that which it waits for."""
     rank = world.ranks[number]
     if rank.mode != 'blocked':
         return ()
     targets = [rank.calls[-1].target] if rank.calls[-1].kind == 'wait' else []
     calls = [last_call(world, number), *(CallId(number, target) for target in targets if target is not None)]
-    return tuple(waited_for(world, call_id) for call_id in calls)
+    return place_of(rank.calls[-1]), tuple(waited_for(world, call_id) for call_id in calls)
 
 
 def rank_key(world, number):

@@ -26,6 +26,9 @@ CALL = rb'[0-9]{1,9}\.[0-9]{1,9}'
 STEP = rb'[ \t]*(?:(?:local|wake)[ \t]+[0-9]{1,9}|wakeany[ \t]+[0-9]{1,9}[ \t]+[0-9]{1,9}|match[ \t]+%b[ \t]+%b|release)[ \t]*' % (CALL, CALL)
 # Words with a space behind each, none of which is `deadlock`; this word; the calls, each behind a space.
 FIRST_LINE = re.compile(rb'(?:(?!deadlock )[^ ]* )*deadlock((?: %b)+)' % CALL)
+# The same of a trap, where no word is `deadlock`: ranks, each with its trap.
+TRAP = rb'[0-9]{1,9} (?:overflow|zero-divisor|bad-rank|bad-tag|bad-index|assert)'
+TRAP_LINE = re.compile(rb'(?:(?!trap )[^ ]* )*trap((?: %b)+)' % TRAP)
 # All up to the first colon, or nothing; the steps, with a comma between two.
 SECOND_LINE = re.compile(rb'(?:[^:]*:)?(%b(?:,%b)*)' % (STEP, STEP))
 # Empty lines alone.
@@ -52,15 +55,25 @@ def lines_of(text):
     return first.removesuffix(b'\r'), second.removesuffix(b'\r'), rest
 
 
+def end_of(line):
+    """What a line says that the steps lead to: the calls that are blocked, or the ranks that trap, and the word of that; None where it says
+    neither."""
+    if b'deadlock' not in line.split(b' '):
+        ranks = TRAP_LINE.fullmatch(line)
+        return ranks and (tuple(f'{int(rank)} {name.decode()}' for rank, name in map(bytes.split, re.findall(TRAP, ranks[1]))), 'trap')
+    calls = FIRST_LINE.fullmatch(line)
+    return calls and (tuple(map(call_id_of, re.findall(CALL, calls[1]))), 'deadlock')
+
+
 def witness_by(first, second):
     """The witness that two lines tell; raises which of them is wrong where they tell none."""
-    calls = FIRST_LINE.fullmatch(first)
-    if calls is None:
+    end = end_of(first)
+    if end is None:
         raise BadWitness(1)
     steps = SECOND_LINE.fullmatch(second)
     if steps is None:
         raise BadWitness(2)
-    return Witness(tuple(step_of(step.split()) for step in re.findall(STEP, steps[1])), tuple(map(call_id_of, re.findall(CALL, calls[1]))))
+    return Witness(tuple(step_of(step.split()) for step in re.findall(STEP, steps[1])), *end)
 
 
 def read_witness(text):
@@ -87,9 +100,9 @@ def is_passed_over(line):
 
 
 def is_witnessed(line, behind):
-    """Whether a line is that of a deadlock, and the line behind it that of its witness."""
+    """Whether a line is that of a deadlock or a trap, and the line behind it that of its witness."""
     leaf, found = LEAF_LINE.fullmatch(line), WITNESS_LINE.fullmatch(behind)
-    return leaf is not None and found is not None and int(leaf[1]) == int(found[1]) and FIRST_LINE.fullmatch(line) is not None
+    return leaf is not None and found is not None and int(leaf[1]) == int(found[1]) and end_of(line) is not None
 
 
 def witnesses_in(lines):
@@ -156,7 +169,7 @@ def verify(script, text, mode=RENDEZVOUS, leaf=None):
         found = witness_of(text, leaf)
     except BadWitness as bad:
         return Result(b'', BAD_REPORT if bad.line is None else b'mpdbg: bad witness line %d\n' % bad.line, 2)
-    return told(explorer.verify(read, mode, found.steps, found.blocked))
+    return told(explorer.verify(read, mode, *found))
 
 
 class Verification(NamedTuple):

@@ -17,7 +17,7 @@ class Call(NamedTuple):
 
     A send is standard or synchronous. Of a receive `other` is None where it takes messages of any source, `tag` where it takes
     them of any tag; `status` has the cells for the source and the tag of what it takes, where it has such cells. `line` is that of
-    the statement that made it. A send is `buffered` as it is issued or never, in every mode; that stays.
+    the statement that made it, as of every call. A send is `buffered` as it is issued or never, in every mode; that stays.
     """
     kind: str
     blocks: bool
@@ -35,6 +35,7 @@ class WaitCall(NamedTuple):
     """A wait made: the handle that it clears, and the number of the call that this handle had then, or None."""
     handle: int
     target: Optional[int]
+    line: int = 0
     kind = 'wait'
     blocks = True
 
@@ -46,12 +47,14 @@ class WaitAnyCall(NamedTuple):
     count: int
     cell: int
     active: bool
+    line: int = 0
     kind = 'waitany'
     blocks = True
 
 
 class BarrierCall(NamedTuple):
     """A barrier, at which its rank is until all ranks are at one."""
+    line: int = 0
     kind = 'barrier'
     blocks = True
 

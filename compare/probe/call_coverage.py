@@ -20,11 +20,11 @@ LEFT_OUT = {
     'mpd_policy': {
         **dict.fromkeys(('decisions_can_be_followed', 'wide_decisions_can_be_followed'), 'a law'), 'run_on': 'called by the request run-on',
         **dict.fromkeys(('only_step', 'sole'), BY_WORDS)},
-    'mpd_trail': {'state_is_reached': 'a law'}, 'mpd_model': {'lines_lose_nothing': 'a law'},
+    'mpd_trail': {'state_is_reached': 'a law'}, 'mpd_model': {'lines_lose_nothing': 'a law', 'ids': 'called by verify and witness_of'},
     'mpd_witness': dict.fromkeys(('written_witness_is_read', 'written_witness_of_a_leaf_is_read'), 'a law'),
     'mpd_c': {'text_ends_its_last_line': 'a law'},
     'mpd_walk': {'ending_of': 'called by explore', 'is_untaken': 'called by steps_by_choices'},
-    'mpd_explore': {'push_choices': 'called by check', 'witness_here': 'called by explore', 'ends_with': 'called by explore', 'ends_with_report': 'called by check'},
+    'mpd_explore': {'push_choices': 'called by check', 'witness_here': 'called by explore', 'ends_with': 'called by explore', 'ends_with_report': 'called by check', 'same_trap': 'takes no memory'},
     'mpd_blame': {'blame_lines': 'called by check_outcomes', 'line_of_leaf': 'called by blame_lines', **dict.fromkeys(('blame_run', 'push_blame'), BY_WORDS)},
     'mpd_outcomes': {'push_count': 'called by check', 'is_met': 'called by explore_outcomes'},
     'mpd_explain': {
@@ -33,10 +33,11 @@ LEFT_OUT = {
         **dict.fromkeys(('push_wish', 'push_helps', 'push_all_absent', 'push_told', 'requests'), BY_WORDS)},
     'mpd_session': dict.fromkeys(('debugger', 'breaks', 'lay'), BY_WORDS),
     'mpd_view': dict.fromkeys(('push_calls', 'push_enabled', 'push_history', 'push_queues', 'push_ranks', 'push_standing', 'push_step', 'push_step_line',
-                               'push_why', 'push_why_rank', 'push_why_ranks', 'push_words', 'push_lost', 'push_all_lost', 'push_lost_line',
+                               'push_why', 'push_why_rank', 'push_why_ranks', 'push_words', 'push_lost', 'push_all_lost', 'push_lost_told',
                                'lost_calls'), BY_WORDS),
     'mpd_moves': dict.fromkeys(('doing_of', 'goto_command', 'known_for', 'lead_of', 'lead_text', 'push_break_line', 'push_reply'), BY_WORDS),
-    'mpd_diagnose': dict.fromkeys(('ranks_command', 'ranks_line'), 'called by the program with --ranks'),
+    'mpd_diagnose': {**dict.fromkeys(('full_command', 'ranks_line'), 'called by the program with --ranks'),
+                     **dict.fromkeys(('closing_of', 'diagnose_mode', 'first_of', 'modes_up_to', 'worst_of'), 'called by the program with --modes')},
     'mpd_ranks': {'with_ranks': 'takes no memory', 'span_of': 'takes no memory', **dict.fromkeys(
         ('read_script_for', 'read_code_for', 'code_of_text', 'text_with_ranks'), 'called by the program with --ranks')},
     'mpd_fold': {'push_folded': BY_WORDS, **dict.fromkeys(('long_lines_keep_their_words', 'long_lines_can_nowhere_be_cut'), 'a law')},

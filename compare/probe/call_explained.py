@@ -38,13 +38,13 @@ OF_ALL_HANG = '''\
   rank 2 waits at line 4, 2.0 barrier: for all ranks at a barrier
     rank 0 is not there: it waits at line 2, 0.2 waitany 0 2
     rank 1 is not there: it waits at line 3, 1.0 send to 0 tag 5 value 7
-  rank 0 waits for rank 1, rank 2
+  rank 0 waits for any of rank 1, rank 2
   rank 1 waits for rank 0
-  rank 2 waits for rank 0, rank 1
+  rank 2 waits for all of rank 0, rank 1
 '''
 
 OF_A_WAIT = '''\
-  rank 0 waits at line 2, 0.1 wait 0: for this request
+  rank 0 waits at line 2, 0.1 wait 0: for request 0.0
     line 2, 0.0 irecv from 1 tag 2: for a send of rank 1 with tag 2
   rank 1 waits at line 3, 1.0 barrier: for all ranks at a barrier
     rank 0 is not there: it waits at line 2, 0.1 wait 0

@@ -79,7 +79,7 @@ def report_looks(row):
 
 
 def witness_text(found):
-    return steps_line('witness', found.steps) + numbered('blocked', found.blocked)
+    return steps_line('witness', found.steps) + numbered('blocked' if found.word == 'deadlock' else 'trapped', found.blocked)
 
 
 def witness_made(row):
@@ -91,7 +91,7 @@ def witness_made(row):
 
 def verdict_text(row):
     told = witness.read_witness(row.argument.encode())
-    return witness.told(explorer.verify(row.read(), row.mode, told.steps, told.blocked)).output.decode()
+    return witness.told(explorer.verify(row.read(), row.mode, *told)).output.decode()
 
 
 def verified(row):

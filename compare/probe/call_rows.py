@@ -422,8 +422,8 @@ def programs():
     # the line ends behind byte 8, and three bytes of a script stand before it
     yield Row('Divider looks', argument='ab\n---\nlocal 0\n', by_hand=no_state('7 3\n'), spares=True)
     for words, told in (('check a --runs 7 --workers 3', 'check a rendezvous 7 100000 1 3 false'), ('trace a --mode b', 'trace a b'),
-                        ('diagnose a', 'diagnose a rendezvous false -'), ('diagnose --strict a --mode b', 'diagnose a b true -'),
-                        ('diagnose a --ranks 2-5', 'diagnose a rendezvous false 2-5'), ('diagnose a --ranks=', 'diagnose a rendezvous false '),
+                        ('diagnose a', 'diagnose a - false -'), ('diagnose --strict a --mode b', 'diagnose a b true -'), ('diagnose --modes 7 a', 'diagnose a - 7 false -'),
+                        ('diagnose a --ranks 2-5', 'diagnose a - false 2-5'), ('diagnose a --ranks=', 'diagnose a - false '),
                         ('run a --ranks 16', 'run a rendezvous\nranks 16'), ('run a --ranks 17', 'usage false 2'), ('c a --ranks 3', 'c a\nranks 3'),
                         ('debug a', 'debug a rendezvous - - false'), ('debug a --mode b --witness c', 'debug a b - c false'),
                         ('debug a --choices 3 --ends', 'debug a rendezvous 3 - true'),

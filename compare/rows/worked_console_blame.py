@@ -6,14 +6,14 @@ STOLEN_LINES = '''   13    if rank == 1 { send 42 to 0 tag 7; } else { send 5 to
     8    irecv r note from any tag any;'''
 # The step that decides in examples/stolen_message.mpd, and where it stands then.
 STOLEN_BLAME = f'''decided at depth 9: rank 0, line 8, takes the message of rank 1 (line 13, value
-        42, tag 7); with that of rank 2 (line 13, value 5, tag 1) it can still
-        end well
+        42, tag 7); with that of rank 2 (line 13, value 5, tag 1) it need not
+        hang or trap
 depth 9
 2 ahead: match 1.0 0.0: rank 1, line 13, to rank 0, line 8
 {STOLEN_LINES}
 {STOLEN_CHOICE}'''
-NOT_DECIDED = 'not decided: some run still ends well'
-FROM_START = 'decided from the start: no run ends well'
+NOT_DECIDED = 'not decided: not every run hangs or traps'
+FROM_START = 'decided from the start: every run hangs or traps'
 
 # By the message of rank 2 the second receive has no partner; rank 0 prints before the first.
 PRINTS_FIRST = '''mpd 1; ranks 3; var x;
@@ -67,8 +67,8 @@ ended: deadlock 0.1
 > blame
 '''
 OF_LATER = f'''decided at depth 6: rank 0, line 2, takes the message of rank 1 (line 2, value
-        1, tag 0); with that of rank 2 (line 2, value 2, tag 0) it can still end
-        well
+        1, tag 0); with that of rank 2 (line 2, value 2, tag 0) it need not hang
+        or trap
 depth 6
 4 ahead: match 1.0 0.0: rank 1, line 2, to rank 0, line 2
 {LATER_LINE}
@@ -171,8 +171,8 @@ deadlock 0.1 1.0 is 11 steps ahead
     2  if rank == 0 {
 > blame
 decided at depth 7: rank 0, line 4, takes the message of rank 2 (line 6, value
-        2, tag 0); with that of rank 1 (line 6, value 1, tag 0) it can still end
-        well
+        2, tag 0); with that of rank 1 (line 6, value 1, tag 0) it need not hang
+        or trap
 depth 7
 rank 0 prints 5
 4 ahead: match 2.0 0.0: rank 2, line 6, to rank 0, line 4
@@ -195,7 +195,7 @@ ended: trap 0 assert
 > blame
 decided at depth 12: rank 0, line 10, goes on by line 9, 0.1 irecv from 2 tag 0;
         if rank 0, line 10, goes on by line 8, 0.0 irecv from 1 tag 0 instead,
-        it can still end well
+        it need not hang or trap
 depth 12
 4 ahead: wakeany 0 1: line 10, by line 9, 0.1 irecv from 2 tag 0
    10    waitany r to which;
@@ -245,8 +245,8 @@ deadlock 0.2 is 8 steps ahead
     6  if rank == 0 {{
 > blame
 decided at depth 4: rank 0, line 8, goes on; if rank 1, line 11, takes the
-        message of rank 0 (line 7, value 1, tag 0) instead, it can still end
-        well
+        message of rank 0 (line 7, value 1, tag 0) instead, it need not hang or
+        trap
 depth 4
 4 ahead: local 0: line 8
     8    isend r[1] 2 to 1 tag 1;
@@ -270,7 +270,7 @@ next: local 2: line 7
     7  if rank == 0 {{
 > blame
 decided at depth 6: rank 0, line 8, takes the message of rank 1 (line 13, value
-        42, tag 7); if rank 2, line 7, goes on instead, it can still end well
+        42, tag 7); if rank 2, line 7, goes on instead, it need not hang or trap
 depth 6
 1 ahead: match 1.0 0.0: rank 1, line 13, to rank 0, line 8
 {STOLEN_LINES}
@@ -283,7 +283,7 @@ next: local 2: line 7
 {STOLEN_END}
 > blame
 decided at depth 6: rank 0, line 8, takes the message of rank 1 (line 13, value
-        42, tag 7); if rank 2, line 7, goes on instead, it can still end well
+        42, tag 7); if rank 2, line 7, goes on instead, it need not hang or trap
 depth 6
 5 ahead: match 1.0 0.0: rank 1, line 13, to rank 0, line 8
 {STOLEN_LINES}
@@ -311,7 +311,7 @@ next: wake 0: line 4
     4    recv y from any tag 0;
 > blame
 decided at depth 11: rank 0, line 4, takes the message of rank 3 (line 7, value
-        3, tag 0); if rank 1, line 7, goes on instead, it can still end well
+        3, tag 0); if rank 1, line 7, goes on instead, it need not hang or trap
 depth 11
 1 ahead: match 3.0 0.1: rank 3, line 7, to rank 0, line 4
     7  } else { send rank to 0 tag 0; }
@@ -333,7 +333,8 @@ ended: deadlock 0.3
   a cycle, where each waits for the next: rank 0, rank 0
 > blame
 decided at depth 9: rank 0, line 3, takes the message of rank 1 (line 7, value
-        1, tag 0); if all ranks leave the barrier instead, it can still end well
+        1, tag 0); if all ranks leave the barrier instead, it need not hang or
+        trap
 depth 9
 6 ahead: match 1.0 0.0: rank 1, line 7, to rank 0, line 3
     7  } else { isend h rank to 0 tag 0; barrier; }

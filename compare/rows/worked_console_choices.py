@@ -415,10 +415,10 @@ line 4, 0.0 irecv from 1 tag 3 free
 > next 1000000
 3 steps, depth 6
 ended: deadlock 0.1 1.1
-  rank 0 waits at line 5, 0.1 wait 0: for this request
+  rank 0 waits at line 5, 0.1 wait 0: for request 0.0
     line 4, 0.0 irecv from 1 tag 3: for a send of rank 1 with tag 3
     nearest miss: line 7, 1.0 isend to 0 tag 4 value 7: another tag
-  rank 1 waits at line 8, 1.1 wait 0: for this request
+  rank 1 waits at line 8, 1.1 wait 0: for request 1.0
     line 7, 1.0 isend to 0 tag 4 value 7: for a receive of rank 0 from rank 1
         with tag 4
     nearest miss: line 4, 0.0 irecv from 1 tag 3: another tag
@@ -444,7 +444,7 @@ ended: deadlock 0.0 1.0
     rank 2 is not there: it has ended
   rank 1 waits at line 4, 1.0 ssend to 2 tag 0 value 1: for a receive of rank 2
         from rank 1 with tag 0
-  rank 0 waits for rank 1, rank 2 (ended)
+  rank 0 waits for all of rank 1, rank 2 (ended)
   rank 1 waits for rank 2 (ended)
 > why
 line 2, 0.0 barrier
@@ -663,7 +663,7 @@ deadlock 0.2 is 8 steps ahead
 > redo all
 depth 8
 ended: deadlock 0.2
-  rank 0 waits at line 9, 0.2 wait 1: for this request
+  rank 0 waits at line 9, 0.2 wait 1: for request 0.1
     line 8, 0.1 isend to 1 tag 1 value 2: for a receive of rank 1 from rank 0
         with tag 1
   rank 0 waits for rank 1 (ended)

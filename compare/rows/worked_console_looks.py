@@ -8,10 +8,10 @@ LOOKS = (
 > run
 6 steps, depth 6
 ended: deadlock 0.1 1.1
-  rank 0 waits at line 5, 0.1 wait 0: for this request
+  rank 0 waits at line 5, 0.1 wait 0: for request 0.0
     line 4, 0.0 irecv from 1 tag 3: for a send of rank 1 with tag 3
     nearest miss: line 7, 1.0 isend to 0 tag 4 value 7: another tag
-  rank 1 waits at line 8, 1.1 wait 0: for this request
+  rank 1 waits at line 8, 1.1 wait 0: for request 1.0
     line 7, 1.0 isend to 0 tag 4 value 7: for a receive of rank 0 from rank 1
         with tag 4
     nearest miss: line 4, 0.0 irecv from 1 tag 3: another tag
@@ -88,7 +88,7 @@ ended: deadlock 0.2 1.0
     line 4, 0.0 irecv from 1 tag 1: for a send of rank 1 with tag 1
   rank 1 waits at line 8, 1.0 recv from 0 tag 0: for a send of rank 0 with tag 0
     nearest miss: line 5, 0.1 issend to 2 tag 0 value 5: another destination
-  rank 0 waits for rank 1, rank 2 (ended)
+  rank 0 waits for any of rank 1, rank 2 (ended)
   rank 1 waits for rank 0
 > why 0
 line 6, 0.2 waitany 0 3
@@ -185,7 +185,7 @@ ended: deadlock 0.0 1.0
     rank 2 is not there: it has ended
   rank 1 waits at line 4, 1.0 ssend to 2 tag 0 value 1: for a receive of rank 2
         from rank 1 with tag 0
-  rank 0 waits for rank 1, rank 2 (ended)
+  rank 0 waits for all of rank 1, rank 2 (ended)
   rank 1 waits for rank 2 (ended)
 > why 0
 line 2, 0.0 barrier

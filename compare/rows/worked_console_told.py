@@ -297,8 +297,6 @@ ended: deadlock 1.3
   rank 1 waits at line 11, 1.3 recv from 0 tag 1: for a send of rank 0 with tag
         1
   rank 1 waits for rank 0 (ended)
-rank 0 has lost a request: line 3, 0.0 isend to 1 tag 0 value 1
-rank 0 has lost a request: line 4, 0.1 issend to 1 tag 0 value 2
 rank 1 has lost a request: line 8, 1.0 irecv from 0 tag 0
 rank 1 has lost a request: line 9, 1.1 irecv from 0 tag 0
 > vars 1
@@ -369,16 +367,16 @@ depth 5
 rank 0: x = 0, i = 0, r = [0.4], h = 0.2
 {LOST_THREE}
 '''),
-    Dialogue('the same where sends are buffered', LOST_BESIDE_ANY, f'''
+    Dialogue('the same where sends are buffered', LOST_BESIDE_ANY, '''
 > run 5
 5 steps, depth 5
-{LOST_THREE}
+rank 0 has lost a request: line 3, 0.1 irecv from 0 tag 0
 stopped: as many steps as were asked for
 next: local 0: line 7
     7  waitany r to i;
 > vars
 rank 0: x = 0, i = 0, r = [0.4], h = 0.2
-{LOST_THREE}
+rank 0 has lost a request: line 3, 0.1 irecv from 0 tag 0
 > next
 6 local 0: line 7
 next: match 0.0 0.1: rank 0, line 2, to rank 0, line 3

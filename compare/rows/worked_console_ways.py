@@ -23,7 +23,7 @@ if rank == 0 {
 '''
 TURNS_OF_THREE = '    3    while i < 3 { isend r i to 1 tag i; i = i + 1; }'
 FIRST_LOST = 'rank 0 has lost a request: line 3, 0.0 isend to 1 tag 0 value 0'
-SECOND_LOST = 'rank 0 has lost a request: line 3, 0.1 isend to 1 tag 1 value 1'
+BOTH_LOST = 'rank 0 has lost 2 requests of line 3, the first 0.0 isend to 1 tag 0 value 0'
 # The last step of all loses one.
 LOSES_AT_END = 'mpd 1; ranks 1; req r;\nisend r 1 to 0 tag 0;\nisend r 2 to 0 tag 1;\n'
 # Both ranks lose one and print something, each in turns of their own.
@@ -191,7 +191,7 @@ next: local 0: line 2
 ''', limit=5))
 
 LOST_ON_THE_WAY = (
-    Dialogue('requests that are lost on the way, each told once, and at an end as all are', LOSES_TWO, f'''
+    Dialogue('requests of one line that are lost on the way, told once, and at an end with their number', LOSES_TWO, f'''
 > run 5
 5 steps, depth 5
 stopped: as many steps as were asked for
@@ -211,7 +211,6 @@ rank 0: x = 0, i = 2, r = 0.1
 {FIRST_LOST}
 > next 3
 3 steps, depth 10
-{SECOND_LOST}
 stopped: as many steps as were asked for
 next: local 0: line 3
 {TURNS_OF_THREE}
@@ -226,7 +225,6 @@ depth 5
 {TURNS_OF_THREE}
 > redo all
 depth 10
-{SECOND_LOST}
 next: local 0: line 3
 {TURNS_OF_THREE}
 > back
@@ -239,8 +237,7 @@ depth 2
 {TURNS_OF_THREE}
 > goto 9
 depth 9
-{FIRST_LOST}
-{SECOND_LOST}
+{BOTH_LOST}
 1 ahead: local 0: line 3
 {TURNS_OF_THREE}
 > run 8
@@ -255,8 +252,7 @@ rank 1 prints 2
 ended: leftovers 0.0 0.1
   left over: line 3, 0.0 isend to 1 tag 0 value 0
   left over: line 3, 0.1 isend to 1 tag 1 value 1
-{FIRST_LOST}
-{SECOND_LOST}
+{BOTH_LOST}
 > goto 5
 depth 5
 14 ahead: local 0: line 3
@@ -268,8 +264,7 @@ rank 1 prints 2
 ended: leftovers 0.0 0.1
   left over: line 3, 0.0 isend to 1 tag 0 value 0
   left over: line 3, 0.1 isend to 1 tag 1 value 1
-{FIRST_LOST}
-{SECOND_LOST}
+{BOTH_LOST}
 > goto 7
 depth 7
 12 ahead: local 0: line 3
@@ -277,7 +272,6 @@ depth 7
 > goto 17
 depth 17
 rank 0 prints 3
-{SECOND_LOST}
 2 ahead: wake 1: line 7
     7    recv x from 0 tag 2;
 '''),

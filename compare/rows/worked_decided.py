@@ -48,10 +48,10 @@ def last(outcomes, runs, more='no'):
 
 def takes(depth, receive, message, other):
     """The line of a match that decides, with what could be matched in its place."""
-    return f'  decided at depth {depth}: {receive} takes the message of {message}; with that of {other} it can still end well'
+    return f'  decided at depth {depth}: {receive} takes the message of {message}; with that of {other} it need not hang or trap'
 
 
-FROM_START = '  decided from the start: no run ends well'
+FROM_START = '  decided from the start: every run hangs or traps'
 
 # ---- the message that decides
 
@@ -91,7 +91,7 @@ OF_OTHERS = (
     'outcome 1 runs 2 first [0 1] leftovers 3.1',
     'outcome 2 runs 1 first [1 1] deadlock 0.1 1.1',
     '  decided at depth 22: rank 1, line 4, takes the message of rank 3 (line 9, value 3, tag 0); '
-    'if rank 0, line 2, takes the message of rank 2 (line 8, value 2, tag 0) instead, it can still end well',
+    'if rank 0, line 2, takes the message of rank 2 (line 8, value 2, tag 0) instead, it need not hang or trap',
     'outcome 3 runs 1 first [2 1] deadlock 0.1',
     takes(34, 'rank 0, line 2,', 'rank 3 (line 9, value 30, tag 0)', 'rank 2 (line 8, value 2, tag 0)'))
 # An end with leftovers is no bad one: behind six steps the message of rank 1 or of rank 2 comes first, and the other one is left.
@@ -122,14 +122,14 @@ BY_MESSAGE = (
 # ---- requests, and slots
 
 BY_OTHER_REQUEST = ('  decided at depth 12: rank 0, line 10, goes on by line 9, 0.1 irecv from any tag 0; '
-                    'if rank 0, line 10, goes on by line 8, 0.0 irecv from 1 tag 0 instead, it can still end well')
+                    'if rank 0, line 10, goes on by line 8, 0.0 irecv from 1 tag 0 instead, it need not hang or trap')
 BY_NAMED_REQUEST = BY_OTHER_REQUEST.replace('0.1 irecv from any', '0.1 irecv from 2')
 # Where i must be 1, the match must come before the wait is ended: candidates 0 wakeany 0 0 and 1 match 2.0 0.1, behind ten steps.
 OTHER_WANTED = ORDER_DECIDES.replace('assert i == 0', 'assert i == 1')
 BY_MATCH = ('  decided at depth 10: rank 0, line 10, goes on by line 8, 0.0 irecv from 1 tag 0; '
-            'if rank 0, line 9, takes the message of rank 2 (line 13, value 2, tag 0) instead, it can still end well')
+            'if rank 0, line 9, takes the message of rank 2 (line 13, value 2, tag 0) instead, it need not hang or trap')
 BY_SLOT = ('  decided at depth 4: rank 0, line 8, goes on; '
-           'if rank 1, line 11, takes the message of rank 0 (line 7, value 1, tag 0) instead, it can still end well')
+           'if rank 1, line 11, takes the message of rank 0 (line 7, value 1, tag 0) instead, it need not hang or trap')
 TRAPPED = '  rank 0, line 11: trap assert, with i = 1'
 WAITED_TWICE = open_example('waited_twice.mpd').decode()
 BY_OTHERS = (

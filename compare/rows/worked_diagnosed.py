@@ -54,7 +54,7 @@ def runs_of(choices, file='script.mpd', picture='run'):
 
 
 SLOTTED, WITH_BUFFERS = 'script.mpd --mode slots:1', 'script.mpd --mode buffered'
-FROM_START = '  decided from the start: no run ends well'
+FROM_START = '  decided from the start: every run hangs or traps'
 # (It has 79 bytes.)
 HINT = '  at the prompt of `debug`, `blame` goes to this step and `redo all` to the end'
 MORE = 'not everything was tried: there are more runs than these'
@@ -66,8 +66,13 @@ def others(file='script.mpd'):
 
 
 def in_turn(file='script.mpd'):
-    """The command that tries the modes in turn."""
-    return f'  ./mpdbg check {file} --modes 4 --outcomes'
+    """The command that diagnoses the modes in turn."""
+    return f'  ./mpdbg diagnose {file} --modes 4'
+
+
+def several(count):
+    """How many of how many runs, as a heading has them: of several one is told."""
+    return count if count.startswith('1 of ') else f'{count}, one of them:'
 
 
 def always(does, runs, mode=RENDEZVOUS, file='script.mpd'):
@@ -116,13 +121,13 @@ OF_STOLEN = '''\
 STOLEN = open_example('stolen_message.mpd').decode()
 BY_MESSAGE = f'''\
   decided at depth 9: rank 0, line 8, takes the message of rank 1 (line 13,
-        value 42, tag 7); with that of rank 2 (line 13, value 5, tag 1) it can
-        still end well
+        value 42, tag 7); with that of rank 2 (line 13, value 5, tag 1) it need
+        not hang or trap
 {HINT}'''
 # Always, in one run.
 OF_SWAPPED = '''\
 it always hangs in rendezvous (1 run)
-  ./mpdbg check script.mpd --modes 4 --outcomes
+  ./mpdbg diagnose script.mpd --modes 4
 
 deadlock at lines 7, 10: 1 of 1 run
   rank 0 waits at line 7, 0.0 send to 1 tag 1 value 640: for a receive of rank 1
@@ -138,7 +143,7 @@ deadlock at lines 7, 10: 1 of 1 run
 OF_TWO_EACH = '''\
 it can hang: 4 of 2164 runs
 
-deadlock at lines 11, 15: 4 of 2164 runs
+deadlock at lines 11, 15: 4 of 2164 runs, one of them:
   rank 0 waits at line 11, 0.2 recv from 1 tag 0: for a send of rank 1 with tag
         0
     nearest miss: line 15, 2.0 send to 0 tag 0 value 2: another source
@@ -164,8 +169,8 @@ deadlock at lines 11, 15: 4 of 2164 runs
   rank 3 waits for rank 0
   rank 4 waits for rank 0
   decided at depth 15: rank 0, line 10, takes the message of rank 1 (line 16,
-        value 1, tag 0); with that of rank 2 (line 15, value 2, tag 0) it can
-        still end well
+        value 1, tag 0); with that of rank 2 (line 15, value 2, tag 0) it need
+        not hang or trap
   at the prompt of `debug`, `blame` goes to this step and `redo all` to the end'''
 TWO_EACH = open_example('two_each.mpd').decode()
 # Two bugs: rank 0 is stuck where rank 1 comes first, and else behind the message of rank 1.
@@ -222,7 +227,7 @@ LONGER_LAST, AS_LONG = LONGER_FIRST.replace('x == 1', 'x == 2'), LONGER_FIRST.re
 
 def of_longer(rank, taken_by):
     """What is told of both, by the one in which a sender is left."""
-    return (*always('hangs', '2 runs'), 'deadlock at lines 5, 6: 2 of 2 runs', waits_for_itself(5, '0.1', 9), left_waiting(rank, 6, taken_by),
+    return (*always('hangs', '2 runs'), 'deadlock at lines 5, 6: 2 of 2 runs, one of them:', waits_for_itself(5, '0.1', 9), left_waiting(rank, 6, taken_by),
             f'  rank 0 waits for rank 0\n  rank {rank} waits for rank 0\n  a cycle, where each waits for the next: rank 0, rank 0', FROM_START,
             runs_of(taken_by - 1))
 
@@ -248,7 +253,7 @@ if rank == 1 {
 } else { recv x from 0 tag 0; }'''
 OF_LATER_LINE = '''\
 it always hangs in rendezvous (1 run)
-  ./mpdbg check script.mpd --modes 4 --outcomes
+  ./mpdbg diagnose script.mpd --modes 4
 
 deadlock at lines 3, 4: 1 of 1 run
   rank 0 waits at line 4, 0.0 recv from 0 tag 0: for a send of rank 0 with tag 0
@@ -257,7 +262,7 @@ deadlock at lines 3, 4: 1 of 1 run
   rank 1 waits for rank 1
   a cycle, where each waits for the next: rank 0, rank 0
   a cycle, where each waits for the next: rank 1, rank 1'''
-# The same call is blocked at line 5 by rank 1, and at line 6 by rank 2: this is one outcome, which stands at the line of its first run.
+# The same call is blocked at line 5 by rank 1, and at line 6 by rank 2: `check` tells both outcomes alike, and they are two bugs.
 SAME_CALL = '''mpd 1; ranks 3; var x; req r;
 if rank == 0 {
   recv x from any tag 0;
@@ -290,19 +295,20 @@ HANGS = (
     row(TWO_HANGS, 1, *always('hangs', '2 runs'), 'deadlock at line 4: 1 of 2 runs', waits_for_itself(4, '0.1', 9), TO_ITSELF, FROM_START,
         runs_of(0, picture='run-1'),
         '\ndeadlock at line 6: 1 of 2 runs', waits_for_itself(6, '0.2', 8), TO_ITSELF, FROM_START, runs_of('1 0', picture='run-2')),
-    row(FIRST_AND_LAST, 1, *always('hangs', '3 runs'), 'deadlock at lines 6, 7: 2 of 3 runs', waits_for_itself(6, '0.1', 8),
+    row(FIRST_AND_LAST, 1, *always('hangs', '3 runs'), 'deadlock at lines 6, 7: 2 of 3 runs, one of them:', waits_for_itself(6, '0.1', 8),
         left_waiting_of(2, 3, 1), runs_of(0, picture='run-1'),
         '\ndeadlock at lines 5, 7: 1 of 3 runs', waits_for_itself(5, '0.1', 9), left_waiting_of(1, 3, 2), runs_of(1, picture='run-2')),
     # the second bug has more runs
     row(FIRST_AND_LAST.replace('x == 2', 'x == 1'), 1, *always('hangs', '3 runs'), 'deadlock at lines 5, 7: 1 of 3 runs',
         waits_for_itself(5, '0.1', 9),
         left_waiting_of(2, 3, 1), runs_of(0, picture='run-1'),
-        '\ndeadlock at lines 6, 7: 2 of 3 runs', waits_for_itself(6, '0.1', 8), left_waiting_of(1, 3, 2), runs_of(1, picture='run-2')),
+        '\ndeadlock at lines 6, 7: 2 of 3 runs, one of them:', waits_for_itself(6, '0.1', 8), left_waiting_of(1, 3, 2), runs_of(1, picture='run-2')),
     row(ONE_SENDER_LEFT, 1, *always('hangs', '2 runs'), *one_left(2, 4, 1, 3), '', *one_left(1, 3, 2, 4)),
     row(LATER_LINE_FIRST, 1, OF_LATER_LINE, FROM_START, runs_of('')),
     row(LONGER_FIRST, 1, *of_longer(1, 2)), row(LONGER_LAST, 1, *of_longer(2, 1)), row(AS_LONG, 1, *of_longer(2, 1)),
-    row(SAME_CALL, 1, *always('hangs', '2 runs'), 'deadlock at line 5: 2 of 2 runs', waits_for_itself(5, '0.1', 9), TO_ITSELF, FROM_START,
-        runs_of(0)))
+    row(SAME_CALL, 1, *always('hangs', '2 runs'), 'deadlock at line 5: 1 of 2 runs', waits_for_itself(5, '0.1', 9), TO_ITSELF, FROM_START,
+        runs_of(0, picture='run-1'),
+        '\ndeadlock at line 6: 1 of 2 runs', waits_for_itself(6, '0.1', 9), TO_ITSELF, FROM_START, runs_of(1, picture='run-2')))
 
 # ---- traps
 
@@ -310,7 +316,7 @@ HANGS = (
 BY_REQUEST = '''\
   decided at depth 12: rank 0, line 10, goes on by line 9, 0.1 irecv from 2 tag
         0; if rank 0, line 10, goes on by line 8, 0.0 irecv from 1 tag 0
-        instead, it can still end well
+        instead, it need not hang or trap
   at the prompt of `debug`, `blame` goes to this step and `redo all` to the end'''
 WAITED_TWICE = open_example('waited_twice.mpd').decode()
 # Ranks trap at two lines, two of them at one.
@@ -318,9 +324,8 @@ THREE_TRAPS = 'mpd 1; ranks 3;\nif rank == 0 { assert 0; }\nassert 0;'
 OF_THREE_TRAPS = 'trap at lines 2, 3: 1 of 1 run', '  rank 0, line 2: trap assert', '  rank 1, line 3: trap assert', '  rank 2, line 3: trap assert'
 # A deadlock where rank 1 comes first, and a trap where rank 2 does.
 OF_LOW_WANTED = '''\
-it can hang: 1 of 2 runs
-it can trap: 1 of 2 runs
-  ./mpdbg check script.mpd --modes 4 --outcomes
+it always fails in rendezvous: it hangs in 1 of 2 runs and traps in 1
+  ./mpdbg diagnose script.mpd --modes 4
 
 deadlock at line 2: 1 of 2 runs
   rank 2 waits at line 2, 2.0 send to 0 tag 0 value 2: for a receive of rank 0
@@ -330,13 +335,12 @@ deadlock at line 2: 1 of 2 runs
   rank 2 waits for rank 0 (ended)'''
 # A trap where rank 1 comes first, and a deadlock where rank 2 does.
 OF_HIGH_WANTED = '''\
-it can hang: 1 of 2 runs
-it can trap: 1 of 2 runs
-  ./mpdbg check script.mpd --modes 4 --outcomes
+it always fails in rendezvous: it hangs in 1 of 2 runs and traps in 1
+  ./mpdbg diagnose script.mpd --modes 4
 
 trap at line 2: 1 of 2 runs
   rank 0, line 2: trap assert, with x = 1
-  decided from the start: no run ends well
+  decided from the start: every run hangs or traps
   ./mpdbg debug script.mpd --ends --choices '0'
   ./mpdbg picture script.mpd --ends --choices '0' > run-1.svg
 
@@ -352,7 +356,7 @@ deadlock at line 2: 1 of 2 runs
 BY_LAST = '''\
   decided at depth 950: rank 0, line 3, goes on by line 3, 0.316 isend to 0 tag
         0 value 1; if rank 0, line 3, goes on by line 3, 0.315 isend to 0 tag 0
-        value 1 instead, it can still end well
+        value 1 instead, it need not hang or trap
   at the prompt of `debug`, `blame` goes to this step and `redo all` to the end'''
 APART = 'mpd 1; ranks 3; var x;\nif rank == 0 { recv x from any tag 0; if x == 1 {\nassert x == 3; } else {\nassert x == 4; } } else { send rank to 0 tag 0; }'
 TRAPPED = (
@@ -361,13 +365,13 @@ TRAPPED = (
           mode=mode) for mode, file in ((None, 'script.mpd'), (BUFFERED, WITH_BUFFERS))),
     row(THREE_TRAPS, 1, *always('traps', '1 run'), *OF_THREE_TRAPS, FROM_START, runs_of('')),
     # by two traps of other names, at one line
-    row(TRAPS, 1, *always('traps', '2 runs', BUFFERED), 'trap at line 3: 2 of 2 runs', '  rank 0, line 3: trap bad-tag, with i = 0', FROM_START, runs_of(0, WITH_BUFFERS),
+    row(TRAPS, 1, *always('traps', '2 runs', BUFFERED), 'trap at line 3: 2 of 2 runs, one of them:', '  rank 0, line 3: trap bad-tag, with i = 0', FROM_START, runs_of(0, WITH_BUFFERS),
         mode=BUFFERED),
     row(LOW_WANTED, 1, OF_LOW_WANTED, FROM_START, runs_of(0, picture='run-1'),
         '\ntrap at line 2: 1 of 2 runs', '  rank 0, line 2: trap assert, with x = 2', FROM_START, runs_of(1, picture='run-2')),
     row(HIGH_WANTED, 1, OF_HIGH_WANTED, FROM_START, runs_of(1, picture='run-2')),
     # two statements of one line are one bug, and of two lines they are two
-    row(TWO_ASSERTS, 1, *always('traps', '2 runs'), 'trap at line 2: 2 of 2 runs', '  rank 0, line 2: trap assert', FROM_START, runs_of(0)),
+    row(TWO_ASSERTS, 1, *always('traps', '2 runs'), 'trap at line 2: 2 of 2 runs, one of them:', '  rank 0, line 2: trap assert', FROM_START, runs_of(0)),
     row(APART, 1, *always('traps', '2 runs'), 'trap at line 3: 1 of 2 runs', '  rank 0, line 3: trap assert, with x = 1', FROM_START,
         runs_of(0, picture='run-1'), '\ntrap at line 4: 1 of 2 runs', '  rank 0, line 4: trap assert, with x = 2', FROM_START,
         runs_of(1, picture='run-2')))
@@ -386,7 +390,7 @@ OF_THREE_LEFT = (ONE_RUN, f'{LEAVES} 1 of 1 run', f'{in_turn()}\n', 'left over f
 ONE_OF_THREE = gathering(4, 1)
 TWO_LEFT = ('  left over: line 2, 2.0 isend to 0 tag 0 value 2', '  left over: line 2, 3.0 isend to 0 tag 0 value 3', runs_of(0))
 # (The line is 81 bytes long.)
-OF_GATHERING = (never('3 runs, 4\n        states'), f'{LEAVES} 3 of 3 runs', f'{in_turn()}\n', 'left over from line 2: 3 of 3 runs',
+OF_GATHERING = (never('3 runs, 4\n        states'), f'{LEAVES} 3 of 3 runs', f'{in_turn()}\n', 'left over from line 2: 3 of 3 runs, one of them:',
                 *TWO_LEFT)
 # The messages are sent by lines 3 and 4, and the one that comes second is left.
 TWO_LINES = '''mpd 1; ranks 3; var x; req r;
@@ -398,21 +402,32 @@ OF_TWO_LINES = (never('2 runs, 3\n        states'), f'{LEAVES} 2 of 2 runs', f'{
                 '  left over: line 3, 1.0 isend to 0 tag 0 value 1', runs_of(1, picture='run-2'))
 # One end of both runs: a choice of two, and by each a choice of one, and its end.
 BOTH_LEFT = '  left over: line 2, 0.0 isend to 0 tag 0 value 1', '  left over: line 2, 0.1 isend to 0 tag 0 value 2'
-OF_TWO_REQUESTS = (never('2 runs, 5 states', BUFFERED), f'{LEAVES} 2 of 2 runs', f'{in_turn()}\n', 'left over from line 2: 2 of 2 runs', *BOTH_LEFT,
+OF_TWO_REQUESTS = (never('2 runs, 5 states', BUFFERED), f'{LEAVES} 2 of 2 runs', f'{in_turn()}\n', 'left over from line 2: 2 of 2 runs, one of them:', *BOTH_LEFT,
                    runs_of('0 0', WITH_BUFFERS))
+# The same call is left over from line 6 where rank 1 comes first, and else from line 5: a choice of two, by each a choice of one, and its end.
+SAME_LEFT = '''mpd 1; ranks 3; var x; req r;
+if rank == 0 {
+  recv x from any tag 0; recv x from any tag 0;
+  if x == 1 {
+    isend r 7 to 1 tag 9;
+  } else { isend r 7 to 1 tag 9; }
+} else { isend r rank to 0 tag 0; }'''
+OF_SAME_LEFT = (never('2 runs, 5\n        states'), f'{LEAVES} 2 of 2 runs', f'{in_turn()}\n', 'left over from line 6: 1 of 2 runs',
+                '  left over: line 6, 0.2 isend to 1 tag 9 value 7', runs_of('0 0', picture='run-1'), '\nleft over from line 5: 1 of 2 runs',
+                '  left over: line 5, 0.2 isend to 1 tag 9 value 7', runs_of('1 0', picture='run-2'))
 # In slots:1 it hangs where the second send comes before the match that frees the slot, and else a message is left over.
 OF_FREED_SLOT = '''\
 it can hang: 1 of 2 runs
 it can end with calls left over: 1 of 2 runs
 
 deadlock at line 9: 1 of 2 runs
-  rank 0 waits at line 9, 0.2 wait 1: for this request
+  rank 0 waits at line 9, 0.2 wait 1: for request 0.1
     line 8, 0.1 isend to 1 tag 1 value 2: for a receive of rank 1 from rank 0
         with tag 1
   rank 0 waits for rank 1 (ended)
   decided at depth 4: rank 0, line 8, goes on; if rank 1, line 11, takes the
-        message of rank 0 (line 7, value 1, tag 0) instead, it can still end
-        well
+        message of rank 0 (line 7, value 1, tag 0) instead, it need not hang or
+        trap
   at the prompt of `debug`, `blame` goes to this step and `redo all` to the end'''
 SECOND_LEFT = '  left over: line 8, 0.1 isend to 1 tag 1 value 2'
 LEFT = (
@@ -422,7 +437,7 @@ LEFT = (
           runs_of(1, SLOTTED, 'run-2'),
           mode='slots:1',
           strict=strict) for strict in (False, True)),
-    row(TWO_LINES, 0, *OF_TWO_LINES), row(TWO_REQUESTS, 0, *OF_TWO_REQUESTS, mode=BUFFERED), row(ONE_OF_THREE, 0, *OF_GATHERING),
+    row(TWO_LINES, 0, *OF_TWO_LINES), row(SAME_LEFT, 0, *OF_SAME_LEFT), row(TWO_REQUESTS, 0, *OF_TWO_REQUESTS, mode=BUFFERED), row(ONE_OF_THREE, 0, *OF_GATHERING),
     row(ONE_OF_THREE, 1, *OF_GATHERING, strict=True),
     # a number of slots has no leading zeros in commands; in a mode of slots the match is a choice of one
     row(FREED_SLOT, 0, never('1 run, 2 states', 'slots:2'), f'{LEAVES} 1 of 1 run', f'{in_turn()}\n',
@@ -436,13 +451,14 @@ REFUSED = (
     refused(BAD_SCRIPT, 'bad mode', 2, mode='', strict=True),
     refused(None, 'device', 3), refused(None, 'device', 3, mode=BUFFERED, strict=True),
     refused(BAD_SCRIPT, 'script refused 4 expected at 19 line 1', 2))
-CUT_ONCE = 'no hang and no trap was found in 1 run in rendezvous', 'not everything was tried: 1 of 1 run were cut after 100000 steps'
-CUT = (row(ON_AND_ON, 4, *CUT_ONCE),)
+CUT_ONCE = 'no hang and no trap was found in 1 run in rendezvous', 'not everything was tried: 1 of 1 run was cut after 100000 steps'
+# (Of so many steps no picture is named.)
+CUT = (row(ON_AND_ON, 4, *CUT_ONCE, '\ncut at line 1: 1 of 1 run', "  ./mpdbg debug script.mpd --ends --choices ''"),)
 
 # Those of many states, or of many lines: they take the model longer than all others.
 LARGE = (
     row(taken(2, 'i < 64'), 0, MANY_RUNS, in_turn(), mode=BUFFERED),
-    row(taken(2, 'i < 64', LAST_OF_ALL), 1, f'it can trap: {2 ** 63} of {AT_LEAST} runs\n', f'trap at line 3: {2 ** 63} of {AT_LEAST} runs',
+    row(taken(2, 'i < 64', LAST_OF_ALL), 1, f'it can trap: {2 ** 63} of {AT_LEAST} runs\n', f'trap at line 3: {2 ** 63} of {AT_LEAST} runs, one\n        of them:',
         '  rank 0, line 3: trap assert, with x = 1', BY_LAST, runs_of(' '.join('0' * 63 + '1'), WITH_BUFFERS), mode=BUFFERED),
     row(ALONE, 1, *OF_ALONE), row(TWO_EACH, 1, OF_TWO_EACH, runs_of('0 0', 'two_each.mpd'), file='two_each.mpd'),
     row(open_example('four_races.mpd').decode(), 0, RACES, in_turn()))
@@ -484,7 +500,7 @@ def few(drawn=8, **limits):
 # The run that is done has 13 steps, and the one that hangs 10, of which the seventh is chosen.
 CUT_AND_HANG = '''\
 it can hang: 1 of 2 runs
-not everything was tried: 1 of 2 runs were cut after 12 steps
+not everything was tried: 1 of 2 runs was cut after 12 steps
 
 deadlock at line 2: 1 of 2 runs
   rank 0 waits at line 2, 0.1 recv from 2 tag any: for a send of rank 2 with any
@@ -508,13 +524,52 @@ OF_THE_FIRST = 'it can hang: 1 of 1 run', MORE, others(), '\ndeadlock at lines 9
 # 10th, 12th and 13th state a run ends. Drawn are 2 0 0, 2 1 0, 1 1 0, 0 0 0, 0 0 0, 0 1 0, 0 0 0 and 1 0 0, numbers below 3, 2 and 1 in turn.
 SENDERS_FOUND = ((3, '0 runs', 1, '1 run'), (4, '1 run', 2, '2 runs'), (5, '1 run', 4, '4 runs'), (7, '2 runs', 5, '4 runs'),
                  (8, '3 runs', 6, '5 runs'), (11, '4 runs', 7, '5 runs'), (12, '5 runs', 8, '6 runs'))
+# Rank 0 is blocked in its receive, rank 1 has ended, and rank 2 goes on and on.
+BLOCKED_AND_ON = 'mpd 1; ranks 3; var x;\nif rank == 0 {\nrecv x from 2 tag 0; }\nif rank == 2 {\nwhile 1 {\n} }'
+
+
+def cut_after(steps):
+    """What is told of one run that is cut after so many steps."""
+    return 'no hang and no trap was found in 1 run in rendezvous', f'not everything was tried: 1 of 1 run was cut after {steps} steps'
+
+
+# Rank 0 waits for itself, traps, or prints, by who comes first; eight steps are before the choice. The run that hangs has 12 steps, the one that traps
+# 13, and the last 16.
+THREE_WAYS = '''mpd 1; ranks 4; var x; req r;
+if rank == 0 {
+  recv x from any tag 0;
+  if x == 1 { recv x from 0 tag 9; }
+  if x == 2 { assert 0; }
+  if x == 3 { print x; print x; print x; }
+} else { isend r rank to 0 tag 0; }'''
+
+
+def by_third(rank):
+    """What decided a run of it by the message of a rank, where that of the third can still be taken."""
+    return (f'  decided at depth 8: rank 0, line 3, takes the message of rank {rank} (line 7, value\n        {rank}, tag 0); with that of rank 3 (line 7, '
+            f'value 3, tag 0) it need not hang\n        or trap\n{HINT}')
+
+
+def hang_and_trap(runs, decided):
+    """What is told of its first two runs, of so many, by what decided each."""
+    return (f'\ndeadlock at line 4: 1 of {runs}', waits_for_itself(4, '0.1', 9), TO_ITSELF, decided[0], runs_of(0, picture='run-1'),
+            f'\ntrap at line 5: 1 of {runs}', '  rank 0, line 5: trap assert', decided[1], runs_of(1, picture='run-2'))
+
+
 LIMITED = (
-    *(row(ON_AND_ON, 4, 'no hang and no trap was found in 1 run in rendezvous', f'not everything was tried: 1 of 1 run were cut after {fuel} steps',
-          limits=few(fuel=fuel),
-          strict=strict) for fuel in (1, 5) for strict in (False, True)),
-    row(THREE, 1, CUT_AND_HANG, runs_of(1), limits=few(fuel=12)),
+    # some runs hang and the others that were come to trap, and there are more, or one is cut
+    row(THREE_WAYS, 1, 'it can hang: 1 of 2 runs\nit can trap: 1 of 2 runs', MORE, others(), *hang_and_trap('2 runs', [by_third(1), by_third(2)]), limits=few(come_to=3)),
+    row(THREE_WAYS, 1, 'it can hang: 1 of 3 runs\nit can trap: 1 of 3 runs', 'not everything was tried: 1 of 3 runs was cut after 13 steps',
+        *hang_and_trap('3 runs', [OR_EARLIER.format(8)] * 2), '\ncut at line 6: 1 of 3 runs', runs_of(2, picture='run-3'), limits=few(fuel=13)),
+    *(row(ON_AND_ON, 4, 'no hang and no trap was found in 1 run in rendezvous', f'not everything was tried: 1 of 1 run was cut after {fuel} steps',
+          '\ncut at line 1: 1 of 1 run', runs_of(''), limits=few(fuel=fuel), strict=strict) for fuel in (1, 5) for strict in (False, True)),
+    # of 1,000 steps there is a picture, of one more none
+    row(ON_AND_ON, 4, *cut_after(1000), '\ncut at line 1: 1 of 1 run', runs_of(''), limits=few(fuel=1000)),
+    row(ON_AND_ON, 4, *cut_after(1001), '\ncut at line 1: 1 of 1 run', "  ./mpdbg debug script.mpd --ends --choices ''", limits=few(fuel=1001)),
+    row(BLOCKED_AND_ON, 4, *cut_after(20), '\ncut at lines 3, 5: 1 of 1 run', runs_of(''), limits=few(fuel=20)),
+    row(THREE, 1, CUT_AND_HANG, runs_of(1, picture='run-1'), '\ncut at line 2: 1 of 2 runs', runs_of(0, picture='run-2'), limits=few(fuel=12)),
     row(THREE, 4, 'no hang and no trap was found in 2 runs in rendezvous',
-        'not everything was tried: 2 of 2 runs were cut after 9 steps', limits=few(fuel=9)),
+        'not everything was tried: 2 of 2 runs were cut after 9 steps', '\ncut at line 2: 2 of 2 runs, one of them:', runs_of(0), limits=few(fuel=9)),
     row(UNRECEIVED, 0, *ONE_LEFT, mode=BUFFERED, limits=few(fuel=2)),
     # states that are come to; where a hang was found nothing is drawn
     row(STOLEN, 1, *OF_THE_FIRST, limits=few(come_to=2)), row(STOLEN, 1, *STUCK_ONCE, runs_of(0), limits=few(come_to=3)),
@@ -548,7 +603,7 @@ FIRST_LEFT = (f'{LEAVES} 1 of 1 run', MORE, '\nleft over from line 2: 1 of 1 run
 def left_of_drawn(runs, others_left, choices):
     """What is told of runs that were drawn of ONE_OF_THREE, by how many there are, whose messages the first one leaves over, and its choices."""
     return (*none_drawn(runs)[:1], f'drawn at random: {runs.split()[0]} of {runs} end with calls left over', others(),
-            f'\nleft over from line 2: {runs.split()[0]} of {runs}',
+            f'\nleft over from line 2: {runs.split()[0]} of {runs}{"" if runs == "1 run" else ", one of them:"}',
             *(f'  left over: line 2, {rank}.0 isend to 0 tag 0 value {rank}' for rank in others_left), runs_of(choices, picture='drawn'))
 
 
@@ -566,7 +621,7 @@ def left_of_four(choice, runs, picture='drawn'):
     """What is told of the messages that a run leaves over where it takes one of the four, by that choice, how many of how many runs leave some, and
     its picture."""
     there = [f'  left over: line 6, {rank}.0 isend to 0 tag 0 value {rank}' for rank in range(1, 5) if rank != choice + 1]
-    return f'\nleft over from line 6: {runs}', *there, runs_of(choice, picture=picture)
+    return f'\nleft over from line 6: {several(runs)}', *there, runs_of(choice, picture=picture)
 
 
 FOUR_FOUND = (none_found('1 run')[0], f'{LEAVES} 1 of 1 run', MORE, *left_of_four(0, '1 of 1 run', 'run'))
@@ -574,8 +629,8 @@ FOUR_FOUND = (none_found('1 run')[0], f'{LEAVES} 1 of 1 run', MORE, *left_of_fou
 
 BY_MESSAGE_OF = '''\
   decided at depth 10: rank 0, line 3, takes the message of rank {0} (line 6,
-        value {0}, tag 0); with that of rank 1 (line 6, value 1, tag 0) it can
-        still end well
+        value {0}, tag 0); with that of rank 1 (line 6, value 1, tag 0) it need
+        not hang or trap
   at the prompt of `debug`, `blame` goes to this step and `redo all` to the end'''
 FOUR_HANG = ('\ndeadlock at line 4: 1 of 4 runs', waits_for_itself(4, '0.1', 9), TO_ITSELF, BY_MESSAGE_OF.format(2), runs_of(1, picture='drawn-1'))
 
@@ -585,7 +640,7 @@ def four_trap(runs, picture):
     return f'\ntrap at line 5: 1 of {runs}', '  rank 0, line 5: trap assert', BY_MESSAGE_OF.format(3), runs_of(2, picture=picture)
 
 
-# One end of two runs that stand at two lines: it stands at that of the first that was drawn.
+# The same call hangs at two lines: two ends of what is drawn.
 AT_TWO_LINES = '''mpd 1; ranks 4; var x; req r;
 if rank == 0 {
   recv x from any tag 0;
@@ -594,20 +649,20 @@ if rank == 0 {
 } else { isend r rank to 0 tag 0; }'''
 AT_A_LINE = '''\
   decided at depth 8: rank 0, line 3, takes the message of rank {0} (line 6, value
-        {0}, tag 0); with that of rank 1 (line 6, value 1, tag 0) it can still end
-        well
+        {0}, tag 0); with that of rank 1 (line 6, value 1, tag 0) it need not hang
+        or trap
   at the prompt of `debug`, `blame` goes to this step and `redo all` to the end'''
 
 
 def left_at_six(count, picture='drawn-2'):
     """What is told of the messages of ranks 2 and 3, which the first run leaves over, how many of how many do, and its picture."""
-    return (f'\nleft over from line 6: {count}', '  left over: line 6, 2.0 isend to 0 tag 0 value 2',
+    return (f'\nleft over from line 6: {several(count)}', '  left over: line 6, 2.0 isend to 0 tag 0 value 2',
             '  left over: line 6, 3.0 isend to 0 tag 0 value 3', runs_of(0, picture=picture))
 
 
 def at_a_line(line, rank, count, picture='drawn-1'):
-    """Where its end stands, by whose message is taken, how many of how many runs come to it, and its picture."""
-    return (f'\ndeadlock at line {line}: {count}', waits_for_itself(line, '0.1', 9), TO_ITSELF, AT_A_LINE.format(rank),
+    """The end at one of the two lines, by whose message is taken, how many of how many runs come to it, and its picture."""
+    return (f'\ndeadlock at line {line}: {several(count)}', waits_for_itself(line, '0.1', 9), TO_ITSELF, AT_A_LINE.format(rank),
             runs_of(rank - 1, picture=picture))
 
 
@@ -631,7 +686,7 @@ DRAWN = (
     # how many ranks there are stands behind the file, and before the mode
     *(row(STOLEN, 1, *STUCK_ONCE, runs_of(0, f'{word} --ranks 3'), file=name, ranks=3) for name, word in WORDS),
     row(THREE_SENDERS, 0, SIX_BUFFERED, in_turn('./-x --ranks 4'), mode=BUFFERED, file='-x', ranks=4),
-    row(TRAPS, 1, *always('traps', '2 runs', BUFFERED, 'script.mpd --ranks 12'), 'trap at line 3: 2 of 2 runs', '  rank 0, line 3: trap bad-tag, with i = 0', FROM_START,
+    row(TRAPS, 1, *always('traps', '2 runs', BUFFERED, 'script.mpd --ranks 12'), 'trap at line 3: 2 of 2 runs, one of them:', '  rank 0, line 3: trap bad-tag, with i = 0', FROM_START,
         runs_of(0, 'script.mpd --ranks 12 --mode buffered'), mode=BUFFERED, ranks=12),
     row(STOLEN, 4, *none_found('0 runs'), *none_drawn('1 run', 'script.mpd --ranks 3'), limits=Limits(come_to=1, drawn=1), ranks=3),
     row(STOLEN, 1, *none_found('0 runs'), *STOLEN_DRAWN, OR_EARLIER.format(9), runs_of(0, picture='drawn'),
@@ -648,10 +703,11 @@ DRAWN = (
     row(HIGH_WANTED, 1, 'it can trap: 1 of 1 run', MORE, others(), '\ntrap at line 2: 1 of 1 run', '  rank 0, line 2: trap assert, with x = 1',
         FROM_START, runs_of(0), limits=few(come_to=2)),
     # by 10 to 12 steps the first run is cut, and the other hangs; by 9 steps both are cut
-    *(row(THREE, 1, none_found('1 run')[0], f'not everything was tried: 1 of 1 run were cut after {fuel} steps', MORE,
-          '\ndrawn at random: 1 of 2 runs hang\n', CUT_THEN_HANG, runs_of(1, picture='drawn'), limits=few(come_to=2, fuel=fuel)) for fuel in (10, 12)),
-    row(THREE, 4, none_found('1 run')[0], 'not everything was tried: 1 of 1 run were cut after 9 steps', MORE, *none_drawn('2 runs'),
-        limits=few(come_to=2, fuel=9)),
+    *(row(THREE, 1, none_found('1 run')[0], f'not everything was tried: 1 of 1 run was cut after {fuel} steps', MORE,
+          '\ncut at line 2: 1 of 1 run', runs_of(0), '\ndrawn at random: 1 of 2 runs hang\n', CUT_THEN_HANG, runs_of(1, picture='drawn-1'),
+          '\ncut at line 2: 1 of 2 runs', runs_of(0, picture='drawn-2'), limits=few(come_to=2, fuel=fuel)) for fuel in (10, 12)),
+    row(THREE, 4, none_found('1 run')[0], 'not everything was tried: 1 of 1 run was cut after 9 steps', MORE, '\ncut at line 2: 1 of 1 run', runs_of(0),
+        *none_drawn('2 runs'), '\ncut at line 2: 2 of 2 runs, one of them:', runs_of(0, picture='drawn'), limits=few(come_to=2, fuel=9)),
     # messages that are left over, by what was found and what was drawn
     *(row(ONE_OF_THREE, status, none_found('1 run')[0], *FIRST_LEFT, *left_of_drawn(runs, others_left, choice), strict=strict,
           limits=Limits(come_to=2, drawn=drawn))
@@ -675,12 +731,12 @@ DRAWN = (
     row(FOUR_WAYS, 1, *FOUR_FOUND, '\ndrawn at random: 1 of 4 runs hang\ndrawn at random: 1 of 4 runs trap',
         'drawn at random: 2 of 4 runs end with calls left over', *FOUR_HANG, *four_trap('4 runs', 'drawn-2'),
         *left_of_four(0, '2 of 4 runs', 'drawn-3'), limits=few(come_to=2)),
-    # where an end stands that has runs at two lines
+    # one of both ends, and both
     row(AT_TWO_LINES, 1, *TWO_LINES_FOUND, '\ndrawn at random: 1 of 1 run hang', *at_a_line(5, 3, '1 of 1 run', 'drawn'), limits=few(1, come_to=2)),
     row(AT_TWO_LINES, 1, *TWO_LINES_FOUND, '\ndrawn at random: 1 of 2 runs hang\ndrawn at random: 1 of 2 runs end with calls left over',
         *at_a_line(5, 3, '1 of 2 runs'), *left_at_six('1 of 2 runs'), limits=few(2, come_to=2)),
     row(AT_TWO_LINES, 1, *TWO_LINES_FOUND, '\ndrawn at random: 2 of 3 runs hang\ndrawn at random: 1 of 3 runs end with calls left over',
-        *at_a_line(4, 2, '2 of 3 runs'), *left_at_six('1 of 3 runs'), limits=few(7, come_to=2)))
+        *at_a_line(4, 2, '1 of 3 runs'), *at_a_line(5, 3, '1 of 3 runs', 'drawn-2'), *left_at_six('1 of 3 runs', 'drawn-3'), limits=few(7, come_to=2)))
 LIMITED += DRAWN
 
 

@@ -209,7 +209,7 @@ GROUPED = (
     CheckRow(LOW_WANTED, Asked(group=True, until=True), 'end 0 leaves 1 first 0 deadlock 2.0; leaves 1 more yes', 1),
     CheckRow(LOW_WANTED, Asked(group=True, witnesses=True),
              f'end 0 leaves 1 first 0 deadlock 2.0; witness 0: {SIX}, match 1.0 0.0, wake 0, local 0, wake 1; '
-             'end 1 leaves 1 first 1 trap 0 assert; leaves 2 more no', 1),
+             f'end 1 leaves 1 first 1 trap 0 assert; witness 1: {SIX}, match 2.0 0.0, wake 0, local 0, wake 2; leaves 2 more no', 1),
     CheckRow(TWO_RACES, Asked(group=True, modes=0), 'rendezvous leaves 8 deadlocks 8 traps 0 leftovers 0 cut 0 more no; '
              'buffered leaves 8 deadlocks 0 traps 0 leftovers 8 cut 0 more no; least buffered', 1))
 
@@ -225,10 +225,11 @@ class SampleRow(NamedTuple):
     complete: bool = False
     group: bool = False
     witnesses: bool = False
+    until: bool = False
 
     def case(self):
         """A check of so many runs that by nearly all seeds each is drawn: one in four or more comes to the rarest."""
-        return Sampling('row', self.script.encode(), 60, 7, self.mode, witnesses=self.witnesses, complete=self.complete, group=self.group)
+        return Sampling('row', self.script.encode(), 60, 7, self.mode, witnesses=self.witnesses, complete=self.complete, group=self.group, until=self.until)
 
     def wanted(self):
         return Result(''.join(f'{line}\n' for line in self.lines.split('; ')).encode(), b'', self.status)
@@ -241,6 +242,9 @@ SAMPLES = (
     SampleRow(ORDER_DECIDES, None, 'end 0 leaves 2 first 0 done; end 1 leaves 1 first 2 trap 0 assert; leaves 3 more no', 1, group=True),
     *(SampleRow(FREED_SLOT, 'slots:1', FREED, 1, complete) for complete in (False, True)),
     SampleRow(FREED_SLOT, 'slots:1', FREED.replace('; leaf 1', f'; witness 0: {FREED_STUCK}; leaf 1'), 1, witnesses=True),
+    # Whether the other run was drawn before or not, the report ends with the deadlock, which comes first by its choices.
+    SampleRow(FREED_SLOT, 'slots:1', 'leaf 0 [0 0] deadlock 0.2; leaves 1 more yes', 1, until=True),
+    SampleRow(FREED_SLOT, 'slots:2', 'leaf 0 [0] leftovers 0.1; leaves 1 more no', 0, until=True),
     SampleRow(FREED_SLOT, 'slots:2', 'leaf 0 [0] leftovers 0.1; leaves 1 more no', 0, complete=True),
     *(SampleRow(WAITANY, None, 'leaf 0 [0 0] done; leaf 1 [1 0] done; leaves 2 more no', 0, complete) for complete in (False, True)),
     SampleRow(EMPTY, 'slots:1', 'leaf 0 [] done; leaves 1 more no', 0, complete=True))
@@ -458,7 +462,7 @@ def said_problem(row):
 def sample_problem(row):
     """What is listed of runs that are drawn otherwise than a row wants, by either generator; None where nothing is."""
     asked, script = row.case(), read_script(row.script.encode())
-    said, drawn = samples.answer(asked), sampler.sampled(Debugger(script, row.mode or RENDEZVOUS), asked.count, USUAL.fuel, asked.seed)
+    said, drawn = samples.answer(asked), sampler.sampled(Debugger(script, row.mode or RENDEZVOUS), asked.count, USUAL.fuel, asked.seed, asked.until)
     return None if (said, drawn) == (row.wanted(), samples.sampled(asked)) else f'{said}, or {drawn}'
 
 

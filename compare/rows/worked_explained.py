@@ -92,7 +92,7 @@ barrier;
 if rank == 1 { send 5 to 0 tag 3; }
 '''
 NOBODY = 'mpd 1; ranks 1; var x;\nrecv x from any tag any;'
-# Of what nearly fits the first send, another tag counts, though a receive of another source stands before it.
+# Of what nearly fits the send, another tag counts, though a receive of another source stands before it: no rank waits for any of these.
 IN_ORDER = '''mpd 1; ranks 3; var x; req r[4];
 if rank == 0 {
   irecv r[0] x from 2 tag 0;
@@ -100,7 +100,48 @@ if rank == 0 {
   irecv r[2] x from any tag 2;
 }
 if rank == 1 { send 7 to 0 tag 0; }
-if rank == 2 { recv x from 1 tag 0; }
+if rank == 2 { print 7; }
+'''
+# Here rank 2 waits for the same message, and so its receive counts.
+DUE_FIRST = IN_ORDER.replace('print 7;', 'recv x from 1 tag 0;')
+# The first message of rank 1 is for a receive that comes later, and nobody waits for it yet; it has the other one with a wrong tag.
+LOG_BEFORE_RESULT = '''mpd 1; ranks 2; var x; req r;
+if rank == 0 { recv x from 1 tag 2; recv x from 1 tag 1; }
+if rank == 1 {
+  isend r 5 to 0 tag 1;
+  send 6 to 0 tag 3;
+  wait r;
+}
+'''
+# Of three sends of one line the last is waited for.
+LAST_OF_ITS_LINE = '''mpd 1; ranks 2; var x; var i; req r[3];
+if rank == 0 { recv x from 1 tag 7; }
+if rank == 1 {
+  while i < 3 { isend r[i] 5 to 0 tag i; i = i + 1; }
+  wait r[2];
+}
+'''
+# Any of the last two sends is waited for, and the first of these goes to another rank, with another tag.
+ONE_OF_ANY = '''mpd 2; ranks 3; var x; var i; req h; req r[2];
+if rank == 0 { recv x from 1 tag 7; }
+if rank == 1 {
+  isend h 5 to 0 tag 0;
+  isend r[0] 5 to 2 tag 5;
+  isend r[1] 5 to 0 tag 1;
+  waitany r to i;
+}
+'''
+# Rank 1 sends to rank 2 what rank 0 waits for, and rank 2 sends what rank 0 takes after that.
+ASTRAY = '''mpd 1; ranks 3; var x;
+if rank == 0 { recv x from 1 tag 0; recv x from 2 tag 0; }
+if rank == 1 { ssend 5 to 2 tag 0; }
+if rank == 2 { ssend 6 to 0 tag 0; }
+'''
+# The receive of the rank that the send goes to counts, though that of another rank stands before it.
+OF_ITS_RANK = '''mpd 1; ranks 3; var x;
+if rank == 0 { recv x from 2 tag 0; }
+if rank == 1 { recv x from 0 tag 0; }
+if rank == 2 { send 5 to 1 tag 0; }
 '''
 # The first by rank, and not by number, of those with another tag.
 FIRST_BY_RANK = '''mpd 1; ranks 4; var x; req r[2];
@@ -108,11 +149,11 @@ if rank == 0 { recv x from any tag 0; }
 if rank == 1 { issend r[0] 5 to 3 tag 0; issend r[1] 6 to 0 tag 1; }
 if rank == 2 { issend r[0] 8 to 0 tag 2; }
 '''
-# Another source counts, though a send to another rank stands before it.
-SOURCE_FIRST = '''mpd 1; ranks 3; var x; req r;
-if rank == 0 { recv x from 1 tag 0; }
-if rank == 1 { issend r 5 to 2 tag 0; }
-if rank == 2 { issend r 6 to 0 tag 0; }
+# Another destination counts, though a send of another rank stands before it.
+DESTINATION_FIRST = '''mpd 1; ranks 3; var x; req r;
+if rank == 0 { recv x from 2 tag 0; }
+if rank == 1 { issend r 5 to 0 tag 0; }
+if rank == 2 { issend r 6 to 1 tag 0; }
 '''
 # Only the rank that is taken last is answered: three ends of two leaves each, of which those of one end are no neighbours.
 ANSWERED_LAST = '''mpd 1; ranks 4; var x;
@@ -168,7 +209,7 @@ leaves 1 more no
 '''
 MISSING = '''  rank 0 waits at line 9, 0.2 recv from any tag 0: for a send of any rank with tag 0
     the last that fits is taken: line 15, {}.0 send to 0 tag 0 value {}, by line 9, 0.1 recv from any tag 0
-  rank 0 waits for rank 1 (ended), rank 2 (ended)
+  rank 0 waits for any of rank 1 (ended), rank 2 (ended)
 '''
 LATER, EARLIER = MISSING.format(2, 2), MISSING.format(1, 1)
 HEADS = '''  rank 0 waits at line 5, 0.0 send to 1 tag 5 value 10: for a receive of rank 1 from rank 0 with tag 5
@@ -187,10 +228,10 @@ SKIPPED = '''leaf 0 [] deadlock 0.1 1.1
 leaves 1 more no
 '''
 WAITED = '''leaf 0 [] deadlock 0.1 1.1
-  rank 0 waits at line 5, 0.1 wait 0: for this request
+  rank 0 waits at line 5, 0.1 wait 0: for request 0.0
     line 4, 0.0 irecv from 1 tag 3: for a send of rank 1 with tag 3
     nearest miss: line 7, 1.0 isend to 0 tag 4 value 7: another tag
-  rank 1 waits at line 8, 1.1 wait 0: for this request
+  rank 1 waits at line 8, 1.1 wait 0: for request 1.0
     line 7, 1.0 isend to 0 tag 4 value 7: for a receive of rank 0 from rank 1 with tag 4
     nearest miss: line 4, 0.0 irecv from 1 tag 3: another tag
   rank 0 waits for rank 1
@@ -200,7 +241,7 @@ leaves 1 more no
 '''
 # A send that is buffered blocks nobody; it nearly fits all the same, and its mark isn't told.
 WAITED_BUFFERED = '''leaf 0 [] deadlock 0.1
-  rank 0 waits at line 5, 0.1 wait 0: for this request
+  rank 0 waits at line 5, 0.1 wait 0: for request 0.0
     line 4, 0.0 irecv from 1 tag 3: for a send of rank 1 with tag 3
     nearest miss: line 7, 1.0 isend to 0 tag 4 value 7: another tag
   rank 0 waits for rank 1 (ended)
@@ -213,7 +254,7 @@ WAITED_FOR_ANY = '''leaf 0 [] deadlock 0.2 1.0
     line 4, 0.0 irecv from 1 tag 1: for a send of rank 1 with tag 1
   rank 1 waits at line 8, 1.0 recv from 0 tag 0: for a send of rank 0 with tag 0
     nearest miss: line 5, 0.1 issend to 2 tag 0 value 5: another destination
-  rank 0 waits for rank 1, rank 2 (ended)
+  rank 0 waits for any of rank 1, rank 2 (ended)
   rank 1 waits for rank 0
 leaves 1 more no
 '''
@@ -273,12 +314,12 @@ NOT_THERE = '''leaf 0 [] deadlock 0.0 1.0
     rank 1 is not there: it waits at line 3, 1.0 recv from any tag 4
     rank 2 is not there: it has ended
   rank 1 waits at line 3, 1.0 recv from any tag 4: for a send of any rank with tag 4
-  rank 0 waits for rank 1, rank 2 (ended)
-  rank 1 waits for rank 0, rank 2 (ended)
+  rank 0 waits for all of rank 1, rank 2 (ended)
+  rank 1 waits for any of rank 0, rank 2 (ended)
 leaves 1 more no
 '''
 WAITING_BEFORE_IT = '''leaf 0 [] deadlock 0.1 1.0 2.0
-  rank 0 waits at line 4, 0.1 wait 0: for this request
+  rank 0 waits at line 4, 0.1 wait 0: for request 0.0
     line 3, 0.0 irecv from 1 tag 3: for a send of rank 1 with tag 3
   rank 1 waits at line 7, 1.0 barrier: for all ranks at a barrier
     rank 0 is not there: it waits at line 4, 0.1 wait 0
@@ -295,9 +336,15 @@ FOR_NOBODY = '''leaf 0 [] deadlock 0.0
   rank 0 waits for nobody
 leaves 1 more no
 '''
-MISSED_IN_ORDER = '''leaf 0 [] deadlock 1.0 2.0
+MISSED_IN_ORDER = '''leaf 0 [] deadlock 1.0
   rank 1 waits at line 7, 1.0 send to 0 tag 0 value 7: for a receive of rank 0 from rank 1 with tag 0
     nearest miss: line 4, 0.1 irecv from 1 tag 1: another tag
+  rank 1 waits for rank 0 (ended)
+leaves 1 more no
+'''
+MISSED_DUE_FIRST = '''leaf 0 [] deadlock 1.0 2.0
+  rank 1 waits at line 7, 1.0 send to 0 tag 0 value 7: for a receive of rank 0 from rank 1 with tag 0
+    nearest miss: line 8, 2.0 recv from 1 tag 0: another destination
   rank 2 waits at line 8, 2.0 recv from 1 tag 0: for a send of rank 1 with tag 0
     nearest miss: line 7, 1.0 send to 0 tag 0 value 7: another destination
   rank 1 waits for rank 0 (ended)
@@ -316,19 +363,87 @@ leaves 1 more no
 MISSED_BY_RANK = '''leaf 0 [] deadlock 0.0
   rank 0 waits at line 2, 0.0 recv from any tag 0: for a send of any rank with tag 0
     nearest miss: line 3, 1.1 issend to 0 tag 1 value 6: another tag
-  rank 0 waits for rank 1 (ended), rank 2 (ended), rank 3 (ended)
+  rank 0 waits for any of rank 1 (ended), rank 2 (ended), rank 3 (ended)
 leaves 1 more no
 '''
-MISSED_BY_SOURCE_FIRST = '''leaf 0 [] deadlock 0.0
-  rank 0 waits at line 2, 0.0 recv from 1 tag 0: for a send of rank 1 with tag 0
-    nearest miss: line 4, 2.0 issend to 0 tag 0 value 6: another source
+MISSED_BY_DESTINATION_FIRST = '''leaf 0 [] deadlock 0.0
+  rank 0 waits at line 2, 0.0 recv from 2 tag 0: for a send of rank 2 with tag 0
+    nearest miss: line 4, 2.0 issend to 1 tag 0 value 6: another destination
+  rank 0 waits for rank 2 (ended)
+leaves 1 more no
+'''
+MISSED_BY_RESULT = '''leaf 0 [] deadlock 0.0 1.1
+  rank 0 waits at line 2, 0.0 recv from 1 tag 2: for a send of rank 1 with tag 2
+    nearest miss: line 5, 1.1 send to 0 tag 3 value 6: another tag
+  rank 1 waits at line 5, 1.1 send to 0 tag 3 value 6: for a receive of rank 0 from rank 1 with tag 3
+    nearest miss: line 2, 0.0 recv from 1 tag 2: another tag
+  rank 0 waits for rank 1
+  rank 1 waits for rank 0
+  a cycle, where each waits for the next: rank 0, rank 1, rank 0
+leaves 1 more no
+'''
+# The first message has the slot, and counts as the one that is waited for.
+MISSED_BY_SLOT = MISSED_BY_RESULT.replace('miss: line 5, 1.1 send to 0 tag 3 value 6', 'miss: line 4, 1.0 isend to 0 tag 1 value 5')
+# Both messages are buffered, and so rank 1 waits for neither.
+MISSED_BY_BUFFERED = '''leaf 0 [] deadlock 0.0
+  rank 0 waits at line 2, 0.0 recv from 1 tag 2: for a send of rank 1 with tag 2
+    nearest miss: line 4, 1.0 isend to 0 tag 1 value 5: another tag
   rank 0 waits for rank 1 (ended)
+leaves 1 more no
+'''
+MISSED_BY_LAST = '''leaf 0 [] deadlock 0.0 1.3
+  rank 0 waits at line 2, 0.0 recv from 1 tag 7: for a send of rank 1 with tag 7
+    nearest miss: line 4, 1.2 isend to 0 tag 2 value 5: another tag
+  rank 1 waits at line 5, 1.3 wait 2: for request 1.2
+    line 4, 1.2 isend to 0 tag 2 value 5: for a receive of rank 0 from rank 1 with tag 2
+    nearest miss: line 2, 0.0 recv from 1 tag 7: another tag
+  rank 0 waits for rank 1
+  rank 1 waits for rank 0
+  a cycle, where each waits for the next: rank 0, rank 1, rank 0
+leaves 1 more no
+'''
+MISSED_BY_ONE_OF_ANY = '''leaf 0 [] deadlock 0.0 1.3
+  rank 0 waits at line 2, 0.0 recv from 1 tag 7: for a send of rank 1 with tag 7
+    nearest miss: line 6, 1.2 isend to 0 tag 1 value 5: another tag
+  rank 1 waits at line 7, 1.3 waitany 1 2: for one of these requests
+    line 5, 1.1 isend to 2 tag 5 value 5: for a receive of rank 2 from rank 1 with tag 5
+    line 6, 1.2 isend to 0 tag 1 value 5: for a receive of rank 0 from rank 1 with tag 1
+    nearest miss: line 2, 0.0 recv from 1 tag 7: another tag
+  rank 0 waits for rank 1
+  rank 1 waits for any of rank 0, rank 2 (ended)
+leaves 1 more no
+'''
+SENT_ASTRAY = '''leaf 0 [] deadlock 0.0 1.0 2.0
+  rank 0 waits at line 2, 0.0 recv from 1 tag 0: for a send of rank 1 with tag 0
+    nearest miss: line 3, 1.0 ssend to 2 tag 0 value 5: another destination
+  rank 1 waits at line 3, 1.0 ssend to 2 tag 0 value 5: for a receive of rank 2 from rank 1 with tag 0
+    nearest miss: line 2, 0.0 recv from 1 tag 0: another destination
+  rank 2 waits at line 4, 2.0 ssend to 0 tag 0 value 6: for a receive of rank 0 from rank 2 with tag 0
+    nearest miss: line 2, 0.0 recv from 1 tag 0: another source
+  rank 0 waits for rank 1
+  rank 1 waits for rank 2
+  rank 2 waits for rank 0
+  a cycle, where each waits for the next: rank 0, rank 1, rank 2, rank 0
+leaves 1 more no
+'''
+MISSED_BY_ITS_RANK = '''leaf 0 [] deadlock 0.0 1.0 2.0
+  rank 0 waits at line 2, 0.0 recv from 2 tag 0: for a send of rank 2 with tag 0
+    nearest miss: line 4, 2.0 send to 1 tag 0 value 5: another destination
+  rank 1 waits at line 3, 1.0 recv from 0 tag 0: for a send of rank 0 with tag 0
+    nearest miss: line 4, 2.0 send to 1 tag 0 value 5: another source
+  rank 2 waits at line 4, 2.0 send to 1 tag 0 value 5: for a receive of rank 1 from rank 2 with tag 0
+    nearest miss: line 3, 1.0 recv from 0 tag 0: another source
+  rank 0 waits for rank 2
+  rank 1 waits for rank 0
+  rank 2 waits for rank 1
+  a cycle, where each waits for the next: rank 0, rank 2, rank 1, rank 0
 leaves 1 more no
 '''
 WAITED_TWICE = 'leaf 0 [0] done\nleaf 1 [1] trap 0 assert\n  rank 0, line 12: trap assert, with answers = [0, 20]\nleaves 2 more no\n'
 WAITED_TWICE_GROUPED = ('end 0 leaves 1 first 0 done\nend 1 leaves 1 first 1 trap 0 assert\n  rank 0, line 12: trap assert, with answers = [0, 20]\n'
                         'leaves 2 more no\n')
 TRAPPED = 'leaf 0 [] trap 1 zero-divisor\n  rank 1, line 10: trap zero-divisor, with x = 0\nleaves 1 more no\n'
+TRAPPED_STEPS = 'witness 0: local 0, local 0, local 1, local 1, match 0.0 1.0, wake 0, local 0, wake 1, local 1\n'
 ALL_DONE = 'leaf 0 [] done\nleaves 1 more no\n'
 TWO_ARE_LEFT = '''leaf 0 [0] leftovers 0.0 2.1
   left over: line 2, 0.0 irecv from 1 tag 7
@@ -410,7 +525,7 @@ ROWS = (
     Explained('head_to_head', 'leaf 0 [] cut\nleaves 1 more no\n', Asked(fuel=1), 0),
     Explained('lost_request', ALL_DONE, status=0), Explained('skipped_barrier', SKIPPED), Explained('waited_twice', WAITED_TWICE),
     Explained('waited_twice', WAITED_TWICE_GROUPED, GROUPED),
-    Explained('trap', TRAPPED), Explained('trap', TRAPPED, Asked(witnesses=True)),
+    Explained('trap', TRAPPED), Explained('trap', TRAPPED.replace('  rank', f'{TRAPPED_STEPS}  rank'), Asked(witnesses=True)),
     # what a statement that traps reads
     *(Explained(HOLDING.replace('STATEMENT', statement), trapped(trap, told)) for statement, trap, told in READ),
     # groups of several leaves
@@ -431,7 +546,11 @@ ROWS = (
     Explained(ONCE_MORE, SENT_ONCE_MORE), Explained(OF_THREE, ROUND_OF_THREE), Explained(APART, ROUNDS_APART), Explained(TWO_TRAPS, TRAPPED_TWICE),
     Explained(ALONE_AT_IT, NOT_THERE), *(Explained(WAITS_BEFORE_IT, WAITING_BEFORE_IT, Asked(mode=mode)) for mode in (None, BUFFERED)),
     Explained(NOBODY, FOR_NOBODY), Explained(IN_ORDER, MISSED_IN_ORDER), Explained(OTHER_SOURCE, MISSED_BY_SOURCE),
-    Explained(FIRST_BY_RANK, MISSED_BY_RANK), Explained(SOURCE_FIRST, MISSED_BY_SOURCE_FIRST))
+    Explained(FIRST_BY_RANK, MISSED_BY_RANK), Explained(DESTINATION_FIRST, MISSED_BY_DESTINATION_FIRST), Explained(DUE_FIRST, MISSED_DUE_FIRST),
+    Explained(LOG_BEFORE_RESULT, MISSED_BY_RESULT), Explained(LOG_BEFORE_RESULT, MISSED_BY_BUFFERED, Asked(mode=BUFFERED)),
+    Explained(LOG_BEFORE_RESULT, MISSED_BY_SLOT, Asked(mode='slots:1')),
+    Explained(LAST_OF_ITS_LINE, MISSED_BY_LAST), Explained(ONE_OF_ANY, MISSED_BY_ONE_OF_ANY), Explained(ASTRAY, SENT_ASTRAY),
+    Explained(OF_ITS_RANK, MISSED_BY_ITS_RANK))
 
 
 def problems():

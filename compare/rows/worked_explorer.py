@@ -131,12 +131,13 @@ CHECKS = (
              'leaf 0 [0 0] done; leaf 1 [1] leftovers 1.0; leaves 2 more no', 0),
     CheckRow(BY_VALUE.replace('STATEMENT', 'if x == 2 { while 1 { } }'), Asked(fuel=50),
              'leaf 0 [0] leftovers 2.0; leaf 1 [1] cut; leaves 2 more no', 0),
-    # a trap is found too, but has no witness; of what isn't listed nothing is said
+    # a trap is found too, and has a witness; of what isn't listed nothing is said
     CheckRow(LOW_WANTED, Asked(witnesses=True), f'leaf 0 [0] deadlock 2.0; witness 0: {SIX}, match 1.0 0.0, wake 0, local 0, wake 1; '
-             'leaf 1 [1] trap 0 assert; leaves 2 more no', 1),
-    CheckRow(LOW_WANTED, Asked(BUFFERED, witnesses=True), 'leaf 0 [0] leftovers 2.0; leaf 1 [1] trap 0 assert; leaves 2 more no', 1),
+             f'leaf 1 [1] trap 0 assert; witness 1: {SIX}, match 2.0 0.0, wake 0, local 0, wake 2; leaves 2 more no', 1),
+    CheckRow(LOW_WANTED, Asked(BUFFERED, witnesses=True), 'leaf 0 [0] leftovers 2.0; leaf 1 [1] trap 0 assert; '
+             f'witness 1: {SIX}, wake 1, wake 2, match 2.0 0.0, wake 0, local 0; leaves 2 more no', 1),
     CheckRow(LOW_WANTED, Asked(BUFFERED, runs=1, split=0, witnesses=True), 'leaf 0 [0] leftovers 2.0; leaves 1 more yes', 0),
-    CheckRow(ONE_TRAPPED, Asked(witnesses=True), 'leaf 0 [] trap 0 assert; leaves 1 more no', 1),
+    CheckRow(ONE_TRAPPED, Asked(witnesses=True), 'leaf 0 [] trap 0 assert; witness 0: local 0, local 1, local 1; leaves 1 more no', 1),
     # witnesses of barriers
     CheckRow(ONE_ENDED, Asked(witnesses=True), 'leaf 0 [] deadlock 1.0; witness 0: local 0, local 1, local 1; leaves 1 more no', 1),
     CheckRow(TWICE, Asked(BUFFERED, witnesses=True), 'leaf 0 [] deadlock 0.1; witness 0: local 0, local 1, release, local 0, local 0, '
@@ -308,6 +309,18 @@ TOLD = (
     told('deadlock 0.1\nlocal 0, local 1, release, local 0, local 0, local 1\n', 'accepted', TWICE, BUFFERED),
     # a trap is no deadlock, though a rank is blocked
     told('deadlock 1.0\nlocal 0, local 1, local 1\n', 'refused 33 not-stuck', ONE_TRAPPED),
+    # a trap: in any order of steps, of these ranks with these traps, and no deadlock; a rank that traps takes no step more
+    *(told(f'{front}trap 0 assert\n{name}{steps}\n', 'accepted', ONE_TRAPPED) for front in ('', 'leaf 7 [0 1] ', 'traps trapped ') for name, steps in (
+        ('', 'local 0, local 1, local 1'), ('witness 7: ', 'local 1, local 0, local 1'), (':', 'local 1,local 1, local 0'))),
+    *(told(f'trap {ranks}\nlocal 0, local 1, local 1\n', 'refused 34 wrong-blocked', ONE_TRAPPED) for ranks in (
+        '1 assert', '0 overflow', '0 assert 1 assert', '0 assert 0 assert')),
+    told('trap 0 assert\nlocal 0, local 1\n', 'refused 33 not-stuck', ONE_TRAPPED),
+    told('trap 0 assert\nlocal 0, local 0, local 1\n', 'refused 32 no-such-step at 1', ONE_TRAPPED),
+    told(f'trap 0 assert\n{STUCK}\n', 'refused 33 not-stuck'), told(f'trap 0 assert deadlock 0.1 1.0\n{STUCK}\n', 'accepted'),
+    told('trap 0 assert deadlock 1.0\nlocal 0, local 1, local 1\n', 'refused 33 not-stuck', ONE_TRAPPED),
+    *(ToldRow(ONE_TRAPPED, f'{end}\nlocal 0, local 1, local 1\n', None, '', 2, 'mpdbg: bad witness line 1') for end in (
+        'trap', 'trap 0', 'trap assert', 'trap assert 0', 'trap 0 asserts', 'trap 0 Assert', 'trap  0 assert', 'trap 0 assert ', 'trap 0 assert 1',
+        'trap 0.0 assert', 'trap 0000000000 assert', 'traps 0 assert', 'trap 0 assert deadlock')),
     # what stands in front of the word and in front of a colon isn't looked at
     *(told(f'{front}deadlock 0.1 1.0\n{name}{STUCK}\n', 'accepted') for front, name in (
         ('outcome ', ''), (' ', ' '), ('a  b ', 'x:'), ('0.0 ', ':'), ('leaf 99 [a, b: c] ', 'leaf 0 [] done:'), ('deadlocks dead\tlock ', '\t\t:'),

@@ -97,6 +97,15 @@ TRAP_FIRST = 'outcome 0 runs 1 first [0] trap 0 assert; outcome 1 runs 1 first [
 TWO_ASSERTS = 'mpd 1; ranks 3; var x;\nif rank == 0 { recv x from any tag 0; if x == 1 { assert 0; } else { assert 0; } } else { send rank to 0 tag 0; }'
 ONE_ASSERT = TWO_ASSERTS.replace('if x == 1 { assert 0; } else { assert 0; }', 'assert x == 0;')
 TOLD_ALIKE = ways(2, (1, '0', 'trap 0 assert'), (1, '1', 'trap 0 assert'))
+# So it is with two statements that issue the same call of a rank: a receive that nobody sends for, and a send that nobody takes. Behind the
+# first of both messages the second is a choice of one. Where both orders come to one statement, it is one outcome, whatever the call asks for.
+BY_ORDER_OF_TWO = ('mpd 1; ranks 3; var x; req r;\n'
+                   'if rank == 0 { recv x from any tag 0; recv x from any tag 0; STATEMENT } else { send rank to 0 tag 0; }')
+TWO_HANGS, ONE_HANG, TWO_LEFT, ONE_LEFT = (BY_ORDER_OF_TWO.replace('STATEMENT', statement) for statement in (
+    'if x == 1 { recv x from 1 tag 9; } else { recv x from 2 tag 9; }', 'recv x from x tag 9;',
+    'if x == 1 { isend r x to 1 tag 9; } else { isend r x to 1 tag 9; }', 'isend r x to 1 tag 9;'))
+HANGS_ALIKE = ways(2, (1, '0 0', 'deadlock 0.2'), (1, '1 0', 'deadlock 0.2'))
+LEFT_ALIKE = HANGS_ALIKE.replace('deadlock', 'leftovers')
 # One of three senders is received: each leaves the two others blocked.
 ONE_OF_THREE = Races(1, 3, 1).script()
 BY_ONE = ways(3, (1, '0', 'deadlock 2.0 3.0'), (1, '1', 'deadlock 1.0 3.0'), (1, '2', 'deadlock 1.0 2.0'))
@@ -115,11 +124,13 @@ FEW = (
     row(TWO_OF_THREE, BY_TWO_OF_THREE, 1), *(row(TWO_OF_THREE, BY_TWO_OF_THREE, 1, states=states) for states in (1, 2, 10, MOST_STATES)),
     # the first runs stand in another order than the texts
     row(HIGH_WANTED, TRAP_FIRST, 1), row(TWO_RACES, BY_TWO, 1), row(TWO_ASSERTS, TOLD_ALIKE, 1), row(ONE_ASSERT, one_way('trap 0 assert', 2, '0'), 1),
+    row(TWO_HANGS, HANGS_ALIKE, 1), row(ONE_HANG, one_way('deadlock 0.2', 2, '0 0'), 1), row(TWO_LEFT, LEFT_ALIKE),
+    row(ONE_LEFT, one_way('leftovers 0.2', 2, '0 0')), *(row(TWO_HANGS, HANGS_ALIKE, 1, states=states) for states in (1, 5)),
     row(TWO_RACES, BY_TWO.replace('deadlock', 'leftovers'), mode=BUFFERED, complete=True),
     *(row(TWO_RACES, BY_TWO, 1, states=states) for states in (1, 5)),
     row(LOW_WANTED, 'outcome 0 runs 1 first [0] deadlock 2.0; '
-        f'witness 0: {SIX}, match 1.0 0.0, wake 0, local 0, wake 1; outcome 1 runs 1 first [1] trap 0 assert; outcomes 2 runs 2 more no', 1,
-        witnesses=True),
+        f'witness 0: {SIX}, match 1.0 0.0, wake 0, local 0, wake 1; outcome 1 runs 1 first [1] trap 0 assert; '
+        f'witness 1: {SIX}, match 2.0 0.0, wake 0, local 0, wake 2; outcomes 2 runs 2 more no', 1, witnesses=True),
     row(BY_VALUE.replace('STATEMENT', 'if x == 1 { recv x from any tag any; }'),
         'outcome 0 runs 1 first [0 0] done; outcome 1 runs 1 first [1] leftovers 1.0; outcomes 2 runs 2 more no'),
     row(BOTH_ANY, one_way('done', 2, '0 0'), witnesses=True, explain=True))
@@ -130,7 +141,10 @@ FEW = (
 BY_ORDER = 'outcome 0 runs 2 first [0 0] done; outcome 1 runs 1 first [1 1] trap 0 assert; outcomes 2 runs 3 more no'
 EXPLAINED_ORDER = BY_ORDER.replace('; outcomes', (
     '\n  rank 0, line 11: trap assert, with i = 1\n  decided at depth 12: rank 0, line 10, goes on by line 9, 0.1 irecv from any tag 0; '
-    'if rank 0, line 10, goes on by line 8, 0.0 irecv from 1 tag 0 instead, it can still end well; outcomes'))
+    'if rank 0, line 10, goes on by line 8, 0.0 irecv from 1 tag 0 instead, it need not hang or trap; outcomes'))
+WITNESSED_ORDER = EXPLAINED_ORDER.replace('trap 0 assert\n', (
+    'trap 0 assert; witness 1: local 0, local 0, local 0, local 0, local 1, local 1, local 2, local 2, match 1.0 0.0, wake 1, match 2.0 0.1, '
+    'wake 2, wakeany 0 1, local 0\n'))
 # In slots:1 both matches are candidates, 0 match 1.0 0.0 and 1 match 2.0 0.1, behind ten steps.
 #   0: candidates 0 wakeany 0 0 and 1 match 2.0 0.1.   [0 0]: i is 0; a choice of one: [0 0 0] done.
 #      [0 1]: candidates 0 wakeany 0 0, [0 1 0] done, and 1 wakeany 0 1, [0 1 1] a trap.
@@ -146,7 +160,7 @@ BY_BARRIER = ways(3, (2, '0 0', 'done'), (1, '1 1', f'deadlock 0.3; witness 1: {
 BY_EACH = ways(8, (2, '0 0', 'trap 1 assert'), (2, '0 1', 'done'), (2, '1 0', 'trap 0 assert 1 assert'), (2, '1 1', 'trap 0 assert'))
 BY_ORDER_OF_STEPS = (
     *(row(ORDER_DECIDES, BY_ORDER, 1, mode=mode, complete=complete) for mode in (None, BUFFERED, 'slots:0') for complete in (False, True)),
-    row(ORDER_DECIDES, EXPLAINED_ORDER, 1, explain=True), row(ORDER_DECIDES, EXPLAINED_ORDER, 1, explain=True, witnesses=True),
+    row(ORDER_DECIDES, EXPLAINED_ORDER, 1, explain=True), row(ORDER_DECIDES, WITNESSED_ORDER, 1, explain=True, witnesses=True),
     *(row(ORDER_DECIDES, ORDER_IN_SLOTS, 1, mode='slots:1', states=states) for states in (None, 1)),
     *(row(FREED_SLOT, FREED, 1, mode='slots:1', complete=complete) for complete in (False, True)),
     row(FREED_SLOT, FREED.replace('; outcome 1', f'; witness 0: {FREED_STUCK}; outcome 1'), 1, mode='slots:1', witnesses=True),
@@ -288,7 +302,7 @@ SWAPPED = one_way('deadlock 0.0 1.0').replace('; outcomes', (
     ';   rank 1 waits at line 10, 1.0 recv from 0 tag 2: for a send of rank 0 with tag 2'
     ';     nearest miss: line 7, 0.0 send to 1 tag 1 value 640: another tag'
     ';   rank 0 waits for rank 1;   rank 1 waits for rank 0;   a cycle, where each waits for the next: rank 0, rank 1, rank 0'
-    ';   decided from the start: no run ends well; outcomes'))
+    ';   decided from the start: every run hangs or traps; outcomes'))
 SWAPPED_TAGS = open_example('swapped_tags.mpd').decode()
 EXPLAINED = (
     row(SWAPPED_TAGS, SWAPPED, 1, explain=True),
@@ -460,6 +474,11 @@ KEYS = (
     KeyRow(UNRECEIVED, 'local 0', 'local 0, wake 0', False, (BUFFERED, BUFFERED)),
     # what the receive will write that rank 0 is blocked on is not told as it is before: x is 1 or 2
     both('recv x from 1 tag 9; print x;', True, ', local 0'), both('recv x from 1 tag 9; print x;', False),
+    # where a rank is blocked, and where a free call was issued, which an end tells; not where one was that is paired
+    both('if x == 1 { recv x from 1 tag 9; } else { recv x from 1 tag 9; }', False, ', local 0, local 0'), both('recv x from 1 tag 9;', True, ', local 0'),
+    both('if x == 1 { isend r 0 to 1 tag 9; } else { isend r 0 to 1 tag 9; }', False, ', local 0, local 0'), both('isend r 0 to 1 tag 9;', True, ', local 0'),
+    both('if x == 1 { isend r 0 to 0 tag 9; } else { isend r 0 to 0 tag 9; } recv x from 0 tag 9;', True, ', local 0, local 0, local 0, match 0.2 0.3'),
+    both('if x == 1 { barrier; } else { barrier; }', False, ', local 0, local 0'), both('barrier;', True, ', local 0'),
     # a slot that was free when a send was issued, or was not
     KeyRow(FREED_SLOT, 'local 0, local 0, local 1, local 1, local 0, match 0.0 1.0',
            'local 0, local 0, local 1, local 1, match 0.0 1.0, local 0', False,

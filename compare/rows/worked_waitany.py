@@ -266,10 +266,14 @@ NOT_FOUND = 'local 0, local 0, local 0, local 0, local 1, local 1, local 1, matc
 OTHER_FIRST = 'local 0, local 0, local 0, local 0, local 1, local 1, local 2, local 2, match 2.0 0.1'
 PLACES = (
     # what a report doesn't find is found from a place along the steps
-    PlaceRow(ONE_NOT_FOUND, NOT_FOUND, 10, 9, 'leaf 0 [0] done; leaf 1 [1] trap 0 assert; leaves 2 more no'),
-    PlaceRow(NOT_LISTED, OTHER_FIRST, 10, 99, 'leaf 0 [0] done; leaf 1 [1] trap 0 assert; leaves 2 more no'),
-    PlaceRow(TWO_CAME, f'{UP_TO_CHOICE}, wakeany 0 0, back', 10, 2, 'leaf 0 [0] cut; leaf 1 [1] trap 0 assert; leaves 2 more no'),
-    PlaceRow(TWO_CAME, f'{UP_TO_CHOICE}, wakeany 0 1', 10, 1, 'leaf 0 [] trap 0 assert; leaves 1 more no'))
+    PlaceRow(ONE_NOT_FOUND, NOT_FOUND, 10, 9,
+             f'leaf 0 [0] done; leaf 1 [1] trap 0 assert; witness 1: {NOT_FOUND}, wakeany 0 1, local 0; leaves 2 more no'),
+    PlaceRow(NOT_LISTED, OTHER_FIRST, 10, 99, 'leaf 0 [0] done; leaf 1 [1] trap 0 assert; '
+             f'witness 1: {OTHER_FIRST}, wake 2, match 1.0 0.0, wake 1, wakeany 0 1, local 0; leaves 2 more no'),
+    PlaceRow(TWO_CAME, f'{UP_TO_CHOICE}, wakeany 0 0, back', 10, 2,
+             f'leaf 0 [0] cut; leaf 1 [1] trap 0 assert; witness 1: {UP_TO_CHOICE}, wakeany 0 1, local 0; leaves 2 more no'),
+    PlaceRow(TWO_CAME, f'{UP_TO_CHOICE}, wakeany 0 1', 10, 1,
+             f'leaf 0 [] trap 0 assert; witness 0: {UP_TO_CHOICE}, wakeany 0 1, local 0; leaves 1 more no'))
 
 LEAF = 'leaf 1 [1] deadlock 0.3'
 WITNESSES = (

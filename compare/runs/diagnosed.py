@@ -21,6 +21,7 @@ import subprocess
 import sys
 import tempfile
 from collections import Counter
+from itertools import combinations
 
 sys.path.insert(0, os.path.dirname(os.path.dirname(os.path.abspath(__file__))))
 
@@ -46,6 +47,8 @@ from started.programs import run_at_once
 
 # So many scripts meet all that must be met.
 MANY = 300
+# A run of so many steps has a picture.
+MOST_PICTURED = 1000
 # How long a search that stops may take a program, which has some 15 seconds of a processor to do.
 LONG_SECONDS = 300
 # The kinds of ends, as the text has them.
@@ -53,7 +56,7 @@ WORDS = {'deadlock': 'hang', 'trap': 'trap', 'leftovers': 'left', 'done': 'done'
 MUST_MEET = (
     'status 0', 'status 1', 'status 2', 'status 3', 'never', 'hang', 'trap', 'left', 'hang beside trap', 'left beside hang', 'left beside trap',
     'left alone', 'status 1 by --strict alone', 'one run', 'several runs', 'states that come again', 'one bug', 'several bugs',
-    'several bugs of one kind', 'an end that stands elsewhere in a later run', 'several ends of one bug', 'ends of one bug behind others',
+    'several bugs of one kind', 'ends that are told alike and stand elsewhere', 'several ends of one bug', 'ends of one bug behind others',
     'a shorter run that is not the first',
     'runs that are as long', 'several lines', 'one line', 'lines that texts have in another order', 'no line is folded', 'a line is folded',
     'a line is folded twice', 'a command of more than 80 bytes', 'no choice', 'no mode in commands', 'a mode in commands', 'buffered', 'slots',
@@ -61,14 +64,14 @@ MUST_MEET = (
     'decided from the start', 'drawn', 'nothing is drawn behind what is bad', 'no run is found', 'hang drawn', 'trap drawn', 'left drawn', 'none drawn',
     'hang drawn beside trap', 'left drawn beside hang', 'left found and drawn', 'left drawn alone', 'status 1 by --strict and what is drawn alone',
     'one run is drawn', 'a run is drawn twice', 'all runs are drawn', 'fewer runs than all are drawn', 'a bug of several ends is drawn',
-    'an end that is drawn elsewhere', 'a bug is found and drawn', 'it always hangs', 'it always traps', 'always bad, and in two ways',
+    'ends are drawn that are told alike and stand elsewhere', 'a bug is found and drawn', 'it always hangs', 'it always traps', 'always bad, and in two ways',
     'left before what is bad, by its first run', 'a name in quotes', 'a quote in a name', 'a name that begins as an option', 'other modes')
 # Names of files that a shell reads otherwise where they stand without quotes, or a command takes for options.
 NAMES = ('a b.mpd', "it's.mpd", 'a;b.mpd', '$(x).mpd', '`x`.mpd', '"a".mpd', 'a&b.mpd', 'a|b.mpd', 'a>b.mpd', '*.mpd', '~', '#a', 'a\\b.mpd', "'",
          '\u00e9.mpd', '-x.mpd', '-x y.mpd', '--help', '-')
 # Of a script that hangs, and of one that never does, the words of each command, in their order, but for the file.
 IN_A_SHELL = ((worked_diagnosed.STOLEN, (('debug', '--ends', '--choices', '0'), ('picture', '--ends', '--choices', '0'))),
-              (worked_diagnosed.THREE_SENDERS, (('check', '--modes', '4', '--outcomes'),)))
+              (worked_diagnosed.THREE_SENDERS, (('diagnose', '--modes', '4'),)))
 
 
 def said(chosen, asked):
@@ -163,6 +166,8 @@ def bug_wrong(asked, bug):
         return f'{bug.choices} is no run, by its choice {bad.place}'
     if WORDS[word_of(leaf.outcome)] != bug.kind:
         return f'{bug.choices} ends {leaf.outcome}, and no {bug.kind}'
+    if bug.pictured != (len(leaf.steps) <= MOST_PICTURED):
+        return f'{bug.choices} has {len(leaf.steps)} steps, and a picture, or none'
     return None if told_of(asked, leaf) == bug.explained else f'{bug.choices} is explained by {bug.explained}, and not {told_of(asked, leaf)}'
 
 
@@ -293,12 +298,16 @@ def text_wrong(asked, result, leaves):
 
 # ---- what was met
 
+def stand_elsewhere(ends):
+    """Whether `check` tells two of these alike which stand at other lines."""
+    return any(str(one.leaf.outcome) == str(other.leaf.outcome) and one.lines != other.lines for one, other in combinations(ends, 2))
+
+
 def met_of_ends(asked, told, leaves):
     """What a program may tell wrongly of the ends of runs that are listed, if they are."""
     yield 'more runs than are listed' if leaves is None else 'the runs one after another'
     ends = ended(asked, leaves or ())
-    stands = {end.leaf.outcome: end.lines for end in ends}
-    yield from ['an end that stands elsewhere in a later run'] * any(Ended(asked, leaf).lines != stands[leaf.outcome] for leaf in leaves or ())
+    yield from ['ends that are told alike and stand elsewhere'] * stand_elsewhere(ends)
     for bug in told.bugs if ends else ():
         of_bug = [place for place, end in enumerate(ends) if (end.kind, end.lines) == (bug.kind, bug.lines)]
         between = set(range(of_bug[0], of_bug[-1])) - set(of_bug)
@@ -328,8 +337,7 @@ def met_of_drawn(asked, told, leaves):
         return
     yield 'all runs are drawn' if drawn.runs == len(leaves) else 'fewer runs than all are drawn'
     there = ended(asked, drawn_by_runs(asked, leaves))
-    stands = {end.leaf.outcome: end.lines for end in ended(asked, leaves)}
-    yield from ['an end that is drawn elsewhere'] * any(end.lines != stands[end.leaf.outcome] for end in there)
+    yield from ['ends are drawn that are told alike and stand elsewhere'] * stand_elsewhere(there)
     yield from ['a bug of several ends is drawn'] * any(sum((end.kind, end.lines) == bug[:2] for end in there) > 1 for bug in drawn.bugs)
 
 

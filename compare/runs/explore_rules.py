@@ -269,7 +269,7 @@ def lines_due(found, witnesses):
     """What the lines of a report tell, one by one."""
     for number, leaf in enumerate(found.leaves):
         yield 'leaf', number, leaf.choices, leaf.outcome
-        if witnesses and leaf.outcome.startswith('deadlock'):
+        if witnesses and leaf.outcome.startswith(('deadlock', 'trap')):
             yield 'witness', number, leaf.steps
     yield 'leaves', len(found.leaves), found.more
 
@@ -433,12 +433,38 @@ def witness_rows(random, seen, leaf, path):
             *with_other_calls(random, seen, path.steps, blocked)]
 
 
+def trapped_in(world):
+    """The ranks that trap in a world, each with its trap, as `show` tells them one by one."""
+    states = [rank_state(rank).split() for rank in world.ranks]
+    return tuple(f'{rank} {state[1]}' for rank, state in enumerate(states) if state[0] == 'trapped')
+
+
+def witness_wanted(leaf, path):
+    """The witness of a run, by the world that it has come to; None where that is neither a deadlock nor a trap."""
+    ranks = trapped_in(path.world)
+    if ranks:
+        return Witness(path.steps, ranks, 'trap')
+    return Witness(path.steps, blocked_of(path.world)) if leaf.outcome.startswith('deadlock') else None
+
+
+def trap_rows(random, leaf, path):
+    """What may be taken for a witness of a trap, with why it must be refused, if it must."""
+    ranks, steps = trapped_in(path.world), path.steps
+    if not ranks:
+        return [(steps, ('0 assert',), Refusal(NOT_STUCK))] if leaf.outcome != 'cut' else []
+    rank, name = ranks[0].split()
+    other = random.choice([it for it in ('overflow', 'zero-divisor', 'bad-rank', 'bad-tag', 'bad-index', 'assert') if it != name])
+    changed = [ranks[1:], ranks + ranks[:1], (f'{rank} {other}', *ranks[1:]), (f'{int(rank) + 1} {name}', *ranks[1:]), (*ranks, '16 assert')]
+    return [(steps, ranks, None), *((steps, it, Refusal(WRONG_BLOCKED)) for it in changed), ((Step('wake', 0),) + steps, ranks, Refusal(NO_SUCH_STEP, 0)),
+            (steps + (steps[-1],), ranks, Refusal(NO_SUCH_STEP, len(steps)))]
+
+
 def witnesses_wrong(random, seen, met):
     """What is wrong with the witnesses of the leaves, and with what is said of them and of changed ones."""
     wrong = []
     for leaf, path in random.sample(list(zip(seen.found.leaves, seen.paths)), min(MOST_WITNESSES, len(seen.paths))):
         is_deadlock = leaf.outcome.startswith('deadlock')
-        if explorer.witness(leaf) != (Witness(path.steps, blocked_of(path.world)) if is_deadlock else None):
+        if explorer.witness(leaf) != witness_wanted(leaf, path):
             wrong.append(f'the witness of {leaf.choices}, {leaf.outcome}')
         for steps, calls, wanted in witness_rows(random, seen, leaf, path):
             said = explorer.verify(seen.script, seen.mode, steps, calls)
@@ -447,6 +473,11 @@ def witnesses_wrong(random, seen, met):
             met[f'refused {wanted.number}' if wanted else 'accepted'] += 1
             met['another order accepted'] += wanted is None and steps != path.steps
             met['refused behind the end'] += is_deadlock and wanted == Refusal(NO_SUCH_STEP, len(path.steps))
+        for steps, ranks, wanted in trap_rows(random, leaf, path):
+            said = explorer.verify(seen.script, seen.mode, steps, ranks, 'trap')
+            if said != wanted:
+                wrong.append(f'{said}, and not {wanted}, of {", ".join(map(step_text, steps))}: trap {" ".join(ranks)}')
+            met[f'a trap refused {wanted.number}' if wanted else 'a trap accepted'] += 1
     return wrong
 
 

@@ -58,9 +58,9 @@ MOST_LEAVES = 200
 FEW_STATES = (1, 2, 4, 16)
 EVERY_END_EVERY, DECIDING_EVERY = 2, 4
 # What is told of the step that decides: its depth, and the step with what could be done in its place.
-DECIDED = re.compile(r'decided at depth ([0-9]+): (.*) it can still end well')
+DECIDED = re.compile(r'decided at depth ([0-9]+): (.*) it need not hang or trap')
 # By what it is told how that was decided.
-HOW_DECIDED = (('decided by another message', '; with that of rank '), ('decided by another step', ' instead, it can'),
+HOW_DECIDED = (('decided by another message', '; with that of rank '), ('decided by another step', ' instead, it need'),
                ('decided from the start', 'decided from the start: '), ('decided or earlier', ' or earlier: '))
 # How long a check may take a program whose table is too small: of all states it takes some 3, and with a part of them up to four times as much. And
 # how long one that stops may take it.

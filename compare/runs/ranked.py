@@ -7,7 +7,7 @@
 
 Standard output, standard error and the status must be the same, to the byte, but for the commands that `diagnose` names, which have ` --ranks N`
 where it was given. Of a script that is refused the answer must be that of the script as it stands. `diagnose --ranks N-M` must say of each number
-what `diagnose` says first of that text. The files have the same name. `serve` answers a client of a few scripts. The status is 0 where nothing
+what `diagnose` says first of that text, and `diagnose --modes N` of each mode what `diagnose --mode M` says first. The files have the same name. `serve` answers a client of a few scripts. The status is 0 where nothing
 differed, and all was met that must be.
 """
 
@@ -36,12 +36,12 @@ from started.programs import run_at_once
 # So many scripts meet all that must be met.
 MANY = 200
 COMMANDS = ('trace', 'debug', 'run', 'check', 'words', 'verify', 'c', 'picture', 'diagnose')
-MUST_MEET = (*COMMANDS, 'several numbers', 'serve', 'refused', 'more ranks', 'fewer ranks', 'the same number', 'another answer', 'a hang', 'a trap', 'status 1')
+MUST_MEET = (*COMMANDS, 'several numbers', 'several modes', 'a mode that is bad', 'a mode that is good', 'serve', 'refused', 'more ranks', 'fewer ranks', 'the same number', 'another answer', 'a hang', 'a trap', 'status 1')
 # One script of so many is diagnosed for several numbers, and one of so many is served.
 SEVERAL_EVERY, SERVE_EVERY = 4, 30
 SERVED = b'{"cmd":"run","max":9}\n{"cmd":"state"}\n'
 # What the model alone is asked.
-MODEL_ROWS = worked_ranks.TEXTS + worked_ranks.WORDS + worked_ranks.SEVERAL + worked_ranks.HEADINGS
+MODEL_ROWS = worked_ranks.TEXTS + worked_ranks.WORDS + worked_ranks.SEVERAL + worked_ranks.MODES + worked_ranks.HEADINGS
 # The commands that a diagnosis names.
 NAMED = re.compile(rb'^(  \./mpdbg .*?) --ranks \d+', re.MULTILINE)
 
@@ -107,6 +107,30 @@ def several_wrong(chosen, folder, case, met):
     return None if result == wanted else f'diagnose --ranks {word}: {first_different(result, wanted)}'
 
 
+def modes_wrong(chosen, folder, case, met):
+    """How several modes are told otherwise than each by itself, for another number of ranks or none, with `--strict` or without it, or None."""
+    number = int(case.name.rpartition('-')[2])
+    most, more = number % 3, ('--strict',) * (number % 2)
+    ranked = ('--ranks', str(case.ranks)) if number % 5 else ()
+    text = case.other if ranked else case.script
+    modes = ranks.modes_up_to(most)
+    if not is_refused(text) and not all(diagnosed_cases.comes_to_few(Diagnosis('few', text, mode)) for mode in modes):
+        return None
+    met['several modes'] += 1
+    question = ranks_cases.Question(('diagnose', 'FILE'))
+    result = said(chosen, folder, case.script, question, ('--modes', str(most), *ranked, *more))
+    if is_refused(case.script):
+        wanted = said(chosen, folder, case.script, question)
+    else:
+        answers = [said(chosen, folder, case.script, question, ('--mode', mode, *ranked, *more)) for mode in modes]
+        told = ' '.join(['./mpdbg', 'diagnose', words_in(folder, ['FILE'])[0], *ranked])
+        strict = ' --strict' * bool(more)
+        output, status = ranks.in_modes(modes, answers, lambda mode: f'{told}{"" if mode == "rendezvous" else f" --mode {mode}"}{strict}')
+        met.update(name for name, of_answers in (('a mode that is bad', 1), ('a mode that is good', 0)) if of_answers in {answer.status for answer in answers})
+        wanted = Result(output, b'', status)
+    return None if result == wanted else f'diagnose --modes {most} {ranked} {more}: {first_different(result, wanted)}'
+
+
 def met_in(case, question, result, own):
     """What of a case a program may answer wrongly."""
     yield question.command
@@ -138,9 +162,7 @@ def case_wrong(chosen, case, met):
                 yield f'{shlex.join(question.words)} --ranks {case.ranks}: {first_different(result, wanted)}'
         number = int(case.name.rpartition('-')[2])
         if number % SEVERAL_EVERY == 0:
-            problem = several_wrong(chosen, folder, case, met)
-            if problem is not None:
-                yield problem
+            yield from (problem for problem in (several_wrong(chosen, folder, case, met), modes_wrong(chosen, folder, case, met)) if problem is not None)
     if number % SERVE_EVERY == 0 and not is_refused(case.script):
         met['serve'] += 1
         result, wanted = (served(chosen, script, more) for script, more in ((case.script, ('--ranks', str(case.ranks))), (other, ())))
@@ -190,6 +212,14 @@ def texts_wrong():
         said_of_all = ranks.several([number for number, _, _ in told], answers, lambda number: f'see {number}')
         if list(said_of_all) != wanted:
             yield f'{told} is told as {said_of_all}, wanted {wanted}'
+    for told, *wanted in worked_ranks.MODES:
+        answers = [Result(output, b'', status) for _, output, status in told]
+        said_of_all = ranks.in_modes([mode for mode, _, _ in told], answers, lambda mode: f'see {mode}')
+        if list(said_of_all) != wanted:
+            yield f'{told} is told as {said_of_all}, wanted {wanted}'
+    for most, wanted in worked_ranks.UP_TO:
+        if ranks.modes_up_to(most) != wanted:
+            yield f'up to {most} slots are {ranks.modes_up_to(most)}, wanted {wanted}'
     for number, wanted in worked_ranks.HEADINGS:
         if ranks.heading(number) != wanted:
             yield f'{number} is headed {ranks.heading(number)!r}, wanted {wanted!r}'

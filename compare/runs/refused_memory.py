@@ -103,7 +103,7 @@ ANSWERED = ('--help', 'trace --help', 'run --help', 'run a --mode b', '--version
             'verify --help', 'verify a', 'verify a b --mode c')
 
 # Words with another number of ranks.
-RANKED = ('trace FILE --ranks 2', 'c FILE --ranks 16', 'diagnose FILE --ranks 2-4')
+RANKED = ('trace FILE --ranks 2', 'c FILE --ranks 16', 'diagnose FILE --ranks 2-4', 'diagnose FILE --modes 1')
 
 
 def inputs():

@@ -42,7 +42,7 @@ RUN = ('./mpdbg', 'cat ', 'sed ', 'echo ', 'mkdir ', 'seq ', 'sbatch ', 'sh exam
 # How a block begins that shows neither commands nor what one of the commands answers: a line of another command, or a form.
 EXCERPTS = {
     'README.md': ('checked as it runs',),
-    'docs/FORMATS.md': ('enabled local 3', 'handles 1', 'leaf N ', 'rendezvous leaves 2', 'witness N: ', 'leaf 1 [1] deadlock', 'deadlock 0.1', 'mpdbg: script refused', 'mpdbg: device',
+    'docs/FORMATS.md': ('enabled local 3', 'handles 1', 'leaf N ', 'rendezvous leaves 2', 'witness N: ', 'leaf 1 [1] deadlock', 'deadlock 0.1', 'trap 0 assert', 'mpdbg: script refused', 'mpdbg: device',
                         'all 12 runs were tried', 'not everything was tried', 'outcome 0 runs 3', '  decided at depth 9', 'rendezvous outcomes 2', 'words and picture take', 'JSON requests', 'end 0 leaves 3', 'proving '),
     'docs/CONSOLE.md': ('help lists ',),
     'docs/FROM_A_RUN.md': ('mpdrec stands ', 'recv x from any tag 2 '),
@@ -68,7 +68,8 @@ done
 '''
 # What tells of a deadlock or a trap, in a report, grouped or of modes, or in a diagnosis.
 IS_BAD = re.compile(r'^(?:leaf|outcome) .*\] (?:deadlock|trap) |^end .* first \d+ (?:deadlock|trap) |'
-                    r'^\S+ leaves \d+ (?:deadlocks [1-9]|deadlocks 0 traps [1-9])|^it (?:can (?:hang|trap): |always (?:hangs|traps) )'
+                    r'^\S+ leaves \d+ (?:deadlocks [1-9]|deadlocks 0 traps [1-9])|^it (?:can (?:hang|trap): |always (?:hangs|traps|fails) )'
+                    r'|^\S+: \d+ runs?(?: and more)?, \d+ (?:hang|trap)'
                     r'|^\d+ ranks?: .*, \d+ (?:hang|trap)\b', re.M)
 # What the examples of help answer, each in its turn.
 STUCK = '  rank {0} waits at line 4, {0}.0 send to {1} tag 5 value {0}: for a receive of rank {1} from rank {0} with tag 5\n'

@@ -65,8 +65,8 @@ deadlock at line 7: 1 of 2 runs
   rank 0 waits for rank 1 (ended)
   rank 2 waits for rank 0
   decided at depth 6: rank 0, line 7, takes the message of rank 1 (line 7, value
-        1, tag 0); with that of rank 2 (line 7, value 2, tag 0) it can still end
-        well
+        1, tag 0); with that of rank 2 (line 7, value 2, tag 0) it need not hang
+        or trap
   at the prompt of `debug`, `blame` goes to this step and `redo all` to the end
   ./mpdbg debug {RACE} --ends --choices '0'
   ./mpdbg picture {RACE} --ends --choices '0' > run.svg

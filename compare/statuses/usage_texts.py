@@ -50,7 +50,8 @@ Arguments:
 
 Options:
       --ranks <N[-M]>  How many ranks run the script, 1 to 16, in place of the number in it; N-M tells each number from N to M by a line
-      --mode <M>       How standard sends behave: rendezvous, buffered, or slots:K with K from 0 to 65536 [default: rendezvous]
+      --mode <M>       How standard sends behave: rendezvous, which is usual, buffered, or slots:K with K from 0 to 65536
+      --modes <N>      Try rendezvous, slots:1 to slots:N and buffered in place of one mode, 0 to 1000
       --strict         End with status 1 also where calls can be left over
   -h, --help           Print help
 
@@ -58,6 +59,7 @@ Examples:
   ./mpdbg diagnose examples/race.mpd
   ./mpdbg diagnose examples/exchange.mpd --mode buffered --strict
   ./mpdbg diagnose examples/race.mpd --ranks 2-5
+  ./mpdbg diagnose examples/exchange.mpd --modes 2
 """
 
 TRACE = """\
@@ -95,7 +97,7 @@ Options:
       --ranks <N>          How many ranks run the script, 1 to 16, in place of the number in it
       --mode <M>           How standard sends behave: rendezvous, buffered, or slots:K with K from 0 to 65536 [default: rendezvous]
       --choices <C>        The choices of a run that is laid ahead, numbers from 0 with spaces between them
-      --witness <WITNESS>  A witness or a report, whose deadlock is laid ahead
+      --witness <WITNESS>  A witness or a report, whose run is laid ahead
       --ends               The choices are those of a leaf of `check --ends` or `check --sample`
   -h, --help               Print help
 
@@ -178,7 +180,7 @@ Options:
       --explain      Explain each deadlock and trap, and tell what is left over
       --group        List each different end once, with how many runs come to it
       --until <END>  Stop at the first run that ends in a deadlock or a trap [possible values: deadlock]
-      --witness      Print the trace words of a run that comes to a deadlock
+      --witness      Print the trace words of a run that ends in a deadlock or a trap
       --complete     End with status 4 where nothing was found and not all was tried, with --modes in each mode; not beside --piece or --pieces
       --piece <N>    Print the part of the report that piece N has, 0 to 1023
       --pieces       Print how many pieces there are, and nothing else
@@ -420,6 +422,7 @@ MISTAKES = (
     missing('check|--sample|5|--seed|6', ['<FILE>'], 'mpdbg check --sample <N> --seed <S> <FILE>'),
     missing('check|--explain|--group', ['<FILE>'], 'mpdbg check --explain --group <FILE>'),
     missing('diagnose|--strict|--mode|buffered', ['<FILE>'], 'mpdbg diagnose --strict --mode <M> <FILE>'),
+    missing('diagnose|--modes|1', ['<FILE>'], 'mpdbg diagnose --modes <N> <FILE>'),
     missing('verify', ['<FILE>', '<WITNESS>'], 'mpdbg verify <FILE> <WITNESS>'),
     missing('verify|a', ['<WITNESS>'], 'mpdbg verify <FILE> <WITNESS>'),
     missing('verify|a|--leaf|1', ['<WITNESS>'], 'mpdbg verify --leaf <N> <FILE> <WITNESS>'),
@@ -529,6 +532,8 @@ MISTAKES = (
     Mistake('diagnose|a|--strict|--strict', "the argument '--strict' cannot be used multiple times", OF_DIAGNOSE),
     Mistake('diagnose|a|--strict=true', "unexpected value 'true' for '--strict' found; no more were expected", 'mpdbg diagnose --strict <FILE>'),
     Mistake('diagnose|a|--mode=b|--mode=b', "the argument '--mode <M>' cannot be used multiple times", OF_DIAGNOSE),
+    Mistake('diagnose|a|--modes', "a value is required for '--modes <N>' but none was supplied"),
+    Mistake('diagnose|a|--modes=1|--modes=1', "the argument '--modes <N>' cannot be used multiple times", OF_DIAGNOSE),
     Mistake('check|a|--fuel', "a value is required for '--fuel <N>' but none was supplied"),
     Mistake('trace|a|--mode|buffered|--mode=buffered', "the argument '--mode <M>' cannot be used multiple times", OF_TRACE),
     Mistake('debug|a|--mode', "a value is required for '--mode <M>' but none was supplied"),
@@ -635,6 +640,7 @@ MISTAKES = (
     bad_number('check|a|--workers|1001', '1001', 'workers', '1001 is not in 0..=1000'),
     bad_number('check|a|--workers=', '', 'workers', 'cannot parse integer from empty string'),
     bad_number('check|a|--modes|1001', '1001', 'modes', '1001 is not in 0..=1000'),
+    bad_number('diagnose|a|--modes|1001', '1001', 'modes', '1001 is not in 0..=1000'), bad_number('diagnose|a|--modes=x', 'x', 'modes', NO_DIGIT),
     bad_number('check|a|--modes=-1', '-1', 'modes', NO_DIGIT),
     bad_number('check|a|--modes|x', 'x', 'modes', NO_DIGIT),
     bad_number('check|a|--piece|1024', '1024', 'piece', '1024 is not in 0..=1023'),

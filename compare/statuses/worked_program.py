@@ -168,16 +168,16 @@ COUNTED = (
 
 def stuck_once(file):
     """What is said of a rank that sends to itself, which waits for ever, by the name of its file."""
-    return lines('it always hangs in rendezvous (1 run)', f'  ./mpdbg check {file} --modes 4 --outcomes', '', 'deadlock at line 1: 1 of 1 run',
+    return lines('it always hangs in rendezvous (1 run)', f'  ./mpdbg diagnose {file} --modes 4', '', 'deadlock at line 1: 1 of 1 run',
                  '  rank 0 waits at line 1, 0.0 send to 0 tag 0 value 1: for a receive of rank 0', '        from rank 0 with tag 0', '  rank 0 waits for rank 0',
-                 '  a cycle, where each waits for the next: rank 0, rank 0', '  decided from the start: no run ends well',
+                 '  a cycle, where each waits for the next: rank 0, rank 0', '  decided from the start: every run hangs or traps',
                  f"  ./mpdbg debug {file} --ends --choices ''", f"  ./mpdbg picture {file} --ends --choices '' > run.svg", status=1)
 
 
 def left_once(status):
     """What is said of the same with buffers, where its message is left over."""
     return lines('it never hangs or traps in buffered, whatever is taken first (1 run, 1 state)', 'it can end with calls left over: 1 of 1 run',
-                 '  ./mpdbg check c --modes 4 --outcomes', '',
+                 '  ./mpdbg diagnose c --modes 4', '',
                  'left over from line 1: 1 of 1 run', '  left over: line 1, 0.0 send to 0 tag 0 value 1',
                  "  ./mpdbg debug c --mode buffered --ends --choices ''", "  ./mpdbg picture c --mode buffered --ends --choices '' > run.svg", status=status)
 
