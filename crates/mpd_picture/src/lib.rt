@@ -6,6 +6,7 @@ mod elements;
 mod glyph;
 mod glyphs;
 pub mod laws;
+mod marks;
 mod places;
 mod rows;
 mod shape;
