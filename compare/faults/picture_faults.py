@@ -2,10 +2,12 @@
 
 from faults.policy_faults import Breakage
 from model import picture_model, run_words
+from model.debugger import enabled_steps
 from model.picture_model import ISSUED, PAIRED, RELEASED, WENT_ON, Drawing, Picture
 
 SOUND_GLYPHS = picture_model.glyphs_of_step
 SOUND_MARKS = picture_model.marks_of
+SOUND_PATH = picture_model.path_between
 SOUND_RANKS = picture_model.ranks_of
 SOUND = {name: getattr(Drawing, name) for name in ('pair', 'end', 'free', 'issued_call')}
 
@@ -51,8 +53,22 @@ def value_of_first(self, glyph):
     return SOUND['pair'](self, glyph._replace(call=first.call))
 
 
+def through_lanes(sender, x1, y1, receiver, x2, y2):
+    """A path as it is between neighbours, whatever lanes are between."""
+    return SOUND_PATH(sender, x1, y1, receiver, x2, y2) if sender == receiver else f'L{x2 - 7 if sender < receiver else x2 + 4} {y2}'
+
+
 def never_free(self, call_id):
     return False
+
+
+def any_open(world):
+    """The open matches that are enabled, whatever else is."""
+    return [step for step in enabled_steps(world) if picture_model.is_open(world, step)]
+
+
+def no_candidates(world):
+    return []
 
 
 def all_end(rank, is_stuck):
@@ -87,7 +103,11 @@ def breakages():
         Breakage('a release is below the first rank alone', model, 'ranks_of', below_own),
         Breakage('arrows are from the receive', model, 'glyphs_of_step', turned),
         Breakage('the value of another send', Drawing, 'pair', value_of_first),
+        Breakage('arrows pass through the lanes between', model, 'path_between', through_lanes),
         Breakage('no call is free', Picture, 'is_free', never_free),
+        Breakage('no candidate is drawn', model, 'candidates_of', no_candidates),
+        Breakage('candidates where nobody chooses', model, 'candidates_of', any_open),
+        Breakage('matches of receives that name their source are candidates', model, 'is_open', lambda world, step: step.kind == 'match'),
         Breakage('all ranks end', model, 'end_of', all_end),
         Breakage('all that are blocked have stopped', model, 'end_of', all_stop),
         Breakage('lanes are too near', model, 'lane_x', lambda rank: 96 + 80 * rank),

@@ -3,6 +3,7 @@
 It was written from that page, over the debugger, the runs and the explorer of the model. compare/runs/pictures.py compares a program with it.
 """
 
+from itertools import starmap
 from typing import NamedTuple, Optional
 
 from model.console_lines import has_ended, whole_text, reached
@@ -85,6 +86,17 @@ def marks_of(glyphs, count):
     return marks
 
 
+def is_open(world, step):
+    """Whether a step is a match of a receive of any source."""
+    return step.kind == 'match' and find_call(world, step.second).other is None
+
+
+def candidates_of(world):
+    """The candidates of a choice among matches; none where another step is enabled."""
+    steps = enabled_steps(world)
+    return steps if all(is_open(world, step) for step in steps) else []
+
+
 class Picture:
     """What is drawn: the steps of a run, where they lead, and what they show."""
 
@@ -124,6 +136,8 @@ STYLE = '''<style type="text/css">
 .mpd-waiting{stroke:#b45f06;stroke-width:5}
 .mpd-posted{stroke:#38761d;stroke-width:2;stroke-dasharray:5 3}
 .mpd-arrow{stroke:#0b5394;stroke-width:1.5;fill:none;marker-end:url(#mpd-tip)}
+.mpd-candidate{stroke:#0b5394;stroke-width:1.5;stroke-dasharray:6 4;fill:none;marker-end:url(#mpd-tip)}
+.mpd-number{font-size:13px;font-weight:bold;text-anchor:middle}
 .mpd-bar{stroke:#000;stroke-width:4}
 .mpd-stub{stroke:#000;stroke-width:1.5;fill:#fff}
 .mpd-send{fill:#0b5394;stroke:#000}
@@ -191,7 +205,7 @@ COLUMNS = ((None, (((20, 0), 'send', DISC, 'a send'), ((20, 0), 'recv', DISC, 'a
                    ((20, 0), 'waitany', SQUARE, 'a wait for any'), ((20, 0), 'barrier', FLAT, 'a barrier'))),
            (200, (((200, -5), 'arrow', 'L220 5', 'a message, up to its match'), ((204, -6), 'stub', TO_RIGHT, 'a send that is not matched'),
                   ((218, 0), 'stub', FROM_LEFT, 'a receive that is not'), ('line', 'posted', '', 'a receive is posted'),
-                  ('line', 'waiting', '', 'a rank waits'))),
+                  ('line', 'waiting', '', 'a rank waits'), ((200, -5), 'candidate', 'L220 105', 'a candidate of a choice'))),
            (430, (('line', 'bar', '', 'a release'), ((440, 0), 'ended', ENDS['ended'], 'ended'), ((440, 0), 'blocked', ENDS['blocked'], 'blocked for good'),
                   ((440, 0), 'trapped', ENDS['trapped'], 'trapped'), ((440, 0), 'running', ENDS['running'], 'can go on'),
                  ((440, 0), 'held', ENDS['held'], 'waits'))))
@@ -199,6 +213,15 @@ LEGEND = ''.join(in_columns(COLUMNS)) + '</g>\n</svg>\n'
 
 
 # ---- the drawing: its shapes
+
+def path_between(sender, x1, y1, receiver, x2, y2):
+    """The path from a place of a sender to one of a receiver."""
+    if sender == receiver:
+        return f'C{x1 - 40} {y1} {x2 - 40} {y2} {x2} {y2}'
+    side, tip = (65, x2 - 7) if sender < receiver else (-65, x2 + 4)
+    turns = '' if abs(sender - receiver) == 1 else f'L{x1 + side} {y2 - 20}L{x2 - side} {y2 - 9}'
+    return f'{turns}L{tip} {y2}'
+
 
 class Drawing(Picture):
     """A picture as SVG."""
@@ -240,11 +263,21 @@ class Drawing(Picture):
     def pair(self, glyph):
         send, receive = glyph.call, glyph.other
         x1, y1, x2, y2 = lane_x(send.rank), row_y(self.issued[send]), lane_x(receive.rank), row_y(glyph.row)
-        rest = f'C{x1 - 40} {y1} {x2 - 40} {y2} {x2} {y2}' if send.rank == receive.rank else f'L{x2} {y2}'
+        rest = path_between(send.rank, x1, y1, receive.rank, x2, y2)
         call = find_call(self.world, send)
         label = f'{call.value} tag {call.tag}'
         told = f'{send} to {receive}: value {label}'
         return self.posted(receive, glyph.row) + group(told, path('arrow', x1, y1, rest), self.row_parts(receive.rank < send.rank, x2, y2, label, glyph.place, told))
+
+    def candidate(self, number, step):
+        """A candidate of the choice at the end."""
+        send, receive = step.first, step.second
+        x1, y1, x2, y2 = lane_x(send.rank), row_y(self.issued[send]), lane_x(receive.rank), row_y(self.issued[receive])
+        call = find_call(self.world, send)
+        told = f'{number}: {send} to {receive}: value {call.value} tag {call.tag}'
+        hanging = f'C{x1} {y1 + 18} {x2} {y2 + 18} {x2} {y2}'
+        rest = path_between(send.rank, x1, y1, receive.rank, x2, y2) if send.rank == receive.rank else hanging
+        return group(told, path('candidate', x1, y1, rest), text('number', x1, y1 - 9, number))
 
     def release(self, glyph):
         y = row_y(glyph.row)
@@ -269,7 +302,8 @@ class Drawing(Picture):
         """The whole, as text."""
         width, height, title = self.column + 460, max(row_y(self.rows) + 224, told_y(self.places) + 12), title_of(self)
         size = f'width="{width}" height="{height}"'
-        shapes = [*map(self.lane, self.ranks), *map(self.glyph, self.glyphs), *map(self.end, self.ranks)]
+        shapes = [*map(self.lane, self.ranks), *map(self.glyph, self.glyphs),
+                  *starmap(self.candidate, enumerate(candidates_of(self.world), 1)), *map(self.end, self.ranks)]
         return (f'<svg xmlns="http://www.w3.org/2000/svg" class="mpd" version="1.1" {size} viewBox="0 0 {width} {height}">\n<title>{title}</title>\n{STYLE}'
                 f'<rect class="mpd-paper" {size}/>\n{text("head", 12, 24, title)}{"".join(shapes)}'
                 f'<g transform="translate(12 {row_y(self.rows) + 90})">\n{LEGEND}')

@@ -40,7 +40,7 @@ RACE_LINES = (
     '<path class="mpd-stub" d="M356 80l-12 16m-3 0a3 3 0 1 0 6 0a3 3 0 1 0 -6 0"/>',
     '<line class="mpd-posted" x1="91" y1="80" x2="91" y2="108"/>',
     '<g><title>1.0 to 0.0: value 1 tag 0</title>',
-    '<path class="mpd-arrow" d="M226 80L96 108"/>',
+    '<path class="mpd-arrow" d="M226 80L100 108"/>',
     '<text class="mpd-left" x="84" y="112">1 tag 0</text>',
     '<text class="mpd-row" x="620" y="100">1.0 to 0.0: value 1 tag 0</text>',
     '<line class="mpd-waiting" x1="96" y1="85" x2="96" y2="113"/>',
@@ -83,14 +83,23 @@ MEET_LINES = (
     '<line class="mpd-bar" x1="82" y1="164" x2="240" y2="164"/>',
     '<text class="mpd-name" x="226" y="258">zero-divisor</text>',
     '<text class="mpd-name" x="226" y="272">line 5</text>')
+# Over the lane of rank 1 an arrow goes down beside its own lane (x 161 or 291), and between the rows (y 88 to 99); its tip is beside the lane.
+FAR_LEFT = b'''mpd 1; ranks 3; var x;
+if rank == 2 { send 4 to 0 tag 1; }
+if rank == 0 { recv x from 2 tag 1; }
+'''
+FAR_RIGHT = b'''mpd 1; ranks 3; var x;
+if rank == 0 { send 4 to 2 tag 1; }
+if rank == 2 { recv x from 0 tag 1; }
+'''
 # Two pairs stand side by side: four calls in row 0 (y 80), two matches in row 1 (y 108), at places 4 and 5 of the list, and the end at 136.
 PAIRS = b'''mpd 1; ranks 4; var x;
 if rank % 2 == 0 { send rank to rank + 1 tag 0; }
 else { recv x from rank - 1 tag 0; }
 '''
 PAIRS_LINES = (
-    '<path class="mpd-arrow" d="M96 80L226 108"/>',
-    '<path class="mpd-arrow" d="M356 80L486 108"/>',
+    '<path class="mpd-arrow" d="M96 80L219 108"/>',
+    '<path class="mpd-arrow" d="M356 80L479 108"/>',
     '<text class="mpd-left" x="344" y="84">2 send</text>',
     '<text class="mpd-row" x="620" y="132">2.0 to 3.0: value 2 tag 0</text>',
     '<path class="mpd-ended" d="M486 136m-9 0h18"/>')
@@ -103,7 +112,15 @@ CHOICE_LINES = (
     '<path class="mpd-held" d="M96 136m-6 -7h12l-12 14h12z"/>',
     '<text class="mpd-name" x="96" y="174">waits</text>',
     '<text class="mpd-name" x="96" y="188">line 9</text>',
-    '<text class="mpd-name" x="226" y="188">line 13</text>')
+    '<text class="mpd-name" x="226" y="188">line 13</text>',
+    '<g><title>1: 1.0 to 0.0: value 42 tag 7</title>',
+    '<path class="mpd-candidate" d="M226 80C226 98 96 98 96 80"/>',
+    '<text class="mpd-number" x="226" y="71">1</text>',
+    '<path class="mpd-candidate" d="M356 80C356 98 96 98 96 80"/>',
+    '<text class="mpd-number" x="356" y="71">2</text>')
+# A step before rank 2 can go on, and before the pairs are matched nobody has to choose: there is no candidate.
+BEFORE_LINES = ('<title>3 ranks, rendezvous, 8 steps: can go on</title>', '<g><title>rank 2: can go on</title>', '<text class="mpd-name" x="356" y="188">line 13</text>')
+UNMATCHED_LINES = ('<title>4 ranks, rendezvous, 8 steps: can go on</title>', '<g><title>rank 1: waits</title>')
 CHOICE_TEXT = '''0 1 2  line: call
 R | |  8: 0.0 irecv from any tag any free
 R | |  9: 0.1 recv from 1 tag 7 free
@@ -162,6 +179,9 @@ X E E  at the end
 ROWS = (
     PictureRow(RACE, None, RACE_LINES, RACE_TEXT), PictureRow(RACE, '0', RACE_LINES, RACE_TEXT), PictureRow(RACE, '0', RACE_LINES, RACE_TEXT, ends=True),
     PictureRow(STOLEN, None, CHOICE_LINES, CHOICE_TEXT, fuel=9), PictureRow(RACE, None, START_LINES, fuel=1), PictureRow(PAIRS, None, PAIRS_LINES),
+    PictureRow(FAR_LEFT, None, ('<path class="mpd-arrow" d="M356 80L291 88L161 99L100 108"/>',)),
+    PictureRow(FAR_RIGHT, None, ('<path class="mpd-arrow" d="M96 80L161 88L291 99L349 108"/>',)),
+    PictureRow(STOLEN, None, BEFORE_LINES, fuel=8), PictureRow(PAIRS, None, UNMATCHED_LINES, fuel=8),
     PictureRow(MEET, None, MEET_LINES), PictureRow(MEET, None, MEET_LINES, ends=True),
     *(PictureRow(FREED_SLOT, choices, ('<title>2 ranks, slots:1, 8 steps: deadlock 0.2</title>',), ALL_FIRST, 'slots:1') for choices in (None, '')),
     *(PictureRow(FREED_SLOT, choices, ('<title>2 ranks, slots:1, 8 steps: deadlock 0.2</title>',), SEND_FIRST, 'slots:1', True) for choices in (None, '0 0')),

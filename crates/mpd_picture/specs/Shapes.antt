@@ -1,17 +1,20 @@
 -- The shapes of a picture, by ranks and rows (docs/PICTURES.md, "Shapes").
-use Rattle.std.specs.Prelude.{ℕ, Bool, true, false, if◌then◌else◌, List, [], ◌∷◌, ◌++◌, count_by, slice_get, Option, Some}
-use Rattle.std.specs.List.{flat_map}
+use Rattle.std.specs.Prelude.{ℕ, ◌+◌, Bool, true, false, if◌then◌else◌, List, [], ◌∷◌, ◌++◌, count_by, slice_get, Option, Some}
+use Rattle.std.specs.List.{flat_map, list_all}
 use Rattle.mpd_model.specs.declared.step.CallId.{CallId}
+use Rattle.mpd_model.specs.declared.step.Step.{Step}
+use Rattle.mpd_model.specs.declared.step.Step.TheVariants.{Match}
 use Rattle.mpd_model.specs.declared.call.CallKind.{CallKind}
 use Rattle.mpd_model.specs.declared.call.CallKind.TheVariants.{Send, Recv}
 use Rattle.mpd_model.specs.steps.World.{World, Board, id_eq, kind_at, is_free, last_call, rank_numbers}
-use Rattle.mpd_model.specs.steps.Next.{waits}
+use Rattle.mpd_model.specs.steps.Next.{waits, enabled}
+use Rattle.mpd_model.specs.runs.Decisions.{is_open_match}
 use Rattle.mpd_picture.specs.declared.glyph.Glyph.{Glyph}
 use Rattle.mpd_picture.specs.declared.glyph.Mark.{Mark}
 use Rattle.mpd_picture.specs.declared.glyph.Event.{Event}
 use Rattle.mpd_picture.specs.declared.glyph.Event.TheVariants.{Issued, Paired, WentOn, Released}
 use Rattle.mpd_picture.specs.declared.shape.Shape.{Shape}
-use Rattle.mpd_picture.specs.declared.shape.Shape.TheVariants.{Lane, Waiting, Posted, Arrow, Bar, Stub, End}
+use Rattle.mpd_picture.specs.declared.shape.Shape.TheVariants.{Lane, Waiting, Posted, Arrow, Bar, Stub, Candidate, End}
 use Rattle.mpd_picture.specs.declared.shape.Shape.TheVariants as shape
 use Rattle.mpd_picture.specs.Marks.{is_row, rows_of}
 
@@ -56,6 +59,27 @@ event_shapes b marks rows row place Released = Bar row place ∷ []
 abbrev pub mark_shapes : Board → List Mark → ℕ → Mark → List Shape
 mark_shapes b marks rows m = event_shapes b marks rows m.row m.place m.event
 
+-- ---- candidates
+
+-- The candidates of a choice among matches: the enabled steps, where each is a match of a receive of any source.
+abbrev pub open_only : Board → List Step → List Step
+open_only b steps = if list_all (is_open_match b) steps then steps else []
+
+unfoldable pub candidates : World → List Step
+candidates w = open_only w.board (enabled w)
+
+-- a candidate with its number, from the row of its send to that of its receive
+abbrev pub candidate_shapes : List Mark → ℕ → Step → List Shape
+candidate_shapes marks number (Match s r) = Candidate s (row_of marks s) r (row_of marks r) number ∷ []
+candidate_shapes marks number a = []
+
+-- candidates are counted as the console counts them
+abbrev pub candidates_from : List Mark → ℕ → List Step → List Shape
+candidates_from marks number [] = []
+candidates_from marks number (a ∷ steps) = candidate_shapes marks number a ++ candidates_from marks (number + 1) steps
+
+-- ---- lanes and ends
+
 abbrev pub lane_shapes : ℕ → ℕ → List Shape
 lane_shapes rows p = Lane p rows ∷ []
 
@@ -64,7 +88,7 @@ abbrev pub end_shapes : World → List Mark → ℕ → ℕ → List Shape
 end_shapes w marks rows p = (if waits (slice_get w.ranks p) then Waiting p (row_of marks (last_call w.board p)) rows ∷ [] else []) ++ End p rows ∷ []
 
 abbrev pub shapes_in : World → List Mark → ℕ → List Shape
-shapes_in w marks rows = flat_map (lane_shapes rows) (rank_numbers w.board) ++ flat_map (mark_shapes w.board marks rows) marks ++ flat_map (end_shapes w marks rows) (rank_numbers w.board)
+shapes_in w marks rows = flat_map (lane_shapes rows) (rank_numbers w.board) ++ flat_map (mark_shapes w.board marks rows) marks ++ candidates_from marks 1 (candidates w) ++ flat_map (end_shapes w marks rows) (rank_numbers w.board)
 
 -- the shapes of a run with these marks, which leads to this world
 abbrev pub shapes_of : World → List Mark → List Shape

@@ -13,7 +13,7 @@ use Rattle.mpd_model.specs.steps.Outcomes.{has_ended, is_stuck}
 use Rattle.mpd_model.specs.texts.Texts.{id_text, send_word, recv_word, call_text, trap_name}
 use Rattle.mpd_names.specs.Placed.{issue_line, rank_line}
 use Rattle.mpd_picture.specs.declared.shape.Shape.{Shape}
-use Rattle.mpd_picture.specs.declared.shape.Shape.TheVariants.{Lane, Waiting, Posted, Arrow, Bar, Stub, End}
+use Rattle.mpd_picture.specs.declared.shape.Shape.TheVariants.{Lane, Waiting, Posted, Arrow, Bar, Stub, Candidate, End}
 use Rattle.mpd_picture.specs.declared.shape.Shape.TheVariants as shape
 use Rattle.mpd_picture.specs.declared.svg.Finish.{Finish}
 use Rattle.mpd_picture.specs.declared.svg.Finish.TheVariants as finish
@@ -161,15 +161,29 @@ call_elements s b c row place =
     group_begun (call_told s b c) ++ path_element (class_of (kind_at b c)) (lane_x c.rank) (row_y row) (path_of (kind_at b c))
     ++ row_elements b (goes_right c (kind_at b c)) (lane_x c.rank) (row_y row) place (call_label s b c) (call_told s b c) ++ group_ended
 
--- a straight line, or where a rank sends to itself a bow at the left of its lane
+-- where a rank sends to itself, a bow at the left of its lane
 unfoldable pub bow : ℕ → ℕ → ℕ → List ℕ
 bow x y1 y2 = codes "C" ++ decimal (x - 40) ++ codes " " ++ decimal y1 ++ codes " " ++ decimal (x - 40) ++ codes " " ++ decimal y2 ++ codes " " ++ decimal x ++ codes " " ++ decimal y2
 
 unfoldable pub straight : ℕ → ℕ → List ℕ
 straight x y = codes "L" ++ decimal x ++ codes " " ++ decimal y
 
+-- An arrow over other lanes goes down beside its own, up to the space between two rows, and through that: no shape of a lane stands there.
+unfoldable pub bent : ℕ → ℕ → ℕ → ℕ → List ℕ
+bent near far x y = straight near (y - 20) ++ straight far (y - 9) ++ straight x y
+
+-- to a higher rank, and to a lower one: the tip stands beside the lane
+unfoldable pub to_higher : ℕ → ℕ → ℕ → List ℕ
+to_higher p q y = if q - p == 1 then straight (lane_x q - 7) y else bent (lane_x p + 65) (lane_x q - 65) (lane_x q - 7) y
+
+unfoldable pub to_lower : ℕ → ℕ → ℕ → List ℕ
+to_lower p q y = if p - q == 1 then straight (lane_x q + 4) y else bent (lane_x p - 65) (lane_x q + 65) (lane_x q + 4) y
+
+unfoldable pub to_other : ℕ → ℕ → ℕ → List ℕ
+to_other p q y = if nat_lt p q then to_higher p q y else to_lower p q y
+
 unfoldable pub arrow_path : ℕ → ℕ → ℕ → ℕ → List ℕ
-arrow_path p from q to = if p == q then bow (lane_x q) (row_y from) (row_y to) else straight (lane_x q) (row_y to)
+arrow_path p from q to = if p == q then bow (lane_x q) (row_y from) (row_y to) else to_other p q (row_y to)
 
 unfoldable pub arrow_elements : Board → CallId → ℕ → CallId → ℕ → ℕ → List ℕ
 arrow_elements b s from r to place =
@@ -180,6 +194,25 @@ unfoldable pub bar_elements : Board → ℕ → ℕ → List ℕ
 bar_elements b row place =
     group_begun (codes "release: all ranks leave the barrier") ++ line_element (codes "bar") (lane_x 0 - 14) (row_y row) (lane_x (length b.calls - 1) + 14) (row_y row)
     ++ text_element (codes "row") (column_x b) (told_y place) (codes "release") ++ group_ended
+
+-- A candidate hangs below the row of its send, so that it passes beside what stands in the lanes between.
+unfoldable pub hanging : ℕ → ℕ → ℕ → ℕ → List ℕ
+hanging x1 y1 x2 y2 = codes "C" ++ decimal x1 ++ codes " " ++ decimal (y1 + 18) ++ codes " " ++ decimal x2 ++ codes " " ++ decimal (y2 + 18) ++ codes " " ++ decimal x2 ++ codes " " ++ decimal y2
+
+unfoldable pub candidate_path : ℕ → ℕ → ℕ → ℕ → List ℕ
+candidate_path p from q to = if p == q then bow (lane_x q) (row_y from) (row_y to) else hanging (lane_x p) (row_y from) (lane_x q) (row_y to)
+
+-- `1: 1.0 to 0.0: value 5 tag 7`
+unfoldable pub candidate_told : ℕ → List ℕ → List ℕ
+candidate_told number told = decimal number ++ codes ": " ++ told
+
+-- the number of a candidate stands above its send
+unfoldable pub candidate_by : ℕ → ℕ → ℕ → List ℕ → List ℕ → List ℕ
+candidate_by x y number path told =
+    group_begun (candidate_told number told) ++ path_element (codes "candidate") x y path ++ text_element (codes "number") x (y - 9) (decimal number) ++ group_ended
+
+unfoldable pub candidate_elements : Board → CallId → ℕ → CallId → ℕ → ℕ → List ℕ
+candidate_elements b s from r to number = candidate_by (lane_x s.rank) (row_y from) number (candidate_path s.rank from r.rank to) (arrow_told b s r)
 
 -- ---- how a rank is at the end
 
@@ -262,4 +295,5 @@ shape_elements s w (shape.Call c row place) = call_elements s w.board c row plac
 shape_elements s w (Stub c row) = stub_element w.board c row
 shape_elements s w (Arrow c from d to place) = arrow_elements w.board c from d to place
 shape_elements s w (Bar row place) = bar_elements w.board row place
+shape_elements s w (Candidate c from d to number) = candidate_elements w.board c from d to number
 shape_elements s w (End p row) = end_elements s w p row

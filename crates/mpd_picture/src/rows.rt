@@ -321,6 +321,7 @@ fn push_shape_row(core: &Core<'_>, out: &mut String, shape: Shape) -> Result<(),
         | Shape::Waiting { .. }
         | Shape::Posted { .. }
         | Shape::Stub { .. }
+        | Shape::Candidate { .. }
         | Shape::End { .. } => Ok(()),
     }
 }

@@ -46,6 +46,14 @@ pub(crate) enum Shape {
         row: usize,
         place: usize,
     },
+    /// A candidate of the choice at the end, from the row of its send to that of its receive; candidates are counted from 1.
+    Candidate {
+        send: CallId,
+        from: usize,
+        receive: CallId,
+        to: usize,
+        number: usize,
+    },
     /// How a rank is at the end.
     End {
         rank: usize,

@@ -6,6 +6,7 @@ ghost use Rattle.mpd_model.specs.steps.World.{kind_at, rank_numbers};
 ghost use Rattle.mpd_model.specs.steps.Next.{waits as waits_in};
 ghost use Rattle.mpd_picture.specs.Shapes as spec;
 
+use crate::candidates::push_candidates;
 use crate::glyph::{Event, Glyph, Mark};
 use crate::marks::{is_row, rows_of};
 use crate::shape::Shape;
@@ -45,7 +46,7 @@ fn is_issue(event: Event, call: CallId) -> bool
 }
 
 /// The row in which a call is issued, 0 where it isn't.
-fn row_of(marks: &[Mark], call: CallId) -> usize
+pub(crate) fn row_of(marks: &[Mark], call: CallId) -> usize
     ensures { result ≡ spec.row_of marks.now call }
 {
     for mark in marks {
@@ -253,6 +254,7 @@ pub(crate) fn shapes_of(
     let mut shapes = Vec::new(alloc);
     push_lanes(core, &mut shapes, rows)?;
     push_marks(core, marks, &mut shapes, rows)?;
+    push_candidates(alloc, core, marks, &mut shapes)?;
     push_ends(core, marks, &mut shapes, rows)?;
     Ok(shapes)
 }

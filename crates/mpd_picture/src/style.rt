@@ -14,6 +14,8 @@ pub const STYLE: &str = "<style type=\"text/css\">\n\
 .mpd-waiting{stroke:#b45f06;stroke-width:5}\n\
 .mpd-posted{stroke:#38761d;stroke-width:2;stroke-dasharray:5 3}\n\
 .mpd-arrow{stroke:#0b5394;stroke-width:1.5;fill:none;marker-end:url(#mpd-tip)}\n\
+.mpd-candidate{stroke:#0b5394;stroke-width:1.5;stroke-dasharray:6 4;fill:none;marker-end:url(#mpd-tip)}\n\
+.mpd-number{font-size:13px;font-weight:bold;text-anchor:middle}\n\
 .mpd-bar{stroke:#000;stroke-width:4}\n\
 .mpd-stub{stroke:#000;stroke-width:1.5;fill:#fff}\n\
 .mpd-send{fill:#0b5394;stroke:#000}\n\
@@ -42,6 +44,7 @@ pub const LEGEND: &str =
 <path class=\"mpd-stub\" d=\"M218 40l-18 0m-3 0a3 3 0 1 0 6 0a3 3 0 1 0 -6 0\"/><text x=\"230\" y=\"44\">a receive that is not</text>\n\
 <line class=\"mpd-posted\" x1=\"200\" y1=\"60\" x2=\"220\" y2=\"60\"/><text x=\"230\" y=\"64\">a receive is posted</text>\n\
 <line class=\"mpd-waiting\" x1=\"200\" y1=\"80\" x2=\"220\" y2=\"80\"/><text x=\"230\" y=\"84\">a rank waits</text>\n\
+<path class=\"mpd-candidate\" d=\"M200 95L220 105\"/><text x=\"230\" y=\"104\">a candidate of a choice</text>\n\
 <line class=\"mpd-bar\" x1=\"430\" y1=\"0\" x2=\"450\" y2=\"0\"/><text x=\"460\" y=\"4\">a release</text>\n\
 <path class=\"mpd-ended\" d=\"M440 20m-9 0h18\"/><text x=\"460\" y=\"24\">ended</text>\n\
 <path class=\"mpd-blocked\" d=\"M440 40m-3 -7h6l5 5v5l-5 5h-6l-5 -5v-5z\"/><text x=\"460\" y=\"44\">blocked for good</text>\n\

@@ -1,12 +1,14 @@
 //! The text of each shape of a drawing.
 
-ghost use Rattle.std.specs.Prelude.{◌≡◌, ◌++◌, ◌+◌, ◌≤◌, codes, OnOk, IfOk, IfSome, slice_get, string_bytes};
+ghost use Rattle.std.specs.Prelude.{◌≡◌, ◌++◌, ◌+◌, ◌-◌, ◌≤◌, codes, OnOk, IfOk, IfSome, slice_get, string_bytes};
+ghost use Rattle.std.specs.Fmt.{decimal};
 ghost use Rattle.std.specs.List.{flat_map};
 ghost use Rattle.mpd_model.specs.steps.World.{kind_at};
 ghost use Rattle.mpd_model.specs.steps.Outcomes.{is_stuck};
 ghost use Rattle.mpd_picture.specs.Svg as spec;
 
-use crate::elements::{push_corner, push_group, push_group_end, push_line, push_path, push_text};
+use crate::elements::{push_group, push_group_end, push_line, push_path, push_text};
+use crate::paths::{arrow_path, candidate_path};
 use crate::places::{column_x, lane_x, row_y, told_y};
 use crate::shape::Shape;
 use mpd_core::Core;
@@ -294,46 +296,6 @@ fn push_call(
     push_group_end(out)
 }
 
-/// Adds a bow at the left of a lane.
-#[tactic(auto, unfolding(crate::specs::Svg::bow))]
-fn push_bow(out: &mut String, x: usize, from: usize, to: usize) -> Result<(), AllocError>
-    ensures { OnOk result (string_bytes out.new ≡ string_bytes out.old ++ spec.bow x from to) }
-{
-    let left = x.saturating_sub(40);
-    push_corner(out, "C", left, from)?;
-    push_corner(out, " ", left, to)?;
-    push_corner(out, " ", x, to)
-}
-
-/// Adds a straight line.
-#[tactic(auto, unfolding(crate::specs::Svg::straight))]
-fn push_straight(out: &mut String, x: usize, y: usize) -> Result<(), AllocError>
-    ensures { OnOk result (string_bytes out.new ≡ string_bytes out.old ++ spec.straight x y) }
-{
-    push_corner(out, "L", x, y)
-}
-
-/// The path of an arrow.
-#[tactic(auto, unfolding(crate::specs::Svg::arrow_path))]
-fn arrow_path(
-    alloc: Global,
-    sender: usize,
-    from: usize,
-    receiver: usize,
-    to: usize,
-) -> Result<String, AllocError>
-    ensures { IfOk result (λ t. string_bytes t ≡ spec.arrow_path sender from receiver to) }
-{
-    let mut path = String::new(alloc);
-    let x = lane_x(receiver);
-    if sender == receiver {
-        push_bow(&mut path, x, row_y(from), row_y(to))?;
-    } else {
-        push_straight(&mut path, x, row_y(to))?;
-    }
-    Ok(path)
-}
-
 /// The arrow of a message.
 #[derive(Clone, Copy)]
 struct Arrow {
@@ -389,6 +351,94 @@ fn push_bar(core: &Core<'_>, out: &mut String, row: usize, place: usize) -> Resu
     push_line(out, "bar", lane_x(0) - 14, y, last + 14, y)?;
     push_text(out, "row", column_x(core), told_y(place), "release")?;
     push_group_end(out)
+}
+
+/// A candidate of a choice.
+#[derive(Clone, Copy)]
+struct Candidate {
+    send: CallId,
+    /// The row of the send.
+    from: usize,
+    receive: CallId,
+    /// The row of the receive.
+    to: usize,
+    number: usize,
+}
+
+/// The title of a candidate of which this is told.
+#[tactic(auto, unfolding(crate::specs::Svg::candidate_told))]
+fn candidate_told(alloc: Global, number: usize, told: &str) -> Result<String, AllocError>
+    ensures { IfOk result (λ t. string_bytes t ≡ spec.candidate_told number told.now) }
+{
+    let mut title = String::new(alloc);
+    write!(title, "{number}: ")?;
+    title.push_str(told)?;
+    Ok(title)
+}
+
+/// A number in decimal.
+fn number_text(alloc: Global, number: usize) -> Result<String, AllocError>
+    ensures { IfOk result (λ t. string_bytes t ≡ decimal number) }
+{
+    let mut text = String::new(alloc);
+    write!(text, "{number}")?;
+    Ok(text)
+}
+
+/// Adds a candidate with a title, and its number.
+fn push_candidate_group(
+    out: &mut String,
+    candidate: Candidate,
+    path: &str,
+    title: &str,
+    number: &str,
+) -> Result<(), AllocError>
+    ensures { OnOk result (string_bytes out.new ≡ string_bytes out.old ++ (spec.group_begun title.now ++ spec.path_element (codes "candidate") (spec.lane_x candidate.send.rank) (spec.row_y candidate.from) path.now ++ spec.text_element (codes "number") (spec.lane_x candidate.send.rank) (spec.row_y candidate.from - 9) number.now ++ spec.group_ended)) }
+{
+    let x = lane_x(candidate.send.rank);
+    let y = row_y(candidate.from);
+    push_group(out, title)?;
+    push_path(out, "candidate", x, y, path)?;
+    push_text(out, "number", x, y.saturating_sub(9), number)?;
+    push_group_end(out)
+}
+
+/// Adds a candidate, of which this is told.
+#[tactic(auto, unfolding(crate::specs::Svg::candidate_by))]
+fn push_candidate_by(
+    alloc: Global,
+    out: &mut String,
+    candidate: Candidate,
+    path: &str,
+    told: &str,
+) -> Result<(), AllocError>
+    ensures { OnOk result (string_bytes out.new ≡ string_bytes out.old ++ spec.candidate_by (spec.lane_x candidate.send.rank) (spec.row_y candidate.from) candidate.number path.now told.now) }
+{
+    let title = candidate_told(alloc, candidate.number, told)?;
+    let number = number_text(alloc, candidate.number)?;
+    push_candidate_group(out, candidate, path, &title, &number)
+}
+
+/// Adds a candidate.
+#[tactic(auto, unfolding(crate::specs::Svg::candidate_elements))]
+fn push_candidate(
+    alloc: Global,
+    core: &Core<'_>,
+    out: &mut String,
+    candidate: Candidate,
+) -> Result<(), AllocError>
+    ensures { OnOk result (string_bytes out.new ≡ string_bytes out.old ++ spec.candidate_elements core.now.world.board candidate.send candidate.from candidate.receive candidate.to candidate.number) }
+{
+    let Candidate {
+        send,
+        from,
+        receive,
+        to,
+        ..
+    } = candidate;
+    let told = arrow_told(alloc, core, send, receive)?;
+    let path = candidate_path(alloc, send.rank, from, receive.rank, to)?;
+    push_candidate_by(alloc, out, candidate, &path, &told)
 }
 
 // ---- how a rank is at the end
@@ -611,6 +661,22 @@ fn push_shape(
             push_arrow(alloc, core, out, arrow)
         }
         Shape::Bar { row, place } => push_bar(core, out, row, place),
+        Shape::Candidate {
+            send,
+            from,
+            receive,
+            to,
+            number,
+        } => {
+            let candidate = Candidate {
+                send,
+                from,
+                receive,
+                to,
+                number,
+            };
+            push_candidate(alloc, core, out, candidate)
+        }
         Shape::End { rank, row } => push_end(alloc, core, out, rank, row),
     }
 }
