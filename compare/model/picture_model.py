@@ -3,6 +3,7 @@
 It was written from that page, over the debugger, the runs and the explorer of the model. compare/runs/pictures.py compares a program with it.
 """
 
+from itertools import starmap
 from typing import NamedTuple, Optional
 
 from model.console_lines import has_ended, whole_text, reached
@@ -54,15 +55,62 @@ def glyphs_of(walked):
     return glyphs
 
 
+class Mark(NamedTuple):
+    """What a step shows, the row at which it is drawn, and its place in the list of what is told."""
+    kind: str
+    row: int
+    place: int
+    call: Optional[CallId] = None
+    other: Optional[CallId] = None
+
+
+def ranks_of(glyph, count):
+    """The ranks whose rows go on by what a step shows."""
+    if glyph.kind == RELEASED:
+        return range(count)
+    return [call.rank for call in (glyph.call, glyph.other) if call is not None]
+
+
+def marks_of(glyphs, count):
+    """The same by rows: a row is below each that a rank of it has already."""
+    nexts, marks = [0] * count, []
+    for glyph in glyphs:
+        ranks = ranks_of(glyph, count)
+        row = max((nexts[rank] for rank in ranks), default=0)
+        if takes_row(glyph):
+            for rank in ranks:
+                nexts[rank] = row + 1
+        else:
+            row -= 1
+        marks.append(Mark(glyph.kind, row, glyph.row, glyph.call, glyph.other))
+    return marks
+
+
+def is_open(world, step):
+    """Whether a step is a match of a receive of any source."""
+    return step.kind == 'match' and find_call(world, step.second).other is None
+
+
+def candidates_of(world):
+    """The candidates of a choice among matches; none where another step is enabled."""
+    steps = enabled_steps(world)
+    return steps if all(is_open(world, step) for step in steps) else []
+
+
 class Picture:
     """What is drawn: the steps of a run, where they lead, and what they show."""
 
     def __init__(self, walked):
         self.walked, self.world, self.at = walked, walked.world, reached(walked)
         self.ranks = range(len(self.world.ranks))
-        self.glyphs = glyphs_of(walked)
-        self.rows = sum(map(takes_row, self.glyphs))
+        self.glyphs = marks_of(glyphs_of(walked), len(self.ranks))
+        self.rows = max((mark.row + 1 for mark in self.glyphs), default=0)
+        self.places = sum(map(takes_row, self.glyphs))
         self.issued = {glyph.call: glyph.row for glyph in self.glyphs if glyph.kind == ISSUED}
+
+    @property
+    def is_stuck(self):
+        return not enabled_steps(self.world)
 
     @property
     def is_too_long(self):
@@ -79,55 +127,62 @@ def word_of(call):
 # ---- the drawing: what is the same in each
 
 STYLE = '''<style type="text/css">
-text{font-family:monospace;font-size:11px;fill:#000}
-.head{font-size:13px;font-weight:bold}
-.name{text-anchor:middle}
-.left{text-anchor:end}
-.paper{fill:#fff}
-.lane{stroke:#999;stroke-width:1}
-.guide{stroke:#ccc;stroke-width:1;stroke-dasharray:1 4}
-.waiting{stroke:#b45f06;stroke-width:5}
-.posted{stroke:#38761d;stroke-width:2;stroke-dasharray:5 3}
-.arrow{stroke:#0b5394;stroke-width:1.5;fill:none;marker-end:url(#tip)}
-.bar{stroke:#000;stroke-width:4}
-.stub{stroke:#000;stroke-width:1.5;fill:#fff}
-.send{fill:#0b5394;stroke:#000}
-.recv{fill:#fff;stroke:#000;stroke-width:1.5}
-.wait{fill:#b45f06;stroke:#000}
-.waitany{fill:#fff;stroke:#b45f06;stroke-width:2}
-.barrier{fill:#000;stroke:#000}
-.ended{fill:none;stroke:#000;stroke-width:3}
-.running{fill:#fff;stroke:#000;stroke-width:1.5}
-.blocked{fill:#c00;stroke:#000}
-.trapped{fill:none;stroke:#c00;stroke-width:3}
+.mpd{font-family:monospace;font-size:11px;fill:#000}
+.mpd-head{font-size:13px;font-weight:bold}
+.mpd-name{text-anchor:middle}
+.mpd-left{text-anchor:end}
+.mpd-paper{fill:#fff}
+.mpd-lane{stroke:#999;stroke-width:1}
+.mpd-waiting{stroke:#b45f06;stroke-width:5}
+.mpd-posted{stroke:#38761d;stroke-width:2;stroke-dasharray:5 3}
+.mpd-arrow{stroke:#0b5394;stroke-width:1.5;fill:none;marker-end:url(#mpd-tip)}
+.mpd-candidate{stroke:#0b5394;stroke-width:1.5;stroke-dasharray:6 4;fill:none;marker-end:url(#mpd-tip)}
+.mpd-number{font-size:13px;font-weight:bold;text-anchor:middle}
+.mpd-bar{stroke:#000;stroke-width:4}
+.mpd-stub{stroke:#000;stroke-width:1.5;fill:#fff}
+.mpd-send{fill:#0b5394;stroke:#000}
+.mpd-recv{fill:#fff;stroke:#000;stroke-width:1.5}
+.mpd-wait{fill:#b45f06;stroke:#000}
+.mpd-waitany{fill:#fff;stroke:#b45f06;stroke-width:2}
+.mpd-barrier{fill:#000;stroke:#000}
+.mpd-ended{fill:none;stroke:#000;stroke-width:3}
+.mpd-running{fill:#fff;stroke:#000;stroke-width:1.5}
+.mpd-held{fill:#fff;stroke:#b45f06;stroke-width:2}
+.mpd-blocked{fill:#c00;stroke:#000}
+.mpd-trapped{fill:none;stroke:#c00;stroke-width:3}
 </style>
-<defs><marker id="tip" viewBox="0 0 10 10" refX="10" refY="5" markerWidth="9" markerHeight="9" markerUnits="userSpaceOnUse" orient="auto"><path d="M0 1L10 5L0 9z" fill="#0b5394"/></marker></defs>
+<defs><marker id="mpd-tip" viewBox="0 0 10 10" refX="10" refY="5" markerWidth="9" markerHeight="9" markerUnits="userSpaceOnUse" orient="auto"><path d="M0 1L10 5L0 9z" fill="#0b5394"/></marker></defs>
 '''
 DISC, SQUARE, FLAT = 'm-5 0a5 5 0 1 0 10 0a5 5 0 1 0 -10 0z', 'm-5 -5h10v10h-10z', 'm-8 -3h16v6h-16z'
 PATHS = {'send': DISC, 'recv': DISC, 'wait': SQUARE, 'waitany': SQUARE, 'barrier': FLAT}
 KNOB = 'm-3 0a3 3 0 1 0 6 0a3 3 0 1 0 -6 0'
 TO_RIGHT, TO_LEFT, FROM_LEFT = 'l12 16' + KNOB, 'l-12 16' + KNOB, 'l-18 0' + KNOB
-ENDS = {'ended': 'm-9 0h18', 'running': 'm-6 -5h12l-6 10z', 'blocked': 'm-3 -7h6l5 5v5l-5 5h-6l-5 -5v-5z', 'trapped': 'm-6 -6l12 12m0 -12l-12 12'}
+ENDS = {'ended': 'm-9 0h18', 'running': 'm-6 -5h12l-6 10z', 'held': 'm-6 -7h12l-12 14h12z',
+        'blocked': 'm-3 -7h6l5 5v5l-5 5h-6l-5 -5v-5z', 'trapped': 'm-6 -6l12 12m0 -12l-12 12'}
 
 
 def lane_x(rank):
-    return 96 + 90 * rank
+    return 96 + 130 * rank
 
 
 def row_y(row):
-    return 80 + 20 * row
+    return 80 + 28 * row
+
+
+def told_y(place):
+    return 52 + 16 * place
 
 
 def line(kind, x1, y1, x2, y2):
-    return f'<line class="{kind}" x1="{x1}" y1="{y1}" x2="{x2}" y2="{y2}"/>\n'
+    return f'<line class="mpd-{kind}" x1="{x1}" y1="{y1}" x2="{x2}" y2="{y2}"/>\n'
 
 
 def path(kind, x, y, rest):
-    return f'<path class="{kind}" d="M{x} {y}{rest}"/>\n'
+    return f'<path class="mpd-{kind}" d="M{x} {y}{rest}"/>\n'
 
 
 def text(kind, x, y, content):
-    return f'<text class="{kind}" x="{x}" y="{y}">{content}</text>\n'
+    return f'<text class="mpd-{kind}" x="{x}" y="{y}">{content}</text>\n'
 
 
 def group(title, *parts):
@@ -140,9 +195,9 @@ def in_columns(columns):
         for place, (form, kind, rest, told) in enumerate(entries):
             y = 20 * place
             if form == 'line':
-                shape = f'<line class="{kind}" x1="{shape_x}" y1="{y}" x2="{shape_x + 20}" y2="{y}"/>'
+                shape = f'<line class="mpd-{kind}" x1="{shape_x}" y1="{y}" x2="{shape_x + 20}" y2="{y}"/>'
             else:
-                shape = f'<path class="{kind}" d="M{form[0]} {y + form[1]}{rest}"/>'
+                shape = f'<path class="mpd-{kind}" d="M{form[0]} {y + form[1]}{rest}"/>'
             yield f'{shape}<text x="{x}" y="{y + 4}">{told}</text>\n'
 
 
@@ -150,25 +205,35 @@ COLUMNS = ((None, (((20, 0), 'send', DISC, 'a send'), ((20, 0), 'recv', DISC, 'a
                    ((20, 0), 'waitany', SQUARE, 'a wait for any'), ((20, 0), 'barrier', FLAT, 'a barrier'))),
            (200, (((200, -5), 'arrow', 'L220 5', 'a message, up to its match'), ((204, -6), 'stub', TO_RIGHT, 'a send that is not matched'),
                   ((218, 0), 'stub', FROM_LEFT, 'a receive that is not'), ('line', 'posted', '', 'a receive is posted'),
-                  ('line', 'waiting', '', 'a rank waits'))),
-           (430, (('line', 'bar', '', 'a release'), ((440, 0), 'ended', ENDS['ended'], 'ended'), ((440, 0), 'blocked', ENDS['blocked'], 'blocked'),
-                  ((440, 0), 'trapped', ENDS['trapped'], 'trapped'), ((440, 0), 'running', ENDS['running'], 'can go on'))))
+                  ('line', 'waiting', '', 'a rank waits'), ((200, -5), 'candidate', 'L220 105', 'a candidate of a choice'))),
+           (430, (('line', 'bar', '', 'a release'), ((440, 0), 'ended', ENDS['ended'], 'ended'), ((440, 0), 'blocked', ENDS['blocked'], 'blocked for good'),
+                  ((440, 0), 'trapped', ENDS['trapped'], 'trapped'), ((440, 0), 'running', ENDS['running'], 'can go on'),
+                 ((440, 0), 'held', ENDS['held'], 'waits'))))
 LEGEND = ''.join(in_columns(COLUMNS)) + '</g>\n</svg>\n'
 
 
 # ---- the drawing: its shapes
+
+def path_between(sender, x1, y1, receiver, x2, y2):
+    """The path from a place of a sender to one of a receiver."""
+    if sender == receiver:
+        return f'C{x1 - 40} {y1} {x2 - 40} {y2} {x2} {y2}'
+    side, tip = (65, x2 - 7) if sender < receiver else (-65, x2 + 4)
+    turns = '' if abs(sender - receiver) == 1 else f'L{x1 + side} {y2 - 20}L{x2 - side} {y2 - 9}'
+    return f'{turns}L{tip} {y2}'
+
 
 class Drawing(Picture):
     """A picture as SVG."""
 
     @property
     def column(self):
-        return lane_x(len(self.ranks))
+        return max(lane_x(len(self.ranks)), 620)
 
-    def row_parts(self, is_left, x, y, label, told):
-        """The label beside the lane, a guide, and what is told of the row."""
+    def row_parts(self, is_left, x, y, label, place, told):
+        """The label beside the lane, and what is told of the row."""
         beside = text('left', x - 12, y + 4, label) if is_left else text('right', x + 12, y + 4, label)
-        return beside + line('guide', x + 80, y, self.column - 6, y) + text('row', self.column, y + 4, told)
+        return beside + text('row', self.column, told_y(place), told)
 
     def lane(self, rank):
         return line('lane', lane_x(rank), 60, lane_x(rank), row_y(self.rows)) + text('name', lane_x(rank), 52, f'rank {rank}')
@@ -192,22 +257,32 @@ class Drawing(Picture):
         call_id, x, y = glyph.call, lane_x(glyph.call.rank), row_y(glyph.row)
         call, told = find_call(self.world, call_id), whole_text(self.at, call_id)
         is_left = call.kind == 'send' and call.other > call_id.rank
-        parts = path(call.kind, x, y, PATHS[call.kind]), self.row_parts(is_left, x, y, f'{self.at.lines[call_id]} {word_of(call)}', told)
+        parts = path(call.kind, x, y, PATHS[call.kind]), self.row_parts(is_left, x, y, f'{self.at.lines[call_id]} {word_of(call)}', glyph.place, told)
         return (self.free(call_id, call, glyph.row) if self.is_free(call_id) else '') + group(told, *parts)
 
     def pair(self, glyph):
         send, receive = glyph.call, glyph.other
         x1, y1, x2, y2 = lane_x(send.rank), row_y(self.issued[send]), lane_x(receive.rank), row_y(glyph.row)
-        rest = f'C{x1 - 40} {y1} {x2 - 40} {y2} {x2} {y2}' if send.rank == receive.rank else f'L{x2} {y2}'
+        rest = path_between(send.rank, x1, y1, receive.rank, x2, y2)
         call = find_call(self.world, send)
         label = f'{call.value} tag {call.tag}'
         told = f'{send} to {receive}: value {label}'
-        return self.posted(receive, glyph.row) + group(told, path('arrow', x1, y1, rest), self.row_parts(receive.rank < send.rank, x2, y2, label, told))
+        return self.posted(receive, glyph.row) + group(told, path('arrow', x1, y1, rest), self.row_parts(receive.rank < send.rank, x2, y2, label, glyph.place, told))
+
+    def candidate(self, number, step):
+        """A candidate of the choice at the end."""
+        send, receive = step.first, step.second
+        x1, y1, x2, y2 = lane_x(send.rank), row_y(self.issued[send]), lane_x(receive.rank), row_y(self.issued[receive])
+        call = find_call(self.world, send)
+        told = f'{number}: {send} to {receive}: value {call.value} tag {call.tag}'
+        hanging = f'C{x1} {y1 + 18} {x2} {y2 + 18} {x2} {y2}'
+        rest = path_between(send.rank, x1, y1, receive.rank, x2, y2) if send.rank == receive.rank else hanging
+        return group(told, path('candidate', x1, y1, rest), text('number', x1, y1 - 9, number))
 
     def release(self, glyph):
         y = row_y(glyph.row)
         bar = line('bar', lane_x(0) - 14, y, lane_x(self.ranks[-1]) + 14, y)
-        return group('release: all ranks leave the barrier', bar, text('row', self.column, y + 4, 'release'))
+        return group('release: all ranks leave the barrier', bar, text('row', self.column, told_y(glyph.place), 'release'))
 
     def glyph(self, glyph):
         if glyph.kind == WENT_ON:
@@ -216,27 +291,31 @@ class Drawing(Picture):
 
     def end(self, number):
         x, y, name = lane_x(number), row_y(self.rows), f'rank {number}'
-        kind, told = end_of(self.world.ranks[number])
-        waited = self.waiting(last_call(self.world, number), self.rows) if kind == 'blocked' else ''
-        return waited + group(f'{name}: {told}', path(kind, x, y, ENDS[kind]), text('name', x, y + 24, name), text('name', x, y + 38, told))
+        rank = self.world.ranks[number]
+        kind, told = end_of(rank, self.is_stuck)
+        waited = self.waiting(last_call(self.world, number), self.rows) if rank.mode == 'blocked' else ''
+        line = self.at.lines[last_call(self.world, number)] if rank.mode == 'blocked' else None if kind == 'ended' else next_line(rank)
+        place = '' if line is None else text('name', x, y + 52, f'line {line}')
+        return waited + group(f'{name}: {told}', path(kind, x, y, ENDS[kind]), text('name', x, y + 24, name), text('name', x, y + 38, told), place)
 
     def svg(self):
         """The whole, as text."""
-        width, height, title = self.column + 460, row_y(self.rows) + 190, title_of(self)
+        width, height, title = self.column + 460, max(row_y(self.rows) + 224, told_y(self.places) + 12), title_of(self)
         size = f'width="{width}" height="{height}"'
-        shapes = [*map(self.lane, self.ranks), *map(self.glyph, self.glyphs), *map(self.end, self.ranks)]
-        return (f'<svg xmlns="http://www.w3.org/2000/svg" version="1.1" {size} viewBox="0 0 {width} {height}">\n<title>{title}</title>\n{STYLE}'
-                f'<rect class="paper" {size}/>\n{text("head", 12, 24, title)}{"".join(shapes)}'
-                f'<g transform="translate(12 {row_y(self.rows) + 76})">\n{LEGEND}')
+        shapes = [*map(self.lane, self.ranks), *map(self.glyph, self.glyphs),
+                  *starmap(self.candidate, enumerate(candidates_of(self.world), 1)), *map(self.end, self.ranks)]
+        return (f'<svg xmlns="http://www.w3.org/2000/svg" class="mpd" version="1.1" {size} viewBox="0 0 {width} {height}">\n<title>{title}</title>\n{STYLE}'
+                f'<rect class="mpd-paper" {size}/>\n{text("head", 12, 24, title)}{"".join(shapes)}'
+                f'<g transform="translate(12 {row_y(self.rows) + 90})">\n{LEGEND}')
 
 
-def end_of(rank):
-    """How a rank is at the end, and in words."""
+def end_of(rank, is_stuck):
+    """How a rank is at the end, in a state where no step is enabled or one is, and in words."""
     if rank.mode == 'trapped':
         return 'trapped', rank.trap
     if rank.mode == 'blocked':
-        return 'blocked', 'blocked'
-    return ('ended', 'ended') if has_ended(rank) else ('running', f'at line {next_line(rank)}')
+        return ('blocked', 'blocked') if is_stuck else ('held', 'waits')
+    return ('ended', 'ended') if has_ended(rank) else ('running', 'can go on')
 
 
 def title_of(picture):
@@ -249,9 +328,9 @@ def title_of(picture):
 # ---- the picture as text
 
 LETTERS = {'send': 'S', 'recv': 'R', 'wait': 'W', 'waitany': 'A', 'barrier': 'B'}
-END_LETTERS = {'ended': 'E', 'running': 'V', 'blocked': '!', 'trapped': 'X'}
+END_LETTERS = {'ended': 'E', 'running': 'V', 'held': '~', 'blocked': '!', 'trapped': 'X'}
 LETTERS_TOLD = ('S send, R receive, W wait, A wait for any, B barrier, o-> match, == release\n'
-                'at the end: E ended, ! blocked, X trapped, V can go on\n')
+                'at the end: E ended, V can go on, ~ waits, ! blocked, X trapped\n')
 
 
 class Rows(Picture):
@@ -281,7 +360,7 @@ class Rows(Picture):
 
     def text(self):
         """The whole, as text."""
-        ends = (f'{END_LETTERS[end_of(rank)[0]]} ' for rank in self.world.ranks)
+        ends = (f'{END_LETTERS[end_of(rank, self.is_stuck)[0]]} ' for rank in self.world.ranks)
         lines = [self.row((f'{rank % 10} ' for rank in self.ranks), 'line: call'), *map(self.glyph, self.glyphs), self.row(ends, 'at the end')]
         return ''.join(lines) + LETTERS_TOLD
 

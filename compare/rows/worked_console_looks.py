@@ -549,7 +549,7 @@ no deadlock from here: 1 run, and no more (1 done)
 0 1 2  line: call
 V V V  at the end
 S send, R receive, W wait, A wait for any, B barrier, o-> match, == release
-at the end: E ended, ! blocked, X trapped, V can go on
+at the end: E ended, V can go on, ~ waits, ! blocked, X trapped
 > run
 6 steps, depth 6
 stopped at a choice of rank 0, line 7; next N takes one:
@@ -564,7 +564,7 @@ R | |  7: 0.0 recv from any tag any free
 | | S  7: 2.0 send to 0 tag 0 free
 ! ! !  at the end
 S send, R receive, W wait, A wait for any, B barrier, o-> match, == release
-at the end: E ended, ! blocked, X trapped, V can go on
+at the end: E ended, V can go on, ~ waits, ! blocked, X trapped
 > next 1
 7 match 1.0 0.0: rank 1, line 7, to rank 0, line 7
 next: wake 0: line 7
@@ -594,7 +594,7 @@ R | |  7: 0.0 recv from any tag any
 R | |  7: 0.1 recv from 1 tag any free
 ! E !  at the end
 S send, R receive, W wait, A wait for any, B barrier, o-> match, == release
-at the end: E ended, ! blocked, X trapped, V can go on
+at the end: E ended, V can go on, ~ waits, ! blocked, X trapped
 > goto 0
 depth 0
 10 ahead: local 0: line 7
@@ -604,7 +604,7 @@ depth 0
 0 1 2  line: call
 V V V  at the end
 S send, R receive, W wait, A wait for any, B barrier, o-> match, == release
-at the end: E ended, ! blocked, X trapped, V can go on
+at the end: E ended, V can go on, ~ waits, ! blocked, X trapped
 > picture 1
 usage: picture
 > help picture

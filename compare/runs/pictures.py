@@ -276,9 +276,9 @@ def compare(chosen, pool):
 def row_of(row):
     """A worked row as a picture that is asked for."""
     choices = None if row.choices is None else tuple(map(int, row.choices.split()))
-    steps = picture_model.steps_of(read_script(row.script), row.mode, choices, MOST_FUEL, row.ends)
+    steps = picture_model.steps_of(read_script(row.script), row.mode, choices, row.fuel, row.ends)
     told = None if choices is None else row.choices.encode()
-    return Asked(row.script, row.mode, 'first candidates' if choices is None else 'choices', told, MOST_FUEL, tuple(steps), ends=row.ends)
+    return Asked(row.script, row.mode, 'first candidates' if choices is None else 'choices', told, row.fuel, tuple(steps), ends=row.ends)
 
 
 def compare_rows(chosen):

@@ -1,5 +1,5 @@
 -- The arrows and bars of a drawing are the pairs and releases of the state.
-use Rattle.std.proofs.Common.{◌≡◌, ℕ, Bool, true, false, cond, List, [], ◌∷◌, ◌++◌, Option, Some, None, refl, sym, ap, ◌∙◌, append_assoc, append-nil, slice_get}
+use Rattle.std.proofs.Common.{◌≡◌, ℕ, ◌+◌, Bool, true, false, cond, List, [], ◌∷◌, ◌++◌, Option, Some, None, refl, sym, ap, ◌∙◌, append_assoc, append-nil, slice_get}
 use Rattle.std.specs.List.{filter, flat_map}
 use Rattle.std.specs.Option.{option_map, option_and_then}
 use Rattle.std.proofs.lemmas.Grind.{flat_map-append}
@@ -16,11 +16,13 @@ use Rattle.mpd_model.specs.declared.call.MatchSet.TheVariants as set
 use Rattle.mpd_model.specs.steps.World.{World, Board, call_id, rank_numbers, start, last_call, eligible, is_free, kind_at}
 use Rattle.mpd_model.specs.steps.Next.{Ran, next, fold, local_at, stepped, with_issued, with_set, can_wake, can_wake_any, can_release, woken, woken_any, released, waits}
 use Rattle.mpd_picture.specs.declared.glyph.Glyph.{Glyph}
+use Rattle.mpd_picture.specs.declared.glyph.Mark.{Mark}
 use Rattle.mpd_picture.specs.declared.glyph.Event.{Event}
 use Rattle.mpd_picture.specs.declared.glyph.Event.TheVariants.{Issued, Paired, WentOn, Released}
 use Rattle.mpd_picture.specs.declared.shape.Shape.{Shape}
 use Rattle.mpd_picture.specs.Glyphs.{glyph, issues, calls_before, step_glyphs, row_behind, led, glyphs_behind, glyphs_of, went_on}
-use Rattle.mpd_picture.specs.Shapes.{rows_of, free_shapes, event_shapes, glyph_shapes, lane_shapes, end_shapes, shapes_of}
+use Rattle.mpd_picture.specs.Marks.{rows_of, mark_after, marks_from, marks_of}
+use Rattle.mpd_picture.specs.Shapes.{candidate_shapes, candidates_from, candidates, free_shapes, event_shapes, mark_shapes, lane_shapes, end_shapes, shapes_of}
 use Rattle.mpd_picture.specs.PictureLaws.{set_of_shape, is_drawn, ArrowsArePairs}
 
 -- ---- lists whose parts give nothing
@@ -116,28 +118,59 @@ front_drawn : (b : Bool) (xs ys : List Shape) → flat_map set_of_shape xs ≡ [
 front_drawn true xs ys h k = flat_map-append set_of_shape xs ys ∙ ap (λ zs. zs ++ flat_map set_of_shape ys) h ∙ k
 front_drawn false xs ys h k = k
 
-event_drawn : (b : Board) (glyphs : List Glyph) (rows row : ℕ) (e : Event) → flat_map set_of_shape (event_shapes b glyphs rows row e) ≡ set_of_event e
-event_drawn b glyphs rows row (Issued c) = front_drawn (is_free b c) (free_shapes c row rows (kind_at b c)) _ (free_drawn c row rows (kind_at b c)) refl
-event_drawn b glyphs rows row (Paired s r) = refl
-event_drawn b glyphs rows row (WentOn c) = refl
-event_drawn b glyphs rows row Released = refl
+event_drawn : (b : Board) (marks : List Mark) (rows row place : ℕ) (e : Event) → flat_map set_of_shape (event_shapes b marks rows row place e) ≡ set_of_event e
+event_drawn b marks rows row place (Issued c) = front_drawn (is_free b c) (free_shapes c row rows (kind_at b c)) _ (free_drawn c row rows (kind_at b c)) refl
+event_drawn b marks rows row place (Paired s r) = refl
+event_drawn b marks rows row place (WentOn c) = refl
+event_drawn b marks rows row place Released = refl
 
-end_drawn : (w : World) (glyphs : List Glyph) (rows p : ℕ) → flat_map set_of_shape (end_shapes w glyphs rows p) ≡ []
-end_drawn w glyphs rows p = front_drawn (waits (slice_get w.ranks p)) _ _ refl refl
+end_drawn : (w : World) (marks : List Mark) (rows p : ℕ) → flat_map set_of_shape (end_shapes w marks rows p) ≡ []
+end_drawn w marks rows p = front_drawn (waits (slice_get w.ranks p)) _ _ refl refl
 
-shapes_drawn : (w : World) (glyphs : List Glyph) → flat_map set_of_shape (shapes_of w glyphs) ≡ flat_map set_of_glyph glyphs
-shapes_drawn w glyphs =
-    let rows : ℕ = rows_of glyphs in
+candidate_drawn : (marks : List Mark) (number : ℕ) (a : Step) → flat_map set_of_shape (candidate_shapes marks number a) ≡ []
+candidate_drawn marks number (Local p) = refl
+candidate_drawn marks number (Match s r) = refl
+candidate_drawn marks number (Wake p) = refl
+candidate_drawn marks number (WakeAny p i) = refl
+candidate_drawn marks number Release = refl
+
+candidates_drawn : (marks : List Mark) (number : ℕ) (steps : List Step) → flat_map set_of_shape (candidates_from marks number steps) ≡ []
+candidates_drawn marks number [] = refl
+candidates_drawn marks number (a ∷ steps) =
+    flat_map-append set_of_shape (candidate_shapes marks number a) (candidates_from marks (number + 1) steps)
+    ∙ ap (λ ys. ys ++ flat_map set_of_shape (candidates_from marks (number + 1) steps)) (candidate_drawn marks number a) ∙ candidates_drawn marks (number + 1) steps
+
+abbrev set_of_mark : Mark → List MatchSet
+set_of_mark m = set_of_event m.event
+
+shapes_drawn : (w : World) (marks : List Mark) → flat_map set_of_shape (shapes_of w marks) ≡ flat_map set_of_mark marks
+shapes_drawn w marks =
+    let rows : ℕ = rows_of marks in
     let ranks : List ℕ = rank_numbers w.board in
     let lanes : List Shape = flat_map (lane_shapes rows) ranks in
-    let middle : List Shape = flat_map (glyph_shapes w.board glyphs rows) glyphs in
-    let ends : List Shape = flat_map (end_shapes w glyphs rows) ranks in
-    flat_map-append set_of_shape (lanes ++ middle) ends
+    let middle : List Shape = flat_map (mark_shapes w.board marks rows) marks in
+    let listed : List Shape = candidates_from marks 1 (candidates w) in
+    let ends : List Shape = flat_map (end_shapes w marks rows) ranks in
+    let given : List Shape → List MatchSet = flat_map set_of_shape in
+    flat_map-append set_of_shape (lanes ++ middle ++ listed) ends
+    ∙ ap (λ ys. ys ++ given ends) (flat_map-append set_of_shape (lanes ++ middle) listed
+    ∙ ap (λ ys. given (lanes ++ middle) ++ ys) (candidates_drawn marks 1 (candidates w)) ∙ append-nil (given (lanes ++ middle)))
     ∙ ap (λ ys. ys ++ flat_map set_of_shape ends) (flat_map-append set_of_shape lanes middle)
     ∙ ap (λ ys. ys ++ flat_map set_of_shape middle ++ flat_map set_of_shape ends) (none_given set_of_shape (lane_shapes rows) ranks (λ p. refl))
-    ∙ ap (λ ys. flat_map set_of_shape middle ++ ys) (none_given set_of_shape (end_shapes w glyphs rows) ranks (end_drawn w glyphs rows))
+    ∙ ap (λ ys. flat_map set_of_shape middle ++ ys) (none_given set_of_shape (end_shapes w marks rows) ranks (end_drawn w marks rows))
     ∙ append-nil (flat_map set_of_shape middle)
-    ∙ given_as set_of_shape (glyph_shapes w.board glyphs rows) set_of_glyph glyphs (λ m. event_drawn w.board glyphs rows m.row m.event)
+    ∙ given_as set_of_shape (mark_shapes w.board marks rows) set_of_mark marks (λ m. event_drawn w.board marks rows m.row m.place m.event)
+
+-- ---- marks are of what steps show
+
+marks_drawn : (marks : List Mark) (glyphs : List Glyph) → flat_map set_of_mark (marks_from marks glyphs) ≡ flat_map set_of_mark marks ++ flat_map set_of_glyph glyphs
+marks_drawn marks [] = sym (append-nil (flat_map set_of_mark marks))
+marks_drawn marks (m ∷ glyphs) =
+    let rest : List MatchSet = flat_map set_of_glyph glyphs in
+    marks_drawn (marks ++ mark_after marks m ∷ []) glyphs
+    ∙ ap (λ ys. ys ++ rest) (flat_map-append set_of_mark marks (mark_after marks m ∷ []) ∙ ap (λ ys. flat_map set_of_mark marks ++ ys) (append-nil (set_of_event m.event)))
+    ∙ append_assoc (flat_map set_of_mark marks) (set_of_event m.event) rest
 
 pub arrows : ArrowsArePairs
-arrows s mode steps w h = shapes_drawn w (glyphs_of s mode steps) ∙ sym (steps_add (start s mode) w 0 steps h)
+arrows s mode steps w h =
+    shapes_drawn w (marks_of (glyphs_of s mode steps)) ∙ marks_drawn [] (glyphs_of s mode steps) ∙ sym (steps_add (start s mode) w 0 steps h)

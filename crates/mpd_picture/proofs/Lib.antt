@@ -1,3 +1,4 @@
 pub mod GlyphLemmas
+pub mod MarkLemmas
 pub mod SvgLemmas
 pub mod LawLemmas

@@ -1,4 +1,5 @@
 pub mod Glyphs
+pub mod Marks
 pub mod Shapes
 pub mod Svg
 pub mod Rows

@@ -1,5 +1,5 @@
 -- A picture of a run, as SVG and as text (docs/PICTURES.md).
-use Rattle.std.specs.Prelude.{ℕ, ◌+◌, nat_le, Bool, if◌then◌else◌, List, ◌++◌, length, Option, Some, None, codes}
+use Rattle.std.specs.Prelude.{ℕ, ◌+◌, max, nat_le, Bool, if◌then◌else◌, List, ◌++◌, length, Option, Some, None, codes}
 use Rattle.std.specs.Fmt.{decimal}
 use Rattle.std.specs.List.{flat_map}
 use Rattle.mpd_model.specs.declared.outcome.Outcome.{Outcome}
@@ -14,8 +14,9 @@ use Rattle.mpd_picture.specs.declared.shape.Shape.{Shape}
 use Rattle.mpd_picture.specs.declared.style.TheConstants.{OPENED, STYLE, LEGEND}
 use Rattle.mpd_picture.specs.declared.drawing.TheConstants.{GLYPHS_MAX}
 use Rattle.mpd_picture.specs.Glyphs.{glyphs_of}
-use Rattle.mpd_picture.specs.Shapes.{rows_of, shapes_of}
-use Rattle.mpd_picture.specs.Svg.{column_x, row_y, attribute, text_element, opened, shape_elements}
+use Rattle.mpd_picture.specs.Marks.{rows_of, marks_of}
+use Rattle.mpd_picture.specs.Shapes.{places_of, shapes_of}
+use Rattle.mpd_picture.specs.Svg.{column_x, row_y, told_y, attribute, text_element, opened, shape_elements}
 use Rattle.mpd_picture.specs.Rows.{rows_text}
 
 -- ---- the title
@@ -43,7 +44,7 @@ unfoldable pub title_element : List ℕ → List ℕ
 title_element title = codes "<title>" ++ title ++ codes "</title>\n"
 
 unfoldable pub paper_element : ℕ → ℕ → List ℕ
-paper_element width height = opened (codes "<rect class=\"") (codes "paper") ++ size_attributes width height ++ codes "/>\n"
+paper_element width height = opened (codes "<rect class=\"mpd-") (codes "paper") ++ size_attributes width height ++ codes "/>\n"
 
 unfoldable pub opened_text : List ℕ
 opened_text = OPENED.now
@@ -58,16 +59,19 @@ legend_text = LEGEND.now
 unfoldable pub head_elements : ℕ → ℕ → List ℕ → List ℕ
 head_elements width height title = opened_text ++ size_attributes width height ++ box_attribute width height ++ title_element title ++ style_text ++ paper_element width height ++ text_element (codes "head") 12 24 title
 
--- the legend stands below all rows
+-- Below the rows stands the legend, and beside both the list of what is told.
+abbrev pub height_of : ℕ → ℕ → ℕ
+height_of rows places = max (row_y rows + 224) (told_y places + 12)
+
 unfoldable pub legend_elements : ℕ → List ℕ
 legend_elements y = codes "<g transform=\"translate(12 " ++ decimal y ++ codes ")\">\n" ++ legend_text
 
-unfoldable pub svg_by : Program → World → ℕ → ℕ → List Shape → List ℕ
-svg_by s w rows depth shapes =
-    head_elements (column_x w.board + 460) (row_y rows + 190) (title_of w.board depth (outcome w)) ++ flat_map (shape_elements s w) shapes ++ legend_elements (row_y rows + 76)
+unfoldable pub svg_by : Program → World → ℕ → ℕ → ℕ → List Shape → List ℕ
+svg_by s w rows places depth shapes =
+    head_elements (column_x w.board + 460) (height_of rows places) (title_of w.board depth (outcome w)) ++ flat_map (shape_elements s w) shapes ++ legend_elements (row_y rows + 90)
 
 abbrev pub svg_of : Program → World → ℕ → List Glyph → List ℕ
-svg_of s w depth glyphs = svg_by s w (rows_of glyphs) depth (shapes_of w glyphs)
+svg_of s w depth glyphs = svg_by s w (rows_of (marks_of glyphs)) (places_of glyphs) depth (shapes_of w (marks_of glyphs))
 
 abbrev pub few : List Glyph → Bool
 few glyphs = nat_le (length glyphs) GLYPHS_MAX
@@ -81,4 +85,4 @@ picture_svg t w = if few (trail_glyphs t) then Some (svg_of t.program w t.depth 
 
 -- the same as text
 abbrev pub picture_text : Trail → World → List ℕ
-picture_text t w = if few (trail_glyphs t) then rows_text t.program w (shapes_of w (trail_glyphs t)) else line (codes "refused: this run has too many calls to be drawn")
+picture_text t w = if few (trail_glyphs t) then rows_text t.program w (shapes_of w (marks_of (trail_glyphs t))) else line (codes "refused: this run has too many calls to be drawn")

@@ -7,6 +7,7 @@ use Rattle.mpd_model.specs.declared.call.CallKind.{CallKind}
 use Rattle.mpd_model.specs.declared.call.CallKind.TheVariants.{Send, Recv, Wait, Waitany, Barrier}
 use Rattle.mpd_model.specs.script.Program.{Program}
 use Rattle.mpd_model.specs.steps.World.{World, Board, call_at, kind_at, is_free, rank_numbers}
+use Rattle.mpd_model.specs.steps.Outcomes.{is_stuck}
 use Rattle.mpd_model.specs.texts.Texts.{line, id_text, kind_text}
 use Rattle.mpd_names.specs.Placed.{issue_line}
 use Rattle.mpd_picture.specs.declared.shape.Shape.{Shape}
@@ -49,11 +50,12 @@ bar_sign q = codes "=="
 abbrev pub finish_sign : Finish → List ℕ
 finish_sign finish.Ended = codes "E "
 finish_sign finish.Running = codes "V "
+finish_sign finish.Held = codes "~ "
 finish_sign finish.Blocked = codes "! "
 finish_sign (finish.Trapped t) = codes "X "
 
 abbrev pub end_sign : World → ℕ → List ℕ
-end_sign w q = finish_sign (finish_of (slice_get w.ranks q))
+end_sign w q = finish_sign (finish_of (is_stuck w) (slice_get w.ranks q))
 
 -- the last digit of the number of a rank
 unfoldable pub head_sign : ℕ → List ℕ
@@ -90,9 +92,9 @@ unfoldable pub arrow_words : Board → CallId → CallId → List ℕ
 arrow_words b s r = id_text s ++ codes " to " ++ id_text r ++ codes ": " ++ value_text (kind_at b s)
 
 abbrev pub shape_row : Program → Board → Shape → List ℕ
-shape_row s b (shape.Call c row) = told_behind (call_sign b c) b (call_words s b c)
-shape_row s b (Arrow c from d to) = told_behind (arrow_sign c.rank d.rank) b (arrow_words b c d)
-shape_row s b (Bar row) = told_behind bar_sign b (codes "release")
+shape_row s b (shape.Call c row place) = told_behind (call_sign b c) b (call_words s b c)
+shape_row s b (Arrow c from d to place) = told_behind (arrow_sign c.rank d.rank) b (arrow_words b c d)
+shape_row s b (Bar row place) = told_behind bar_sign b (codes "release")
 shape_row s b shape = []
 
 -- ---- the whole

@@ -1,37 +1,38 @@
 -- The shapes of a picture, by ranks and rows (docs/PICTURES.md, "Shapes").
-use Rattle.std.specs.Prelude.{ℕ, Bool, true, false, if◌then◌else◌, List, [], ◌∷◌, ◌++◌, count_by, slice_get, Option, Some}
-use Rattle.std.specs.List.{flat_map}
+use Rattle.std.specs.Prelude.{ℕ, ◌+◌, Bool, true, false, if◌then◌else◌, List, [], ◌∷◌, ◌++◌, count_by, slice_get, Option, Some}
+use Rattle.std.specs.List.{flat_map, list_all}
 use Rattle.mpd_model.specs.declared.step.CallId.{CallId}
+use Rattle.mpd_model.specs.declared.step.Step.{Step}
+use Rattle.mpd_model.specs.declared.step.Step.TheVariants.{Match}
 use Rattle.mpd_model.specs.declared.call.CallKind.{CallKind}
 use Rattle.mpd_model.specs.declared.call.CallKind.TheVariants.{Send, Recv}
 use Rattle.mpd_model.specs.steps.World.{World, Board, id_eq, kind_at, is_free, last_call, rank_numbers}
-use Rattle.mpd_model.specs.steps.Next.{waits}
+use Rattle.mpd_model.specs.steps.Next.{waits, enabled}
+use Rattle.mpd_model.specs.runs.Decisions.{is_open_match}
 use Rattle.mpd_picture.specs.declared.glyph.Glyph.{Glyph}
+use Rattle.mpd_picture.specs.declared.glyph.Mark.{Mark}
 use Rattle.mpd_picture.specs.declared.glyph.Event.{Event}
 use Rattle.mpd_picture.specs.declared.glyph.Event.TheVariants.{Issued, Paired, WentOn, Released}
 use Rattle.mpd_picture.specs.declared.shape.Shape.{Shape}
-use Rattle.mpd_picture.specs.declared.shape.Shape.TheVariants.{Lane, Waiting, Posted, Arrow, Bar, Stub, End}
+use Rattle.mpd_picture.specs.declared.shape.Shape.TheVariants.{Lane, Waiting, Posted, Arrow, Bar, Stub, Candidate, End}
 use Rattle.mpd_picture.specs.declared.shape.Shape.TheVariants as shape
+use Rattle.mpd_picture.specs.Marks.{is_row, rows_of}
 
 -- ---- rows
-
--- what a rank that goes on shows takes no row
-abbrev pub is_row : Event → Bool
-is_row (WentOn c) = false
-is_row e = true
 
 abbrev pub has_row : Glyph → Bool
 has_row m = is_row m.event
 
-abbrev pub rows_of : List Glyph → ℕ
-rows_of glyphs = count_by has_row glyphs
+-- how many places the list of what is told has
+abbrev pub places_of : List Glyph → ℕ
+places_of glyphs = count_by has_row glyphs
 
 abbrev pub is_issue : Event → CallId → Bool
 is_issue (Issued d) c = id_eq d c
 is_issue e c = false
 
 -- the row in which a call is issued, 0 where it isn't
-abbrev pub row_of : List Glyph → CallId → ℕ
+abbrev pub row_of : List Mark → CallId → ℕ
 row_of [] c = 0
 row_of (m ∷ ms) c = if is_issue m.event c then m.row else row_of ms c
 
@@ -43,31 +44,52 @@ free_shapes c row rows (Some (Send s)) = Stub c row ∷ []
 free_shapes c row rows (Some (Recv r)) = Posted c.rank row rows ∷ Stub c row ∷ []
 free_shapes c row rows kind = []
 
-abbrev pub call_shapes : Board → ℕ → CallId → ℕ → List Shape
-call_shapes b rows c row = (if is_free b c then free_shapes c row rows (kind_at b c) else []) ++ shape.Call c row ∷ []
+abbrev pub call_shapes : Board → ℕ → CallId → ℕ → ℕ → List Shape
+call_shapes b rows c row place = (if is_free b c then free_shapes c row rows (kind_at b c) else []) ++ shape.Call c row place ∷ []
 
-abbrev pub pair_shapes : List Glyph → CallId → CallId → ℕ → List Shape
-pair_shapes glyphs s r row = Posted r.rank (row_of glyphs r) row ∷ Arrow s (row_of glyphs s) r row ∷ []
+abbrev pub pair_shapes : List Mark → CallId → CallId → ℕ → ℕ → List Shape
+pair_shapes marks s r row place = Posted r.rank (row_of marks r) row ∷ Arrow s (row_of marks s) r row place ∷ []
 
-abbrev pub event_shapes : Board → List Glyph → ℕ → ℕ → Event → List Shape
-event_shapes b glyphs rows row (Issued c) = call_shapes b rows c row
-event_shapes b glyphs rows row (Paired s r) = pair_shapes glyphs s r row
-event_shapes b glyphs rows row (WentOn c) = Waiting c.rank (row_of glyphs c) row ∷ []
-event_shapes b glyphs rows row Released = Bar row ∷ []
+abbrev pub event_shapes : Board → List Mark → ℕ → ℕ → ℕ → Event → List Shape
+event_shapes b marks rows row place (Issued c) = call_shapes b rows c row place
+event_shapes b marks rows row place (Paired s r) = pair_shapes marks s r row place
+event_shapes b marks rows row place (WentOn c) = Waiting c.rank (row_of marks c) row ∷ []
+event_shapes b marks rows row place Released = Bar row place ∷ []
 
-abbrev pub glyph_shapes : Board → List Glyph → ℕ → Glyph → List Shape
-glyph_shapes b glyphs rows m = event_shapes b glyphs rows m.row m.event
+abbrev pub mark_shapes : Board → List Mark → ℕ → Mark → List Shape
+mark_shapes b marks rows m = event_shapes b marks rows m.row m.place m.event
+
+-- ---- candidates
+
+-- The candidates of a choice among matches: the enabled steps, where each is a match of a receive of any source.
+abbrev pub open_only : Board → List Step → List Step
+open_only b steps = if list_all (is_open_match b) steps then steps else []
+
+unfoldable pub candidates : World → List Step
+candidates w = open_only w.board (enabled w)
+
+-- a candidate with its number, from the row of its send to that of its receive
+abbrev pub candidate_shapes : List Mark → ℕ → Step → List Shape
+candidate_shapes marks number (Match s r) = Candidate s (row_of marks s) r (row_of marks r) number ∷ []
+candidate_shapes marks number a = []
+
+-- candidates are counted as the console counts them
+abbrev pub candidates_from : List Mark → ℕ → List Step → List Shape
+candidates_from marks number [] = []
+candidates_from marks number (a ∷ steps) = candidate_shapes marks number a ++ candidates_from marks (number + 1) steps
+
+-- ---- lanes and ends
 
 abbrev pub lane_shapes : ℕ → ℕ → List Shape
 lane_shapes rows p = Lane p rows ∷ []
 
 -- how a rank is at the end; one that is blocked has waited up to there
-abbrev pub end_shapes : World → List Glyph → ℕ → ℕ → List Shape
-end_shapes w glyphs rows p = (if waits (slice_get w.ranks p) then Waiting p (row_of glyphs (last_call w.board p)) rows ∷ [] else []) ++ End p rows ∷ []
+abbrev pub end_shapes : World → List Mark → ℕ → ℕ → List Shape
+end_shapes w marks rows p = (if waits (slice_get w.ranks p) then Waiting p (row_of marks (last_call w.board p)) rows ∷ [] else []) ++ End p rows ∷ []
 
-abbrev pub shapes_in : World → List Glyph → ℕ → List Shape
-shapes_in w glyphs rows = flat_map (lane_shapes rows) (rank_numbers w.board) ++ flat_map (glyph_shapes w.board glyphs rows) glyphs ++ flat_map (end_shapes w glyphs rows) (rank_numbers w.board)
+abbrev pub shapes_in : World → List Mark → ℕ → List Shape
+shapes_in w marks rows = flat_map (lane_shapes rows) (rank_numbers w.board) ++ flat_map (mark_shapes w.board marks rows) marks ++ candidates_from marks 1 (candidates w) ++ flat_map (end_shapes w marks rows) (rank_numbers w.board)
 
--- the shapes of a run that shows these glyphs, and leads to this world
-abbrev pub shapes_of : World → List Glyph → List Shape
-shapes_of w glyphs = shapes_in w glyphs (rows_of glyphs)
+-- the shapes of a run with these marks, which leads to this world
+abbrev pub shapes_of : World → List Mark → List Shape
+shapes_of w marks = shapes_in w marks (rows_of marks)

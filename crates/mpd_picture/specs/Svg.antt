@@ -1,6 +1,6 @@
 -- The text of a drawing: its elements, and those of each shape (docs/PICTURES.md, "Elements"). All that is written is numbers and the words
 -- of these definitions, so there is no `<` or `&` but those of the elements here, each of which is closed where it is opened.
-use Rattle.std.specs.Prelude.{ℕ, ◌+◌, ◌-◌, ◌*◌, min, Bool, false, ◌==◌, nat_lt, if◌then◌else◌, List, [], ◌++◌, length, slice_get, Option, Some, None, codes}
+use Rattle.std.specs.Prelude.{ℕ, ◌+◌, ◌-◌, ◌*◌, min, max, Bool, false, ◌==◌, nat_lt, if◌then◌else◌, List, [], ◌++◌, length, slice_get, Option, Some, None, codes}
 use Rattle.std.specs.Fmt.{decimal, signed_decimal}
 use Rattle.mpd_model.specs.declared.step.CallId.{CallId}
 use Rattle.mpd_model.specs.declared.call.CallKind.{CallKind}
@@ -8,12 +8,12 @@ use Rattle.mpd_model.specs.declared.call.CallKind.TheVariants.{Send, Recv, Wait,
 use Rattle.mpd_model.specs.declared.call.Activity.{Activity}
 use Rattle.mpd_model.specs.declared.call.Activity.TheVariants.{Running, Blocked, Trapped}
 use Rattle.mpd_model.specs.script.Program.{Program}
-use Rattle.mpd_model.specs.steps.World.{RankWorld, World, Board, call_at, kind_at}
-use Rattle.mpd_model.specs.steps.Outcomes.{has_ended}
+use Rattle.mpd_model.specs.steps.World.{RankWorld, World, Board, call_at, kind_at, last_call}
+use Rattle.mpd_model.specs.steps.Outcomes.{has_ended, is_stuck}
 use Rattle.mpd_model.specs.texts.Texts.{id_text, send_word, recv_word, call_text, trap_name}
 use Rattle.mpd_names.specs.Placed.{issue_line, rank_line}
 use Rattle.mpd_picture.specs.declared.shape.Shape.{Shape}
-use Rattle.mpd_picture.specs.declared.shape.Shape.TheVariants.{Lane, Waiting, Posted, Arrow, Bar, Stub, End}
+use Rattle.mpd_picture.specs.declared.shape.Shape.TheVariants.{Lane, Waiting, Posted, Arrow, Bar, Stub, Candidate, End}
 use Rattle.mpd_picture.specs.declared.shape.Shape.TheVariants as shape
 use Rattle.mpd_picture.specs.declared.svg.Finish.{Finish}
 use Rattle.mpd_picture.specs.declared.svg.Finish.TheVariants as finish
@@ -22,14 +22,17 @@ use Rattle.mpd_picture.specs.declared.svg.Finish.TheVariants as finish
 
 -- the lane of a rank, and the middle of a row: no run has more ranks or rows
 abbrev pub lane_x : ℕ → ℕ
-lane_x p = 96 + 90 * min p 16
+lane_x p = 96 + 130 * min p 16
 
 abbrev pub row_y : ℕ → ℕ
-row_y row = 80 + 20 * min row 1000000
+row_y row = 80 + 28 * min row 1000000
 
--- where the texts of rows begin
+-- where the texts of the list begin: beside the lanes and the legend
 abbrev pub column_x : Board → ℕ
-column_x b = lane_x (length b.calls)
+column_x b = max (lane_x (length b.calls)) 620
+
+abbrev pub told_y : ℕ → ℕ
+told_y place = 52 + 16 * min place 1000000
 
 -- ---- elements
 
@@ -42,23 +45,23 @@ opened element class = element ++ class ++ codes "\""
 unfoldable pub closed : List ℕ
 closed = codes "/>\n"
 
--- `<line class="lane" x1="96" y1="60" x2="96" y2="120"/>`
+-- `<line class="mpd-lane" x1="96" y1="60" x2="96" y2="120"/>`
 unfoldable pub line_element : List ℕ → ℕ → ℕ → ℕ → ℕ → List ℕ
-line_element class x1 y1 x2 y2 = opened (codes "<line class=\"") class ++ attribute (codes " x1=\"") x1 ++ attribute (codes " y1=\"") y1 ++ attribute (codes " x2=\"") x2 ++ attribute (codes " y2=\"") y2 ++ closed
+line_element class x1 y1 x2 y2 = opened (codes "<line class=\"mpd-") class ++ attribute (codes " x1=\"") x1 ++ attribute (codes " y1=\"") y1 ++ attribute (codes " x2=\"") x2 ++ attribute (codes " y2=\"") y2 ++ closed
 
--- `<path class="send" d="M96 80m-5 0.."/>`: a path from a place on
+-- `<path class="mpd-send" d="M96 80m-5 0.."/>`: a path from a place on
 unfoldable pub path_at : ℕ → ℕ → List ℕ → List ℕ
 path_at x y path = codes " d=\"M" ++ decimal x ++ codes " " ++ decimal y ++ path ++ codes "\""
 
 unfoldable pub path_element : List ℕ → ℕ → ℕ → List ℕ → List ℕ
-path_element class x y path = opened (codes "<path class=\"") class ++ path_at x y path ++ closed
+path_element class x y path = opened (codes "<path class=\"mpd-") class ++ path_at x y path ++ closed
 
--- `<text class="name" x="96" y="50">rank 0</text>`
+-- `<text class="mpd-name" x="96" y="50">rank 0</text>`
 unfoldable pub inside : List ℕ → List ℕ
 inside text = codes ">" ++ text ++ codes "</text>\n"
 
 unfoldable pub text_element : List ℕ → ℕ → ℕ → List ℕ → List ℕ
-text_element class x y text = opened (codes "<text class=\"") class ++ attribute (codes " x=\"") x ++ attribute (codes " y=\"") y ++ inside text
+text_element class x y text = opened (codes "<text class=\"mpd-") class ++ attribute (codes " x=\"") x ++ attribute (codes " y=\"") y ++ inside text
 
 -- a group begins with its title
 unfoldable pub group_begun : List ℕ → List ℕ
@@ -134,12 +137,12 @@ arrow_told b s r = id_text s ++ codes " to " ++ id_text r ++ codes ": value " ++
 
 -- ---- shapes
 
--- what stands beside the lane, and behind a guide what is told of the row
+-- what stands beside the lane, and what is told of it in the list
 unfoldable pub side_element : Bool → ℕ → ℕ → List ℕ → List ℕ
 side_element is_left x y label = if is_left then text_element (codes "left") (x - 12) (y + 4) label else text_element (codes "right") (x + 12) (y + 4) label
 
-unfoldable pub row_elements : Board → Bool → ℕ → ℕ → List ℕ → List ℕ → List ℕ
-row_elements b is_left x y label told = side_element is_left x y label ++ line_element (codes "guide") (x + 80) y (column_x b - 6) y ++ text_element (codes "row") (column_x b) (y + 4) told
+unfoldable pub row_elements : Board → Bool → ℕ → ℕ → ℕ → List ℕ → List ℕ → List ℕ
+row_elements b is_left x y place label told = side_element is_left x y label ++ text_element (codes "row") (column_x b) (told_y place) told
 
 unfoldable pub lane_elements : ℕ → ℕ → List ℕ
 lane_elements p row = line_element (codes "lane") (lane_x p) 60 (lane_x p) (row_y row) ++ text_element (codes "name") (lane_x p) 52 (rank_name p)
@@ -153,74 +156,134 @@ posted_element p from to = line_element (codes "posted") (lane_x p - 5) (row_y f
 unfoldable pub stub_element : Board → CallId → ℕ → List ℕ
 stub_element b c row = path_element (codes "stub") (lane_x c.rank) (row_y row) (stub_path c (kind_at b c))
 
-unfoldable pub call_elements : Program → Board → CallId → ℕ → List ℕ
-call_elements s b c row =
+unfoldable pub call_elements : Program → Board → CallId → ℕ → ℕ → List ℕ
+call_elements s b c row place =
     group_begun (call_told s b c) ++ path_element (class_of (kind_at b c)) (lane_x c.rank) (row_y row) (path_of (kind_at b c))
-    ++ row_elements b (goes_right c (kind_at b c)) (lane_x c.rank) (row_y row) (call_label s b c) (call_told s b c) ++ group_ended
+    ++ row_elements b (goes_right c (kind_at b c)) (lane_x c.rank) (row_y row) place (call_label s b c) (call_told s b c) ++ group_ended
 
--- a straight line, or where a rank sends to itself a bow at the left of its lane
+-- where a rank sends to itself, a bow at the left of its lane
 unfoldable pub bow : ℕ → ℕ → ℕ → List ℕ
 bow x y1 y2 = codes "C" ++ decimal (x - 40) ++ codes " " ++ decimal y1 ++ codes " " ++ decimal (x - 40) ++ codes " " ++ decimal y2 ++ codes " " ++ decimal x ++ codes " " ++ decimal y2
 
 unfoldable pub straight : ℕ → ℕ → List ℕ
 straight x y = codes "L" ++ decimal x ++ codes " " ++ decimal y
 
+-- An arrow over other lanes goes down beside its own, up to the space between two rows, and through that: no shape of a lane stands there.
+unfoldable pub bent : ℕ → ℕ → ℕ → ℕ → List ℕ
+bent near far x y = straight near (y - 20) ++ straight far (y - 9) ++ straight x y
+
+-- to a higher rank, and to a lower one: the tip stands beside the lane
+unfoldable pub to_higher : ℕ → ℕ → ℕ → List ℕ
+to_higher p q y = if q - p == 1 then straight (lane_x q - 7) y else bent (lane_x p + 65) (lane_x q - 65) (lane_x q - 7) y
+
+unfoldable pub to_lower : ℕ → ℕ → ℕ → List ℕ
+to_lower p q y = if p - q == 1 then straight (lane_x q + 4) y else bent (lane_x p - 65) (lane_x q + 65) (lane_x q + 4) y
+
+unfoldable pub to_other : ℕ → ℕ → ℕ → List ℕ
+to_other p q y = if nat_lt p q then to_higher p q y else to_lower p q y
+
 unfoldable pub arrow_path : ℕ → ℕ → ℕ → ℕ → List ℕ
-arrow_path p from q to = if p == q then bow (lane_x q) (row_y from) (row_y to) else straight (lane_x q) (row_y to)
+arrow_path p from q to = if p == q then bow (lane_x q) (row_y from) (row_y to) else to_other p q (row_y to)
 
-unfoldable pub arrow_elements : Board → CallId → ℕ → CallId → ℕ → List ℕ
-arrow_elements b s from r to =
+unfoldable pub arrow_elements : Board → CallId → ℕ → CallId → ℕ → ℕ → List ℕ
+arrow_elements b s from r to place =
     group_begun (arrow_told b s r) ++ path_element (codes "arrow") (lane_x s.rank) (row_y from) (arrow_path s.rank from r.rank to)
-    ++ row_elements b (nat_lt r.rank s.rank) (lane_x r.rank) (row_y to) (message_label (kind_at b s)) (arrow_told b s r) ++ group_ended
+    ++ row_elements b (nat_lt r.rank s.rank) (lane_x r.rank) (row_y to) place (message_label (kind_at b s)) (arrow_told b s r) ++ group_ended
 
-unfoldable pub bar_elements : Board → ℕ → List ℕ
-bar_elements b row =
+unfoldable pub bar_elements : Board → ℕ → ℕ → List ℕ
+bar_elements b row place =
     group_begun (codes "release: all ranks leave the barrier") ++ line_element (codes "bar") (lane_x 0 - 14) (row_y row) (lane_x (length b.calls - 1) + 14) (row_y row)
-    ++ text_element (codes "row") (column_x b) (row_y row + 4) (codes "release") ++ group_ended
+    ++ text_element (codes "row") (column_x b) (told_y place) (codes "release") ++ group_ended
+
+-- A candidate hangs below the row of its send, so that it passes beside what stands in the lanes between.
+unfoldable pub hanging : ℕ → ℕ → ℕ → ℕ → List ℕ
+hanging x1 y1 x2 y2 = codes "C" ++ decimal x1 ++ codes " " ++ decimal (y1 + 18) ++ codes " " ++ decimal x2 ++ codes " " ++ decimal (y2 + 18) ++ codes " " ++ decimal x2 ++ codes " " ++ decimal y2
+
+unfoldable pub candidate_path : ℕ → ℕ → ℕ → ℕ → List ℕ
+candidate_path p from q to = if p == q then bow (lane_x q) (row_y from) (row_y to) else hanging (lane_x p) (row_y from) (lane_x q) (row_y to)
+
+-- `1: 1.0 to 0.0: value 5 tag 7`
+unfoldable pub candidate_told : ℕ → List ℕ → List ℕ
+candidate_told number told = decimal number ++ codes ": " ++ told
+
+-- the number of a candidate stands above its send
+unfoldable pub candidate_by : ℕ → ℕ → ℕ → List ℕ → List ℕ → List ℕ
+candidate_by x y number path told =
+    group_begun (candidate_told number told) ++ path_element (codes "candidate") x y path ++ text_element (codes "number") x (y - 9) (decimal number) ++ group_ended
+
+unfoldable pub candidate_elements : Board → CallId → ℕ → CallId → ℕ → ℕ → List ℕ
+candidate_elements b s from r to number = candidate_by (lane_x s.rank) (row_y from) number (candidate_path s.rank from r.rank to) (arrow_told b s r)
 
 -- ---- how a rank is at the end
 
-abbrev pub finish_by : RankWorld → Activity → Finish
-finish_by r Running = if has_ended r then finish.Ended else finish.Running
-finish_by r Blocked = finish.Blocked
-finish_by r (Trapped t) = finish.Trapped t
+abbrev pub running_by : RankWorld → Finish
+running_by r = if has_ended r then finish.Ended else finish.Running
 
-abbrev pub finish_of : Option RankWorld → Finish
-finish_of None = finish.Ended
-finish_of (Some r) = finish_by r r.activity
+-- A rank that is blocked has stopped where no step of any rank is enabled; else it waits.
+abbrev pub blocked_by : Bool → Finish
+blocked_by stuck = if stuck then finish.Blocked else finish.Held
+
+abbrev pub finish_by : Bool → RankWorld → Activity → Finish
+finish_by stuck r Running = running_by r
+finish_by stuck r Blocked = blocked_by stuck
+finish_by stuck r (Trapped t) = finish.Trapped t
+
+-- how a rank is, in a state where no step is enabled or one is
+abbrev pub finish_of : Bool → Option RankWorld → Finish
+finish_of stuck None = finish.Ended
+finish_of stuck (Some r) = finish_by stuck r r.activity
 
 abbrev pub finish_class : Finish → List ℕ
 finish_class finish.Ended = codes "ended"
 finish_class finish.Running = codes "running"
+finish_class finish.Held = codes "held"
 finish_class finish.Blocked = codes "blocked"
 finish_class (finish.Trapped t) = codes "trapped"
 
 abbrev pub finish_path : Finish → List ℕ
 finish_path finish.Ended = codes "m-9 0h18"
 finish_path finish.Running = codes "m-6 -5h12l-6 10z"
+finish_path finish.Held = codes "m-6 -7h12l-12 14h12z"
 finish_path finish.Blocked = codes "m-3 -7h6l5 5v5l-5 5h-6l-5 -5v-5z"
 finish_path (finish.Trapped t) = codes "m-6 -6l12 12m0 -12l-12 12"
 
-unfoldable pub finish_told : Program → Option RankWorld → Finish → List ℕ
-finish_told s r finish.Ended = codes "ended"
-finish_told s r finish.Running = codes "at line " ++ decimal (rank_line s.lines r)
-finish_told s r finish.Blocked = codes "blocked"
-finish_told s r (finish.Trapped t) = trap_name t
+abbrev pub finish_told : Finish → List ℕ
+finish_told finish.Ended = codes "ended"
+finish_told finish.Running = codes "can go on"
+finish_told finish.Held = codes "waits"
+finish_told finish.Blocked = codes "blocked"
+finish_told (finish.Trapped t) = trap_name t
+
+-- the line of the statement where a rank stands: that of its last call where it is blocked, else of the one that it has not got past
+abbrev pub end_line : Program → World → ℕ → Finish → ℕ
+end_line s w p finish.Held = issue_line s.lines (call_at w.board (last_call w.board p))
+end_line s w p finish.Blocked = issue_line s.lines (call_at w.board (last_call w.board p))
+end_line s w p f = rank_line s.lines (slice_get w.ranks p)
+
+-- `line 9`
+unfoldable pub line_told : ℕ → List ℕ
+line_told line = codes "line " ++ decimal line
+
+-- A rank that has ended stands at no line.
+abbrev pub place_element : Finish → ℕ → ℕ → List ℕ → List ℕ
+place_element finish.Ended x y place = []
+place_element f x y place = text_element (codes "name") x (y + 52) place
 
 -- a finish at a lane, with its words
 unfoldable pub end_title : List ℕ → List ℕ → List ℕ
 end_title name told = name ++ codes ": " ++ told
 
 unfoldable pub end_told : ℕ → ℕ → Finish → List ℕ → List ℕ
-end_told p row f told =
-    group_begun (end_title (rank_name p) told) ++ path_element (finish_class f) (lane_x p) (row_y row) (finish_path f)
-    ++ text_element (codes "name") (lane_x p) (row_y row + 24) (rank_name p) ++ text_element (codes "name") (lane_x p) (row_y row + 38) told ++ group_ended
+end_told p row f place =
+    group_begun (end_title (rank_name p) (finish_told f)) ++ path_element (finish_class f) (lane_x p) (row_y row) (finish_path f)
+    ++ text_element (codes "name") (lane_x p) (row_y row + 24) (rank_name p) ++ text_element (codes "name") (lane_x p) (row_y row + 38) (finish_told f)
+    ++ place_element f (lane_x p) (row_y row) place ++ group_ended
 
-unfoldable pub end_by : Program → Option RankWorld → ℕ → ℕ → Finish → List ℕ
-end_by s r p row f = end_told p row f (finish_told s r f)
+unfoldable pub end_by : Program → World → ℕ → ℕ → Finish → List ℕ
+end_by s w p row f = end_told p row f (line_told (end_line s w p f))
 
 unfoldable pub end_elements : Program → World → ℕ → ℕ → List ℕ
-end_elements s w p row = end_by s (slice_get w.ranks p) p row (finish_of (slice_get w.ranks p))
+end_elements s w p row = end_by s w p row (finish_of (is_stuck w) (slice_get w.ranks p))
 
 -- ---- any shape
 
@@ -228,8 +291,9 @@ abbrev pub shape_elements : Program → World → Shape → List ℕ
 shape_elements s w (Lane p row) = lane_elements p row
 shape_elements s w (Waiting p from to) = waiting_element p from to
 shape_elements s w (Posted p from to) = posted_element p from to
-shape_elements s w (shape.Call c row) = call_elements s w.board c row
+shape_elements s w (shape.Call c row place) = call_elements s w.board c row place
 shape_elements s w (Stub c row) = stub_element w.board c row
-shape_elements s w (Arrow c from d to) = arrow_elements w.board c from d to
-shape_elements s w (Bar row) = bar_elements w.board row
+shape_elements s w (Arrow c from d to place) = arrow_elements w.board c from d to place
+shape_elements s w (Bar row place) = bar_elements w.board row place
+shape_elements s w (Candidate c from d to number) = candidate_elements w.board c from d to number
 shape_elements s w (End p row) = end_elements s w p row

@@ -3,15 +3,17 @@
 ghost use Rattle.std.specs.Prelude.{◌≡◌, ◌++◌, ◌≤◌, IfOk, OnOk, IsErrOf, Some, None, string_bytes};
 ghost use Rattle.mpd_model.specs.steps.Outcomes.{outcome};
 ghost use Rattle.mpd_picture.specs.Pictures as spec;
+ghost use Rattle.mpd_picture.specs.Marks.{marks_of as spec_marks_of};
 ghost use Rattle.mpd_picture.specs.Shapes.{shapes_of as spec_shapes_of};
 ghost use Rattle.mpd_picture.specs.Rows.{rows_text};
 
 use crate::elements::{push_attribute, push_opened, push_text};
 use crate::glyph::Glyph;
 use crate::glyphs::glyphs_of;
-use crate::places::{column_x, row_y};
+use crate::marks::{marks_of, rows_of};
+use crate::places::{column_x, row_y, told_y};
 use crate::rows::push_rows;
-use crate::shapes::{rows_of, shapes_of};
+use crate::shapes::{places_of, shapes_of};
 use crate::style::{LEGEND, OPENED, STYLE};
 use crate::svg::push_shapes;
 use mpd_core::Core;
@@ -126,7 +128,7 @@ fn push_title(out: &mut String, title: &str) -> Result<(), AllocError>
 fn push_paper(out: &mut String, width: usize, height: usize) -> Result<(), AllocError>
     ensures { OnOk result (string_bytes out.new ≡ string_bytes out.old ++ spec.paper_element width height) }
 {
-    push_opened(out, "<rect class=\"", "paper")?;
+    push_opened(out, "<rect class=\"mpd-", "paper")?;
     push_size(out, width, height)?;
     out.push_str("/>\n")
 }
@@ -169,6 +171,13 @@ fn push_head(out: &mut String, width: usize, height: usize, title: &str) -> Resu
     push_text(out, "head", 12, 24, title)
 }
 
+/// How high a drawing is of so many rows, and places in the list of what is told.
+fn height_of(rows: usize, places: usize) -> usize
+    ensures { result ≡ spec.height_of rows places }
+{
+    (row_y(rows) + 224).max(told_y(places) + 12)
+}
+
 /// Adds the legend at a height, and the end of a drawing.
 #[tactic(auto, unfolding(crate::specs::Pictures::legend_elements))]
 fn push_legend(out: &mut String, y: usize) -> Result<(), AllocError>
@@ -189,12 +198,14 @@ fn svg_of(
     ensures { IfOk result (λ t. string_bytes t ≡ spec.svg_of core.now.program core.now.world depth glyphs.now) }
 {
     let title = title_of(alloc, core, depth)?;
-    let shapes = shapes_of(alloc, core, glyphs)?;
-    let bottom = row_y(rows_of(glyphs));
+    let marks = marks_of(alloc, glyphs)?;
+    let shapes = shapes_of(alloc, core, &marks)?;
+    let rows = rows_of(&marks);
+    let height = height_of(rows, places_of(glyphs));
     let mut out = String::new(alloc);
-    push_head(&mut out, column_x(core) + 460, bottom + 190, &title)?;
+    push_head(&mut out, column_x(core) + 460, height, &title)?;
     push_shapes(alloc, core, &mut out, &shapes)?;
-    push_legend(&mut out, bottom + 76)?;
+    push_legend(&mut out, row_y(rows) + 90)?;
     Ok(out)
 }
 
@@ -218,9 +229,10 @@ fn push_few(
     out: &mut String,
     glyphs: &[Glyph],
 ) -> Result<(), AllocError>
-    ensures { OnOk result (string_bytes out.new ≡ string_bytes out.old ++ rows_text core.now.program core.now.world (spec_shapes_of core.now.world glyphs.now)) }
+    ensures { OnOk result (string_bytes out.new ≡ string_bytes out.old ++ rows_text core.now.program core.now.world (spec_shapes_of core.now.world (spec_marks_of glyphs.now))) }
 {
-    let shapes = shapes_of(alloc, core, glyphs)?;
+    let marks = marks_of(alloc, glyphs)?;
+    let shapes = shapes_of(alloc, core, &marks)?;
     push_rows(core, out, &shapes)
 }
 

@@ -78,7 +78,7 @@ pub(crate) fn push_line(
 ) -> Result<(), AllocError>
     ensures { OnOk result (string_bytes out.new ≡ string_bytes out.old ++ spec.line_element class.now x1 y1 x2 y2) }
 {
-    push_opened(out, "<line class=\"", class)?;
+    push_opened(out, "<line class=\"mpd-", class)?;
     push_attribute(out, " x1=\"", x1)?;
     push_attribute(out, " y1=\"", y1)?;
     push_attribute(out, " x2=\"", x2)?;
@@ -97,7 +97,7 @@ pub(crate) fn push_path(
 ) -> Result<(), AllocError>
     ensures { OnOk result (string_bytes out.new ≡ string_bytes out.old ++ spec.path_element class.now x y path.now) }
 {
-    push_opened(out, "<path class=\"", class)?;
+    push_opened(out, "<path class=\"mpd-", class)?;
     push_path_at(out, x, y, path)?;
     push_closed(out)
 }
@@ -113,7 +113,7 @@ pub(crate) fn push_text(
 ) -> Result<(), AllocError>
     ensures { OnOk result (string_bytes out.new ≡ string_bytes out.old ++ spec.text_element class.now x y text.now) }
 {
-    push_opened(out, "<text class=\"", class)?;
+    push_opened(out, "<text class=\"mpd-", class)?;
     push_attribute(out, " x=\"", x)?;
     push_attribute(out, " y=\"", y)?;
     push_inside(out, text)

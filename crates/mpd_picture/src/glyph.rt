@@ -15,9 +15,17 @@ pub(crate) enum Event {
     Released,
 }
 
-/// What a step shows, and at which row, from 0.
+/// What a step shows, and at which row of the picture in text, from 0.
 #[derive(Clone, Copy)]
 pub(crate) struct Glyph {
     pub(crate) row: usize,
+    pub(crate) event: Event,
+}
+
+/// What a step shows, at which row of the drawing, and at which place of the list beside it, both from 0.
+#[derive(Clone, Copy)]
+pub(crate) struct Mark {
+    pub(crate) row: usize,
+    pub(crate) place: usize,
     pub(crate) event: Event,
 }

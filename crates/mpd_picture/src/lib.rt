@@ -1,11 +1,14 @@
 //! Pictures of a run: a space-time diagram as SVG, and the same as text (docs/PICTURES.md).
 #![tactic(auto)]
 
+mod candidates;
 pub mod drawing;
 mod elements;
 mod glyph;
 mod glyphs;
 pub mod laws;
+mod marks;
+mod paths;
 mod places;
 mod rows;
 mod shape;

@@ -8,10 +8,10 @@ use mpd_core::Core;
 /// The lane of a rank.
 pub(crate) fn lane_x(rank: usize) -> usize
     ensures value { result ≡ spec.lane_x rank }
-    ensures small { result ≤ 2000 }
+    ensures small { result ≤ 2500 }
     ensures large { 96 ≤ result }
 {
-    96 + 90 * rank.min(16)
+    96 + 130 * rank.min(16)
 }
 
 /// The middle of a row.
@@ -19,14 +19,22 @@ pub(crate) fn row_y(row: usize) -> usize
     ensures value { result ≡ spec.row_y row }
     ensures small { result ≤ 30000000 }
 {
-    80 + 20 * row.min(1_000_000)
+    80 + 28 * row.min(1_000_000)
 }
 
 /// Where the texts of rows begin.
 pub(crate) fn column_x(core: &Core<'_>) -> usize
     ensures value { result ≡ spec.column_x core.now.world.board }
-    ensures small { result ≤ 2000 }
+    ensures small { result ≤ 2500 }
     ensures large { 96 ≤ result }
 {
-    lane_x(core.rank_count())
+    lane_x(core.rank_count()).max(620)
+}
+
+/// Where the text of a place in the list of what is told stands.
+pub(crate) fn told_y(place: usize) -> usize
+    ensures value { result ≡ spec.told_y place }
+    ensures small { result ≤ 30000000 }
+{
+    52 + 16 * place.min(1_000_000)
 }

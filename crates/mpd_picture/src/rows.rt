@@ -84,6 +84,7 @@ fn finish_sign(finish: Finish) -> &'static str
     match finish {
         Finish::Ended => "E ",
         Finish::Running => "V ",
+        Finish::Held => "~ ",
         Finish::Blocked => "! ",
         Finish::Trapped(_) => "X ",
     }
@@ -310,14 +311,9 @@ fn push_shape_row(core: &Core<'_>, out: &mut String, shape: Shape) -> Result<(),
     ensures { OnOk result (string_bytes out.new ≡ string_bytes out.old ++ spec.shape_row core.now.program core.now.world.board shape) }
 {
     match shape {
-        Shape::Call { call, row: _ } => push_call_row(core, out, call),
-        Shape::Arrow {
-            send,
-            from: _,
-            receive,
-            to: _,
-        } => push_arrow_row(core, out, send, receive),
-        Shape::Bar { row: _ } => {
+        Shape::Call { call, .. } => push_call_row(core, out, call),
+        Shape::Arrow { send, receive, .. } => push_arrow_row(core, out, send, receive),
+        Shape::Bar { .. } => {
             push_bar_signs(core, out)?;
             push_told(out, "release")
         }
@@ -325,6 +321,7 @@ fn push_shape_row(core: &Core<'_>, out: &mut String, shape: Shape) -> Result<(),
         | Shape::Waiting { .. }
         | Shape::Posted { .. }
         | Shape::Stub { .. }
+        | Shape::Candidate { .. }
         | Shape::End { .. } => Ok(()),
     }
 }

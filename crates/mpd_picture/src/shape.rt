@@ -22,10 +22,11 @@ pub(crate) enum Shape {
         from: usize,
         to: usize,
     },
-    /// A call at the row in which it is issued.
+    /// A call at the row in which it is issued; what is told of it has a place in the list, as of an arrow and a bar.
     Call {
         call: CallId,
         row: usize,
+        place: usize,
     },
     /// A send or a receive that stays free, at that row.
     Stub {
@@ -38,10 +39,20 @@ pub(crate) enum Shape {
         from: usize,
         receive: CallId,
         to: usize,
+        place: usize,
     },
     /// All ranks leave their barriers.
     Bar {
         row: usize,
+        place: usize,
+    },
+    /// A candidate of the choice at the end, from the row of its send to that of its receive; candidates are counted from 1.
+    Candidate {
+        send: CallId,
+        from: usize,
+        receive: CallId,
+        to: usize,
+        number: usize,
     },
     /// How a rank is at the end.
     End {

@@ -1,4 +1,4 @@
-//! The shapes of a picture, from what the steps show and where they lead.
+//! The shapes of a picture, from the marks of the steps and where they lead.
 
 ghost use Rattle.std.specs.Prelude.{◌≡◌, ◌++◌, ◌∷◌, [], if◌then◌else◌, IfOk, OnOk, slice_get};
 ghost use Rattle.std.specs.List.{flat_map};
@@ -6,7 +6,9 @@ ghost use Rattle.mpd_model.specs.steps.World.{kind_at, rank_numbers};
 ghost use Rattle.mpd_model.specs.steps.Next.{waits as waits_in};
 ghost use Rattle.mpd_picture.specs.Shapes as spec;
 
-use crate::glyph::{Event, Glyph};
+use crate::candidates::push_candidates;
+use crate::glyph::{Event, Glyph, Mark};
+use crate::marks::{is_row, rows_of};
 use crate::shape::Shape;
 use mpd_core::Core;
 use mpd_model::{Activity, CallId, CallKind};
@@ -20,27 +22,17 @@ fn add(shapes: &mut Vec<Shape>, shape: Shape) -> Result<(), AllocError>
     Ok(())
 }
 
-/// Whether it takes a row.
-fn is_row(event: Event) -> bool
-    ensures { result ≡ spec.is_row event }
+/// How many places the list of what is told has.
+pub(crate) fn places_of(glyphs: &[Glyph]) -> usize
+    ensures { result ≡ spec.places_of glyphs.now }
 {
-    match event {
-        Event::WentOn(_) => false,
-        Event::Issued(_) | Event::Paired(_, _) | Event::Released => true,
-    }
-}
-
-/// How many rows there are.
-pub(crate) fn rows_of(glyphs: &[Glyph]) -> usize
-    ensures { result ≡ spec.rows_of glyphs.now }
-{
-    let mut rows = 0;
+    let mut places = 0;
     for glyph in glyphs {
         if is_row(glyph.event) {
-            rows += 1;
+            places += 1;
         }
     }
-    rows
+    places
 }
 
 /// Whether a call is issued there.
@@ -54,12 +46,12 @@ fn is_issue(event: Event, call: CallId) -> bool
 }
 
 /// The row in which a call is issued, 0 where it isn't.
-fn row_of(glyphs: &[Glyph], call: CallId) -> usize
-    ensures { result ≡ spec.row_of glyphs.now call }
+pub(crate) fn row_of(marks: &[Mark], call: CallId) -> usize
+    ensures { result ≡ spec.row_of marks.now call }
 {
-    for glyph in glyphs {
-        if is_issue(glyph.event, call) {
-            return glyph.row;
+    for mark in marks {
+        if is_issue(mark.event, call) {
+            return mark.row;
         }
     }
     0
@@ -101,30 +93,32 @@ fn push_call(
     rows: usize,
     call: CallId,
     row: usize,
+    place: usize,
 ) -> Result<(), AllocError>
-    ensures { OnOk result (shapes.new.items ≡ shapes.old.items ++ spec.call_shapes core.now.world.board rows call row) }
+    ensures { OnOk result (shapes.new.items ≡ shapes.old.items ++ spec.call_shapes core.now.world.board rows call row place) }
 {
     if core.board().is_free(call) {
         push_free(core, shapes, rows, call, row)?;
     }
-    add(shapes, Shape::Call { call, row })
+    add(shapes, Shape::Call { call, row, place })
 }
 
 /// Adds what is shown of a match.
 fn push_pair(
-    glyphs: &[Glyph],
+    marks: &[Mark],
     shapes: &mut Vec<Shape>,
     send: CallId,
     receive: CallId,
     row: usize,
+    place: usize,
 ) -> Result<(), AllocError>
-    ensures { OnOk result (shapes.new.items ≡ shapes.old.items ++ spec.pair_shapes glyphs.now send receive row) }
+    ensures { OnOk result (shapes.new.items ≡ shapes.old.items ++ spec.pair_shapes marks.now send receive row place) }
 {
     add(
         shapes,
         Shape::Posted {
             rank: receive.rank,
-            from: row_of(glyphs, receive),
+            from: row_of(marks, receive),
             to: row,
         },
     )?;
@@ -132,50 +126,51 @@ fn push_pair(
         shapes,
         Shape::Arrow {
             send,
-            from: row_of(glyphs, send),
+            from: row_of(marks, send),
             receive,
             to: row,
+            place,
         },
     )
 }
 
-/// Adds the shapes of what a step shows.
-fn push_glyph(
+/// Adds the shapes of a mark.
+fn push_mark(
     core: &Core<'_>,
-    glyphs: &[Glyph],
+    marks: &[Mark],
     shapes: &mut Vec<Shape>,
     rows: usize,
-    glyph: Glyph,
+    mark: Mark,
 ) -> Result<(), AllocError>
-    ensures { OnOk result (shapes.new.items ≡ shapes.old.items ++ spec.glyph_shapes core.now.world.board glyphs.now rows glyph) }
+    ensures { OnOk result (shapes.new.items ≡ shapes.old.items ++ spec.mark_shapes core.now.world.board marks.now rows mark) }
 {
-    let row = glyph.row;
-    match glyph.event {
-        Event::Issued(call) => push_call(core, shapes, rows, call, row),
-        Event::Paired(send, receive) => push_pair(glyphs, shapes, send, receive, row),
+    let Mark { row, place, event } = mark;
+    match event {
+        Event::Issued(call) => push_call(core, shapes, rows, call, row, place),
+        Event::Paired(send, receive) => push_pair(marks, shapes, send, receive, row, place),
         Event::WentOn(call) => add(
             shapes,
             Shape::Waiting {
                 rank: call.rank,
-                from: row_of(glyphs, call),
+                from: row_of(marks, call),
                 to: row,
             },
         ),
-        Event::Released => add(shapes, Shape::Bar { row }),
+        Event::Released => add(shapes, Shape::Bar { row, place }),
     }
 }
 
-/// Adds the shapes of all that the steps show.
-fn push_glyphs(
+/// Adds the shapes of all marks.
+fn push_marks(
     core: &Core<'_>,
-    glyphs: &[Glyph],
+    marks: &[Mark],
     shapes: &mut Vec<Shape>,
     rows: usize,
 ) -> Result<(), AllocError>
-    ensures { OnOk result (shapes.new.items ≡ shapes.old.items ++ flat_map (spec.glyph_shapes core.now.world.board glyphs.now rows) glyphs.now) }
+    ensures { OnOk result (shapes.new.items ≡ shapes.old.items ++ flat_map (spec.mark_shapes core.now.world.board marks.now rows) marks.now) }
 {
-    for glyph in glyphs {
-        push_glyph(core, glyphs, shapes, rows, *glyph)?;
+    for mark in marks {
+        push_mark(core, marks, shapes, rows, *mark)?;
     }
     Ok(())
 }
@@ -211,19 +206,19 @@ fn waits(core: &Core<'_>, rank: usize) -> bool
 /// Adds how a rank is at the end.
 fn push_end(
     core: &Core<'_>,
-    glyphs: &[Glyph],
+    marks: &[Mark],
     shapes: &mut Vec<Shape>,
     rows: usize,
     rank: usize,
 ) -> Result<(), AllocError>
-    ensures { OnOk result (shapes.new.items ≡ shapes.old.items ++ spec.end_shapes core.now.world glyphs.now rows rank) }
+    ensures { OnOk result (shapes.new.items ≡ shapes.old.items ++ spec.end_shapes core.now.world marks.now rows rank) }
 {
     if waits(core, rank) {
         add(
             shapes,
             Shape::Waiting {
                 rank,
-                from: row_of(glyphs, core.board().last_call(rank)),
+                from: row_of(marks, core.board().last_call(rank)),
                 to: rows,
             },
         )?;
@@ -234,31 +229,32 @@ fn push_end(
 /// Adds how all ranks are at the end.
 fn push_ends(
     core: &Core<'_>,
-    glyphs: &[Glyph],
+    marks: &[Mark],
     shapes: &mut Vec<Shape>,
     rows: usize,
 ) -> Result<(), AllocError>
-    ensures { OnOk result (shapes.new.items ≡ shapes.old.items ++ flat_map (spec.end_shapes core.now.world glyphs.now rows) (rank_numbers core.now.world.board)) }
+    ensures { OnOk result (shapes.new.items ≡ shapes.old.items ++ flat_map (spec.end_shapes core.now.world marks.now rows) (rank_numbers core.now.world.board)) }
 {
     let count = core.rank_count();
     for rank in 0..count {
-        push_end(core, glyphs, shapes, rows, rank)?;
+        push_end(core, marks, shapes, rows, rank)?;
     }
     Ok(())
 }
 
-/// The shapes of a run that shows this, in the state where it leads. An `Err` is want of memory.
+/// The shapes of a run with these marks, in the state where it leads. An `Err` is want of memory.
 pub(crate) fn shapes_of(
     alloc: Global,
     core: &Core<'_>,
-    glyphs: &[Glyph],
+    marks: &[Mark],
 ) -> Result<Vec<Shape>, AllocError>
-    ensures { IfOk result (λ shapes. shapes.items ≡ spec.shapes_of core.now.world glyphs.now) }
+    ensures { IfOk result (λ shapes. shapes.items ≡ spec.shapes_of core.now.world marks.now) }
 {
-    let rows = rows_of(glyphs);
+    let rows = rows_of(marks);
     let mut shapes = Vec::new(alloc);
     push_lanes(core, &mut shapes, rows)?;
-    push_glyphs(core, glyphs, &mut shapes, rows)?;
-    push_ends(core, glyphs, &mut shapes, rows)?;
+    push_marks(core, marks, &mut shapes, rows)?;
+    push_candidates(alloc, core, marks, &mut shapes)?;
+    push_ends(core, marks, &mut shapes, rows)?;
     Ok(shapes)
 }

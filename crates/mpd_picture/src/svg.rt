@@ -1,12 +1,15 @@
 //! The text of each shape of a drawing.
 
-ghost use Rattle.std.specs.Prelude.{◌≡◌, ◌++◌, ◌+◌, ◌≤◌, codes, OnOk, IfOk, IfSome, slice_get, string_bytes};
+ghost use Rattle.std.specs.Prelude.{◌≡◌, ◌++◌, ◌+◌, ◌-◌, ◌≤◌, codes, OnOk, IfOk, IfSome, slice_get, string_bytes};
+ghost use Rattle.std.specs.Fmt.{decimal};
 ghost use Rattle.std.specs.List.{flat_map};
 ghost use Rattle.mpd_model.specs.steps.World.{kind_at};
+ghost use Rattle.mpd_model.specs.steps.Outcomes.{is_stuck};
 ghost use Rattle.mpd_picture.specs.Svg as spec;
 
-use crate::elements::{push_corner, push_group, push_group_end, push_line, push_path, push_text};
-use crate::places::{column_x, lane_x, row_y};
+use crate::elements::{push_group, push_group_end, push_line, push_path, push_text};
+use crate::paths::{arrow_path, candidate_path};
+use crate::places::{column_x, lane_x, row_y, told_y};
 use crate::shape::Shape;
 use mpd_core::Core;
 use mpd_model::{Activity, CallId, CallKind, Trap, recv_word, send_word};
@@ -18,6 +21,9 @@ use std::alloc::{AllocError, Global};
 pub(crate) enum Finish {
     Ended,
     Running,
+    /// It is blocked, and some step is enabled.
+    Held,
+    /// It is blocked, and no step is enabled.
     Blocked,
     Trapped(Trap),
 }
@@ -181,23 +187,24 @@ fn arrow_told(
 
 // ---- shapes
 
-/// What a text beside a lane belongs to: a point of the lane, at most 2,000 to the right and 30,000,000 down, and at which side of it
-/// the text stands.
+/// What a text beside a lane belongs to: a point of the lane, at most 2,500 to the right and 30,000,000 down, and at which side of it
+/// the text stands; and the place in the list of what is told.
 #[derive(Clone, Copy)]
 struct Anchor {
     x: usize,
     y: usize,
+    place: usize,
     is_left: bool,
 }
 
 /// Adds what stands beside a lane.
 #[tactic(auto, unfolding(crate::specs::Svg::side_element))]
 fn push_side(out: &mut String, anchor: Anchor, label: &str) -> Result<(), AllocError>
-    requires x { anchor.x ≤ 2000 }
+    requires x { anchor.x ≤ 2500 }
     requires y { anchor.y ≤ 30000000 }
     ensures { OnOk result (string_bytes out.new ≡ string_bytes out.old ++ spec.side_element anchor.is_left anchor.x anchor.y label.now) }
 {
-    let Anchor { x, y, is_left } = anchor;
+    let Anchor { x, y, is_left, .. } = anchor;
     if is_left {
         push_text(out, "left", x.saturating_sub(12), y + 4, label)
     } else {
@@ -205,7 +212,7 @@ fn push_side(out: &mut String, anchor: Anchor, label: &str) -> Result<(), AllocE
     }
 }
 
-/// Adds what stands beside a lane, and what is told of the row.
+/// Adds what stands beside a lane, and what is told of it in the list.
 #[tactic(auto, unfolding(crate::specs::Svg::row_elements))]
 fn push_row(
     core: &Core<'_>,
@@ -214,15 +221,12 @@ fn push_row(
     label: &str,
     told: &str,
 ) -> Result<(), AllocError>
-    requires x { anchor.x ≤ 2000 }
+    requires x { anchor.x ≤ 2500 }
     requires y { anchor.y ≤ 30000000 }
-    ensures { OnOk result (string_bytes out.new ≡ string_bytes out.old ++ spec.row_elements core.now.world.board anchor.is_left anchor.x anchor.y label.now told.now) }
+    ensures { OnOk result (string_bytes out.new ≡ string_bytes out.old ++ spec.row_elements core.now.world.board anchor.is_left anchor.x anchor.y anchor.place label.now told.now) }
 {
-    let Anchor { x, y, .. } = anchor;
-    let column = column_x(core);
     push_side(out, anchor, label)?;
-    push_line(out, "guide", x + 80, y, column - 6, y)?;
-    push_text(out, "row", column, y + 4, told)
+    push_text(out, "row", column_x(core), told_y(anchor.place), told)
 }
 
 /// Adds a lane.
@@ -271,8 +275,9 @@ fn push_call(
     out: &mut String,
     call: CallId,
     row: usize,
+    place: usize,
 ) -> Result<(), AllocError>
-    ensures { OnOk result (string_bytes out.new ≡ string_bytes out.old ++ spec.call_elements core.now.program core.now.world.board call row) }
+    ensures { OnOk result (string_bytes out.new ≡ string_bytes out.old ++ spec.call_elements core.now.program core.now.world.board call row place) }
 {
     let kind = core.board().kind(call);
     let label = call_label(alloc, core, call)?;
@@ -282,52 +287,13 @@ fn push_call(
     let anchor = Anchor {
         x,
         y,
+        place,
         is_left: goes_right(call, kind),
     };
     push_group(out, &told)?;
     push_path(out, class_of(kind), x, y, path_of(kind))?;
     push_row(core, out, anchor, &label, &told)?;
     push_group_end(out)
-}
-
-/// Adds a bow at the left of a lane.
-#[tactic(auto, unfolding(crate::specs::Svg::bow))]
-fn push_bow(out: &mut String, x: usize, from: usize, to: usize) -> Result<(), AllocError>
-    ensures { OnOk result (string_bytes out.new ≡ string_bytes out.old ++ spec.bow x from to) }
-{
-    let left = x.saturating_sub(40);
-    push_corner(out, "C", left, from)?;
-    push_corner(out, " ", left, to)?;
-    push_corner(out, " ", x, to)
-}
-
-/// Adds a straight line.
-#[tactic(auto, unfolding(crate::specs::Svg::straight))]
-fn push_straight(out: &mut String, x: usize, y: usize) -> Result<(), AllocError>
-    ensures { OnOk result (string_bytes out.new ≡ string_bytes out.old ++ spec.straight x y) }
-{
-    push_corner(out, "L", x, y)
-}
-
-/// The path of an arrow.
-#[tactic(auto, unfolding(crate::specs::Svg::arrow_path))]
-fn arrow_path(
-    alloc: Global,
-    sender: usize,
-    from: usize,
-    receiver: usize,
-    to: usize,
-) -> Result<String, AllocError>
-    ensures { IfOk result (λ t. string_bytes t ≡ spec.arrow_path sender from receiver to) }
-{
-    let mut path = String::new(alloc);
-    let x = lane_x(receiver);
-    if sender == receiver {
-        push_bow(&mut path, x, row_y(from), row_y(to))?;
-    } else {
-        push_straight(&mut path, x, row_y(to))?;
-    }
-    Ok(path)
 }
 
 /// The arrow of a message.
@@ -339,6 +305,7 @@ struct Arrow {
     receive: CallId,
     /// The row that it ends at.
     to: usize,
+    place: usize,
 }
 
 /// Adds the arrow of a message.
@@ -349,13 +316,14 @@ fn push_arrow(
     out: &mut String,
     arrow: Arrow,
 ) -> Result<(), AllocError>
-    ensures { OnOk result (string_bytes out.new ≡ string_bytes out.old ++ spec.arrow_elements core.now.world.board arrow.send arrow.from arrow.receive arrow.to) }
+    ensures { OnOk result (string_bytes out.new ≡ string_bytes out.old ++ spec.arrow_elements core.now.world.board arrow.send arrow.from arrow.receive arrow.to arrow.place) }
 {
     let Arrow {
         send,
         from,
         receive,
         to,
+        place,
     } = arrow;
     let label = message_label(alloc, core.board().kind(send))?;
     let told = arrow_told(alloc, core, send, receive)?;
@@ -363,6 +331,7 @@ fn push_arrow(
     let anchor = Anchor {
         x: lane_x(receive.rank),
         y: row_y(to),
+        place,
         is_left: receive.rank < send.rank,
     };
     push_group(out, &told)?;
@@ -373,15 +342,103 @@ fn push_arrow(
 
 /// Adds the bar of a release.
 #[tactic(auto, unfolding(crate::specs::Svg::bar_elements))]
-fn push_bar(core: &Core<'_>, out: &mut String, row: usize) -> Result<(), AllocError>
-    ensures { OnOk result (string_bytes out.new ≡ string_bytes out.old ++ spec.bar_elements core.now.world.board row) }
+fn push_bar(core: &Core<'_>, out: &mut String, row: usize, place: usize) -> Result<(), AllocError>
+    ensures { OnOk result (string_bytes out.new ≡ string_bytes out.old ++ spec.bar_elements core.now.world.board row place) }
 {
     let y = row_y(row);
     let last = lane_x(core.rank_count().saturating_sub(1));
     push_group(out, "release: all ranks leave the barrier")?;
     push_line(out, "bar", lane_x(0) - 14, y, last + 14, y)?;
-    push_text(out, "row", column_x(core), y + 4, "release")?;
+    push_text(out, "row", column_x(core), told_y(place), "release")?;
     push_group_end(out)
+}
+
+/// A candidate of a choice.
+#[derive(Clone, Copy)]
+struct Candidate {
+    send: CallId,
+    /// The row of the send.
+    from: usize,
+    receive: CallId,
+    /// The row of the receive.
+    to: usize,
+    number: usize,
+}
+
+/// The title of a candidate of which this is told.
+#[tactic(auto, unfolding(crate::specs::Svg::candidate_told))]
+fn candidate_told(alloc: Global, number: usize, told: &str) -> Result<String, AllocError>
+    ensures { IfOk result (λ t. string_bytes t ≡ spec.candidate_told number told.now) }
+{
+    let mut title = String::new(alloc);
+    write!(title, "{number}: ")?;
+    title.push_str(told)?;
+    Ok(title)
+}
+
+/// A number in decimal.
+fn number_text(alloc: Global, number: usize) -> Result<String, AllocError>
+    ensures { IfOk result (λ t. string_bytes t ≡ decimal number) }
+{
+    let mut text = String::new(alloc);
+    write!(text, "{number}")?;
+    Ok(text)
+}
+
+/// Adds a candidate with a title, and its number.
+fn push_candidate_group(
+    out: &mut String,
+    candidate: Candidate,
+    path: &str,
+    title: &str,
+    number: &str,
+) -> Result<(), AllocError>
+    ensures { OnOk result (string_bytes out.new ≡ string_bytes out.old ++ (spec.group_begun title.now ++ spec.path_element (codes "candidate") (spec.lane_x candidate.send.rank) (spec.row_y candidate.from) path.now ++ spec.text_element (codes "number") (spec.lane_x candidate.send.rank) (spec.row_y candidate.from - 9) number.now ++ spec.group_ended)) }
+{
+    let x = lane_x(candidate.send.rank);
+    let y = row_y(candidate.from);
+    push_group(out, title)?;
+    push_path(out, "candidate", x, y, path)?;
+    push_text(out, "number", x, y.saturating_sub(9), number)?;
+    push_group_end(out)
+}
+
+/// Adds a candidate, of which this is told.
+#[tactic(auto, unfolding(crate::specs::Svg::candidate_by))]
+fn push_candidate_by(
+    alloc: Global,
+    out: &mut String,
+    candidate: Candidate,
+    path: &str,
+    told: &str,
+) -> Result<(), AllocError>
+    ensures { OnOk result (string_bytes out.new ≡ string_bytes out.old ++ spec.candidate_by (spec.lane_x candidate.send.rank) (spec.row_y candidate.from) candidate.number path.now told.now) }
+{
+    let title = candidate_told(alloc, candidate.number, told)?;
+    let number = number_text(alloc, candidate.number)?;
+    push_candidate_group(out, candidate, path, &title, &number)
+}
+
+/// Adds a candidate.
+#[tactic(auto, unfolding(crate::specs::Svg::candidate_elements))]
+fn push_candidate(
+    alloc: Global,
+    core: &Core<'_>,
+    out: &mut String,
+    candidate: Candidate,
+) -> Result<(), AllocError>
+    ensures { OnOk result (string_bytes out.new ≡ string_bytes out.old ++ spec.candidate_elements core.now.world.board candidate.send candidate.from candidate.receive candidate.to candidate.number) }
+{
+    let Candidate {
+        send,
+        from,
+        receive,
+        to,
+        ..
+    } = candidate;
+    let told = arrow_told(alloc, core, send, receive)?;
+    let path = candidate_path(alloc, send.rank, from, receive.rank, to)?;
+    push_candidate_by(alloc, out, candidate, &path, &told)
 }
 
 // ---- how a rank is at the end
@@ -389,20 +446,31 @@ fn push_bar(core: &Core<'_>, out: &mut String, row: usize) -> Result<(), AllocEr
 /// How a rank is.
 #[tactic(auto, using(crate::proofs::SvgLemmas::finishing))]
 pub(crate) fn finish_of(core: &Core<'_>, rank: usize) -> Finish
-    ensures { result ≡ spec.finish_of (slice_get core.now.world.ranks rank) }
+    ensures { result ≡ spec.finish_of (is_stuck core.now.world) (slice_get core.now.world.ranks rank) }
 {
     match core.activity(rank) {
         None => Finish::Ended,
         Some(Activity::Running) => running_finish(core, rank),
-        Some(Activity::Blocked) => Finish::Blocked,
+        Some(Activity::Blocked) => blocked_finish(core),
         Some(Activity::Trapped(trap)) => Finish::Trapped(trap),
+    }
+}
+
+/// How a rank is that is blocked.
+fn blocked_finish(core: &Core<'_>) -> Finish
+    ensures { result ≡ spec.blocked_by (is_stuck core.now.world) }
+{
+    if core.is_stuck() {
+        Finish::Blocked
+    } else {
+        Finish::Held
     }
 }
 
 /// How a rank is that neither waits nor is trapped.
 #[tactic(auto, using(crate::proofs::SvgLemmas::finishing))]
 fn running_finish(core: &Core<'_>, rank: usize) -> Finish
-    ensures { IfSome (slice_get core.now.world.ranks rank) (λ r. result ≡ spec.finish_by r Activity.Running) }
+    ensures { IfSome (slice_get core.now.world.ranks rank) (λ r. result ≡ spec.running_by r) }
 {
     if rank >= core.rank_count() {
         return Finish::Ended;
@@ -421,6 +489,7 @@ fn finish_class(finish: Finish) -> &'static str
     match finish {
         Finish::Ended => "ended",
         Finish::Running => "running",
+        Finish::Held => "held",
         Finish::Blocked => "blocked",
         Finish::Trapped(_) => "trapped",
     }
@@ -433,43 +502,42 @@ fn finish_path(finish: Finish) -> &'static str
     match finish {
         Finish::Ended => "m-9 0h18",
         Finish::Running => "m-6 -5h12l-6 10z",
+        Finish::Held => "m-6 -7h12l-12 14h12z",
         Finish::Blocked => "m-3 -7h6l5 5v5l-5 5h-6l-5 -5v-5z",
         Finish::Trapped(_) => "m-6 -6l12 12m0 -12l-12 12",
     }
 }
 
-/// Adds its words.
-#[tactic(auto, unfolding(crate::specs::Svg::finish_told))]
-fn push_finish_words(
-    core: &Core<'_>,
-    out: &mut String,
-    rank: usize,
-    finish: Finish,
-) -> Result<(), AllocError>
-    ensures { OnOk result (string_bytes out.new ≡ string_bytes out.old ++ spec.finish_told core.now.program (slice_get core.now.world.ranks rank) finish) }
+/// Its words.
+fn finish_told(finish: Finish) -> &'static str
+    ensures { result.now ≡ spec.finish_told finish }
 {
     match finish {
-        Finish::Ended => out.push_str("ended"),
-        Finish::Running => {
-            let line = rank_line(core, rank);
-            write!(out, "at line {line}")
-        }
-        Finish::Blocked => out.push_str("blocked"),
-        Finish::Trapped(trap) => out.push_str(trap.name()),
+        Finish::Ended => "ended",
+        Finish::Running => "can go on",
+        Finish::Held => "waits",
+        Finish::Blocked => "blocked",
+        Finish::Trapped(trap) => trap.name(),
     }
 }
 
-/// Its words.
-fn finish_told(
-    alloc: Global,
-    core: &Core<'_>,
-    rank: usize,
-    finish: Finish,
-) -> Result<String, AllocError>
-    ensures { IfOk result (λ t. string_bytes t ≡ spec.finish_told core.now.program (slice_get core.now.world.ranks rank) finish) }
+/// The line of the statement where a rank stands: that of its last call where it is blocked, else of the one that it has not got past.
+fn end_line(core: &Core<'_>, rank: usize, finish: Finish) -> usize
+    ensures { result ≡ spec.end_line core.now.program core.now.world rank finish }
+{
+    match finish {
+        Finish::Held | Finish::Blocked => issue_line(core, core.board().last_call(rank)),
+        Finish::Ended | Finish::Running | Finish::Trapped(_) => rank_line(core, rank),
+    }
+}
+
+/// A line of the script.
+#[tactic(auto, unfolding(crate::specs::Svg::line_told))]
+fn line_told(alloc: Global, line: usize) -> Result<String, AllocError>
+    ensures { IfOk result (λ t. string_bytes t ≡ spec.line_told line) }
 {
     let mut told = String::new(alloc);
-    push_finish_words(core, &mut told, rank, finish)?;
+    write!(told, "line {line}")?;
     Ok(told)
 }
 
@@ -493,15 +561,34 @@ struct RankEnd {
     finish: Finish,
 }
 
-/// Adds how a rank of that name is at the end, with its words and a title.
+/// Adds the place where a rank stands that hasn't ended, below a point that is at most 30,000,000 down.
+fn push_place(
+    out: &mut String,
+    finish: Finish,
+    x: usize,
+    y: usize,
+    place: &str,
+) -> Result<(), AllocError>
+    requires { y ≤ 30000000 }
+    ensures { OnOk result (string_bytes out.new ≡ string_bytes out.old ++ spec.place_element finish x y place.now) }
+{
+    match finish {
+        Finish::Ended => Ok(()),
+        Finish::Running | Finish::Held | Finish::Blocked | Finish::Trapped(_) => {
+            push_text(out, "name", x, y + 52, place)
+        }
+    }
+}
+
+/// Adds how a rank of that name is at the end, with a title and the place where it stands.
 fn push_finish_group(
     out: &mut String,
     end: RankEnd,
     name: &str,
-    told: &str,
     title: &str,
+    place: &str,
 ) -> Result<(), AllocError>
-    ensures { OnOk result (string_bytes out.new ≡ string_bytes out.old ++ (spec.group_begun title.now ++ spec.path_element (spec.finish_class end.finish) (spec.lane_x end.rank) (spec.row_y end.row) (spec.finish_path end.finish) ++ spec.text_element (codes "name") (spec.lane_x end.rank) (spec.row_y end.row + 24) name.now ++ spec.text_element (codes "name") (spec.lane_x end.rank) (spec.row_y end.row + 38) told.now ++ spec.group_ended)) }
+    ensures { OnOk result (string_bytes out.new ≡ string_bytes out.old ++ (spec.group_begun title.now ++ spec.path_element (spec.finish_class end.finish) (spec.lane_x end.rank) (spec.row_y end.row) (spec.finish_path end.finish) ++ spec.text_element (codes "name") (spec.lane_x end.rank) (spec.row_y end.row + 24) name.now ++ spec.text_element (codes "name") (spec.lane_x end.rank) (spec.row_y end.row + 38) (spec.finish_told end.finish) ++ spec.place_element end.finish (spec.lane_x end.rank) (spec.row_y end.row) place.now ++ spec.group_ended)) }
 {
     let RankEnd { rank, row, finish } = end;
     let x = lane_x(rank);
@@ -509,18 +596,19 @@ fn push_finish_group(
     push_group(out, title)?;
     push_path(out, finish_class(finish), x, y, finish_path(finish))?;
     push_text(out, "name", x, y + 24, name)?;
-    push_text(out, "name", x, y + 38, told)?;
+    push_text(out, "name", x, y + 38, finish_told(finish))?;
+    push_place(out, finish, x, y, place)?;
     push_group_end(out)
 }
 
-/// Adds how a rank is at the end, with its words.
+/// Adds how a rank is at the end, with the place where it stands.
 #[tactic(auto, unfolding(crate::specs::Svg::end_told))]
-fn push_finish(alloc: Global, out: &mut String, end: RankEnd, told: &str) -> Result<(), AllocError>
-    ensures { OnOk result (string_bytes out.new ≡ string_bytes out.old ++ spec.end_told end.rank end.row end.finish told.now) }
+fn push_finish(alloc: Global, out: &mut String, end: RankEnd, place: &str) -> Result<(), AllocError>
+    ensures { OnOk result (string_bytes out.new ≡ string_bytes out.old ++ spec.end_told end.rank end.row end.finish place.now) }
 {
     let name = rank_name(alloc, end.rank)?;
-    let title = end_title(alloc, &name, told)?;
-    push_finish_group(out, end, &name, told, &title)
+    let title = end_title(alloc, &name, finish_told(end.finish))?;
+    push_finish_group(out, end, &name, &title, place)
 }
 
 /// Adds how a rank is at the end.
@@ -535,8 +623,8 @@ fn push_end(
     ensures { OnOk result (string_bytes out.new ≡ string_bytes out.old ++ spec.end_elements core.now.program core.now.world rank row) }
 {
     let finish = finish_of(core, rank);
-    let told = finish_told(alloc, core, rank, finish)?;
-    push_finish(alloc, out, RankEnd { rank, row, finish }, &told)
+    let place = line_told(alloc, end_line(core, rank, finish))?;
+    push_finish(alloc, out, RankEnd { rank, row, finish }, &place)
 }
 
 // ---- any shape
@@ -554,23 +642,41 @@ fn push_shape(
         Shape::Lane { rank, row } => push_lane(alloc, out, rank, row),
         Shape::Waiting { rank, from, to } => push_waiting(out, rank, from, to),
         Shape::Posted { rank, from, to } => push_posted(out, rank, from, to),
-        Shape::Call { call, row } => push_call(alloc, core, out, call, row),
+        Shape::Call { call, row, place } => push_call(alloc, core, out, call, row, place),
         Shape::Stub { call, row } => push_stub(core, out, call, row),
         Shape::Arrow {
             send,
             from,
             receive,
             to,
+            place,
         } => {
             let arrow = Arrow {
                 send,
                 from,
                 receive,
                 to,
+                place,
             };
             push_arrow(alloc, core, out, arrow)
         }
-        Shape::Bar { row } => push_bar(core, out, row),
+        Shape::Bar { row, place } => push_bar(core, out, row, place),
+        Shape::Candidate {
+            send,
+            from,
+            receive,
+            to,
+            number,
+        } => {
+            let candidate = Candidate {
+                send,
+                from,
+                receive,
+                to,
+                number,
+            };
+            push_candidate(alloc, core, out, candidate)
+        }
         Shape::End { rank, row } => push_end(alloc, core, out, rank, row),
     }
 }

@@ -3,7 +3,7 @@ use Rattle.std.specs.Fmt.{decimal}
 use Rattle.mpd_core.proofs.RangeLemmas.{on_ok}
 use Rattle.mpd_picture.specs.Svg.{bow}
 use Rattle.mpd_names.proofs.JoinLemmas.{grown_four}
-use Rattle.mpd_picture.proofs.svg.push_bow.Goals as goal
+use Rattle.mpd_picture.proofs.paths.push_bow.Goals as goal
 
 pub returns : goal.returns
 unfolding bow

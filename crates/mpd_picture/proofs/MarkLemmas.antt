@@ -1,0 +1,52 @@
+-- Rows by logical time, mark by mark.
+use Rattle.std.proofs.Common.{◌≡◌, ℕ, zero, suc, ◌+◌, ◌<◌, max, Bool, if◌then◌else◌, List, [], ◌∷◌, ◌++◌, length, drop, get_or, refl, sym, ap, ◌∙◌, append_assoc}
+use Rattle.std.proofs.Math.Nat.{max-zero, zero-max, suc-max-suc}
+use Rattle.std.proofs.lemmas.List.{drop_more}
+use Rattle.mpd_model.specs.declared.step.Step.{Step}
+use Rattle.mpd_picture.specs.declared.glyph.Glyph.{Glyph}
+use Rattle.mpd_picture.specs.declared.glyph.Mark.{Mark}
+use Rattle.mpd_picture.specs.declared.shape.Shape.{Shape}
+use Rattle.mpd_picture.specs.Shapes.{candidate_shapes, candidates_from}
+use Rattle.mpd_picture.specs.Marks.{is_row, stands_in, below, rows_of, next_row, mark_after, marks_from}
+
+max_joined : (a b c : ℕ) → max (max a b) c ≡ max a (max b c)
+max_joined zero b c = ap (λ k. max k c) (zero-max b) ∙ sym (zero-max (max b c))
+max_joined (suc a) zero c = ap (λ k. max k c) (max-zero (suc a)) ∙ ap (max (suc a)) (sym (zero-max c))
+max_joined (suc a) (suc b) zero = max-zero (max (suc a) (suc b)) ∙ ap (max (suc a)) (sym (max-zero (suc b)))
+max_joined (suc a) (suc b) (suc c) =
+    ap (λ k. max k (suc c)) (suc-max-suc a b) ∙ suc-max-suc (max a b) c ∙ ap suc (max_joined a b c) ∙ sym (suc-max-suc a (max b c))
+    ∙ ap (max (suc a)) (sym (suc-max-suc b c))
+
+-- the greatest of what was before, and one more
+max_more : (before one now rest whole : ℕ) → now ≡ max before one → max before (max one rest) ≡ whole → max now rest ≡ whole
+max_more before one now rest whole e h = ap (λ k. max k rest) e ∙ max_joined before one rest ∙ h
+
+-- one mark more of the rows
+pub rows_more : (marks : List Mark) (i : ℕ) (d : Mark) (before one now whole : ℕ) → i < length marks
+    → one ≡ (if is_row (get_or marks i d).event then below (get_or marks i d) else 0) → now ≡ max before one
+    → max before (rows_of (drop i marks)) ≡ whole → max now (rows_of (drop (i + 1) marks)) ≡ whole
+rows_more marks i d before one now whole within is e h =
+    max_more before one now (rows_of (drop (i + 1) marks)) whole e
+    (ap (λ k. max before (max k (rows_of (drop (i + 1) marks)))) is ∙ ap (λ xs. max before (rows_of xs)) (sym (drop_more marks i d within)) ∙ h)
+
+-- one mark more of the next row of a rank
+pub next_more : (marks : List Mark) (i p : ℕ) (d : Mark) (before one now whole : ℕ) → i < length marks
+    → one ≡ (if stands_in p (get_or marks i d).event then below (get_or marks i d) else 0) → now ≡ max before one
+    → max before (next_row (drop i marks) p) ≡ whole → max now (next_row (drop (i + 1) marks) p) ≡ whole
+next_more marks i p d before one now whole within is e h =
+    max_more before one now (next_row (drop (i + 1) marks) p) whole e
+    (ap (λ k. max before (max k (next_row (drop (i + 1) marks) p))) is ∙ ap (λ xs. max before (next_row xs p)) (sym (drop_more marks i d within)) ∙ h)
+
+-- the mark of one glyph more
+pub marks_more : (glyphs : List Glyph) (i : ℕ) (d : Glyph) (so_far now total : List Mark) → i < length glyphs
+    → marks_from so_far (drop i glyphs) ≡ total → now ≡ so_far ++ mark_after so_far (get_or glyphs i d) ∷ [] → marks_from now (drop (i + 1) glyphs) ≡ total
+marks_more glyphs i d so_far now total within h e = ap (λ xs. marks_from xs (drop (i + 1) glyphs)) e ∙ ap (marks_from so_far) (sym (drop_more glyphs i d within)) ∙ h
+
+-- one candidate more
+pub candidates_more : (marks : List Mark) (steps : List Step) (i : ℕ) (d : Step) (number : ℕ) (so_far now total : List Shape) → i < length steps
+    → so_far ++ candidates_from marks number (drop i steps) ≡ total → now ≡ so_far ++ candidate_shapes marks number (get_or steps i d)
+    → now ++ candidates_from marks (number + 1) (drop (i + 1) steps) ≡ total
+candidates_more marks steps i d number so_far now total within h e =
+    let rest : List Shape = candidates_from marks (number + 1) (drop (i + 1) steps) in
+    ap (λ xs. xs ++ rest) e ∙ append_assoc so_far (candidate_shapes marks number (get_or steps i d)) rest
+    ∙ ap (λ xs. so_far ++ candidates_from marks number xs) (sym (drop_more steps i d within)) ∙ h

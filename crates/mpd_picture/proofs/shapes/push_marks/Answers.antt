@@ -1,0 +1,10 @@
+use Rattle.std.proofs.Common.{◌+◌, drop}
+use Rattle.std.proofs.lemmas.List.{drop_more}
+use Rattle.mpd_picture.specs.Shapes.{mark_shapes}
+use Rattle.mpd_names.proofs.JoinLemmas.{joined_more}
+use Rattle.mpd_picture.proofs.shapes.push_marks.Goals as goal
+
+pub loop-mark-preserved : goal.loop-mark-preserved
+loop-mark-preserved c =
+    let marks = c.args.marks.now in
+    joined_more (mark_shapes c.args.core.now.world.board marks c.args.rows) (drop c.loop-mark.mark-index marks) (drop (c.loop-mark.mark-index + 1) marks) _ c.loop-mark.shapes.items _ _ (drop_more marks c.loop-mark.mark-index _ c.loop-mark-test.true) c.loop-mark.invariant c.in_ok-push_mark.ensures
