@@ -255,6 +255,19 @@ def in_runs(found):
     return ends
 
 
+def told_alike(found):
+    """What takes ends for one that are told alike, whichever statements issued their calls or trap."""
+    told = [str(leaf.outcome) for leaf in found.leaves]
+    return [End(text, told.count(text), told.index(text)) for text in dict.fromkeys(told)]
+
+
+def as_told_alike(name):
+    """What says of each end what is so of those that are told alike."""
+    def change(ends, found):
+        return [end._replace(**{name: getattr(alike, name)}) for end in ends for alike in told_alike(found) if alike.outcome == str(end.outcome)]
+    return change
+
+
 def by_word(found):
     """What tells ends apart by their words alone."""
     words = [leaf.outcome.split()[0] for leaf in found.leaves]
@@ -324,6 +337,9 @@ def group_faults():
         ('ends by their texts', lambda ends, found: sorted(ends, key=lambda end: end.outcome)),
         ('ends from the last to the first', lambda ends, found: ends[::-1]),
         ('leaves one behind the other alone', lambda ends, found: in_runs(found)), ('ends by their words', lambda ends, found: by_word(found)),
+        ('ends that are told alike are one', lambda ends, found: told_alike(found)),
+        ('leaves that are told alike are counted', as_told_alike('leaves')),
+        ('the first leaf that is told alike', as_told_alike('first')),
         ('ends that are cut are left out', lambda ends, found: [end for end in ends if end.outcome != CUT] or ends),
         ('bad ends alone', lambda ends, found: [end for end in ends if end.outcome.split()[0] in ('deadlock', 'trap')] or ends),
         ('one leaf of each end', lambda ends, found: [end._replace(leaves=1) for end in ends]),

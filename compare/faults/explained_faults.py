@@ -565,6 +565,12 @@ def as_first(script, mode, found):
 
 def as_last(found, witnesses):
     """What explains each end as the last leaf that ends so."""
+    last = {leaf.outcome: leaf.explained for leaf in found.leaves}
+    return SOUND['group_text'](found._replace(leaves=tuple(leaf._replace(explained=last[leaf.outcome]) for leaf in found.leaves)), witnesses)
+
+
+def as_last_told_alike(found, witnesses):
+    """What explains each end as the last leaf that is told alike, whichever statements issued its calls or trap."""
     last = {str(leaf.outcome): leaf.explained for leaf in found.leaves}
     return SOUND['group_text'](found._replace(leaves=tuple(leaf._replace(explained=last[str(leaf.outcome)]) for leaf in found.leaves)), witnesses)
 
@@ -620,7 +626,7 @@ def place_faults():
                     f'  {line}' if line.startswith('  ') else line for line in lines]))))
             + named('explained', explorer)(('as the first that ends so', as_first), ('the first alone', first_alone))
             + named('group_text', explorer)(
-                ('as the last that ends so', as_last), ('not explained', unexplained_groups), ('all as the first end', as_another(lambda number, count: 0)),
+                ('as the last that ends so', as_last), ('as the last that is told alike', as_last_told_alike), ('not explained', unexplained_groups), ('all as the first end', as_another(lambda number, count: 0)),
                 ('as the next end', as_another(lambda number, count: (number + 1) % count)))
             + named('checked', explorer)(
                 ('explained though it is not asked for', checked_otherwise(lambda asked: {'explain': True})),

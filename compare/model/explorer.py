@@ -150,7 +150,8 @@ def report_text(found, witnesses):
 
 
 class End(NamedTuple):
-    """One of the different outcomes of a report: how many leaves end so, and the number of the first of these."""
+    """One of the different outcomes of a report, which are others where other statements issued their calls or trap: how many leaves end so, and
+    the number of the first of these."""
     outcome: str
     leaves: int
     first: int
@@ -158,7 +159,7 @@ class End(NamedTuple):
 
 def ends_of(found):
     """The different outcomes of a report, in the order in which it has them first."""
-    outcomes = [str(leaf.outcome) for leaf in found.leaves]
+    outcomes = [leaf.outcome for leaf in found.leaves]
     return [End(outcome, outcomes.count(outcome), outcomes.index(outcome)) for outcome in dict.fromkeys(outcomes)]
 
 

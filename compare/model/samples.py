@@ -169,8 +169,9 @@ def until_wrong(asked, base, said):
 
 
 def grouped(told, asked):
-    """The text of a report whose leaves are grouped by how they end."""
-    leaves = tuple(Leaf(leaf.choices, leaf.steps or (), leaf.outcome) for leaf in told.leaves)
+    """The text of a report whose leaves are grouped by how they end, which their runs tell: what is read of a report has no statements."""
+    begun = asked.begun()
+    leaves = tuple(Leaf(leaf.choices, leaf.steps or (), run_by(begun, leaf.choices, ends=True).outcome) for leaf in told.leaves)
     return explorer.group_text(Report(leaves, told.more), asked.witnesses).encode()
 
 

@@ -45,6 +45,23 @@ LATE = ('mpd 1; ranks 4; var x;\nif rank == 0 { recv x from any tag any; recv x 
 TWO_REQUESTS = ('mpd 2; ranks 1; var i; req r[2];\n'
                 'isend r[0] 1 to 0 tag 0; isend r[1] 2 to 0 tag 0; waitany r to i; waitany r to i;')
 BY_REQUESTS = 'leaf 0 [0 0] leftovers 0.0 0.1; leaf 1 [1 0] leftovers 0.0 0.1; leaves 2 more no'
+# Whose message comes first decides at which of two lines a rank fails: where it is that of rank 2 at line 3, and else at line 4. It traps, or
+# waits for a message that nobody sends, in its fourth call, or its fourth call is a send that nobody takes. As of THREE_SENDERS there are six
+# runs, of which the first two have the message of rank 1 first, the next two that of rank 2, and the last two that of rank 3.
+AT_TWO_LINES = ('mpd 1; ranks 4; var x; var y; req r;\n'
+                'if rank == 0 { recv x from any tag 0; recv y from any tag 0; recv y from any tag 0; if x == 2 {\n'
+                'FIRST } else {\nSECOND } } else { send rank to 0 tag 0; }')
+TRAPS_AT_TWO, HANGS_AT_TWO, LEFT_AT_TWO = (AT_TWO_LINES.replace('FIRST', first).replace('SECOND', second) for first, second in (
+    ('assert 0;', 'assert 0;'), ('recv x from 1 tag 9;', 'recv x from 2 tag 9;'), ('isend r x to 1 tag 9;', 'isend r x to 1 tag 9;')))
+# Two ends that are told alike, of which each has its own number, count and first leaf.
+BY_LINE = 'end 0 leaves 4 first 0 {0}; end 1 leaves 2 first 2 {0}; leaves 6 more no'
+
+
+def taken_in_order(*ranks):
+    """The steps of the run that takes these ranks in this order, and waits."""
+    at_start = ', '.join(f'local {rank}, local {rank}' for rank in range(4))
+    *before, last = [f'match {rank}.0 0.{number}, wake 0, local 0' for number, rank in enumerate(ranks)]
+    return ', '.join([at_start, *(f'{steps}, wake {rank}' for steps, rank in zip(before, ranks)), f'{last}, local 0, wake {ranks[-1]}'])
 
 
 def cut(*choices):
@@ -211,7 +228,16 @@ GROUPED = (
              f'end 0 leaves 1 first 0 deadlock 2.0; witness 0: {SIX}, match 1.0 0.0, wake 0, local 0, wake 1; '
              f'end 1 leaves 1 first 1 trap 0 assert; witness 1: {SIX}, match 2.0 0.0, wake 0, local 0, wake 2; leaves 2 more no', 1),
     CheckRow(TWO_RACES, Asked(group=True, modes=0), 'rendezvous leaves 8 deadlocks 8 traps 0 leftovers 0 cut 0 more no; '
-             'buffered leaves 8 deadlocks 0 traps 0 leftovers 8 cut 0 more no; least buffered', 1))
+             'buffered leaves 8 deadlocks 0 traps 0 leftovers 8 cut 0 more no; least buffered', 1),
+    # the same calls, or the same trap, at two lines are two ends; in a part of the report they are told apart as well, and with their witnesses
+    *(CheckRow(script, Asked(group=True, ends=ends), BY_LINE.format(told), status) for ends in (False, True) for script, told, status in (
+        (TRAPS_AT_TWO, 'trap 0 assert', 1), (HANGS_AT_TWO, 'deadlock 0.3', 1), (LEFT_AT_TWO, 'leftovers 0.3', 0))),
+    *(CheckRow(TRAPS_AT_TWO, Asked(group=True, split=0, runs=runs), f'{ends}; leaves {runs} more yes', 1) for runs, ends in (
+        (2, 'end 0 leaves 2 first 0 trap 0 assert'), (3, 'end 0 leaves 2 first 0 trap 0 assert; end 1 leaves 1 first 2 trap 0 assert'),
+        (5, 'end 0 leaves 3 first 0 trap 0 assert; end 1 leaves 2 first 2 trap 0 assert'))),
+    CheckRow(HANGS_AT_TWO, Asked(group=True, witnesses=True),
+             f'end 0 leaves 4 first 0 deadlock 0.3; witness 0: {taken_in_order(1, 2, 3)}; '
+             f'end 1 leaves 2 first 2 deadlock 0.3; witness 2: {taken_in_order(2, 1, 3)}; leaves 6 more no', 1))
 
 CHECKS = ENDED + OF_EVERY_SCRIPT + GROUPED
 
@@ -228,7 +254,7 @@ class SampleRow(NamedTuple):
     until: bool = False
 
     def case(self):
-        """A check of so many runs that by nearly all seeds each is drawn: one in four or more comes to the rarest."""
+        """A check of so many runs that by nearly all seeds each is drawn: one in six or more comes to the rarest."""
         return Sampling('row', self.script.encode(), 60, 7, self.mode, witnesses=self.witnesses, complete=self.complete, group=self.group, until=self.until)
 
     def wanted(self):
@@ -240,6 +266,7 @@ ALL_BY_ORDER = 'leaf 0 [0 0] done; leaf 1 [1 0] done; leaf 2 [1 1] trap 0 assert
 SAMPLES = (
     *(SampleRow(ORDER_DECIDES, mode, ALL_BY_ORDER, 1, complete) for mode in (None, BUFFERED) for complete in (False, True)),
     SampleRow(ORDER_DECIDES, None, 'end 0 leaves 2 first 0 done; end 1 leaves 1 first 2 trap 0 assert; leaves 3 more no', 1, group=True),
+    SampleRow(TRAPS_AT_TWO, None, BY_LINE.format('trap 0 assert'), 1, group=True), SampleRow(HANGS_AT_TWO, BUFFERED, BY_LINE.format('deadlock 0.3'), 1, group=True),
     *(SampleRow(FREED_SLOT, 'slots:1', FREED, 1, complete) for complete in (False, True)),
     SampleRow(FREED_SLOT, 'slots:1', FREED.replace('; leaf 1', f'; witness 0: {FREED_STUCK}; leaf 1'), 1, witnesses=True),
     # Whether the other run was drawn before or not, the report ends with the deadlock, which comes first by its choices.

@@ -10,6 +10,7 @@ from model.debugger import BUFFERED, RENDEZVOUS, Result
 from model.explorer import Asked
 from places import EXAMPLES
 from rows.worked_console_scripts import ANY_OF_TWO, WAITS
+from rows.worked_ends import TRAPS_AT_TWO
 
 # Both ranks wait for any of two requests, and for one rank alone.
 ANY_OF_ONE_RANK = '''mpd 2; ranks 2;
@@ -528,6 +529,9 @@ ROWS = (
     Explained('trap', TRAPPED), Explained('trap', TRAPPED.replace('  rank', f'{TRAPPED_STEPS}  rank'), Asked(witnesses=True)),
     # what a statement that traps reads
     *(Explained(HOLDING.replace('STATEMENT', statement), trapped(trap, told)) for statement, trap, told in READ),
+    # two ends that are told alike, each by its own line
+    Explained(TRAPS_AT_TWO, 'end 0 leaves 4 first 0 trap 0 assert\n  rank 0, line 4: trap assert\n'
+                            'end 1 leaves 2 first 2 trap 0 assert\n  rank 0, line 3: trap assert\nleaves 6 more no\n', GROUPED),
     # groups of several leaves
     *(Explained(ANSWERED_LAST, three_ends(witnessed), Asked(group=True, witnesses=witnessed, ends=ends))
       for witnessed in (False, True) for ends in (False, True)),

@@ -5,9 +5,9 @@ use Rattle.std.proofs.lemmas.Bool.{and_parts}
 use Rattle.mpd_explore.specs.declared.report.Leaf.{Leaf}
 use Rattle.mpd_outcomes.specs.declared.report.Goal.{Goal}
 use Rattle.mpd_outcomes.specs.Goals.{meets}
-use Rattle.mpd_outcomes.specs.Outcomes.{firsts, same_end}
+use Rattle.mpd_explore.specs.Ends.{firsts, same_end}
 use Rattle.mpd_outcomes.specs.Front.{put}
-use Rattle.mpd_outcomes.proofs.FirstLemmas.{ending_same}
+use Rattle.mpd_explore.proofs.FirstLemmas.{ending_same}
 
 -- leaves that end in the same way meet the same goals
 same_goal : (g : Goal) (l m : Leaf) → same_end l m ≡ true → meets g l.ending ≡ meets g m.ending

@@ -12,9 +12,9 @@ use Rattle.mpd_explore.specs.declared.report.Leaf.{Leaf}
 use Rattle.mpd_explore.specs.Report.{shown}
 use Rattle.mpd_explore.proofs.ListedLemmas.{not_less}
 use Rattle.mpd_outcomes.specs.declared.report.Outcomes.{Outcomes}
-use Rattle.mpd_outcomes.specs.Outcomes.{ending_eq, firsts, leaves_from, TellsRuns}
-use Rattle.mpd_outcomes.specs.Sums.{has_end}
-use Rattle.mpd_outcomes.proofs.FirstLemmas.{ending_same, ending_each, firsts_ends}
+use Rattle.mpd_explore.specs.Ends.{ending_eq, firsts, has_end}
+use Rattle.mpd_outcomes.specs.Outcomes.{leaves_from, TellsRuns}
+use Rattle.mpd_explore.proofs.FirstLemmas.{ending_same, ending_each, firsts_ends}
 use Rattle.mpd_check.specs.Tally.{tally_of, TellsAll}
 use Rattle.mpd_check.proofs.WholeLemmas.{whole_tells}
 use Rattle.mpd_meaning.proofs.listed.Members.{In, contains_in, in_contains}

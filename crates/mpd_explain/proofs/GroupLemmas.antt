@@ -1,71 +1,96 @@
--- Of some ends the first of each kind, and what is told of it.
-use Rattle.std.proofs.Common.{◌≡◌, ℕ, zero, suc, ◌<◌, ◌+◌, Bool, true, false, not, ◌||◌, cond, List, [], ◌∷◌, ◌++◌, ◌⊎◌, inl, inr, length, map, take, get_or, slice_get, refl, sym, ap, ap₂, ◌∙◌, arith, append-nil, Result, Ok, Err, IfOk}
+-- Of some leaves those that end as none before them does, and what is told of each.
+use Rattle.std.proofs.Common.{◌≡◌, ℕ, suc, ◌<◌, ◌≤◌, ◌+◌, Bool, true, false, not, ◌||◌, ◌&&◌, cond, Some, List, [], ◌∷◌, ◌++◌, ◌⊎◌, inl, inr, length, map, take, get_or, slice_get, refl, sym, ap, ap₂, ◌∙◌, append-nil, Result, Ok, Err, IfOk}
 use Rattle.std.specs.List.{list_any}
-use Rattle.std.specs.Str.{bytes_eq}
-use Rattle.std.proofs.lemmas.List.{take_more}
+use Rattle.std.proofs.lemmas.List.{take_more, map-append}
 use Rattle.std.proofs.lemmas.List.Folds.{list_any-append}
-use Rattle.std.proofs.lemmas.Slice.Eq.{bytes_eq-Decides}
+use Rattle.std.proofs.lemmas.Option.{slice_get_within, slice_get_read, slice_get_past, get_or_from_slice_get}
+use Rattle.mpd_walk.specs.declared.ending.Ending.{Ending}
 use Rattle.mpd_explore.specs.declared.report.Leaf.{Leaf}
+use Rattle.mpd_explore.specs.Ends.{ending_eq, firsts, has_end, times, before}
+use Rattle.mpd_explore.specs.ReportText.{ending_text}
 use Rattle.mpd_explore.specs.Printed.{total_line}
-use Rattle.mpd_explain.specs.Told.{text_at, same_at, is_first, behind_leaf, ends_of, firsts, end_lines, group_lines, ends_with, explained_text}
+use Rattle.mpd_explore.proofs.FirstLemmas.{ending_same, firsts_known, firsts_new, before_new, StandThere, firsts_stand}
+use Rattle.mpd_explain.specs.Told.{behind_leaf, end_line, end_lines, group_lines, explained_text}
+use Rattle.mpd_explain.specs.Grouped.{is_so, ends_so, line_at, ends_with}
+use Rattle.mpd_explain.proofs.KindLemmas.{step_by, was_there}
 
--- the text of a number that is there
-at_within : (ends : List (List ℕ)) (n : ℕ) → n < length ends → text_at (slice_get ends n) ≡ get_or ends n []
-at_within [] n h = absurd (omega (arith, h))
-at_within (x ∷ ends) zero h = refl
-at_within (x ∷ ends) (suc n) h = at_within ends n (omega (arith, h))
+-- ---- the leaf of a number
 
-step_by : (f : ℕ → Bool) (n : ℕ) (b old e : Bool) → f n ≡ e → (b ≡ false → e ≡ true → old ≡ true) → (old || list_any f (cond b (n ∷ []) [])) ≡ (old || (e || false))
-step_by f n true old e is known = ap (λ t. old || (t || false)) is
-step_by f n false true e is known = refl
-step_by f n false false true is known = let no : false ≡ true = known refl refl in cc
-step_by f n false false false is known = refl
+pub so_past : (leaves : List Leaf) (e : Ending) (n : ℕ) → length leaves ≤ n → ends_so leaves e n ≡ false
+so_past leaves e n past = ap (is_so e) (slice_get_past leaves n past)
 
-was_there : (b : Bool) → not b ≡ false → b ≡ true
-was_there true h = refl
-was_there false h = cc
+pub so_here : (leaves : List Leaf) (e : Ending) (n : ℕ) (l : Leaf) → n < length leaves → l ≡ get_or leaves n l → ends_so leaves e n ≡ ending_eq l.ending e
+so_here leaves e n l within read = ap (is_so e) (slice_get_read leaves (length leaves) n l refl within read)
 
--- what the numbers found so far give is what all before give
-abbrev pub Finds : List (List ℕ) → List ℕ → ℕ → Type 0
-Finds ends numbers n = (text : List ℕ) → list_any (same_at ends text) numbers ≡ list_any (bytes_eq text) (take n ends)
+pub line_past : (leaves : List Leaf) (e n : ℕ) → length leaves ≤ n → line_at leaves e n (slice_get leaves n) ≡ []
+line_past leaves e n past = ap (line_at leaves e n) (slice_get_past leaves n past)
 
--- one number more
-pub finds_more : (ends : List (List ℕ)) (n : ℕ) (b : Bool) (numbers now : List ℕ) → n < length ends → Finds ends numbers n → b ≡ is_first ends n → now ≡ numbers ++ cond b (n ∷ []) [] → Finds ends now (n + 1)
-finds_more ends n b numbers now within finds test more = λ text.
-    let f : ℕ → Bool = same_at ends text in
-    let own : List ℕ = get_or ends n [] in
-    let at : text_at (slice_get ends n) ≡ own = at_within ends n within in
-    let known : b ≡ false → bytes_eq text own ≡ true → list_any (bytes_eq text) (take n ends) ≡ true = λ old here.
-    let same : text ≡ own = (bytes_eq-Decides text own).0 here in
-    ap (λ t. list_any (bytes_eq t) (take n ends)) (same ∙ sym at) ∙ was_there (list_any (bytes_eq (text_at (slice_get ends n))) (take n ends)) (sym test ∙ old) in
-    ap (list_any f) more ∙ list_any-append f numbers (cond b (n ∷ []) [])
-    ∙ ap (λ t. t || list_any f (cond b (n ∷ []) [])) (finds text)
-    ∙ step_by f n b (list_any (bytes_eq text) (take n ends)) (bytes_eq text own) (ap (bytes_eq text) at) known
-    ∙ sym (list_any-append (bytes_eq text) (take n ends) (own ∷ [])) ∙ ap (list_any (bytes_eq text)) (sym (take_more ends n [] within))
+pub line_here : (leaves : List Leaf) (e n : ℕ) (l : Leaf) → n < length leaves → l ≡ get_or leaves n l → line_at leaves e n (slice_get leaves n) ≡ end_line e (times leaves l) n (ending_text l.ending)
+line_here leaves e n l within read = ap (line_at leaves e n) (slice_get_read leaves (length leaves) n l refl within read)
+
+pub ruleset reading = (so_past, so_here, line_past, line_here)
+
+-- ---- one leaf more
+
+-- what the leaves of the numbers found so far end as, is what all before end as
+abbrev pub Finds : List Leaf → List ℕ → ℕ → Type 0
+Finds leaves numbers n = (e : Ending) → list_any (ends_so leaves e) numbers ≡ has_end (take n leaves) e
+
+module _ (leaves : List Leaf) (n : ℕ) (l : Leaf) (at : slice_get leaves n ≡ Some l) where
+  one_more : take (n + 1) leaves ≡ take n leaves ++ l ∷ []
+  one_more = take_more leaves n l (slice_get_within leaves n l at) ∙ ap (λ (m : Leaf). take n leaves ++ m ∷ []) (get_or_from_slice_get leaves n l l at)
+
+  pub finds_more : (b : Bool) (numbers now : List ℕ) → Finds leaves numbers n → b ≡ not (has_end (take n leaves) l.ending) → now ≡ numbers ++ cond b (n ∷ []) [] → Finds leaves now (n + 1)
+  finds_more b numbers now finds test more = λ e.
+      let f : ℕ → Bool = ends_so leaves e in
+      let old : Bool = has_end (take n leaves) e in
+      let known : b ≡ false → ending_eq l.ending e ≡ true → old ≡ true = λ off here.
+      ap (has_end (take n leaves)) (sym (ending_same l.ending e here)) ∙ was_there (has_end (take n leaves) l.ending) (sym test ∙ off) in
+      ap (list_any f) more ∙ list_any-append f numbers (cond b (n ∷ []) [])
+      ∙ ap (λ t. t || list_any f (cond b (n ∷ []) [])) (finds e)
+      ∙ step_by f n b old (ending_eq l.ending e) (ap (is_so e) at) known
+      ∙ sym (list_any-append (λ (m : Leaf). ending_eq m.ending e) (take n leaves) (l ∷ [])) ∙ ap (λ ls. has_end ls e) (sym one_more)
+
+  pub given_more : (b : Bool) (numbers now : List ℕ) → numbers ≡ map (before leaves) (firsts (take n leaves)) → b ≡ not (has_end (take n leaves) l.ending) → now ≡ numbers ++ cond b (n ∷ []) [] → now ≡ map (before leaves) (firsts (take (n + 1) leaves))
+  given_more b numbers now given test more = more ∙ one (has_end (take n leaves) l.ending) refl ∙ ap (λ ls. map (before leaves) (firsts ls)) (sym one_more)
+    where
+      front : List Leaf
+      front = take n leaves
+
+      one : (c : Bool) → has_end front l.ending ≡ c → numbers ++ cond b (n ∷ []) [] ≡ map (before leaves) (firsts (front ++ l ∷ []))
+      one true is =
+          ap (λ (t : Bool). numbers ++ cond t (n ∷ []) []) (test ∙ ap not is) ∙ append-nil numbers ∙ given
+          ∙ ap (map (before leaves)) (sym (firsts_known front (l ∷ []) (λ j. is j && true)))
+      one false is =
+          ap (λ (t : Bool). numbers ++ cond t (n ∷ []) []) (test ∙ ap not is)
+          ∙ ap₂ (λ (ns : List ℕ) (k : ℕ). ns ++ k ∷ []) given (sym (before_new leaves n l at is))
+          ∙ sym (map-append (before leaves) (firsts front) (l ∷ [])) ∙ ap (map (before leaves)) (sym (firsts_new front l is))
 
 -- ---- what stands after the lines of groups
 
-no_ends : {A : Type 0} (v : A → List ℕ) (ends : List (List ℕ)) (e : ℕ) (ns : List ℕ) (texts : List A) → (ns ≡ []) ⊎ (texts ≡ []) → ends_with ends e ns (map v texts) ≡ []
-no_ends v ends e ns texts (inl none) = ap (λ (ms : List ℕ). ends_with ends e ms (map v texts)) none
-no_ends v ends e [] texts (inr none) = refl
-no_ends v ends e (n ∷ ns) texts (inr none) = ap (λ ts. ends_with ends e (n ∷ ns) (map v ts)) none
+no_ends : {A : Type 0} (v : A → List ℕ) (leaves : List Leaf) (e : ℕ) (ns : List ℕ) (texts : List A) → (ns ≡ []) ⊎ (texts ≡ []) → ends_with leaves e ns (map v texts) ≡ []
+no_ends v leaves e ns texts (inl none) = ap (λ (ms : List ℕ). ends_with leaves e ms (map v texts)) none
+no_ends v leaves e [] texts (inr none) = refl
+no_ends v leaves e (n ∷ ns) texts (inr none) = ap (λ ts. ends_with leaves e (n ∷ ns) (map v ts)) none
 
 -- where either list has come to its end, all lines were told
-pub all_ends : {A : Type 0} (v : A → List ℕ) (ends : List (List ℕ)) (e : ℕ) (ns : List ℕ) (texts : List A) (so_far all : List ℕ) → (ns ≡ []) ⊎ (texts ≡ []) → so_far ++ ends_with ends e ns (map v texts) ≡ all → so_far ≡ all
-all_ends v ends e ns texts so_far all none told = sym (append-nil so_far) ∙ ap (λ (z : List ℕ). so_far ++ z) (sym (no_ends v ends e ns texts none)) ∙ told
+pub all_ends : {A : Type 0} (v : A → List ℕ) (leaves : List Leaf) (e : ℕ) (ns : List ℕ) (texts : List A) (so_far all : List ℕ) → (ns ≡ []) ⊎ (texts ≡ []) → so_far ++ ends_with leaves e ns (map v texts) ≡ all → so_far ≡ all
+all_ends v leaves e ns texts so_far all none told = sym (append-nil so_far) ∙ ap (λ (z : List ℕ). so_far ++ z) (sym (no_ends v leaves e ns texts none)) ∙ told
 
 -- with what stands after the first leaf of each, it is the text of the groups
-groups_with : (witnesses texts ends : List (List ℕ)) (e : ℕ) (ns : List ℕ) → ends_with ends e ns (map (behind_leaf witnesses texts) ns) ≡ group_lines witnesses texts ends e ns
-groups_with witnesses texts ends e [] = refl
-groups_with witnesses texts ends e (n ∷ ns) = ap (λ (z : List ℕ). end_lines witnesses texts ends e n ++ z) (groups_with witnesses texts ends (suc e) ns)
+module _ (witnesses texts : List (List ℕ)) (leaves : List Leaf) where
+  groups_are : (e : ℕ) (ls : List Leaf) → StandThere leaves ls → ends_with leaves e (map (before leaves) ls) (map (behind_leaf witnesses texts) (map (before leaves) ls)) ≡ group_lines witnesses texts leaves e ls
+  groups_are e [] h = refl
+  groups_are e (l ∷ ls) h =
+      (λ j. (line_at leaves e (before leaves l) (h.0 j) ++ behind_leaf witnesses texts (before leaves l)) ++ ends_with leaves (suc e) (map (before leaves) ls) (map (behind_leaf witnesses texts) (map (before leaves) ls)))
+      ∙ ap (λ (z : List ℕ). end_lines witnesses texts leaves e l ++ z) (groups_are (suc e) ls h.1)
 
-grouped_is : (witnesses texts : List (List ℕ)) (leaves : List Leaf) (more : Bool) (ends : List (List ℕ)) (ns : List ℕ) (after : List (List ℕ)) → ends ≡ ends_of leaves → ns ≡ firsts (ends_of leaves) → after ≡ map (behind_leaf witnesses texts) ns
-    → ends_with ends 0 ns after ++ total_line leaves more ≡ explained_text true witnesses texts leaves more
-grouped_is witnesses texts leaves more ends ns after es is all =
-    ap (λ (z : List ℕ). z ++ total_line leaves more)
-    (ap (ends_with ends 0 ns) all ∙ groups_with witnesses texts ends 0 ns ∙ ap₂ (λ (ts : List (List ℕ)) (ms : List ℕ). group_lines witnesses texts ts 0 ms) es is)
+  grouped_is : (more : Bool) (ns : List ℕ) (after : List (List ℕ)) → ns ≡ map (before leaves) (firsts leaves) → after ≡ map (behind_leaf witnesses texts) ns → ends_with leaves 0 ns after ++ total_line leaves more ≡ explained_text true witnesses texts leaves more
+  grouped_is more ns after is all =
+      ap (λ (z : List ℕ). z ++ total_line leaves more)
+      (ap (ends_with leaves 0 ns) all ∙ ap (λ (ms : List ℕ). ends_with leaves 0 ms (map (behind_leaf witnesses texts) ms)) is ∙ groups_are 0 (firsts leaves) (firsts_stand leaves))
 
-pub grouped_told : {A E : Type 0} (r : Result A E) (text_of : A → List ℕ) (witnesses texts : List (List ℕ)) (leaves : List Leaf) (more : Bool) (ends : List (List ℕ)) (ns : List ℕ) (after : List (List ℕ)) → ends ≡ ends_of leaves → ns ≡ firsts (ends_of leaves)
-    → after ≡ map (behind_leaf witnesses texts) ns → IfOk r (λ t. text_of t ≡ ends_with ends 0 ns after ++ total_line leaves more) → IfOk r (λ t. text_of t ≡ explained_text true witnesses texts leaves more)
-grouped_told (Ok t) text_of witnesses texts leaves more ends ns after es is all told = told ∙ grouped_is witnesses texts leaves more ends ns after es is all
-grouped_told (Err e) text_of witnesses texts leaves more ends ns after es is all told = tt
+  pub grouped_told : {A E : Type 0} (r : Result A E) (text_of : A → List ℕ) (more : Bool) (ns : List ℕ) (after : List (List ℕ)) → ns ≡ map (before leaves) (firsts leaves) → after ≡ map (behind_leaf witnesses texts) ns
+      → IfOk r (λ t. text_of t ≡ ends_with leaves 0 ns after ++ total_line leaves more) → IfOk r (λ t. text_of t ≡ explained_text true witnesses texts leaves more)
+  grouped_told (Ok t) text_of more ns after is all told = told ∙ grouped_is more ns after is all
+  grouped_told (Err e) text_of more ns after is all told = tt

@@ -4,6 +4,7 @@ use Rattle.std.specs.Fmt.{digits}
 use Rattle.mpd_model.specs.declared.place.DeclKind.TheVariants.{Variable}
 use Rattle.mpd_model.specs.declared.expr.BinaryOp.TheVariants.{Equal, Divide}
 use Rattle.mpd_model.specs.declared.call.Mode.TheVariants.{Rendezvous, Buffered}
+use Rattle.mpd_model.specs.declared.call.Trap.TheVariants.{Assertion}
 use Rattle.mpd_model.specs.declared.stmt.Simple.TheVariants as st
 use Rattle.mpd_model.specs.declared.outcome.Outcome.TheVariants as o
 use Rattle.mpd_model.specs.script.Declaration.{Declared}
@@ -180,3 +181,22 @@ pub row_groups : explained_text true ([] ∷ line (codes ": local 0") ∷ []) ([
     ≡ line (codes "end 0 leaves 2 first 0 done") ++ line (codes "end 1 leaves 1 first 1 deadlock 0.1") ++ line (codes "witness 1: local 0") ++ line (codes "  told") ++ line (codes "end 2 leaves 1 first 3 cut") ++ line (codes "leaves 4 more no")
 unfolding digits
 row_groups = refl
+
+-- the same call blocks at another line, the same rank traps so at another line, the same message is left over of another: each is an end of its own
+abbrev failing : ℕ → Ending
+failing s = Ended (o.Trap (record { rank = 0; trap = Assertion; statement = s } ∷ []))
+
+abbrev unread_by : ℕ → Ending
+unread_by s = Ended (o.Leftovers (issued_by s (call_id 0 1) ∷ []))
+
+abbrev stuck_at : ℕ → Ending
+stuck_at s = Ended (o.Deadlock (issued_by s (call_id 0 1) ∷ []))
+
+abbrev elsewhere : List leaf.Leaf
+elsewhere = a_leaf 0 stuck ∷ a_leaf 1 (stuck_at 4) ∷ a_leaf 2 (failing 1) ∷ a_leaf 3 (failing 2) ∷ a_leaf 4 (unread_by 1) ∷ a_leaf 5 (unread_by 2) ∷ a_leaf 6 (stuck_at 4) ∷ a_leaf 7 (failing 1) ∷ []
+
+pub row_elsewhere : explained_text true [] ([] ∷ line (codes "  told") ∷ []) elsewhere false
+    ≡ line (codes "end 0 leaves 1 first 0 deadlock 0.1") ++ line (codes "end 1 leaves 2 first 1 deadlock 0.1") ++ line (codes "  told") ++ line (codes "end 2 leaves 2 first 2 trap 0 assert") ++ line (codes "end 3 leaves 1 first 3 trap 0 assert")
+    ++ line (codes "end 4 leaves 1 first 4 leftovers 0.1") ++ line (codes "end 5 leaves 1 first 5 leftovers 0.1") ++ line (codes "leaves 8 more no")
+unfolding digits
+row_elsewhere = refl

@@ -4,6 +4,7 @@ pub mod Waits
 pub mod Explained
 pub mod Explanations
 pub mod Told
+pub mod Grouped
 pub mod ExplainedRows
 pub mod KindRows
 pub mod CallLaws

@@ -5,6 +5,8 @@ use Rattle.std.specs.List.{filter, list_any, range_with_len}
 use Rattle.std.specs.Str.{bytes_eq}
 use Rattle.mpd_model.specs.texts.Texts.{line}
 use Rattle.mpd_explore.specs.declared.report.Leaf.{Leaf}
+use Rattle.mpd_explore.specs.Ends.{times, before}
+use Rattle.mpd_explore.specs.Ends as ends
 use Rattle.mpd_explore.specs.ReportText.{leaf_line, ending_text}
 use Rattle.mpd_explore.specs.Printed.{numbered_at, total_line}
 
@@ -22,60 +24,41 @@ abbrev pub leaf_lines : List (List ℕ) → List (List ℕ) → ℕ → List Lea
 leaf_lines witnesses texts n [] = []
 leaf_lines witnesses texts n (l ∷ ls) = leaf_line n l ++ behind_leaf witnesses texts n ++ leaf_lines witnesses texts (suc n) ls
 
--- ---- leaves that end in the same way
+-- ---- texts that are the first of their kind
 
--- how each leaf ends
-abbrev pub ends_of : List Leaf → List (List ℕ)
-ends_of [] = []
-ends_of (l ∷ ls) = ending_text l.ending ∷ ends_of ls
-
--- how many of some ends are this one
-abbrev pub times : List ℕ → List (List ℕ) → ℕ
-times text ends = length (filter (bytes_eq text) ends)
-
--- whether the end of a number is this one
+-- whether the text of a number is this one
 abbrev pub same_at : List (List ℕ) → List ℕ → ℕ → Bool
-same_at ends text k = bytes_eq text (text_at (slice_get ends k))
+same_at all text k = bytes_eq text (text_at (slice_get all k))
 
--- no end before the one of that number is the same
+-- no text before the one of that number is the same
 abbrev pub is_first : List (List ℕ) → ℕ → Bool
-is_first ends n = not (list_any (bytes_eq (text_at (slice_get ends n))) (take n ends))
+is_first all n = not (list_any (bytes_eq (text_at (slice_get all n))) (take n all))
 
 -- the numbers of those that are the first of their kind
 abbrev pub firsts : List (List ℕ) → List ℕ
-firsts ends = filter (is_first ends) (range_with_len 0 (length ends))
+firsts all = filter (is_first all) (range_with_len 0 (length all))
+
+-- ---- leaves that end in the same way
 
 -- `end 1 leaves 3 first 2 deadlock 0.1 1.0`
 abbrev pub end_line : ℕ → ℕ → ℕ → List ℕ → List ℕ
 end_line e count n text = line (codes "end " ++ decimal e ++ codes " leaves " ++ decimal count ++ codes " first " ++ decimal n ++ 32 ∷ text)
 
--- the lines of the end whose first leaf is number n
-abbrev pub end_lines : List (List ℕ) → List (List ℕ) → List (List ℕ) → ℕ → ℕ → List ℕ
-end_lines witnesses texts ends e n =
-    let text = text_at (slice_get ends n) in
-    end_line e (times text ends) n text ++ behind_leaf witnesses texts n
+-- the lines of an end, which has a number, by a leaf that ends so: how many leaves do, the number of the first of them, and what stands behind that
+abbrev pub end_lines : List (List ℕ) → List (List ℕ) → List Leaf → ℕ → Leaf → List ℕ
+end_lines witnesses texts leaves e l = end_line e (times leaves l) (before leaves l) (ending_text l.ending) ++ behind_leaf witnesses texts (before leaves l)
 
 -- the lines of ends, of which the first is number e
-abbrev pub group_lines : List (List ℕ) → List (List ℕ) → List (List ℕ) → ℕ → List ℕ → List ℕ
-group_lines witnesses texts ends e [] = []
-group_lines witnesses texts ends e (n ∷ ns) = end_lines witnesses texts ends e n ++ group_lines witnesses texts ends (suc e) ns
-
--- the line of the end whose first leaf is number n, and what stands after it
-abbrev pub end_with : List (List ℕ) → ℕ → ℕ → List ℕ → List ℕ
-end_with ends e n after = end_line e (times (text_at (slice_get ends n)) ends) n (text_at (slice_get ends n)) ++ after
-
--- the same of ends, of which the first is number e, by what stands after the line of each
-abbrev pub ends_with : List (List ℕ) → ℕ → List ℕ → List (List ℕ) → List ℕ
-ends_with ends e [] texts = []
-ends_with ends e (n ∷ ns) [] = []
-ends_with ends e (n ∷ ns) (after ∷ texts) = end_with ends e n after ++ ends_with ends (suc e) ns texts
+abbrev pub group_lines : List (List ℕ) → List (List ℕ) → List Leaf → ℕ → List Leaf → List ℕ
+group_lines witnesses texts leaves e [] = []
+group_lines witnesses texts leaves e (l ∷ ls) = end_lines witnesses texts leaves e l ++ group_lines witnesses texts leaves (suc e) ls
 
 -- ---- the whole
 
--- the lines of all leaves, or of the ends that differ
+-- the lines of all leaves, or of the ends of those that end as none before them does
 abbrev pub body_text : Bool → List (List ℕ) → List (List ℕ) → List Leaf → List ℕ
 body_text false witnesses texts leaves = leaf_lines witnesses texts 0 leaves
-body_text true witnesses texts leaves = group_lines witnesses texts (ends_of leaves) 0 (firsts (ends_of leaves))
+body_text true witnesses texts leaves = group_lines witnesses texts leaves 0 (ends.firsts leaves)
 
 abbrev pub explained_text : Bool → List (List ℕ) → List (List ℕ) → List Leaf → Bool → List ℕ
 explained_text grouped witnesses texts leaves more = body_text grouped witnesses texts leaves ++ total_line leaves more

@@ -13,8 +13,9 @@ ghost use Rattle.mpd_explain.specs.Explanations.{explained_at};
 ghost use Rattle.mpd_explain.specs.Told.{behind_leaf, explained_text, text_at};
 
 use crate::explanation::explain;
+use crate::groups::{first_numbers, print_groups};
 use crate::list::push_text;
-use crate::print::{groups_of, print_groups, push_numbered};
+use crate::print::push_numbered;
 use mpd_explore::{Leaf, Report, witness_here};
 use mpd_model::STEPS_MAX;
 use mpd_trail::Debugger;
@@ -176,8 +177,8 @@ fn after_leaves<S: Schedule>(
     Ok(texts)
 }
 
-/// A report that was made along a schedule from where the debugger stands, as text: each different end stands there once in the place of
-/// the leaves, in the order in which the leaves have them first: how many leaves end so, and the number of the first of them, whose
+/// A report that was made along a schedule from where the debugger stands, as text: each leaf that ends as none before it does has a line in
+/// the place of the leaves, in their order: how many leaves end so, with the same calls or traps at the same statements, and its number; its
 /// witness and explanation follow as they would in the report that isn't grouped, whether that report has the texts of witnesses or not;
 /// and at last how many leaves there are, and whether there are others. Of leaves that aren't the first to end so, nothing is made again.
 /// The debugger is left as found, also where memory is refused, which is what an `Err` says.
@@ -195,7 +196,7 @@ pub fn print_grouped<S: Schedule>(
     ensures as_found { AsFound (standing_of debugger.old) (standing_of debugger.new) }
 {
     debugger.state_is_reached();
-    let groups = groups_of(alloc, &report.leaves)?;
-    let texts = after_leaves(alloc, schedule, debugger, report, &groups.firsts, beside)?;
-    print_groups(alloc, report, &groups, &texts)
+    let numbers = first_numbers(alloc, &report.leaves)?;
+    let texts = after_leaves(alloc, schedule, debugger, report, &numbers, beside)?;
+    print_groups(alloc, report, &numbers, &texts)
 }

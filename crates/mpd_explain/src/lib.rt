@@ -3,6 +3,7 @@
 
 pub mod explanation;
 pub mod grouped;
+mod groups;
 pub mod laws;
 mod list;
 mod near_miss;

@@ -1,15 +1,14 @@
-//! The text of a report with explanations, and of one whose leaves are grouped by how they end (docs/FORMATS.md, "Reports").
+//! The text of a report with explanations (docs/FORMATS.md, "Reports"); and of some texts the first of each kind.
 
 ghost use Rattle.std.specs.Prelude.{◌≡◌, ◌++◌, ◌∷◌, ◌≤◌, ◌<◌, ◌+◌, ◌^◌, [], true, false, IfOk, OnOk, length, map, slice_get, string_bytes};
 ghost use Rattle.std.specs.List.{list_any};
 ghost use Rattle.std.specs.Str.{bytes_eq};
-ghost use Rattle.mpd_explore.specs.ReportText.{ending_text, leaf_line};
-ghost use Rattle.mpd_explore.specs.Printed.{numbered, numbered_at, told_text, total_line};
+ghost use Rattle.mpd_explore.specs.ReportText.{leaf_line};
+ghost use Rattle.mpd_explore.specs.Printed.{numbered, numbered_at, told_text};
 ghost use Rattle.mpd_explain.specs.Told as told;
 
-use crate::list::{push_if, push_text};
-use mpd_explore::{Ending, Leaf, Report, push_leaf_text, push_total};
-use mpd_model::print_outcome;
+use crate::list::push_if;
+use mpd_explore::{Leaf, Report, push_leaf_text, push_total};
 use std::alloc::{AllocError, Global};
 
 /// Adds the line of a leaf.
@@ -84,49 +83,11 @@ fn push_leaves(
     Ok(())
 }
 
-/// How a leaf ends, as its line has it.
-fn end_of(alloc: Global, ending: &Ending) -> Result<String, AllocError>
-    ensures { IfOk result (λ t. string_bytes t ≡ ending_text ending.now) }
-{
-    match ending {
-        Ending::Cut => {
-            let mut out = String::new(alloc);
-            out.push_str("cut")?;
-            Ok(out)
-        }
-        Ending::Ended(outcome) => print_outcome(alloc, outcome),
-    }
-}
-
-/// How each leaf ends.
-fn ends_of(alloc: Global, leaves: &[Leaf]) -> Result<Vec<String>, AllocError>
-    ensures { IfOk result (λ ends. map string_bytes ends.items ≡ told.ends_of leaves.now) }
-{
-    let mut ends = Vec::new(alloc);
-    for leaf in leaves {
-        push_text(&mut ends, end_of(alloc, &leaf.ending)?)?;
-    }
-    Ok(ends)
-}
-
 /// Whether two ends are the same.
 fn is_same(one: &str, other: &str) -> bool
     ensures { result ≡ bytes_eq one.now other.now }
 {
     one == other
-}
-
-/// How many of some ends are this one.
-fn times(text: &str, ends: &[String]) -> usize
-    ensures { result ≡ told.times text.now (map string_bytes ends.now) }
-{
-    let mut count = 0;
-    for end in ends {
-        if is_same(text, end) {
-            count += 1;
-        }
-    }
-    count
 }
 
 /// Whether the end of one of some numbers is this one.
@@ -150,71 +111,6 @@ pub fn firsts(alloc: Global, ends: &[String]) -> Result<Vec<usize>, AllocError>
         push_if(&mut numbers, number, !is_known)?;
     }
     Ok(numbers)
-}
-
-/// How leaves end, and which of them are the first to end so.
-#[derive(Drop)]
-pub(crate) struct Groups {
-    pub(crate) ends: Vec<String>,
-    pub(crate) firsts: Vec<usize>,
-}
-
-/// Leaves by how they end.
-pub(crate) fn groups_of(alloc: Global, leaves: &[Leaf]) -> Result<Groups, AllocError>
-    ensures ends { IfOk result (λ groups. map string_bytes groups.ends.items ≡ told.ends_of leaves.now) }
-    ensures firsts { IfOk result (λ groups. groups.firsts.items ≡ told.firsts (told.ends_of leaves.now)) }
-{
-    let ends = ends_of(alloc, leaves)?;
-    let firsts = firsts(alloc, &ends)?;
-    Ok(Groups { ends, firsts })
-}
-
-/// Adds the line of an end whose first leaf has this number, and what stands after it.
-fn push_end(
-    out: &mut String,
-    place: usize,
-    number: usize,
-    ends: &[String],
-    after: &str,
-) -> Result<(), AllocError>
-    ensures { OnOk result (string_bytes out.new ≡ string_bytes out.old ++ told.end_with (map string_bytes ends.now) place number after.now) }
-{
-    let end = text_at(ends, number);
-    let count = times(end, ends);
-    write!(out, "end {place} leaves {count} first {number} {end}\n")?;
-    out.push_str(after)
-}
-
-/// Adds the lines of the ends whose first leaves have these numbers, and what stands after each.
-fn push_ends(
-    out: &mut String,
-    numbers: &[usize],
-    ends: &[String],
-    texts: &[String],
-) -> Result<(), AllocError>
-    ensures { OnOk result (string_bytes out.new ≡ string_bytes out.old ++ told.ends_with (map string_bytes ends.now) 0 numbers.now (map string_bytes texts.now)) }
-{
-    let mut place = 0;
-    for (number, after) in numbers.iter().zip(texts.iter()) {
-        push_end(out, place, *number, ends, after)?;
-        place += 1;
-    }
-    Ok(())
-}
-
-/// The text of a report whose leaves are grouped so, by what stands after the line of each group. An `Err` is want of memory.
-pub(crate) fn print_groups(
-    alloc: Global,
-    report: &Report,
-    groups: &Groups,
-    texts: &[String],
-) -> Result<String, AllocError>
-    ensures { IfOk result (λ t. string_bytes t ≡ told.ends_with (map string_bytes groups.now.ends.items) 0 groups.now.firsts.items (map string_bytes texts.now) ++ total_line report.now.leaves.items report.now.more) }
-{
-    let mut out = String::new(alloc);
-    push_ends(&mut out, &groups.firsts, &groups.ends, texts)?;
-    push_total(&mut out, report)?;
-    Ok(out)
 }
 
 /// The text of a report with these explanations.

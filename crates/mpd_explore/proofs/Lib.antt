@@ -7,6 +7,7 @@ pub mod SearchLemmas
 pub mod CollectLemmas
 pub mod VerifyLemmas
 pub mod EndLemmas
+pub mod FirstLemmas
 pub mod WitnessLemmas
 pub mod AwakeLemmas
 pub mod ListedLemmas

@@ -5,6 +5,7 @@ pub mod States
 pub mod Search
 pub mod Witness
 pub mod Traps
+pub mod Ends
 pub mod Stops
 pub mod Faults
 pub mod ReportText

@@ -6,6 +6,7 @@ mod ends;
 pub mod explorer;
 pub mod print;
 pub mod report;
+pub mod same;
 mod search;
 pub mod verifier;
 pub mod watch;
@@ -19,6 +20,7 @@ pub use print::{
 pub use report::{
     ChoiceList, Ending, Leaf, Limits, RankTrap, RankTrapList, Report, Witness, WitnessEnd,
 };
+pub use same::same_ending;
 pub use verifier::{WitnessFault, same_trap, verify, verify_from};
 pub use watch::{Unwatched, Watch};
 pub use witness::witness_of;

@@ -12,7 +12,8 @@ use Rattle.mpd_outcomes.specs.declared.table.Table.{Table}
 use Rattle.mpd_outcomes.specs.declared.sums.Sums.{Sums}
 use Rattle.mpd_outcomes.specs.declared.search.Open.{Open}
 use Rattle.mpd_outcomes.specs.Outcomes.{plus, leaves_from}
-use Rattle.mpd_outcomes.specs.Sums.{added, has_end, Tells, TellsCounts}
+use Rattle.mpd_explore.specs.Ends.{has_end}
+use Rattle.mpd_outcomes.specs.Sums.{added, Tells, TellsCounts}
 use Rattle.mpd_outcomes.specs.Front.{Search, put, picked, leaves_by, leaves_of, tried, next_one, IsOpen, Stands, TellsTried, TellsAt, AllTold, tried_at, before, IsTrueTable, come_to, AllToldAfter}
 use Rattle.mpd_outcomes.proofs.TellLemmas.{tells_joined, tells_put, tells_grown}
 use Rattle.mpd_outcomes.proofs.WalkLemmas.{leaves_choice, height_choice, tried_more, highest_more}

@@ -26,7 +26,8 @@ use Rattle.mpd_outcomes.specs.declared.report.Outcomes.{Outcomes}
 use Rattle.mpd_outcomes.specs.declared.sums.Sums.{Sums}
 use Rattle.mpd_outcomes.specs.declared.search.Open.{Open}
 use Rattle.mpd_outcomes.specs.declared.search.Front.{Front}
-use Rattle.mpd_outcomes.specs.Outcomes.{counted, plus, firsts, times, leaves_from, TellsRuns}
+use Rattle.mpd_explore.specs.Ends.{firsts, times}
+use Rattle.mpd_outcomes.specs.Outcomes.{counted, plus, leaves_from, TellsRuns}
 use Rattle.mpd_outcomes.specs.Sums.{added, TellsCounts}
 use Rattle.mpd_outcomes.specs.Gathered.{gathered, gathered_total}
 use Rattle.mpd_outcomes.specs.Front.{Search, put, picked, TellsAt, AllTold, tried_at, before, open_in, Turned, come_now}

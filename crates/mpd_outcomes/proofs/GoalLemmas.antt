@@ -12,11 +12,10 @@ use Rattle.mpd_outcomes.specs.declared.report.Goal.{Goal}
 use Rattle.mpd_outcomes.specs.declared.report.StateLimits.{StateLimits}
 use Rattle.mpd_model.specs.runs.Trail.{Standing}
 use Rattle.mpd_outcomes.specs.declared.search.Front.{Front}
-use Rattle.mpd_outcomes.specs.Outcomes.{same_end, firsts}
-use Rattle.mpd_outcomes.specs.Sums.{has_end}
+use Rattle.mpd_explore.specs.Ends.{same_end, firsts, has_end}
 use Rattle.mpd_outcomes.specs.Front.{Search, ways_with, Turned, come_now, Grows}
 use Rattle.mpd_outcomes.specs.Goals.{meets, meets_any, ends_at, StopsAt, StopsFor}
-use Rattle.mpd_outcomes.proofs.FirstLemmas.{ending_same}
+use Rattle.mpd_explore.proofs.FirstLemmas.{ending_same}
 
 -- ---- how ways grow
 

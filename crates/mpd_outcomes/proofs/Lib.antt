@@ -2,7 +2,6 @@ mod SplitLemmas
 mod KeyLemmas
 mod PushLemmas
 mod FutureLemmas
-pub mod FirstLemmas
 pub mod TellLemmas
 pub mod WalkLemmas
 mod FrontLemmas

@@ -24,11 +24,12 @@ use Rattle.mpd_outcomes.specs.declared.sums.Tally.{Tally}
 use Rattle.mpd_outcomes.specs.declared.sums.Sums.{Sums}
 use Rattle.mpd_outcomes.specs.declared.search.Bounds.{Bounds}
 use Rattle.mpd_outcomes.specs.declared.search.Open.{Open}
-use Rattle.mpd_outcomes.specs.Outcomes.{plus, firsts, leaves_from}
-use Rattle.mpd_outcomes.specs.Sums.{added, has_end, Tells, TellsCounts}
+use Rattle.mpd_explore.specs.Ends.{firsts, has_end}
+use Rattle.mpd_outcomes.specs.Outcomes.{plus, leaves_from}
+use Rattle.mpd_outcomes.specs.Sums.{added, Tells, TellsCounts}
 use Rattle.mpd_outcomes.specs.Table.{serves}
 use Rattle.mpd_outcomes.specs.Front.{Search, search_of, put, picked, SameRuns, IsOpen, Stands, TellsAt, AllTold, tried_at, before, IsFound, IsTrueTable, At, Before, After, come_to, only_leaf, ways_with}
-use Rattle.mpd_outcomes.proofs.FirstLemmas.{firsts_known, firsts_new, firsts_ends, firsts_apart, AllApart}
+use Rattle.mpd_explore.proofs.FirstLemmas.{firsts_known, firsts_new, firsts_ends, firsts_apart, AllApart}
 use Rattle.mpd_outcomes.proofs.WalkLemmas.{leaves_forced, height_forced}
 use Rattle.mpd_outcomes.proofs.FrontLemmas.{come_is, told_after, told_grown, table_grown}
 

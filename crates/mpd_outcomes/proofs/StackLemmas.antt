@@ -27,7 +27,8 @@ use Rattle.mpd_outcomes.specs.declared.table.Table.{Table}
 use Rattle.mpd_outcomes.specs.declared.sums.Tally.{Tally}
 use Rattle.mpd_outcomes.specs.declared.sums.Sums.{Sums}
 use Rattle.mpd_outcomes.specs.declared.search.Open.{Open}
-use Rattle.mpd_outcomes.specs.Outcomes.{plus, firsts, leaves_from}
+use Rattle.mpd_explore.specs.Ends.{firsts}
+use Rattle.mpd_outcomes.specs.Outcomes.{plus, leaves_from}
 use Rattle.mpd_outcomes.specs.Sums.{added, Tells, TellsCounts}
 use Rattle.mpd_outcomes.specs.Table.{found_at, key_eq, KeepsAPart, KeepsLess}
 use Rattle.mpd_outcomes.specs.Keys.{IsKey}

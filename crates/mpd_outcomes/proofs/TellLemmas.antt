@@ -11,10 +11,11 @@ use Rattle.mpd_walk.specs.declared.ending.Ending.{Ending}
 use Rattle.mpd_explore.specs.declared.report.Leaf.{Leaf}
 use Rattle.mpd_outcomes.specs.declared.report.Count.{Count}
 use Rattle.mpd_outcomes.specs.declared.report.Count.TheVariants.{Exactly, More}
-use Rattle.mpd_outcomes.specs.Outcomes.{ending_eq, counted, plus, same_end, times}
-use Rattle.mpd_outcomes.specs.Sums.{added, one_at, has_end, IsWay, count_at, TellsCounts}
+use Rattle.mpd_explore.specs.Ends.{ending_eq, same_end, times, has_end}
+use Rattle.mpd_outcomes.specs.Outcomes.{counted, plus}
+use Rattle.mpd_outcomes.specs.Sums.{added, one_at, IsWay, count_at, TellsCounts}
 use Rattle.mpd_outcomes.specs.Front.{put}
-use Rattle.mpd_outcomes.proofs.FirstLemmas.{ending_same, ending_each, AllApart, one_place}
+use Rattle.mpd_explore.proofs.FirstLemmas.{ending_same, ending_each, AllApart, one_place}
 
 -- ---- counts
 

@@ -29,8 +29,9 @@ use Rattle.mpd_outcomes.specs.declared.search.Front.{Front}
 use Rattle.mpd_outcomes.specs.declared.search.Reach.{Reach}
 use Rattle.mpd_outcomes.specs.declared.report.Goal.{Goal}
 use Rattle.mpd_outcomes.specs.Goals.{states_along, StopsAt}
-use Rattle.mpd_outcomes.specs.Outcomes.{plus, leaves_from, firsts}
-use Rattle.mpd_outcomes.specs.Sums.{added, one_at, has_end, IsWay, Tells}
+use Rattle.mpd_explore.specs.Ends.{firsts, has_end}
+use Rattle.mpd_outcomes.specs.Outcomes.{plus, leaves_from}
+use Rattle.mpd_outcomes.specs.Sums.{added, one_at, IsWay, Tells}
 use Rattle.mpd_outcomes.specs.Table.{found_at, serves, KeepsAPart}
 use Rattle.mpd_outcomes.specs.Keys.{IsKey}
 

@@ -1,42 +1,13 @@
 -- What is told of the ways that runs end.
-use Rattle.std.specs.Prelude.{◌≡◌, ◌≤◌, ℕ, Bool, true, false, not, ◌&&◌, ◌==◌, ◌^◌, ◌+◌, if◌then◌else◌, nat_lt, take, List, [], ◌∷◌, length, map}
-use Rattle.std.specs.List.{filter}
-use Rattle.std.specs.Cmp.Lexicographic.{pointwise}
-use Rattle.mpd_model.specs.declared.outcome.Outcome.{Outcome}
-use Rattle.mpd_model.specs.declared.outcome.Outcome.TheVariants as outcome_is
-use Rattle.mpd_model.specs.declared.outcome.IssuedCall.{IssuedCall}
-use Rattle.mpd_model.specs.declared.outcome.TrappedRank.{TrappedRank}
-use Rattle.mpd_model.specs.steps.World.{World, id_eq}
+use Rattle.std.specs.Prelude.{◌≡◌, ◌≤◌, ℕ, ◌^◌, ◌+◌, if◌then◌else◌, nat_lt, take, List, length, map}
+use Rattle.mpd_model.specs.steps.World.{World}
 use Rattle.mpd_walk.specs.Walk.{wide_walk}
-use Rattle.mpd_walk.specs.declared.ending.Ending.{Ending}
-use Rattle.mpd_walk.specs.declared.ending.Ending.TheVariants.{Ended, Cut}
 use Rattle.mpd_explore.specs.declared.report.Leaf.{Leaf}
 use Rattle.mpd_explore.specs.Report.{shown}
-use Rattle.mpd_explore.specs.Traps.{trap_eq}
+use Rattle.mpd_explore.specs.Ends.{firsts, times}
 use Rattle.mpd_outcomes.specs.declared.report.Count.{Count}
 use Rattle.mpd_outcomes.specs.declared.report.Count.TheVariants.{Exactly, More}
 use Rattle.mpd_outcomes.specs.declared.report.Outcomes.{Outcomes}
-
--- ---- ends that are the same
-
-abbrev pub trapped_eq : TrappedRank → TrappedRank → Bool
-trapped_eq a b = (a.rank == b.rank) && ((a.statement == b.statement) && trap_eq a.trap b.trap)
-
--- the same call, which the same statement issued
-abbrev pub issued_eq : IssuedCall → IssuedCall → Bool
-issued_eq c d = (c.statement == d.statement) && id_eq c.id d.id
-
-abbrev pub outcome_eq : Outcome → Outcome → Bool
-outcome_eq outcome_is.Done outcome_is.Done = true
-outcome_eq (outcome_is.Leftovers cs) (outcome_is.Leftovers ds) = pointwise issued_eq cs ds
-outcome_eq (outcome_is.Deadlock cs) (outcome_is.Deadlock ds) = pointwise issued_eq cs ds
-outcome_eq (outcome_is.Trap ts) (outcome_is.Trap us) = pointwise trapped_eq ts us
-outcome_eq o k = false
-
-abbrev pub ending_eq : Ending → Ending → Bool
-ending_eq Cut Cut = true
-ending_eq (Ended o) (Ended k) = outcome_eq o k
-ending_eq e f = false
 
 -- ---- counts
 
@@ -49,18 +20,6 @@ plus (Exactly a) (Exactly b) = counted (a + b)
 plus c d = More
 
 -- ---- what is told of the leaves of runs
-
-abbrev pub same_end : Leaf → Leaf → Bool
-same_end l m = ending_eq l.ending m.ending
-
--- those that end as no leaf before them does
-abbrev pub firsts : List Leaf → List Leaf
-firsts [] = []
-firsts (l ∷ ls) = l ∷ filter (λ m. not (same_end l m)) (firsts ls)
-
--- how many end as a leaf does
-abbrev pub times : List Leaf → Leaf → ℕ
-times ls l = length (filter (same_end l) ls)
 
 -- the leaves of the wide walk from a state with so much fuel
 abbrev pub leaves_from : ℕ → World → List Leaf

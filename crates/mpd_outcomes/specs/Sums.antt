@@ -1,12 +1,13 @@
 -- What is told of leaves, put together from parts: counts by the numbers of ways.
 use Rattle.std.specs.Prelude.{◌≡◌, ◌≤◌, ℕ, Bool, true, List, [], ◌∷◌, ◌++◌, length, replicate, slice_get, slice_index_or, Some}
-use Rattle.std.specs.List.{list_any, list_all}
+use Rattle.std.specs.List.{list_all}
 use Rattle.mpd_walk.specs.declared.ending.Ending.{Ending}
 use Rattle.mpd_explore.specs.declared.report.Leaf.{Leaf}
 use Rattle.mpd_outcomes.specs.declared.report.Count.{Count}
 use Rattle.mpd_outcomes.specs.declared.report.Count.TheVariants.{Exactly}
 use Rattle.mpd_outcomes.specs.declared.sums.Tally.{Tally}
-use Rattle.mpd_outcomes.specs.Outcomes.{ending_eq, plus, counted, times}
+use Rattle.mpd_explore.specs.Ends.{ending_eq, has_end, times}
+use Rattle.mpd_outcomes.specs.Outcomes.{plus, counted}
 
 -- each count to the one of its number
 abbrev pub added : List Count → List Count → List Count
@@ -17,10 +18,6 @@ added (c ∷ cs) (d ∷ ds) = plus c d ∷ added cs ds
 -- one, of the way of a number
 abbrev pub one_at : ℕ → List Count
 one_at k = replicate k (Exactly 0) ++ Exactly 1 ∷ []
-
--- whether one of some leaves ends so
-abbrev pub has_end : List Leaf → Ending → Bool
-has_end ls e = list_any (λ l. ending_eq l.ending e) ls
 
 -- a leaf of that number ends so
 abbrev pub IsWay : List Leaf → Ending → ℕ → Type 0

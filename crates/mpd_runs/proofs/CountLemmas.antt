@@ -12,8 +12,9 @@ use Rattle.mpd_explore.specs.Report.{shown}
 use Rattle.mpd_outcomes.specs.declared.report.Count.{Count}
 use Rattle.mpd_outcomes.specs.declared.report.Count.TheVariants.{Exactly}
 use Rattle.mpd_outcomes.specs.declared.report.Outcomes.{Outcomes}
-use Rattle.mpd_outcomes.specs.Outcomes.{ending_eq, counted, plus, same_end, firsts, times, leaves_from, TellsRuns}
-use Rattle.mpd_outcomes.proofs.FirstLemmas.{ending_same, ending_each}
+use Rattle.mpd_explore.specs.Ends.{ending_eq, same_end, firsts, times}
+use Rattle.mpd_outcomes.specs.Outcomes.{counted, plus, leaves_from, TellsRuns}
+use Rattle.mpd_explore.proofs.FirstLemmas.{ending_same, ending_each}
 use Rattle.mpd_outcomes.proofs.TellLemmas.{plus_counted}
 use Rattle.mpd_runs.specs.declared.way.Way.{Way}
 use Rattle.mpd_runs.specs.declared.way.Way.TheVariants as way

@@ -17,7 +17,8 @@ use Rattle.mpd_explore.proofs.ListedLemmas.{not_less}
 use Rattle.mpd_outcomes.specs.declared.report.Goal.{Goal}
 use Rattle.mpd_outcomes.specs.declared.report.Goal.TheVariants as goal_is
 use Rattle.mpd_outcomes.specs.declared.report.Outcomes.{Outcomes}
-use Rattle.mpd_outcomes.specs.Outcomes.{same_end, firsts, leaves_from, TellsRuns}
+use Rattle.mpd_explore.specs.Ends.{same_end, firsts}
+use Rattle.mpd_outcomes.specs.Outcomes.{leaves_from, TellsRuns}
 use Rattle.mpd_outcomes.specs.Goals.{meets, meets_any, ends_at, states_along, StopsFor, StopsRuns}
 use Rattle.mpd_runs.specs.declared.counts.WayCounts.{WayCounts}
 use Rattle.mpd_runs.specs.declared.search.WholeRun.{WholeRun}

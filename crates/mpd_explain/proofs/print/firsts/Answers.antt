@@ -3,7 +3,7 @@ use Rattle.std.specs.List.{list_any}
 use Rattle.std.proofs.lemmas.List.{length-map}
 use Rattle.mpd_explain.specs.Told as told
 use Rattle.mpd_explain.proofs.PrintLemmas.{filter_more}
-use Rattle.mpd_explain.proofs.GroupLemmas.{finds_more}
+use Rattle.mpd_explain.proofs.KindLemmas.{finds_more}
 use Rattle.mpd_explain.proofs.print.firsts.Goals as goal
 
 pub loop-number-preserved : goal.loop-number-preserved

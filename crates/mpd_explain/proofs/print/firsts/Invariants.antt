@@ -1,7 +1,7 @@
 use Rattle.std.proofs.Common.{◌≡◌, ◌-◌, ◌++◌, map, string_bytes}
 use Rattle.std.specs.List.{filter, range_with_len}
 use Rattle.mpd_explain.specs.Told as told
-use Rattle.mpd_explain.proofs.GroupLemmas.{Finds}
+use Rattle.mpd_explain.proofs.KindLemmas.{Finds}
 use Rattle.mpd_explain.proofs.print.firsts.Given as goal
 
 abbrev pub invariant-loop-number : goal.invariant-loop-number

@@ -1,8 +1,8 @@
 use Rattle.std.proofs.Common.{◌≡◌, true, List, [], ◌∷◌, ◌++◌, length, slice_get, sym, ap, ◌∙◌}
 use Rattle.mpd_explore.specs.declared.report.Leaf.{Leaf}
-use Rattle.mpd_outcomes.specs.Sums.{has_end}
+use Rattle.mpd_explore.specs.Ends.{has_end}
 use Rattle.mpd_outcomes.specs.Front.{picked, open_in}
-use Rattle.mpd_outcomes.proofs.FirstLemmas.{ending_each}
+use Rattle.mpd_explore.proofs.FirstLemmas.{ending_each}
 use Rattle.mpd_outcomes.proofs.TellLemmas.{any_at, last_at}
 use Rattle.mpd_outcomes.proofs.MoveLemmas.{known_ways}
 use Rattle.mpd_outcomes.proofs.search.number_here.Goals as goal

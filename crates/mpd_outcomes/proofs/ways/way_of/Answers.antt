@@ -1,6 +1,6 @@
 use Rattle.std.proofs.Common.{◌≡◌, ◌<◌, ◌≤◌, ◌+◌, ℕ, suc, List, length, take, refl, sym, ap, ◌∙◌, arith}
 use Rattle.mpd_explore.specs.declared.report.Leaf.{Leaf}
-use Rattle.mpd_outcomes.specs.Sums.{has_end}
+use Rattle.mpd_explore.specs.Ends.{has_end}
 use Rattle.mpd_outcomes.proofs.TellLemmas.{read_at, ends_more, all_taken}
 use Rattle.mpd_outcomes.proofs.ways.way_of.Goals as goal
 

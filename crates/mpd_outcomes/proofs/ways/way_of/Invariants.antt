@@ -1,5 +1,5 @@
 use Rattle.std.proofs.Common.{◌≡◌, take, false}
-use Rattle.mpd_outcomes.specs.Sums.{has_end}
+use Rattle.mpd_explore.specs.Ends.{has_end}
 use Rattle.mpd_outcomes.proofs.ways.way_of.Given as goal
 
 abbrev pub invariant-loop-number : goal.invariant-loop-number

@@ -1,6 +1,7 @@
--- Leaves that end as no leaf before them does: those of two lists, one after the other, and whether they have an end.
-use Rattle.std.proofs.Common.{◌≡◌, ℕ, zero, suc, ◌==◌, Bool, true, false, cond, ◌&&◌, ◌||◌, not, Some, List, [], ◌∷◌, ◌++◌, slice_get, append-nil, refl, sym, ap, ◌∙◌}
-use Rattle.std.specs.List.{filter, list_all}
+-- Leaves that end as no leaf before them does: those of two lists, one after the other, whether they have an end, and where they stand.
+use Rattle.std.proofs.Common.{◌≡◌, ℕ, zero, suc, ◌==◌, Bool, true, false, cond, ◌&&◌, ◌||◌, not, Some, List, [], ◌∷◌, ◌++◌, take, slice_get, append-nil, refl, sym, ap, ◌∙◌}
+use Rattle.std.specs.List.{filter, list_all, AllByRecursion}
+use Rattle.std.specs.Cmp.Lexicographic.{pointwise}
 use Rattle.std.proofs.lemmas.Bool.{and_parts, not-true, eqb-true}
 use Rattle.std.proofs.lemmas.List.Elements.{filter-append}
 use Rattle.mpd_laws.proofs.ordered.Orderly.{same_id}
@@ -13,11 +14,9 @@ use Rattle.mpd_model.specs.steps.World.{id_eq}
 use Rattle.mpd_walk.specs.declared.ending.Ending.{Ending}
 use Rattle.mpd_walk.specs.declared.ending.Ending.TheVariants.{Ended, Cut}
 use Rattle.mpd_explore.specs.declared.report.Leaf.{Leaf}
-use Rattle.std.specs.Cmp.Lexicographic.{pointwise}
 use Rattle.mpd_explore.specs.Traps.{trap_eq}
+use Rattle.mpd_explore.specs.Ends.{trapped_eq, issued_eq, outcome_eq, ending_eq, same_end, firsts, has_end, before}
 use Rattle.mpd_explore.proofs.EndLemmas.{trap_same, trap_each, number_each}
-use Rattle.mpd_outcomes.specs.Outcomes.{trapped_eq, issued_eq, outcome_eq, ending_eq, same_end, firsts}
-use Rattle.mpd_outcomes.specs.Sums.{has_end}
 
 -- ---- the test of ends is one of equality
 
@@ -208,3 +207,33 @@ one_place (x ∷ xs) h (suc j) zero l m e f is =
     let at : x ≡ m = cc in
     both_false (same_end m l) (same_back l m is) (not-true (same_end m l) (ap (λ (z : Leaf). not (same_end z l)) (sym at) ∙ all_at (λ z. not (same_end x z)) xs j l h.0 e))
 one_place (x ∷ xs) h (suc j) (suc k) l m e f is = ap suc (one_place xs h.1 j k l m e f is)
+
+-- ---- where they stand
+
+neither : (a b : Bool) → (a || b) ≡ false → (a ≡ false) × (b ≡ false)
+neither true b f = absurd (cc)
+neither false b f = (refl, f)
+
+-- one that ends as none before it does stands where the first does that ends so
+pub before_new : (ls : List Leaf) (n : ℕ) (l : Leaf) → slice_get ls n ≡ Some l → has_end (take n ls) l.ending ≡ false → before ls l ≡ n
+before_new [] n l at none = absurd (cc)
+before_new (m ∷ ls) zero l at none = let is : m ≡ l = cc in λ j. cond ((ap (λ (z : Leaf). same_end z l) is ∙ ending_each l.ending) j) 0 (suc (before ls l))
+before_new (m ∷ ls) (suc n) l at none =
+    let parts = neither (same_end m l) (has_end (take n ls) l.ending) none in
+    (λ j. cond (parts.0 j) 0 (suc (before ls l))) ∙ ap suc (before_new ls n l at parts.1)
+
+-- each first stands there itself
+abbrev pub StandThere : List Leaf → List Leaf → Type 0
+StandThere leaves ls = AllByRecursion (λ l. slice_get leaves (before leaves l) ≡ Some l) ls
+
+stand_below : (x : Leaf) (xs ls : List Leaf) → StandThere xs ls → StandThere (x ∷ xs) (filter (λ m. not (same_end x m)) ls)
+stand_below x xs [] h = tt
+stand_below x xs (l ∷ ls) h = one (same_end x l) refl (stand_below x xs ls h.1)
+  where
+    one : (b : Bool) → same_end x l ≡ b → StandThere (x ∷ xs) (filter (λ m. not (same_end x m)) ls) → StandThere (x ∷ xs) (cond (not b) (l ∷ filter (λ m. not (same_end x m)) ls) (filter (λ m. not (same_end x m)) ls))
+    one true is more = more
+    one false is more = ((λ j. slice_get (x ∷ xs) (cond (is j) 0 (suc (before xs l)))) ∙ h.0, more)
+
+pub firsts_stand : (leaves : List Leaf) → StandThere leaves (firsts leaves)
+firsts_stand [] = tt
+firsts_stand (x ∷ xs) = ((λ j. slice_get (x ∷ xs) (cond (ending_each x.ending j) 0 (suc (before xs x)))), stand_below x xs (firsts xs) (firsts_stand xs))
