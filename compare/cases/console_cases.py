@@ -38,7 +38,7 @@ NO_NUMBERS = ('-1', '+1', '1.0', '1.', '.1', '0x1', '1234567890', '0000000001', 
 NO_NAMES = ('5', 'x[', 'x]', 'x[]', 'x[i]', 'x[-1]', 'x[0', '[0]', 'x[0]]', 'x.0', 'x+1', '*', 'a[0000000000]', '\xe9', 'x[0][0]', 'a [0]')
 OTHER_NAMES = ('foo', 'rank', 'size', 'send', '_', 'X', 'x0', 'y_', 'any', 'a' * 65)
 NO_WORDS = ('zap', 'stop', 'steps', 'st', 'exi', 'exits', 'bt1', 'wh', 'whence', 'S', 'v', 'nn', 'rx', '?x', 'sx',
-            'finish', 'quitt', 'un do', 'undo', 'undo-', 'undo_choice', 'choice', 'followed', 'fo', 'traps', 'tr', 'ux', 'fx',
+            'finish', 'quitt', 'un do', 'undone', 'undo-', 'undo_choice', 'choice', 'followed', 'fo', 'traps', 'tr', 'ux', 'fx',
             'NEXT', 'Next', 'brake', 'reverse', 'reverse-', 'brea', 'breakss', 'loc', 'wakean', 'matches',
             'nexts', '?help', '-', '--', '.', '0', '7', '\xff', '\xc3\xa9', 'next\xe9', 'n\x01', '\x7f', '~', 'run\x0b', '\x0c', 'x\x00y', 'h\xa0',
             'nex\xb2')
@@ -67,14 +67,18 @@ def shares(usual=2, **named):
     return {word: named.get(word.replace('-', '_'), usual) for word in words}
 
 
-MOVING = Habits(shares(1, next=20, run=12, back=5, run_back=4, undo_choice=6, goto=7, redo=9, local=10, deadlock=3, trap=3, follow=4, history=2, blame=2),
+MOVING = Habits(shares(1, watch=0, info=0, next=20, run=12, back=5, run_back=4, undo_choice=6, goto=7, redo=9, local=10, deadlock=3, trap=3, follow=4,
+                       history=2, blame=2),
                 (25, 40, 60))
 STOPPING = Habits(shares(1, next=8, run=16, back=4, run_back=12, redo=5, goto=2, **{'break': 12}, delete=4, breaks=4), (30, 50))
-LOOKING = Habits(shares(3, next=12, run=12, why=16, print=16, vars=6, list=4, calls=4, queues=4, ranks=4, enabled=4, check=6), (30, 45))
-ENDING = Habits(shares(1, next=14, run=22, back=4, undo_choice=9, redo=10, deadlock=8, trap=6, follow=8, check=8, why=6, history=3, goto=4, blame=10), (25, 40))
+LOOKING = Habits(shares(3, next=12, run=12, restart=1, watch=1, help=6, why=16, print=20, vars=6, list=4, calls=4, queues=4, ranks=4, enabled=4,
+                        check=6), (30, 45))
+ENDING = Habits(shares(1, restart=0, watch=0, info=0, next=14, run=22, back=4, undo_choice=9, redo=10, deadlock=8, trap=6, follow=8, check=8, why=6,
+                       history=3, goto=4, blame=10), (25, 40))
 FILLING = Habits(shares(0, **{'break': 60}, delete=3, breaks=1, run=2, run_back=2), (90, 110), spoiled=0.01)
 SPOILED = Habits(shares(3, next=8, run=4), (40, 60), spoiled=0.6, empty=0.15)
-HITTING = Habits(shares(1, next=10, run=20, back=4, undo_choice=9, redo=6, goto=4, local=6, **{'break': 14}, delete=4), (30, 50), hitting=0.9)
+HITTING = Habits(shares(1, next=10, run=20, back=4, undo_choice=9, redo=6, goto=4, local=6, restart=0, info=0, **{'break': 14}, watch=2, delete=4),
+                 (30, 50), hitting=0.9)
 # Of scripts in which a step decides, of which so many come in turn.
 BLAMING = Habits(shares(1, next=12, run=20, back=3, undo_choice=6, redo=8, goto=5, local=8, deadlock=8, trap=8, follow=8, blame=24, why=2, check=6, vars=3), (25, 40))
 BLAMING_TURNS, BLAMING_EVERY = (3, 9, 13), 20
@@ -331,14 +335,22 @@ class Talk:
 
     def help(self):
         names = [name for row in TABLE for name in names_of(row)]
-        return ['help', *self.maybe(lambda: self.random.choice([*names, *names, *NO_WORDS]), 0.8)]
+        return ['help', *self.maybe(lambda: self.random.choice([*names, *names, *NO_WORDS, *['all', 'choice'] * 9]), 0.8)]
+
+    def watch(self):
+        """A breakpoint on a name, mostly as the word `break` would set it."""
+        _, kind, *behind = self.break_()
+        return ['watch', *reversed(behind)] if kind == 'change' else ['watch', self.name(), self.rank()]
+
+    def info(self):
+        return ['info', self.random.choice(['breakpoints', 'breakpoints', 'ranks'])]
 
     def parts(self, word):
         """A word with what follows it."""
         if word in ('list', 'vars', 'calls'):
             return self.of_rank(word)
         drawing = {'break': self.break_, **{name: getattr(self, name) for name in (
-            'next', 'run', 'back', 'goto', 'redo', 'local', 'delete', 'print', 'why', 'history', 'check', 'follow',
+            'next', 'run', 'back', 'goto', 'redo', 'local', 'watch', 'delete', 'info', 'print', 'why', 'history', 'check', 'follow',
             'help')}}.get(word)
         return [word] if drawing is None else drawing()
 

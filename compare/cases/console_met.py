@@ -57,9 +57,10 @@ TOLD_BY = {
     'held back': rf'  could be matched with {CALL}.*, but for {CALL}.*', 'no partner': r'  has no partner yet: for a .*',
     'no step taken': r'no step is taken',
     'a trace word': r'(local|wake) \d+', 'a state': r'depth \d+ of \d+',
-    'short forms': r'  short: .*', 'more of help': r'help WORD tells more of a word, and its short forms',
+    'short forms': r'  short: .*', 'help of all words': r'help WORD tells more of a word, and its short forms',
+    'help of the words that one needs first': r'help all lists all words; .*', 'help of a choice': r'choice: a state in which .*',
     'help of one word': r'.*: (takes|goes|sets|removes|lists|shows|says|tries|looks|lays|ends).*',
-    'an unknown word, with one that is near': r"unknown word '.*': perhaps .*", 'an unknown word': r"unknown word '.*': help lists all",
+    'an unknown word, with one that is near': r"unknown word '.*': perhaps .*", 'an unknown word': r"unknown word '.*': help all lists all",
     'an unknown word with other bytes': r"unknown word '.*\?.*': .*", 'an unknown name': r"no variable or request is called '\w+'",
     'a name that is none': r"no variable or request is called '.*[^\w'].*'",
     **{f'refused: {why}': f'refused: {why}' for why in (

@@ -14,7 +14,8 @@ ALL_WORDS = [word for row in TABLE for word in row.words]
 
 
 # Short forms that another word has.
-MOVED = (('s', 'show'), ('step', 'run'), ('where', 'why'), ('where', 'list'), ('bt', 'back'), ('exit', 'history'))
+MOVED = (('s', 'show'), ('step', 'run'), ('where', 'why'), ('where', 'list'), ('bt', 'back'), ('exit', 'history'), ('b', 'back'), ('br', 'breaks'),
+         ('bk', 'break'), ('undo', 'undo-choice'), ('rs', 'run-back'), ('reverse-step', 'undo-choice'))
 
 
 def named(name, faults, owner=console_words):
@@ -97,6 +98,11 @@ def help_of_form(word=None):
     return SOUND['help_of'](word) if found is None else [f'{SOUND["usage"](found).removeprefix("usage: ")}: {row_of(found).what}']
 
 
+def done_as(**others):
+    """What has other words stand for others, by functions of what follows them."""
+    return lambda word, given: others[word](*given) if word in others else SOUND['same_as'](word, given)
+
+
 NUMBER, CALL, EVERY = console_words.NUMBER, console_words.CALL, (console_words.literal(console_words.ALL),)
 FOLLOWING_OTHERWISE = {
     'a sign before a number': {'next': ((), (signed,)), 'redo': ((), (signed,), EVERY)},
@@ -111,6 +117,10 @@ FOLLOWING_OTHERWISE = {
     'why of something alone': {'why': ((NUMBER,), (CALL,))},
     'no breakpoint of the word line': {'break': FOLLOWING['break'][:1] + FOLLOWING['break'][2:]},
     'a breakpoint of the letter l': {'break': (*FOLLOWING['break'], (console_words.literal('l'), NUMBER))},
+    'restart with a number': {'restart': ((), (NUMBER,))},
+    'info of the letter b': {'info': (*FOLLOWING['info'], (lambda word: 'breakpoints' if word == b'b' else None,))},
+    'info of breaks': {'info': (*FOLLOWING['info'], (console_words.literal('breaks'),))},
+    'info alone': {'info': ((), *FOLLOWING['info'])},
     'history without a number': {'history': ((),)}, 'check with a number alone': {'check': ((NUMBER,),)}}
 
 
@@ -171,6 +181,22 @@ def word_faults():
             'the first alone': lambda row: SOUND['short_lines'](row._replace(short=row.short[:1])),
             'the word too': lambda row: SOUND['short_lines'](row._replace(short=(*row.words[:1], *row.short) if row.short else ())),
             'no spaces': lambda row: [line.strip() for line in SOUND['short_lines'](row)]}),
+        *named('same_as', {
+            'restart goes to 1': done_as(restart=lambda: Asked('goto', (1,))),
+            'restart runs back': done_as(restart=lambda: Asked('run-back')),
+            'info ranks lists breakpoints': done_as(info=lambda what: Asked('breaks')),
+            'info breakpoints tells of ranks': done_as(info=lambda what: Asked('ranks')),
+            'a watch of rank 0': done_as(watch=lambda name, rank: Asked('break', ('change', 0, name))),
+            'a watch that prints': done_as(watch=lambda name, rank: Asked('print', (name, rank))),
+            'a watch whose name is its rank': done_as(watch=lambda name, rank: Asked('break', ('change', rank, str(rank).encode())))}),
+        *[Breakage(f'help of the first words: {what}', console_words, 'FIRST', words) for what, words in (
+            ('no blame', tuple(word for word in console_words.FIRST if word != 'blame')), ('help too', (*console_words.FIRST, 'help')),
+            ('why before print', ('next', 'run', 'back', 'undo-choice', 'list', 'why', 'print', 'deadlock', 'blame', 'quit')))],
+        *[Breakage(f'help of the first words: {what}', console_words, 'MORE_FIRST', lines) for what, lines in (
+            ('no line of choices', console_words.MORE_FIRST[::2]), ('no last line', console_words.MORE_FIRST[:2]),
+            ('the last lines of all', console_words.MORE_HELP))],
+        Breakage('help of a choice: from 0', console_words, 'CHOICE', console_words.CHOICE.replace('from 1', 'from 0')),
+        Breakage('help: no choice', console_words, 'HELP_ON', (b'all',)),
         *[Breakage(f'help: {what}', console_words, 'MORE_HELP', lines) for what, lines in (
             ('the last line alone', console_words.MORE_HELP[1:]), ('no last line', console_words.MORE_HELP[:1]),
             ('the last line first', console_words.MORE_HELP[::-1]))],
@@ -180,4 +206,6 @@ def word_faults():
             'up to the semicolon': lambda word=None: [line.partition(';')[0] for line in SOUND['help_of'](word)],
             'the form of the word alone': help_of_form,
             'the short forms first': lambda word=None: SOUND['help_of'](word)[::-1] if word else SOUND['help_of'](),
+            'all words at once': lambda word=None: SOUND['help_of'](word or b'all'),
+            'the first words for all': lambda word=None: SOUND['help_of'](None if word == b'all' else word),
             'no word': lambda word=None: SOUND['help_of']()})]

@@ -11,6 +11,12 @@ from model.debugger import call_id_of, number_of
 COLUMNS = 36
 # What stands below that list.
 MORE_HELP = 'help WORD tells more of a word, and its short forms', 'an empty line does the last word once more'
+# The words that one needs first, and what stands below the list of these.
+FIRST = 'next', 'run', 'back', 'undo-choice', 'list', 'print', 'why', 'deadlock', 'blame', 'quit'
+MORE_FIRST = ('help all lists all words; help WORD tells more of one, and its short forms', 'help choice tells what a choice is',
+              'an empty line does the last word once more')
+CHOICE = ('choice: a state in which one of several steps is to be taken next, as which message a receive of any source gets; next lists them, '
+          'next N takes one, from 1 (reports count them from 0, in [..]), undo-choice comes back to take another, and check tries all of them')
 # So many bytes of its beginning a word that is none must have in common with the one that it is told with.
 LEAST_SHARED = 2
 
@@ -29,21 +35,24 @@ class Row(NamedTuple):
 
 TABLE = (
     Row(('next [N]',), ('n', 'step', 's'),
-        'takes the step that comes next; at a choice the one that lies ahead, or it lists the candidates, of which next N takes one, from 1; '
-        'elsewhere next N is run N'),
+        'takes the step that comes next; at a choice the one that lies ahead, or it lists the candidates, of which next N takes one, from 1 '
+        '(reports count them from 0, in [..]); elsewhere next N is run N'),
     Row(('run [N]',), ('r', 'continue', 'c'), 'goes on to a breakpoint, a choice or an end; or so many steps at most'),
-    Row(('back [N]',), ('b', 'reverse-next'), 'takes a step back, or so many'),
+    Row(('back [N]',), ('bk', 'undo', 'rs', 'reverse-step', 'reverse-next'), 'takes a step back, or so many'),
     Row(('run-back',), ('rc', 'reverse-continue'), 'goes back to a breakpoint, or to the start'),
     Row(('undo-choice',), ('u',), 'goes back to the last choice; another candidate can be taken there'),
     Row(('goto N',), ('g',), 'goes to where so many steps are taken; back, or along the steps ahead'),
+    Row(('restart',), (), 'goes back to the start; redo all goes along the same steps again'),
     Row(('redo [N]', 'redo all'), (), 'takes the first step ahead, or so many; as far as there are, or all'),
     Row(('local P', 'match S R', 'wake P', 'wakeany P I', 'release'), (),
         'takes this step; P is a rank, S and R are a send and a receive as 1.0, and I is the number of a request of a waitany, from 0'),
-    Row(('break LINE', 'break match LINE', 'break change P NAME'), (),
-        'sets a breakpoint (b is back); behind a step by which a rank comes to that line, behind a match of a call of that line, behind a change '
-        'of that variable or request of rank P'),
+    Row(('break LINE', 'break match LINE', 'break change P NAME'), ('b', 'br'),
+        'sets a breakpoint; after a step by which a rank comes to that line, after a match of a call of that line, after a change of that variable '
+        'or request of rank P'),
+    Row(('watch NAME P',), (), 'sets a breakpoint on a variable or a request; the same as break change P NAME'),
     Row(('delete N',), ('d',), 'removes a breakpoint'),
     Row(('breaks',), (), 'lists the breakpoints'),
+    Row(('info breakpoints', 'info ranks'), (), 'lists breakpoints, or what ranks are doing; the same as breaks, and as ranks'),
     Row(('list [P]',), ('l',), 'shows the script, and where ranks stand; or the lines about rank P'),
     Row(('print NAME [P]',), ('p',), 'shows a variable or a request; of all ranks, or of rank P'),
     Row(('vars [P]',), (), 'shows all variables in short; requests, and what was printed, too'),
@@ -55,13 +64,15 @@ TABLE = (
     Row(('picture',), (), 'draws the run so far'),
     Row(('check [N]',), (), 'tries the choices, and lists how runs end; from here, 1,000 or N of them at most'),
     Row(('follow N',), ('f',), 'lays the steps of a run ahead; N is its number in a check from here'),
-    Row(('deadlock',), (), "lays the first deadlock's steps ahead; the first from here, so that run and redo go there"),
+    Row(('deadlock',), (), "lays the first deadlock's steps ahead; the first from here, so that run and redo go there; at a deadlock ranks wait, "
+        'and no step can be taken'),
     Row(('trap',), (), "lays the first trap's steps ahead; a trap ends a rank at an error, as a failed assert or a division by 0"),
-    Row(('blame',), (), 'goes to the step that decided how the run ends; from there on every run ends badly'),
+    Row(('blame',), (), 'goes to the step that decided how it ends; from there on every run ends badly'),
     Row(('words',), (), 'lists the steps taken as trace words; to be kept in a file'),
     Row(('enabled',), (), 'lists the steps that are enabled'),
     Row(('show',), (), 'shows the whole state, as a trace does; docs/FORMATS.md, "Text of show"'),
-    Row(('help [WORD]',), ('?',), 'lists the words, or tells of one'),
+    Row(('help [WORD]', 'help all', 'help choice'), ('?',),
+        'lists words to begin with, or tells of one; help all lists all words; help choice tells what a choice is'),
     Row(('quit',), ('q', 'exit'), 'ends'))
 
 
@@ -80,13 +91,16 @@ NUMBER, CALL, STEPS = number_of, call_id_of, ('local', 'match', 'wake', 'wakeany
 MAYBE_NUMBER = (), (NUMBER,)
 # All steps that are ahead.
 ALL = 'all'
+# What help tells of beside words.
+HELP_ON = b'all', b'choice'
 # What may follow each word: lists of what reads the words behind it, one of which must fit.
 FOLLOWING = {
     'next': MAYBE_NUMBER, 'run': MAYBE_NUMBER, 'back': MAYBE_NUMBER, 'run-back': ((),), 'undo-choice': ((),), 'goto': ((NUMBER,),),
-    'redo': (*MAYBE_NUMBER, (literal(ALL),)),
+    'restart': ((),), 'redo': (*MAYBE_NUMBER, (literal(ALL),)),
     'local': ((NUMBER,),), 'match': ((CALL, CALL),), 'wake': ((NUMBER,),), 'wakeany': ((NUMBER, NUMBER),), 'release': ((),),
-    'break': ((NUMBER,), (literal('line'), NUMBER), (literal('match'), NUMBER), (literal('change'), NUMBER, NAME)), 'delete': ((NUMBER,),),
-    'breaks': ((),), 'list': MAYBE_NUMBER, 'print': ((NAME,), (NAME, NUMBER)), 'vars': MAYBE_NUMBER, 'ranks': ((),), 'calls': MAYBE_NUMBER,
+    'break': ((NUMBER,), (literal('line'), NUMBER), (literal('match'), NUMBER), (literal('change'), NUMBER, NAME)),
+    'watch': ((NAME, NUMBER),), 'delete': ((NUMBER,),), 'breaks': ((),), 'info': ((literal('breakpoints'),), (literal('ranks'),)),
+    'list': MAYBE_NUMBER, 'print': ((NAME,), (NAME, NUMBER)), 'vars': MAYBE_NUMBER, 'ranks': ((),), 'calls': MAYBE_NUMBER,
     'queues': ((),), 'why': ((), (NUMBER,), (CALL,)), 'history': MAYBE_NUMBER, 'picture': ((),), 'check': MAYBE_NUMBER,
     'follow': ((NUMBER,),), 'deadlock': ((),), 'trap': ((),), 'blame': ((),), 'words': ((),), 'enabled': ((),), 'show': ((),),
     'help': ((), (any_word,)), 'quit': ((),)}
@@ -154,7 +168,7 @@ def shown(word):
 def unknown(word):
     """What is told of a word that is none."""
     name = nearest(word)
-    return f"unknown word '{shown(word)}': {'help lists all' if name is None else f'perhaps {name}'}"
+    return f"unknown word '{shown(word)}': {'help all lists all' if name is None else f'perhaps {name}'}"
 
 
 def usage(word):
@@ -175,6 +189,18 @@ def given_by(word, behind):
     return None
 
 
+def same_as(word, given):
+    """What a word with what follows it asks for: some words are others by another name."""
+    if word == 'restart':
+        return Asked('goto', (0,))
+    if word == 'watch':
+        name, rank = given
+        return Asked('break', ('change', rank, name))
+    if word == 'info':
+        return Asked('breaks' if given == ('breakpoints',) else 'ranks')
+    return Asked(word, given)
+
+
 def read_line(line):
     """What a line that has a word asks for; what its names mean isn't looked at."""
     first, *behind = words_of(line)
@@ -184,9 +210,9 @@ def read_line(line):
     given = given_by(word, behind)
     if given is None:
         raise NotAsked(usage(word))
-    if word == 'help' and given and row_of(given[0].decode('latin-1')) is None:
+    if word == 'help' and given and given[0] not in HELP_ON and row_of(given[0].decode('latin-1')) is None:
         raise NotAsked(unknown(given[0]))
-    return Asked(word, given)
+    return same_as(word, given)
 
 
 # ---- help
@@ -202,8 +228,12 @@ def short_lines(row):
 
 
 def help_of(word=None):
-    """The lines of help: of all words, or of one that there is."""
+    """The lines of help: of the words that one needs first, of all, what a choice is, or of one word that there is."""
     if word is None:
+        return [*(in_short(row_of(first)) for first in FIRST), *MORE_FIRST]
+    if word == b'all':
         return [*map(in_short, TABLE), *MORE_HELP]
+    if word == b'choice':
+        return [CHOICE]
     row = row_of(word.decode('latin-1'))
     return [f'{", ".join(row.forms)}: {row.what}', *short_lines(row)]

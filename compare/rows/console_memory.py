@@ -120,7 +120,12 @@ local 9
 brake
 zap
 help
+help all
+help choice
 help next
+watch a 0
+info ranks
+restart
 help zap
 print y
 print a[2]

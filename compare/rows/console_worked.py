@@ -11,13 +11,14 @@ from typing import NamedTuple
 from unittest import mock
 
 from model import console, debugger, explorer
-from model.console_words import MORE_HELP, TABLE, full_name
+from model.console_words import CHOICE, FIRST, MORE_FIRST, MORE_HELP, TABLE, full_name
 from rows.console_starts import STARTS, start_problem
 from rows.examples import EXAMPLES
 from rows.worked_console_along import ALONG
 from rows.worked_console_blame import BLAME, CUT_FROM_HERE
 from rows.worked_console_choices import CHOICES
 from rows.worked_console_going import GOING
+from rows.worked_console_help import HELP
 from rows.worked_console_hits import HITS
 from rows.worked_console_looks import LOOKS
 from rows.worked_console_moves import FIRST_RUNS, MOVES
@@ -28,7 +29,7 @@ from rows.worked_console_told import TOLD
 from rows.worked_console_ways import WAYS
 
 PAGE = os.path.join(os.path.dirname(EXAMPLES), 'docs', 'CONSOLE.md')
-DIALOGUES = MOVES + ALONG + LOOKS + TOLD + TEXTS + CHOICES + SOUGHT + WAYS + GOING + HITS + BLAME
+DIALOGUES = MOVES + ALONG + LOOKS + TOLD + TEXTS + HELP + CHOICES + SOUGHT + WAYS + GOING + HITS + BLAME
 SLOW = ALL_RUNS + FIRST_RUNS
 # What takes the model long: runs of 100,000 steps, and of one more.
 CUT = (
@@ -147,19 +148,19 @@ ENDINGS = (
     Ending('carriage returns before line feeds', b'next\r\n\r\n', FIRST_STEP + f'2 local 0: line 2\nnext: local 0: line 2\n{SOURCE}'),
     Ending('a carriage return at the end of the input', b'next\r', "unknown word 'next?': perhaps next\n"),
     Ending('two carriage returns', b'next\r\r\n', "unknown word 'next?': perhaps next\n"),
-    Ending('a carriage return alone', b'next\n\r\r\n', FIRST_STEP + "unknown word '?': help lists all\n"),
+    Ending('a carriage return alone', b'next\n\r\r\n', FIRST_STEP + "unknown word '?': help all lists all\n"),
     Ending('as long as a line may be', b'next' + b' ' * 4092 + b'\r\n', FIRST_STEP),
     Ending('one byte more', b'next' + b' ' * 4093 + b'\n', TOO_LONG),
     Ending('one byte more, at the end', b'next' + b' ' * 4092 + b'\r', TOO_LONG),
     Ending('a comment that is too long', b'#' * 4097 + b'\n#' + b'#' * 4095, TOO_LONG),
     Ending('blanks that are too long, and what was last', b'next\n' + b' ' * 4097 + b'\n\n',
            f'{FIRST_STEP}{TOO_LONG}2 local 0: line 2\nnext: local 0: line 2\n{SOURCE}'),
-    Ending('a long word', b'n' * 4096, f"unknown word\n        '{'n' * 4096}':\n        help lists all\n"),
+    Ending('a long word', b'n' * 4096, f"unknown word\n        '{'n' * 4096}':\n        help all lists all\n"),
     Ending('a long word that begins as another', b'ne' * 2048, f"unknown word\n        '{'ne' * 2048}':\n        perhaps next\n"),
-    Ending('bytes that are no UTF-8', b'\xff\xfe next\nn\xc3\nn\xc3\xa9\n', "unknown word '??': help lists all\nunknown word 'n?': help lists all\n"
-           "unknown word 'n??': help lists all\n"),
+    Ending('bytes that are no UTF-8', b'\xff\xfe next\nn\xc3\nn\xc3\xa9\n',
+           "unknown word '??': help all lists all\nunknown word 'n?': help all lists all\nunknown word 'n??': help all lists all\n"),
     Ending('what is no UTF-8 behind two bytes of a word', b'ne\xc3\nn\xffext\nSh\xff\nsh\x80w\n', "unknown word 'ne?': perhaps next\n"
-           "unknown word 'n?ext': help lists all\nunknown word 'Sh?': help lists all\nunknown word 'sh?w': perhaps show\n"),
+           "unknown word 'n?ext': help all lists all\nunknown word 'Sh?': help all lists all\nunknown word 'sh?w': perhaps show\n"),
     Ending('bytes that are no text behind a word', b'next \xff\nprint \x00\nbreak change 0 \xc3\n',
            "usage: next [N]\nno variable or request is called '?'\nno variable or request is called '?'\n"),
     Ending('an empty line first', b'\n\n', ''),
@@ -170,7 +171,8 @@ ENDINGS = (
            f'3 local 0: line 2\nnext: local 0: line 2\n{SOURCE}'),
     Ending('the end with blanks', b' \t q\t \r\nnext\n', ''),
     Ending('the end with a carriage return in it', b'quit\r\r\nnext\n', f"unknown word 'quit?': perhaps quit\n{FIRST_STEP}"),
-    Ending('the end with one before it', b'\rq\n\r\r\nnext\n', f"unknown word '?q': help lists all\nunknown word '?': help lists all\n{FIRST_STEP}"),
+    Ending('the end with one before it', b'\rq\n\r\r\nnext\n',
+           f"unknown word '?q': help all lists all\nunknown word '?': help all lists all\n{FIRST_STEP}"),
     Ending('an end that is too long', b'quit' + b' ' * 4093 + b'\nnext\n', TOO_LONG + FIRST_STEP),
     Ending('an end that is a comment, and one with more words', b'#quit\nquit #\nqui\nquitt\nnext\n', "usage: quit\n"
            f"unknown word 'qui': perhaps quit\nunknown word 'quitt': perhaps quit\n{FIRST_STEP}"),
@@ -225,11 +227,16 @@ def refusals_problem():
     return None if told == here else f'the page has {told ^ here}'
 
 
+# How the page tells the words that one needs first.
+FIRST_TOLD = ', '.join(f'`{word}`' for word in FIRST[:-1]) + f' and `{FIRST[-1]}`: the first column'
+
+
 def lines_problem():
     """Which lines of the model the page doesn't have: at a terminal, and below the list of all words; None where it has all."""
     with open(PAGE, encoding='ascii') as file:
         page = file.read()
-    missing = [line for line in (f'\n    {console.GREETING}\n', *(f'`{line}`' for line in MORE_HELP)) if line not in page]
+    told = [f'`{line}`' for line in (*MORE_FIRST, *MORE_HELP, CHOICE)]
+    missing = [line for line in (f'\n    {console.GREETING}\n', FIRST_TOLD, *told) if line not in page]
     return f'the page has no {missing}' if missing else None
 
 

@@ -154,8 +154,8 @@ unknown word 'blam': perhaps blame
 > bl
 unknown word 'bl': perhaps blame
 > help blame
-blame: goes to the step that decided how the run ends; from there on every run
-        ends badly
+blame: goes to the step that decided how it ends; from there on every run ends
+        badly
 '''),
     Dialogue('what decided the deadlock of a witness', 'stolen_message.mpd', f'''
 deadlock 0.1 2.0 is 11 steps ahead

@@ -386,6 +386,10 @@ breakpoint 0: change 0 a[1]
 breakpoint 1: change 1 b
 > break change 0 a
 refused: an array needs an index here
+> watch a 0
+refused: an array needs an index here
+> watch a[3] 0
+refused: there is no such index
 > break change 0 a[3]
 refused: there is no such index
 > break change 0 b[0]

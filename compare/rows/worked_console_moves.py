@@ -113,7 +113,7 @@ depth 7
 8 local 1: line 9
 rank 1 prints 7
 ended: done
-> b 3
+> bk 3
 depth 5
 3 ahead: wake 0: line 6
     6    send 7 to 1 tag 0;

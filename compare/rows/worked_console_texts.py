@@ -1,6 +1,6 @@
-"""Worked dialogues of the console of words: numbers, words that are none, forms that do not fit, blanks, help (console_worked.py)."""
+"""Worked dialogues of the console of words: numbers, words that are none, forms that do not fit, blanks (console_worked.py)."""
 
-from rows.worked_console_scripts import PRINTS, Dialogue
+from rows.worked_console_scripts import Dialogue
 
 # Where statements begin in examples/loop.mpd.
 STATEMENTS = 6, 7, 8, 10
@@ -170,25 +170,43 @@ ended: done
 > brake
 unknown word 'brake': perhaps break
 > zap
-unknown word 'zap': help lists all
+unknown word 'zap': help all lists all
 > NEXT
-unknown word 'NEXT': help lists all
+unknown word 'NEXT': help all lists all
 > Next
-unknown word 'Next': help lists all
+unknown word 'Next': help all lists all
 > nn
-unknown word 'nn': help lists all
+unknown word 'nn': help all lists all
 > ne xt
 unknown word 'ne': perhaps next
 > rx
-unknown word 'rx': help lists all
+unknown word 'rx': help all lists all
 > ru
 unknown word 'ru': perhaps run
 > rcs 1
 unknown word 'rcs': perhaps rc
 > re
-unknown word 're': perhaps reverse-next
+unknown word 're': perhaps reverse-step
 > reverse-
-unknown word 'reverse-': perhaps reverse-next
+unknown word 'reverse-': perhaps reverse-step
+> reverse-n
+unknown word 'reverse-n': perhaps reverse-next
+> rest
+unknown word 'rest': perhaps restart
+> wa
+unknown word 'wa': perhaps wake
+> watchpoint
+unknown word 'watchpoint': perhaps watch
+> information
+unknown word 'information': perhaps info
+> br1
+unknown word 'br1': perhaps break
+> bkk
+unknown word 'bkk': perhaps bk
+> bx
+unknown word 'bx': help all lists all
+> rs1
+unknown word 'rs1': perhaps rs
 > reverse-c
 unknown word 'reverse-c': perhaps reverse-continue
 > red
@@ -197,16 +215,18 @@ unknown word 'red': perhaps redo
 unknown word 'breaksome': perhaps breaks
 > breakpoint
 unknown word 'breakpoint': perhaps break
-> undo
-unknown word 'undo': perhaps undo-choice
+> und
+unknown word 'und': perhaps undo
 > undochoice
-unknown word 'undochoice': perhaps undo-choice
+unknown word 'undochoice': perhaps undo
+> undo-
+unknown word 'undo-': perhaps undo-choice
 > f1
-unknown word 'f1': help lists all
+unknown word 'f1': help all lists all
 > tarp
-unknown word 'tarp': help lists all
+unknown word 'tarp': help all lists all
 > jump
-unknown word 'jump': help lists all
+unknown word 'jump': help all lists all
 > wakeal
 unknown word 'wakeal': perhaps wakeany
 > lost
@@ -214,11 +234,11 @@ unknown word 'lost': perhaps local
 > li
 unknown word 'li': perhaps list
 > dump
-unknown word 'dump': help lists all
+unknown word 'dump': help all lists all
 > cont
 unknown word 'cont': perhaps continue
 > finish
-unknown word 'finish': help lists all
+unknown word 'finish': help all lists all
 > stop
 unknown word 'stop': perhaps step
 > steps 2
@@ -226,11 +246,11 @@ unknown word 'steps': perhaps step
 > sh
 unknown word 'sh': perhaps show
 > so
-unknown word 'so': help lists all
+unknown word 'so': help all lists all
 > S
-unknown word 'S': help lists all
+unknown word 'S': help all lists all
 > v
-unknown word 'v': help lists all
+unknown word 'v': help all lists all
 > va
 unknown word 'va': perhaps vars
 > wh
@@ -246,21 +266,21 @@ unknown word 'ex': perhaps exit
 > exist
 unknown word 'exist': perhaps exit
 > ?next
-unknown word '?next': help lists all
+unknown word '?next': help all lists all
 > ??
-unknown word '??': help lists all
+unknown word '??': help all lists all
 > next\xe9
 unknown word 'next?': perhaps next
 > \xfe
-unknown word '?': help lists all
+unknown word '?': help all lists all
 > x\x01~\x7f
-unknown word 'x?~?': help lists all
+unknown word 'x?~?': help all lists all
 > help brake
 unknown word 'brake': perhaps break
 > help zap
-unknown word 'zap': help lists all
+unknown word 'zap': help all lists all
 > help Next
-unknown word 'Next': help lists all
+unknown word 'Next': help all lists all
 '''),
     Dialogue('forms that a line does not fit', 'loop.mpd', '''
 > next x
@@ -380,9 +400,39 @@ usage: enabled
 > show 1
 usage: show
 > help next run
-usage: help [WORD]
+usage: help [WORD], help all, help choice
 > help zap run
-usage: help [WORD]
+usage: help [WORD], help all, help choice
+> help all all
+usage: help [WORD], help all, help choice
+> restart 0
+usage: restart
+> watch
+usage: watch NAME P
+> watch sum
+usage: watch NAME P
+> watch 0 sum
+usage: watch NAME P
+> watch nope x
+usage: watch NAME P
+> watch sum 0 0
+usage: watch NAME P
+> info
+usage: info breakpoints, info ranks
+> info breakpoint
+usage: info breakpoints, info ranks
+> info Ranks
+usage: info breakpoints, info ranks
+> info b
+usage: info breakpoints, info ranks
+> info breaks
+usage: info breakpoints, info ranks
+> info breakpoints 0
+usage: info breakpoints, info ranks
+> b
+usage: break LINE, break match LINE, break change P NAME
+> bk x
+usage: back [N]
 > quit now
 usage: quit
 '''),
@@ -425,6 +475,16 @@ no variable or request is called 'nope'
 no variable or request is called 'sum[1'
 > break change 9 i
 refused: there is no such rank
+> watch nope 9
+no variable or request is called 'nope'
+> watch 5 0
+no variable or request is called '5'
+> watch i[0] 9
+refused: there is no such index
+> watch i 9
+refused: there is no such rank
+>
+refused: there is no such rank
 > break change x nope
 usage: break LINE, break match LINE, break change P NAME
 > print i
@@ -444,7 +504,7 @@ next: local 0: line 7
 next: local 0: line 8
     8    sum = sum + i;
 > nxt
-unknown word 'nxt': help lists all
+unknown word 'nxt': help all lists all
 >
 3 local 0: line 8
 next: local 0: line 6
@@ -482,7 +542,7 @@ refused: fewer steps are taken
 2 ahead: local 0: line 8
     8    sum = sum + i;
 > help zap
-unknown word 'zap': help lists all
+unknown word 'zap': help all lists all
 > print sum[0]
 refused: there is no such index
 >
@@ -514,7 +574,7 @@ depth 2
 2 ahead: local 0: line 8
     8    sum = sum + i;
 > zap
-unknown word 'zap': help lists all
+unknown word 'zap': help all lists all
 >
 depth 2
 2 ahead: local 0: line 8
@@ -526,149 +586,6 @@ rank 0: sum = 0
 >
 rank 0: sum = 0
 > quit
-'''),
-    Dialogue('help, of all words and of some', PRINTS, '''
-> help
-next [N]                            takes the step that comes next
-run [N]                             goes on to a breakpoint, a choice or an end
-back [N]                            takes a step back, or so many
-run-back                            goes back to a breakpoint, or to the start
-undo-choice                         goes back to the last choice
-goto N                              goes to where so many steps are taken
-redo [N], redo all                  takes the first step ahead, or so many
-local P, match S R, wake P, wakeany P I, release takes this step
-break LINE, break match LINE, break change P NAME sets a breakpoint (b is back)
-delete N                            removes a breakpoint
-breaks                              lists the breakpoints
-list [P]                            shows the script, and where ranks stand
-print NAME [P]                      shows a variable or a request
-vars [P]                            shows all variables in short
-ranks                               shows what each rank is doing
-calls [P]                           lists the calls of all ranks, or of rank P
-queues                              lists the sends and receives that are free
-why [P], why CALL                   says why ranks wait
-history [N]                         lists the last 10 steps, or the last N
-picture                             draws the run so far
-check [N]                           tries the choices, and lists how runs end
-follow N                            lays the steps of a run ahead
-deadlock                            lays the first deadlock's steps ahead
-trap                                lays the first trap's steps ahead
-blame                               goes to the step that decided how the run
-        ends
-words                               lists the steps taken as trace words
-enabled                             lists the steps that are enabled
-show                                shows the whole state, as a trace does
-help [WORD]                         lists the words, or tells of one
-quit                                ends
-help WORD tells more of a word, and its short forms
-an empty line does the last word once more
-> help next
-next [N]: takes the step that comes next; at a choice the one that lies ahead,
-        or it lists the candidates, of which next N takes one, from 1; elsewhere
-        next N is run N
-  short: n, step, s
-> help w
-why [P], why CALL: says why ranks wait; all of them, or rank P; or why a call
-        isn't matched, CALL as 0.1
-  short: w
-> help u
-undo-choice: goes back to the last choice; another candidate can be taken there
-  short: u
-> help f
-follow N: lays the steps of a run ahead; N is its number in a check from here
-  short: f
-> help deadlock
-deadlock: lays the first deadlock's steps ahead; the first from here, so that
-        run and redo go there
-> help trap
-trap: lays the first trap's steps ahead; a trap ends a rank at an error, as a
-        failed assert or a division by 0
-> help b
-back [N]: takes a step back, or so many
-  short: b, reverse-next
-> ? wakeany
-local P, match S R, wake P, wakeany P I, release: takes this step; P is a rank,
-        S and R are a send and a receive as 1.0, and I is the number of a
-        request of a waitany, from 0
-> help local
-local P, match S R, wake P, wakeany P I, release: takes this step; P is a rank,
-        S and R are a send and a receive as 1.0, and I is the number of a
-        request of a waitany, from 0
-> help g
-goto N: goes to where so many steps are taken; back, or along the steps ahead
-  short: g
-> help redo
-redo [N], redo all: takes the first step ahead, or so many; as far as there are,
-        or all
-> help break
-break LINE, break match LINE, break change P NAME: sets a breakpoint (b is
-        back); behind a step by which a rank comes to that line, behind a match
-        of a call of that line, behind a change of that variable or request of
-        rank P
-> help line
-unknown word 'line': perhaps list
-> help all
-unknown word 'all': help lists all
-> help l
-list [P]: shows the script, and where ranks stand; or the lines about rank P
-  short: l
-> help c
-run [N]: goes on to a breakpoint, a choice or an end; or so many steps at most
-  short: r, continue, c
-> help reverse-continue
-run-back: goes back to a breakpoint, or to the start
-  short: rc, reverse-continue
-> help where
-ranks: shows what each rank is doing
-  short: bt, where
-> help exit
-quit: ends
-  short: q, exit
-> ? s
-next [N]: takes the step that comes next; at a choice the one that lies ahead,
-        or it lists the candidates, of which next N takes one, from 1; elsewhere
-        next N is run N
-  short: n, step, s
-> help breaks
-breaks: lists the breakpoints
-> help vars
-vars [P]: shows all variables in short; requests, and what was printed, too
-> help check
-check [N]: tries the choices, and lists how runs end; from here, 1,000 or N of
-        them at most
-> help show
-show: shows the whole state, as a trace does; docs/FORMATS.md, "Text of show"
-> help ?
-help [WORD]: lists the words, or tells of one
-  short: ?
-> vars
-rank 0 has no variable
-> words
-> next
-1 local 0: line 1
-rank 0 prints -7
-next: local 0: line 3
-    3  print 2;\t# 2
-> list
-    1  mpd 1; ranks 1; print -7;
-    2  
-    3  print 2;\t# 2  <- rank 0
-    4  #\r
-    5   
-> next
-2 local 0: line 3
-rank 0 prints 2
-ended: done
-> vars
-rank 0 has no variable
-rank 0 has printed -7 2
-> list
-    1  mpd 1; ranks 1; print -7;
-    2  
-    3  print 2;\t# 2
-    4  #\r
-    5   
-ended: rank 0
 '''),
     Dialogue('a line that is too long, and others that say nothing', 'loop.mpd', f'''
 > next
@@ -683,7 +600,7 @@ refused: this line is too long
 next: local 0: line 8
     8    sum = sum + i;
 > zap
-unknown word 'zap': help lists all
+unknown word 'zap': help all lists all
 > q
 '''),
     Dialogue('64 breakpoints', 'loop.mpd', ''.join(map(set_at, range(1, 65))) + '''> break 1

@@ -138,7 +138,7 @@ no variable or request is called
 > {'z' * 100} 1
 unknown word
         '{'z' * 100}':
-        help lists all
+        help all lists all
 > run 0
 refused: 1 to 1000000 steps can be asked for
 > run

@@ -101,7 +101,7 @@ Options:
       --ends               The choices are those of a leaf of `check --ends` or `check --sample`
   -h, --help               Print help
 
-Words stand on standard input, one line each; help lists them all:
+Words stand on standard input, one line each; help all lists them:
   next, run, back, run-back, goto N, redo   go forward and back
   list, ranks, vars, calls, why P           look
   check, deadlock                           try the choices from here, go to a deadlock

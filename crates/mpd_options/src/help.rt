@@ -31,7 +31,7 @@ Example:
 
 const DEBUG_ABOUT: &str = "Debug the script of a file, at a prompt";
 
-const DEBUG_EXAMPLE: &str = "Words stand on standard input, one line each; help lists them all:
+const DEBUG_EXAMPLE: &str = "Words stand on standard input, one line each; help all lists them:
   next, run, back, run-back, goto N, redo   go forward and back
   list, ranks, vars, calls, why P           look
   check, deadlock                           try the choices from here, go to a deadlock

@@ -39,7 +39,7 @@ pub ruleset sharing = (shared_ended, skip_one)
 
 -- ---- hints
 
-pub hint_none : (name : List ℕ) → (length name == 0) ≡ true → line (codes "': help lists all" ++ []) ≡ hint name
+pub hint_none : (name : List ℕ) → (length name == 0) ≡ true → line (codes "': help all lists all" ++ []) ≡ hint name
 hint_none [] h = refl
 hint_none (b ∷ name) h = grind (arith, nat_tests)
 

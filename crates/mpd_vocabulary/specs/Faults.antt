@@ -1,12 +1,15 @@
 -- What is told of a line that asks for nothing that can be done, and help.
-use Rattle.std.specs.Prelude.{ℕ, zero, suc, ◌-◌, ◌||◌, nat_lt, if◌then◌else◌, List, [], ◌∷◌, ◌++◌, length, map, replicate, Option, Some, None, codes}
+use Rattle.std.specs.Prelude.{ℕ, zero, suc, ◌-◌, ◌||◌, nat_lt, if◌then◌else◌, List, [], ◌∷◌, ◌++◌, length, map, replicate, codes}
 use Rattle.std.specs.List.{flat_map}
 use Rattle.mpd_model.specs.texts.Words.{words}
 use Rattle.mpd_model.specs.texts.Texts.{line}
 use Rattle.mpd_vocabulary.specs.declared.topic.Topic.{Topic}
 use Rattle.mpd_vocabulary.specs.declared.word.WordFault.{WordFault}
 use Rattle.mpd_vocabulary.specs.declared.word.WordFault.TheVariants.{Unknown, Usage, NoName, NoSuchIndex, NoIndex}
-use Rattle.mpd_vocabulary.specs.Topics.{topics, nearest, usage_of, forms_of, purpose_of, details_of, shorts_of}
+use Rattle.mpd_vocabulary.specs.declared.faults.TheConstants.{AFTER_FIRST, AFTER_ALL, CHOICE}
+use Rattle.mpd_vocabulary.specs.declared.word.HelpOn.{HelpOn}
+use Rattle.mpd_vocabulary.specs.declared.word.HelpOn.TheVariants as help_on
+use Rattle.mpd_vocabulary.specs.Topics.{topics, first_topics, nearest, usage_of, forms_of, purpose_of, details_of, shorts_of}
 
 abbrev pub word_at : List (List ℕ) → ℕ → List ℕ
 word_at [] n = []
@@ -18,7 +21,7 @@ abbrev pub shown_byte : ℕ → ℕ
 shown_byte b = if nat_lt b 32 || nat_lt 126 b then 63 else b
 
 abbrev pub hint : List ℕ → List ℕ
-hint [] = line (codes "': help lists all")
+hint [] = line (codes "': help all lists all")
 hint (b ∷ name) = line (codes "': perhaps " ++ b ∷ name)
 
 abbrev pub unknown_line : List ℕ → List ℕ
@@ -71,10 +74,9 @@ help_line t = columns (forms_of t) (purpose_of t)
 abbrev pub help_of : Topic → List ℕ
 help_of t = whole (forms_of t) (purpose_of t) (details_of t) ++ shorts_line (shorts_of t)
 
--- what is said behind the lines of all words
-abbrev pub help_end : List ℕ
-help_end = line (codes "help WORD tells more of a word, and its short forms") ++ line (codes "an empty line does the last word once more")
-
-abbrev pub help_text : Option Topic → List ℕ
-help_text None = flat_map help_line topics ++ help_end
-help_text (Some t) = help_of t
+-- what help was asked for
+abbrev pub help_text : HelpOn → List ℕ
+help_text help_on.First = flat_map help_line first_topics ++ AFTER_FIRST.now
+help_text help_on.All = flat_map help_line topics ++ AFTER_ALL.now
+help_text help_on.Choice = CHOICE.now
+help_text (help_on.Word t) = help_of t

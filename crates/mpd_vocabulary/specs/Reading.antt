@@ -18,6 +18,7 @@ use Rattle.mpd_vocabulary.specs.declared.topic.Topic.{Topic}
 use Rattle.mpd_vocabulary.specs.declared.topic.Topic.TheVariants as topic
 use Rattle.mpd_vocabulary.specs.declared.word.Word.{Word}
 use Rattle.mpd_vocabulary.specs.declared.word.Word.TheVariants as word
+use Rattle.mpd_vocabulary.specs.declared.word.HelpOn.TheVariants as help_on
 use Rattle.mpd_vocabulary.specs.declared.word.WordFault.{WordFault}
 use Rattle.mpd_vocabulary.specs.declared.word.WordFault.TheVariants.{Unknown, Usage, NoName, NoSuchIndex, NoIndex}
 use Rattle.mpd_vocabulary.specs.declared.read.Line.{Line}
@@ -82,21 +83,29 @@ abbrev pub break_on : ℕ → DeclKind → ℕ → Break
 break_on p Variable c = on.Change p c
 break_on p Handle h = on.Handle p h
 
-abbrev pub change_of : ℕ → Result Named NameFault → Result Word WordFault
-change_of p (Ok n) = if n.cells == 1 then Ok (word.Break (break_on p n.kind n.first)) else Err NoIndex
-change_of p (Err name.Unknown) = Err (NoName 3)
-change_of p (Err name.NoSuchCell) = Err NoSuchIndex
+-- on what a name stands for, which is the word of this number of its line
+abbrev pub change_of : ℕ → ℕ → Result Named NameFault → Result Word WordFault
+change_of p place (Ok n) = if n.cells == 1 then Ok (word.Break (break_on p n.kind n.first)) else Err NoIndex
+change_of p place (Err name.Unknown) = Err (NoName place)
+change_of p place (Err name.NoSuchCell) = Err NoSuchIndex
 
-abbrev pub change_at : Option ℕ → Result Named NameFault → Result Word WordFault
-change_at None n = Err (Usage topic.Break)
-change_at (Some p) n = change_of p n
+abbrev pub change_at : Topic → Option ℕ → ℕ → Result Named NameFault → Result Word WordFault
+change_at t None place n = Err (Usage t)
+change_at t (Some p) place n = change_of p place n
 
 -- a rank, and one of its variables or requests
 abbrev pub change_in : List Declared → List (List ℕ) → Result Word WordFault
 change_in ds [] = Err (Usage topic.Break)
 change_in ds (a ∷ []) = Err (Usage topic.Break)
-change_in ds (a ∷ b ∷ []) = change_at (number_of a) (named ds b)
+change_in ds (a ∷ b ∷ []) = change_at topic.Break (number_of a) 3 (named ds b)
 change_in ds (a ∷ b ∷ c ∷ more) = Err (Usage topic.Break)
+
+-- one of these, and a rank
+abbrev pub watch_in : List Declared → List (List ℕ) → Result Word WordFault
+watch_in ds [] = Err (Usage topic.Watch)
+watch_in ds (a ∷ []) = Err (Usage topic.Watch)
+watch_in ds (a ∷ b ∷ []) = change_at topic.Watch (number_of b) 1 (named ds a)
+watch_in ds (a ∷ b ∷ c ∷ more) = Err (Usage topic.Watch)
 
 abbrev pub break_in : List Declared → List (List ℕ) → Result Word WordFault
 break_in ds [] = Err (Usage topic.Break)
@@ -136,19 +145,36 @@ abbrev pub why_in : List (List ℕ) → Option Word
 why_in [] = Some (word.WhyRank None)
 why_in (a ∷ more) = why_at (only_word (a ∷ more))
 
+-- what `info` lists
+abbrev pub info_by : Option (List ℕ) → Option Word
+info_by None = None
+info_by (Some a) =
+    if bytes_eq a (codes "breakpoints") then Some word.Breaks
+    else (if bytes_eq a (codes "ranks") then Some word.Ranks else None)
+
+abbrev pub info_in : List (List ℕ) → Option Word
+info_in rest = info_by (only_word rest)
+
 abbrev pub help_of : Option Topic → Result Word WordFault
 help_of None = Err (Unknown 1)
-help_of (Some t) = Ok (word.Help (Some t))
+help_of (Some t) = Ok (word.Help (help_on.Word t))
+
+-- all words, what a choice is, or a word
+abbrev pub help_with : List ℕ → Result Word WordFault
+help_with a =
+    if bytes_eq a (codes "all") then Ok (word.Help help_on.All)
+    else (if bytes_eq a (codes "choice") then Ok (word.Help help_on.Choice) else help_of (topic_of a))
 
 abbrev pub help_in : List (List ℕ) → Result Word WordFault
-help_in [] = Ok (word.Help None)
-help_in (a ∷ []) = help_of (topic_of a)
+help_in [] = Ok (word.Help help_on.First)
+help_in (a ∷ []) = help_with a
 help_in (a ∷ b ∷ more) = Err (Usage topic.Help)
 
 -- ---- a word by its name, the line that it stands in, and what stands behind it
 
 abbrev pub word_with : List Declared → Topic → List ℕ → List (List ℕ) → Result Word WordFault
 word_with ds topic.Break z rest = break_in ds rest
+word_with ds topic.Watch z rest = watch_in ds rest
 word_with ds topic.Print z rest = print_in ds rest
 word_with ds topic.Help z rest = help_in rest
 word_with ds topic.Next z rest = fitting topic.Next (option_map word.Next (optional_number rest))
@@ -157,6 +183,7 @@ word_with ds topic.Back z rest = fitting topic.Back (option_map word.Back (numbe
 word_with ds topic.RunBack z rest = fitting topic.RunBack (alone word.RunBack rest)
 word_with ds topic.UndoChoice z rest = fitting topic.UndoChoice (alone word.UndoChoice rest)
 word_with ds topic.Goto z rest = fitting topic.Goto (option_map word.Goto (only_number rest))
+word_with ds topic.Restart z rest = fitting topic.Restart (alone (word.Goto 0) rest)
 word_with ds topic.Redo z rest = fitting topic.Redo (option_map word.Redo (redo_in rest))
 word_with ds topic.Local z rest = fitting topic.Local (step_in z)
 word_with ds topic.Match z rest = fitting topic.Match (step_in z)
@@ -165,6 +192,7 @@ word_with ds topic.WakeAny z rest = fitting topic.WakeAny (step_in z)
 word_with ds topic.Release z rest = fitting topic.Release (step_in z)
 word_with ds topic.Delete z rest = fitting topic.Delete (option_map word.Delete (only_number rest))
 word_with ds topic.Breaks z rest = fitting topic.Breaks (alone word.Breaks rest)
+word_with ds topic.Info z rest = fitting topic.Info (info_in rest)
 word_with ds topic.List z rest = fitting topic.List (option_map word.List (optional_number rest))
 word_with ds topic.Vars z rest = fitting topic.Vars (option_map word.Vars (optional_number rest))
 word_with ds topic.Ranks z rest = fitting topic.Ranks (alone word.Ranks rest)

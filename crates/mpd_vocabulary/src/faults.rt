@@ -6,13 +6,30 @@ ghost use Rattle.mpd_model.specs.texts.Words.{words};
 ghost use Rattle.mpd_model.specs.texts.Texts.{line};
 ghost use Rattle.mpd_vocabulary.specs.Faults as spec;
 
-use crate::topic::{TOPICS, Topic, details_of, forms_of, nearest, purpose_of, shorts_of, usage_of};
-use crate::word::WordFault;
+use crate::topic::{FIRST, TOPICS, Topic, entry_of, forms_of, nearest};
+use crate::word::{HelpOn, WordFault};
 use mpd_model::next_word;
 use std::alloc::AllocError;
 
 /// How wide the forms of a word stand in the lines of help.
 const FORMS_WIDTH: usize = 35;
+
+/// What is said after the words that one needs first.
+pub const AFTER_FIRST: &str =
+    "help all lists all words; help WORD tells more of one, and its short forms
+help choice tells what a choice is
+an empty line does the last word once more
+";
+
+/// What is said after all words.
+pub const AFTER_ALL: &str = "help WORD tells more of a word, and its short forms
+an empty line does the last word once more
+";
+
+/// What a choice is.
+pub const CHOICE: &str =
+    "choice: a state in which one of several steps is to be taken next, as which message a receive of any source gets; next lists them, next N takes one, from 1 (reports count them from 0, in [..]), undo-choice comes back to take another, and check tries all of them
+";
 
 /// The word of a number of a line; empty where there is none.
 #[tactic(auto, using(crate::proofs::FaultLemmas::skipping))]
@@ -73,7 +90,7 @@ fn push_hint(out: &mut String, name: &str) -> Result<(), AllocError>
     ensures { OnOk result (string_bytes out.new ≡ string_bytes out.old ++ spec.hint name.now) }
 {
     if name.is_empty() {
-        return push_ended(out, "': help lists all", "");
+        return push_ended(out, "': help all lists all", "");
     }
     push_ended(out, "': perhaps ", name)
 }
@@ -122,7 +139,7 @@ fn push_no_index(out: &mut String) -> Result<(), AllocError>
 fn push_usage(out: &mut String, topic: Topic) -> Result<(), AllocError>
     ensures { OnOk result (string_bytes out.new ≡ string_bytes out.old ++ spec.usage_line topic) }
 {
-    push_ended(out, "usage: ", usage_of(topic))
+    push_ended(out, "usage: ", entry_of(topic).usage)
 }
 
 /// Adds what is told of a line that asks for nothing that can be done. An `Err` is want of memory.
@@ -163,7 +180,7 @@ fn push_columns(out: &mut String, forms: &str, purpose: &str) -> Result<(), Allo
 fn push_help_line(out: &mut String, topic: Topic) -> Result<(), AllocError>
     ensures { OnOk result (string_bytes out.new ≡ string_bytes out.old ++ spec.help_line topic) }
 {
-    push_columns(out, forms_of(topic), purpose_of(topic))
+    push_columns(out, forms_of(topic), entry_of(topic).purpose)
 }
 
 /// Adds the lines of help of some words.
@@ -201,25 +218,28 @@ fn push_shorts(out: &mut String, forms: &str) -> Result<(), AllocError>
 fn push_help_of(out: &mut String, topic: Topic) -> Result<(), AllocError>
     ensures { OnOk result (string_bytes out.new ≡ string_bytes out.old ++ spec.help_of topic) }
 {
-    push_whole(out, forms_of(topic), purpose_of(topic), details_of(topic))?;
-    push_shorts(out, shorts_of(topic))
+    let entry = entry_of(topic);
+    push_whole(out, forms_of(topic), entry.purpose, entry.details)?;
+    push_shorts(out, entry.shorts)
 }
 
-/// Adds the lines of help of all words, and what is said behind them.
-fn push_all_help(out: &mut String) -> Result<(), AllocError>
-    ensures { OnOk result (string_bytes out.new ≡ string_bytes out.old ++ spec.help_text None) }
+/// Adds the lines of help of some words, and what is said after them.
+fn push_list(out: &mut String, topics: &[Topic], after: &str) -> Result<(), AllocError>
+    ensures { OnOk result (string_bytes out.new ≡ string_bytes out.old ++ (flat_map spec.help_line topics.now ++ after.now)) }
 {
-    push_help_lines(out, &TOPICS)?;
-    out.push_str("help WORD tells more of a word, and its short forms\n")?;
-    out.push_str("an empty line does the last word once more\n")
+    push_help_lines(out, topics)?;
+    out.push_str(after)
 }
 
-/// Adds the lines of help of all words, or what is told of one. An `Err` is want of memory.
-pub fn push_help(out: &mut String, topic: Option<Topic>) -> Result<(), AllocError>
-    ensures { OnOk result (string_bytes out.new ≡ string_bytes out.old ++ spec.help_text topic) }
+/// Adds what help was asked for: the lines of help of the words that one needs first, or of all, what a choice is, or what is told of
+/// one word. An `Err` is want of memory.
+pub fn push_help(out: &mut String, on: HelpOn) -> Result<(), AllocError>
+    ensures { OnOk result (string_bytes out.new ≡ string_bytes out.old ++ spec.help_text on) }
 {
-    match topic {
-        None => push_all_help(out),
-        Some(topic) => push_help_of(out, topic),
+    match on {
+        HelpOn::First => push_list(out, &FIRST, AFTER_FIRST),
+        HelpOn::All => push_list(out, &TOPICS, AFTER_ALL),
+        HelpOn::Choice => out.push_str(CHOICE),
+        HelpOn::Word(topic) => push_help_of(out, topic),
     }
 }

@@ -9,5 +9,5 @@ pub mod word;
 
 pub use faults::{push_fault, push_help};
 pub use read::{Line, line_of};
-pub use topic::{NAMES, TOPICS, Topic};
-pub use word::{Word, WordFault};
+pub use topic::{FIRST, NAMES, TOPICS, Topic};
+pub use word::{HelpOn, Word, WordFault};

@@ -5,7 +5,7 @@ ghost use Rattle.mpd_model.specs.texts.Words.{words, number_of, call_of};
 ghost use Rattle.mpd_vocabulary.specs.Reading as spec;
 
 use crate::topic::{Topic, topic_of};
-use crate::word::{Word, WordFault};
+use crate::word::{HelpOn, Word, WordFault};
 use mpd_code::Code;
 use mpd_model::{
     Break, CallId, DeclKind, STEPS_MAX, TraceWord, call_of, has_word, next_word, number_of,
@@ -117,9 +117,9 @@ fn break_on(rank: usize, kind: DeclKind, number: usize) -> Break
     }
 }
 
-/// The breakpoint on what a name stands for, where that is one cell or one handle.
-fn change_of(rank: usize, cell: Result<Named, NameFault>) -> Result<Word, WordFault>
-    ensures { result ≡ spec.change_of rank cell }
+/// The breakpoint on what a name stands for, where that is one cell or one handle; the name is the word of this number of its line.
+fn change_of(rank: usize, place: usize, cell: Result<Named, NameFault>) -> Result<Word, WordFault>
+    ensures { result ≡ spec.change_of rank place cell }
 {
     match cell {
         Ok(named) => {
@@ -128,7 +128,7 @@ fn change_of(rank: usize, cell: Result<Named, NameFault>) -> Result<Word, WordFa
             }
             Err(WordFault::NoIndex)
         }
-        Err(NameFault::Unknown) => Err(WordFault::NoName(3)),
+        Err(NameFault::Unknown) => Err(WordFault::NoName(place)),
         Err(NameFault::NoSuchCell) => Err(WordFault::NoSuchIndex),
     }
 }
@@ -145,8 +145,38 @@ fn change_in(code: &Code, rest: &[u8]) -> Result<Word, WordFault>
     };
     match number_of(rank) {
         None => Err(WordFault::Usage(Topic::Break)),
-        Some(rank) => change_of(rank, find_named(code, name)),
+        Some(rank) => change_of(rank, 3, find_named(code, name)),
     }
+}
+
+/// The same breakpoint, where the name comes first.
+fn watch_in(code: &Code, rest: &[u8]) -> Result<Word, WordFault>
+    ensures { result ≡ spec.watch_in code.now.program.decls (words rest.now) }
+{
+    let Some((name, behind)) = next_word(rest) else {
+        return Err(WordFault::Usage(Topic::Watch));
+    };
+    let Some(rank) = only_word(behind) else {
+        return Err(WordFault::Usage(Topic::Watch));
+    };
+    match number_of(rank) {
+        None => Err(WordFault::Usage(Topic::Watch)),
+        Some(rank) => change_of(rank, 1, find_named(code, name)),
+    }
+}
+
+/// What `info` lists.
+fn info_in(rest: &[u8]) -> Option<Word>
+    ensures { result ≡ spec.info_in (words rest.now) }
+{
+    let name = only_word(rest)?;
+    if name == b"breakpoints".as_slice() {
+        return Some(Word::Breaks);
+    }
+    if name == b"ranks".as_slice() {
+        return Some(Word::Ranks);
+    }
+    None
 }
 
 /// The breakpoint that some words tell.
@@ -225,19 +255,25 @@ fn why_in(rest: &[u8]) -> Option<Word>
     }
 }
 
-/// A word of the console, or all of them.
+/// What help is asked for: a word of the console, all of them, or what a choice is.
 fn help_in(rest: &[u8]) -> Result<Word, WordFault>
     ensures { result ≡ spec.help_in (words rest.now) }
 {
     let Some((name, behind)) = next_word(rest) else {
-        return Ok(Word::Help(None));
+        return Ok(Word::Help(HelpOn::First));
     };
     if has_word(behind) {
         return Err(WordFault::Usage(Topic::Help));
     }
+    if name == b"all".as_slice() {
+        return Ok(Word::Help(HelpOn::All));
+    }
+    if name == b"choice".as_slice() {
+        return Ok(Word::Help(HelpOn::Choice));
+    }
     match topic_of(name) {
         None => Err(WordFault::Unknown(1)),
-        Some(topic) => Ok(Word::Help(Some(topic))),
+        Some(topic) => Ok(Word::Help(HelpOn::Word(topic))),
     }
 }
 
@@ -247,6 +283,7 @@ fn word_with(code: &Code, topic: Topic, line: &[u8], rest: &[u8]) -> Result<Word
 {
     match topic {
         Topic::Break => break_in(code, rest),
+        Topic::Watch => watch_in(code, rest),
         Topic::Print => print_in(code, rest),
         Topic::Help => help_in(rest),
         Topic::Next => fitting(topic, optional_number(rest).map(Word::Next)),
@@ -255,12 +292,14 @@ fn word_with(code: &Code, topic: Topic, line: &[u8], rest: &[u8]) -> Result<Word
         Topic::RunBack => fitting(topic, alone(Word::RunBack, rest)),
         Topic::UndoChoice => fitting(topic, alone(Word::UndoChoice, rest)),
         Topic::Goto => fitting(topic, only_number(rest).map(Word::Goto)),
+        Topic::Restart => fitting(topic, alone(Word::Goto(0), rest)),
         Topic::Redo => fitting(topic, redo_in(rest).map(Word::Redo)),
         Topic::Local | Topic::Match | Topic::Wake | Topic::WakeAny | Topic::Release => {
             fitting(topic, step_in(line))
         }
         Topic::Delete => fitting(topic, only_number(rest).map(Word::Delete)),
         Topic::Breaks => fitting(topic, alone(Word::Breaks, rest)),
+        Topic::Info => fitting(topic, info_in(rest)),
         Topic::List => fitting(topic, optional_number(rest).map(Word::List)),
         Topic::Vars => fitting(topic, optional_number(rest).map(Word::Vars)),
         Topic::Ranks => fitting(topic, alone(Word::Ranks, rest)),

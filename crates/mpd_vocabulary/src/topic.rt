@@ -12,6 +12,7 @@ pub enum Topic {
     RunBack,
     UndoChoice,
     Goto,
+    Restart,
     Redo,
     Local,
     Match,
@@ -19,8 +20,10 @@ pub enum Topic {
     WakeAny,
     Release,
     Break,
+    Watch,
     Delete,
     Breaks,
+    Info,
     List,
     Print,
     Vars,
@@ -43,7 +46,7 @@ pub enum Topic {
 }
 
 /// What the words are called, in the order of the table, the whole name of each before its short forms.
-pub const NAMES: [(&str, Topic); 57] = [
+pub const NAMES: [(&str, Topic); 65] = [
     ("next", Topic::Next),
     ("n", Topic::Next),
     ("step", Topic::Next),
@@ -53,7 +56,10 @@ pub const NAMES: [(&str, Topic); 57] = [
     ("continue", Topic::Run),
     ("c", Topic::Run),
     ("back", Topic::Back),
-    ("b", Topic::Back),
+    ("bk", Topic::Back),
+    ("undo", Topic::Back),
+    ("rs", Topic::Back),
+    ("reverse-step", Topic::Back),
     ("reverse-next", Topic::Back),
     ("run-back", Topic::RunBack),
     ("rc", Topic::RunBack),
@@ -62,6 +68,7 @@ pub const NAMES: [(&str, Topic); 57] = [
     ("u", Topic::UndoChoice),
     ("goto", Topic::Goto),
     ("g", Topic::Goto),
+    ("restart", Topic::Restart),
     ("redo", Topic::Redo),
     ("local", Topic::Local),
     ("match", Topic::Match),
@@ -69,9 +76,13 @@ pub const NAMES: [(&str, Topic); 57] = [
     ("wakeany", Topic::WakeAny),
     ("release", Topic::Release),
     ("break", Topic::Break),
+    ("b", Topic::Break),
+    ("br", Topic::Break),
+    ("watch", Topic::Watch),
     ("delete", Topic::Delete),
     ("d", Topic::Delete),
     ("breaks", Topic::Breaks),
+    ("info", Topic::Info),
     ("list", Topic::List),
     ("l", Topic::List),
     ("print", Topic::Print),
@@ -103,19 +114,22 @@ pub const NAMES: [(&str, Topic); 57] = [
     ("exit", Topic::Quit),
 ];
 
-/// A word of each line of help, in the order of the table.
-pub const TOPICS: [Topic; 30] = [
+/// A word of each line of `help all`, in the order of the table.
+pub const TOPICS: [Topic; 33] = [
     Topic::Next,
     Topic::Run,
     Topic::Back,
     Topic::RunBack,
     Topic::UndoChoice,
     Topic::Goto,
+    Topic::Restart,
     Topic::Redo,
     Topic::Local,
     Topic::Break,
+    Topic::Watch,
     Topic::Delete,
     Topic::Breaks,
+    Topic::Info,
     Topic::List,
     Topic::Print,
     Topic::Vars,
@@ -134,6 +148,20 @@ pub const TOPICS: [Topic; 30] = [
     Topic::Enabled,
     Topic::Show,
     Topic::Help,
+    Topic::Quit,
+];
+
+/// The words of `help`, which one needs first.
+pub const FIRST: [Topic; 10] = [
+    Topic::Next,
+    Topic::Run,
+    Topic::Back,
+    Topic::UndoChoice,
+    Topic::List,
+    Topic::Print,
+    Topic::Why,
+    Topic::Deadlock,
+    Topic::Blame,
     Topic::Quit,
 ];
 
@@ -200,149 +228,300 @@ pub(crate) fn nearest(word: &[u8]) -> &'static str
     nearer(&NAMES, word)
 }
 
-/// How a word is written, with what may follow it.
-pub(crate) fn usage_of(topic: Topic) -> &'static str
-    ensures { result.now ≡ spec.usage_of topic }
+/// What is told of a word: its `usage`, `purpose`, `details` and `shorts`, as `Entry` names them.
+pub type Told = (&'static str, &'static str, &'static str, &'static str);
+
+/// What is told of a word.
+#[derive(Clone, Copy)]
+pub struct Entry {
+    /// How it is written, with what may follow it.
+    pub usage: &'static str,
+    /// What it does, in short.
+    pub purpose: &'static str,
+    /// What more is to be said of it, after that.
+    pub details: &'static str,
+    /// Its short forms.
+    pub shorts: &'static str,
+}
+
+/// What more is told of each step by hand.
+pub const STEP_DETAILS: &str =
+    "; P is a rank, S and R are a send and a receive as 1.0, and I is the number of a request of a waitany, from 0";
+
+pub const NEXT: Told = (
+    "next [N]",
+    "takes the step that comes next",
+    "; at a choice the one that lies ahead, or it lists the candidates, of which next N takes one, from 1 (reports count them from 0, in [..]); elsewhere next N is run N",
+    "n, step, s",
+);
+
+pub const RUN: Told = (
+    "run [N]",
+    "goes on to a breakpoint, a choice or an end",
+    "; or so many steps at most",
+    "r, continue, c",
+);
+
+pub const BACK: Told = (
+    "back [N]",
+    "takes a step back, or so many",
+    "",
+    "bk, undo, rs, reverse-step, reverse-next",
+);
+
+pub const RUN_BACK: Told = (
+    "run-back",
+    "goes back to a breakpoint, or to the start",
+    "",
+    "rc, reverse-continue",
+);
+
+pub const UNDO_CHOICE: Told = (
+    "undo-choice",
+    "goes back to the last choice",
+    "; another candidate can be taken there",
+    "u",
+);
+
+pub const GOTO: Told = (
+    "goto N",
+    "goes to where so many steps are taken",
+    "; back, or along the steps ahead",
+    "g",
+);
+
+pub const RESTART: Told = (
+    "restart",
+    "goes back to the start",
+    "; redo all goes along the same steps again",
+    "",
+);
+
+pub const REDO: Told = (
+    "redo [N], redo all",
+    "takes the first step ahead, or so many",
+    "; as far as there are, or all",
+    "",
+);
+
+pub const LOCAL: Told = ("local P", "takes this step", STEP_DETAILS, "");
+
+pub const MATCH: Told = ("match S R", "takes this step", STEP_DETAILS, "");
+
+pub const WAKE: Told = ("wake P", "takes this step", STEP_DETAILS, "");
+
+pub const WAKE_ANY: Told = ("wakeany P I", "takes this step", STEP_DETAILS, "");
+
+pub const RELEASE: Told = ("release", "takes this step", STEP_DETAILS, "");
+
+pub const BREAK: Told = (
+    "break LINE, break match LINE, break change P NAME",
+    "sets a breakpoint",
+    "; after a step by which a rank comes to that line, after a match of a call of that line, after a change of that variable or request of rank P",
+    "b, br",
+);
+
+pub const WATCH: Told = (
+    "watch NAME P",
+    "sets a breakpoint on a variable or a request",
+    "; the same as break change P NAME",
+    "",
+);
+
+pub const DELETE: Told = ("delete N", "removes a breakpoint", "", "d");
+
+pub const BREAKS: Told = ("breaks", "lists the breakpoints", "", "");
+
+pub const INFO: Told = (
+    "info breakpoints, info ranks",
+    "lists breakpoints, or what ranks are doing",
+    "; the same as breaks, and as ranks",
+    "",
+);
+
+pub const LIST: Told = (
+    "list [P]",
+    "shows the script, and where ranks stand",
+    "; or the lines about rank P",
+    "l",
+);
+
+pub const PRINT: Told = (
+    "print NAME [P]",
+    "shows a variable or a request",
+    "; of all ranks, or of rank P",
+    "p",
+);
+
+pub const VARS: Told = (
+    "vars [P]",
+    "shows all variables in short",
+    "; requests, and what was printed, too",
+    "",
+);
+
+pub const RANKS: Told = ("ranks", "shows what each rank is doing", "", "bt, where");
+
+pub const CALLS: Told = (
+    "calls [P]",
+    "lists the calls of all ranks, or of rank P",
+    "",
+    "",
+);
+
+pub const QUEUES: Told = (
+    "queues",
+    "lists the sends and receives that are free",
+    "",
+    "",
+);
+
+pub const WHY: Told = (
+    "why [P], why CALL",
+    "says why ranks wait",
+    "; all of them, or rank P; or why a call isn't matched, CALL as 0.1",
+    "w",
+);
+
+pub const HISTORY: Told = (
+    "history [N]",
+    "lists the last 10 steps, or the last N",
+    "",
+    "h",
+);
+
+pub const PICTURE: Told = ("picture", "draws the run so far", "", "");
+
+pub const CHECK: Told = (
+    "check [N]",
+    "tries the choices, and lists how runs end",
+    "; from here, 1,000 or N of them at most",
+    "",
+);
+
+pub const FOLLOW: Told = (
+    "follow N",
+    "lays the steps of a run ahead",
+    "; N is its number in a check from here",
+    "f",
+);
+
+pub const DEADLOCK: Told = (
+    "deadlock",
+    "lays the first deadlock's steps ahead",
+    "; the first from here, so that run and redo go there; at a deadlock ranks wait, and no step can be taken",
+    "",
+);
+
+pub const TRAP: Told = (
+    "trap",
+    "lays the first trap's steps ahead",
+    "; a trap ends a rank at an error, as a failed assert or a division by 0",
+    "",
+);
+
+pub const BLAME: Told = (
+    "blame",
+    "goes to the step that decided how it ends",
+    "; from there on every run ends badly",
+    "",
+);
+
+pub const WORDS: Told = (
+    "words",
+    "lists the steps taken as trace words",
+    "; to be kept in a file",
+    "",
+);
+
+pub const ENABLED: Told = ("enabled", "lists the steps that are enabled", "", "");
+
+pub const SHOW: Told = (
+    "show",
+    "shows the whole state, as a trace does",
+    "; docs/FORMATS.md, \"Text of show\"",
+    "",
+);
+
+pub const HELP: Told = (
+    "help [WORD], help all, help choice",
+    "lists words to begin with, or tells of one",
+    "; help all lists all words; help choice tells what a choice is",
+    "?",
+);
+
+pub const QUIT: Told = ("quit", "ends", "", "q, exit");
+
+/// What is told of a word.
+fn told_of(topic: Topic) -> Told
+    ensures { (result.0.now, result.1.now, result.2.now, result.3.now) ≡ spec.told_of topic }
 {
     match topic {
-        Topic::Next => "next [N]",
-        Topic::Run => "run [N]",
-        Topic::Back => "back [N]",
-        Topic::RunBack => "run-back",
-        Topic::UndoChoice => "undo-choice",
-        Topic::Goto => "goto N",
-        Topic::Redo => "redo [N], redo all",
-        Topic::Local => "local P",
-        Topic::Match => "match S R",
-        Topic::Wake => "wake P",
-        Topic::WakeAny => "wakeany P I",
-        Topic::Release => "release",
-        Topic::Break => "break LINE, break match LINE, break change P NAME",
-        Topic::Delete => "delete N",
-        Topic::Breaks => "breaks",
-        Topic::List => "list [P]",
-        Topic::Print => "print NAME [P]",
-        Topic::Vars => "vars [P]",
-        Topic::Ranks => "ranks",
-        Topic::Calls => "calls [P]",
-        Topic::Queues => "queues",
-        Topic::Why => "why [P], why CALL",
-        Topic::History => "history [N]",
-        Topic::Picture => "picture",
-        Topic::Check => "check [N]",
-        Topic::Follow => "follow N",
-        Topic::Deadlock => "deadlock",
-        Topic::Trap => "trap",
-        Topic::Blame => "blame",
-        Topic::Words => "words",
-        Topic::Enabled => "enabled",
-        Topic::Show => "show",
-        Topic::Help => "help [WORD]",
-        Topic::Quit => "quit",
+        Topic::Next => NEXT,
+        Topic::Run => RUN,
+        Topic::Back => BACK,
+        Topic::RunBack => RUN_BACK,
+        Topic::UndoChoice => UNDO_CHOICE,
+        Topic::Goto => GOTO,
+        Topic::Restart => RESTART,
+        Topic::Redo => REDO,
+        Topic::Local => LOCAL,
+        Topic::Match => MATCH,
+        Topic::Wake => WAKE,
+        Topic::WakeAny => WAKE_ANY,
+        Topic::Release => RELEASE,
+        Topic::Break => BREAK,
+        Topic::Watch => WATCH,
+        Topic::Delete => DELETE,
+        Topic::Breaks => BREAKS,
+        Topic::Info => INFO,
+        Topic::List => LIST,
+        Topic::Print => PRINT,
+        Topic::Vars => VARS,
+        Topic::Ranks => RANKS,
+        Topic::Calls => CALLS,
+        Topic::Queues => QUEUES,
+        Topic::Why => WHY,
+        Topic::History => HISTORY,
+        Topic::Picture => PICTURE,
+        Topic::Check => CHECK,
+        Topic::Follow => FOLLOW,
+        Topic::Deadlock => DEADLOCK,
+        Topic::Trap => TRAP,
+        Topic::Blame => BLAME,
+        Topic::Words => WORDS,
+        Topic::Enabled => ENABLED,
+        Topic::Show => SHOW,
+        Topic::Help => HELP,
+        Topic::Quit => QUIT,
     }
 }
+
+/// What is told of a word, by names.
+pub(crate) fn entry_of(topic: Topic) -> Entry
+    ensures usage { result.usage.now ≡ spec.usage_of topic }
+    ensures purpose { result.purpose.now ≡ spec.purpose_of topic }
+    ensures details { result.details.now ≡ spec.details_of topic }
+    ensures shorts { result.shorts.now ≡ spec.shorts_of topic }
+{
+    let (usage, purpose, details, shorts) = told_of(topic);
+    Entry {
+        usage,
+        purpose,
+        details,
+        shorts,
+    }
+}
+
+/// What stands in the first column of the line of help of each step by hand.
+pub const STEP_FORMS: &str = "local P, match S R, wake P, wakeany P I, release";
 
 /// What stands in the first column of the word's line of help.
 pub(crate) fn forms_of(topic: Topic) -> &'static str
     ensures { result.now ≡ spec.forms_of topic }
 {
     match topic {
-        Topic::Local | Topic::Match | Topic::Wake | Topic::WakeAny | Topic::Release => {
-            "local P, match S R, wake P, wakeany P I, release"
-        }
-        _ => usage_of(topic),
-    }
-}
-
-/// What a word does, in short.
-pub(crate) fn purpose_of(topic: Topic) -> &'static str
-    ensures { result.now ≡ spec.purpose_of topic }
-{
-    match topic {
-        Topic::Next => "takes the step that comes next",
-        Topic::Run => "goes on to a breakpoint, a choice or an end",
-        Topic::Back => "takes a step back, or so many",
-        Topic::RunBack => "goes back to a breakpoint, or to the start",
-        Topic::UndoChoice => "goes back to the last choice",
-        Topic::Goto => "goes to where so many steps are taken",
-        Topic::Redo => "takes the first step ahead, or so many",
-        Topic::Local | Topic::Match | Topic::Wake | Topic::WakeAny | Topic::Release =>
-            "takes this step",
-        Topic::Break => "sets a breakpoint (b is back)",
-        Topic::Delete => "removes a breakpoint",
-        Topic::Breaks => "lists the breakpoints",
-        Topic::List => "shows the script, and where ranks stand",
-        Topic::Print => "shows a variable or a request",
-        Topic::Vars => "shows all variables in short",
-        Topic::Ranks => "shows what each rank is doing",
-        Topic::Calls => "lists the calls of all ranks, or of rank P",
-        Topic::Queues => "lists the sends and receives that are free",
-        Topic::Why => "says why ranks wait",
-        Topic::History => "lists the last 10 steps, or the last N",
-        Topic::Picture => "draws the run so far",
-        Topic::Check => "tries the choices, and lists how runs end",
-        Topic::Follow => "lays the steps of a run ahead",
-        Topic::Deadlock => "lays the first deadlock's steps ahead",
-        Topic::Trap => "lays the first trap's steps ahead",
-        Topic::Blame => "goes to the step that decided how the run ends",
-        Topic::Words => "lists the steps taken as trace words",
-        Topic::Enabled => "lists the steps that are enabled",
-        Topic::Show => "shows the whole state, as a trace does",
-        Topic::Help => "lists the words, or tells of one",
-        Topic::Quit => "ends",
-    }
-}
-
-/// What more is to be said of it, behind that.
-pub(crate) fn details_of(topic: Topic) -> &'static str
-    ensures { result.now ≡ spec.details_of topic }
-{
-    match topic {
-        Topic::Next =>
-            "; at a choice the one that lies ahead, or it lists the candidates, of which next N takes one, from 1; elsewhere next N is run N",
-        Topic::Run => "; or so many steps at most",
-        Topic::UndoChoice => "; another candidate can be taken there",
-        Topic::Goto => "; back, or along the steps ahead",
-        Topic::Redo => "; as far as there are, or all",
-        Topic::Local | Topic::Match | Topic::Wake | Topic::WakeAny | Topic::Release =>
-            "; P is a rank, S and R are a send and a receive as 1.0, and I is the number of a request of a waitany, from 0",
-        Topic::Break =>
-            "; behind a step by which a rank comes to that line, behind a match of a call of that line, behind a change of that variable or request of rank P",
-        Topic::List => "; or the lines about rank P",
-        Topic::Print => "; of all ranks, or of rank P",
-        Topic::Vars => "; requests, and what was printed, too",
-        Topic::Why => "; all of them, or rank P; or why a call isn't matched, CALL as 0.1",
-        Topic::Check => "; from here, 1,000 or N of them at most",
-        Topic::Follow => "; N is its number in a check from here",
-        Topic::Deadlock => "; the first from here, so that run and redo go there",
-        Topic::Trap => "; a trap ends a rank at an error, as a failed assert or a division by 0",
-        Topic::Blame => "; from there on every run ends badly",
-        Topic::Words => "; to be kept in a file",
-        Topic::Show => "; docs/FORMATS.md, \"Text of show\"",
-        _ => "",
-    }
-}
-
-/// Its short forms.
-pub(crate) fn shorts_of(topic: Topic) -> &'static str
-    ensures { result.now ≡ spec.shorts_of topic }
-{
-    match topic {
-        Topic::Next => "n, step, s",
-        Topic::Run => "r, continue, c",
-        Topic::Back => "b, reverse-next",
-        Topic::RunBack => "rc, reverse-continue",
-        Topic::UndoChoice => "u",
-        Topic::Goto => "g",
-        Topic::Delete => "d",
-        Topic::List => "l",
-        Topic::Print => "p",
-        Topic::Ranks => "bt, where",
-        Topic::Why => "w",
-        Topic::History => "h",
-        Topic::Follow => "f",
-        Topic::Help => "?",
-        Topic::Quit => "q, exit",
-        _ => "",
+        Topic::Local | Topic::Match | Topic::Wake | Topic::WakeAny | Topic::Release => STEP_FORMS,
+        _ => entry_of(topic).usage,
     }
 }

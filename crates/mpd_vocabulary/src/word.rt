@@ -66,10 +66,23 @@ pub enum Word {
     Enabled,
     /// Show the whole state.
     Show,
-    /// List the words, or tell of this one.
-    Help(Option<Topic>),
+    /// Tell of the words.
+    Help(HelpOn),
     /// End.
     Quit,
+}
+
+/// What help is asked for.
+#[derive(Clone, Copy)]
+pub enum HelpOn {
+    /// The words that one needs first.
+    First,
+    /// All words.
+    All,
+    /// What a choice is.
+    Choice,
+    /// This word.
+    Word(Topic),
 }
 
 /// Why a line asks for nothing that can be done. A word of the line is told by its number, from 0.
