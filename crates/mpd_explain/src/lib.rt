@@ -4,6 +4,7 @@
 pub mod explanation;
 pub mod grouped;
 pub mod laws;
+mod left;
 mod list;
 mod near_miss;
 pub mod print;
