@@ -16,7 +16,7 @@ from model.worlds import CallId
 SOUND = {name: getattr(explaining, name) for name in (
     'reached', 'next_line', 'plain_text', 'call_text', 'wish', 'wishing', 'differences', 'all_free', 'near_misses', 'nearest_miss', 'is_due',
     'pairs_taken', 'last_taken', 'chances', 'requests', 'has_ended', 'not_there', 'why_not_there', 'behind', 'blocked_lines', 'partners_of', 'waited_for', 'rank_text', 'whom_line',
-    'next_of', 'cycle_from', 'cycles', 'cycle_line', 'deadlock_lines', 'trap_lines', 'left_lines', 'explanation', 'with_values', 'values_text', 'names_in',
+    'next_of', 'cycle_from', 'cycles', 'cycle_line', 'deadlock_lines', 'trap_lines', 'awaited_calls', 'left_lines', 'explanation', 'with_values', 'values_text', 'names_in',
     'names_read', 'places_of', 'expressions_of')}
 SOUND |= {name: getattr(explorer, name) for name in ('leaf_lines', 'group_text', 'explained', 'checked')}
 
@@ -602,9 +602,31 @@ def checked_otherwise(change):
     return lambda script, asked: SOUND['checked'](script, asked._replace(**change(asked)))
 
 
+def is_left(line):
+    return line.startswith('  left over: ')
+
+
+def left_first(lines, _):
+    return [line for line in lines if is_left(line)] + [line for line in lines if not is_left(line)]
+
+
+def left_before_cycles(lines, _):
+    """The lines of what is left over stand before those of cycles."""
+    return sorted(lines, key=lambda line: 2 if line.startswith(f'  {explaining.CYCLE}') else 1 if is_left(line) else 0)
+
+
+def without_near_misses(at, awaited=frozenset()):
+    """What is left over at a deadlock, but for what is told as a near miss of a blocked call."""
+    messages = [call_id for call_id in awaited if find_call(at.world, call_id).kind in ('send', 'recv')]
+    missed = {found[0] for call_id in messages if (found := explaining.nearest_miss(at.world, call_id)) is not None}
+    return SOUND['left_lines'](at, {*awaited, *missed})
+
+
 def place_faults():
     return (named('deadlock_lines')(
                 ('whom behind each call', each_with_whom), ('cycles first', after('deadlock_lines', cycles_first)),
+                ('what is left over first', after('deadlock_lines', left_first)),
+                ('what is left over before cycles', after('deadlock_lines', left_before_cycles)),
                 ('blocked calls alone', after('deadlock_lines', lambda lines, at: [line for line in lines if ' waits at ' in line or line.startswith('    ')])),
                 ('the first blocked call alone', after('deadlock_lines', lambda lines, at: [
                     line for place, line in enumerate(lines) if not place or not line.startswith('  rank') or ' waits at ' not in line])))
@@ -612,12 +634,24 @@ def place_faults():
                 ('the first alone', after('trap_lines', lambda lines, *_: lines[:1])), ('the blocked ranks too', after('trap_lines', with_blocked)),
                 ('no line', after('trap_lines', lambda lines, *_: [f'{line.partition(",")[0]}:{line.partition(":")[2]}' for line in lines])))
             + named('left_lines')(
-                ('the first alone', after('left_lines', lambda lines, at: lines[:1])), ('the last first', after('left_lines', lambda lines, at: lines[::-1])),
-                ('sends alone', after('left_lines', lambda lines, at: [line for line in lines if 'send ' in line])),
-                ('of each rank the first', lambda at: [f'  left over: {explaining.call_text(at, call_id)}' for call_id in first_of_each(at.world)]),
-                ('no line', after('left_lines', lambda lines, at: [re.sub('line [0-9]+, ', '', line) for line in lines])),
-                ('four spaces', after('left_lines', lambda lines, at: [f'  {line}' for line in lines])),
-                ('what it waits for', lambda at: [f'  left over: {explaining.wishing(at, call_id)}' for call_id in explaining.all_free(at.world)]))
+                ('the first alone', after('left_lines', lambda lines, *_: lines[:1])), ('the last first', after('left_lines', lambda lines, *_: lines[::-1])),
+                ('sends alone', after('left_lines', lambda lines, *_: [line for line in lines if 'send ' in line])),
+                ('of each rank the first', lambda at, awaited=(): [
+                    f'  left over: {explaining.call_text(at, call_id)}' for call_id in first_of_each(at.world) if call_id not in awaited]),
+                ('no line', after('left_lines', lambda lines, *_: [re.sub('line [0-9]+, ', '', line) for line in lines])),
+                ('four spaces', after('left_lines', lambda lines, *_: [f'  {line}' for line in lines])),
+                ('what it waits for', lambda at, awaited=(): [
+                    f'  left over: {explaining.wishing(at, call_id)}' for call_id in explaining.all_free(at.world) if call_id not in awaited]),
+                ('all that are free', lambda at, awaited=(): SOUND['left_lines'](at)),
+                ('none of a deadlock', lambda at, awaited=(): [] if awaited else SOUND['left_lines'](at)),
+                ('of ranks that are not blocked', lambda at, awaited=(): SOUND['left_lines'](
+                    at, {*awaited, *(call_id for call_id in explaining.all_free(at.world) if awaited and at.world.ranks[call_id.rank].mode == 'blocked')})),
+                ('those that nearly fit left out', without_near_misses))
+            + named('awaited_calls')(
+                ('without the requests of waits', lambda world, blocked: set(blocked)),
+                ('without the blocked calls', lambda world, blocked: SOUND['awaited_calls'](world, blocked) - set(blocked)),
+                ('of waits for several the first alone', lambda world, blocked: {
+                    *blocked, *(request for call_id in blocked for request in explaining.requests(world, call_id.rank)[:1])}))
             + named('next_line')(('the line before', lambda rank: SOUND['next_line'](rank) - 1))
             + named('explanation')(
                 ('deadlocks alone', of_outcomes('deadlock')), ('traps alone', of_outcomes('trap')), ('no leftovers', of_outcomes('deadlock', 'trap')))

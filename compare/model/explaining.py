@@ -313,7 +313,7 @@ def deadlock_lines(at):
     blocked = debugger.blocked_calls(at.world)
     lines = [line for call_id in blocked for line in blocked_lines(at, call_id)]
     lines += [whom_line(at.world, call_id.rank) for call_id in blocked]
-    return lines + [cycle_line(cycle) for cycle in cycles(at.world)]
+    return lines + [cycle_line(cycle) for cycle in cycles(at.world)] + left_lines(at, awaited_calls(at.world, blocked))
 
 
 def trap_lines(at, names):
@@ -321,8 +321,14 @@ def trap_lines(at, names):
     return [f'  rank {number}, line {next_line(rank)}: trap {rank.trap}{values_text(at, names, number)}' for number, rank in trapped]
 
 
-def left_lines(at):
-    return [f'  left over: {call_text(at, call_id)}' for call_id in all_free(at.world)]
+def awaited_calls(world, blocked):
+    """Blocked calls, and those that they are for where they are waits."""
+    return {*blocked, *(request for call_id in blocked for request in requests(world, call_id.rank))}
+
+
+def left_lines(at, awaited=frozenset()):
+    """The free calls, but for some of which something is told."""
+    return [f'  left over: {call_text(at, call_id)}' for call_id in all_free(at.world) if call_id not in awaited]
 
 
 def explanation(script, mode, leaf):

@@ -64,6 +64,7 @@ ended: deadlock 0.1
   rank 0 waits at line 2, 0.1 recv from 0 tag 9: for a send of rank 0 with tag 9
   rank 0 waits for rank 0
   a cycle, where each waits for the next: rank 0, rank 0
+  left over: line 2, 2.0 isend to 0 tag 0 value 2
 > blame
 '''
 OF_LATER = f'''decided at depth 6: rank 0, line 2, takes the message of rank 1 (line 2, value
@@ -331,6 +332,7 @@ ended: deadlock 0.3
   rank 0 waits at line 6, 0.3 recv from 0 tag 9: for a send of rank 0 with tag 9
   rank 0 waits for rank 0
   a cycle, where each waits for the next: rank 0, rank 0
+  left over: line 7, 2.0 isend to 0 tag 0 value 2
 > blame
 decided at depth 9: rank 0, line 3, takes the message of rank 1 (line 7, value
         1, tag 0); if all ranks leave the barrier instead, it need not hang or

@@ -54,6 +54,7 @@ ended: deadlock 1.1
     the last that fits is taken: line 3, 0.0 send to 1 tag 1 value 5, by line 6,
         1.0 recv from 0 tag any
   rank 1 waits for rank 0 (ended)
+  left over: line 4, 0.1 isend to 1 tag 2 value 6
 > why 1
 line 7, 1.1 recv from 0 tag 1 free
   has no partner yet: for a send of rank 0 with tag 1

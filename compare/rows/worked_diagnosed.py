@@ -189,6 +189,11 @@ def waits_for_itself(line, call, tag):
     return f'  rank 0 waits at line {line}, {call} recv from 0 tag {tag}: for a send of rank 0 with tag {tag}'
 
 
+def still_sent(line, *ranks):
+    """What is told of messages to rank 0 that are left over, by the line that sends them and the ranks."""
+    return '\n'.join(f'  left over: line {line}, {rank}.0 isend to 0 tag 0 value {rank}' for rank in ranks)
+
+
 # An end at the lines of the first one comes behind another bug: of the senders two are left, and rank 0 is stuck at line 5 by rank 2, else at line 6.
 FIRST_AND_LAST = '''mpd 1; ranks 4; var x;
 if rank == 0 {
@@ -292,7 +297,7 @@ HANGS = (
     *(row(STOLEN, 1, *STUCK_ONCE, runs_of(0, word), file=name) for name, word in WORDS if '/' not in name),
     row(THREE_SENDERS, 0, SIX_BUFFERED, in_turn(r"'it'\''s.mpd'"), mode=BUFFERED, file="it's.mpd"),
     row(SWAPPED_TAGS, 1, OF_SWAPPED, FROM_START, runs_of('')),
-    row(TWO_HANGS, 1, *always('hangs', '2 runs'), 'deadlock at line 4: 1 of 2 runs', waits_for_itself(4, '0.1', 9), TO_ITSELF, FROM_START,
+    row(TWO_HANGS, 1, *always('hangs', '2 runs'), 'deadlock at line 4: 1 of 2 runs', waits_for_itself(4, '0.1', 9), TO_ITSELF, still_sent(7, 2), FROM_START,
         runs_of(0, picture='run-1'),
         '\ndeadlock at line 6: 1 of 2 runs', waits_for_itself(6, '0.2', 8), TO_ITSELF, FROM_START, runs_of('1 0', picture='run-2')),
     row(FIRST_AND_LAST, 1, *always('hangs', '3 runs'), 'deadlock at lines 6, 7: 2 of 3 runs, one of them:', waits_for_itself(6, '0.1', 8),
@@ -306,9 +311,9 @@ HANGS = (
     row(ONE_SENDER_LEFT, 1, *always('hangs', '2 runs'), *one_left(2, 4, 1, 3), '', *one_left(1, 3, 2, 4)),
     row(LATER_LINE_FIRST, 1, OF_LATER_LINE, FROM_START, runs_of('')),
     row(LONGER_FIRST, 1, *of_longer(1, 2)), row(LONGER_LAST, 1, *of_longer(2, 1)), row(AS_LONG, 1, *of_longer(2, 1)),
-    row(SAME_CALL, 1, *always('hangs', '2 runs'), 'deadlock at line 5: 1 of 2 runs', waits_for_itself(5, '0.1', 9), TO_ITSELF, FROM_START,
+    row(SAME_CALL, 1, *always('hangs', '2 runs'), 'deadlock at line 5: 1 of 2 runs', waits_for_itself(5, '0.1', 9), TO_ITSELF, still_sent(7, 2), FROM_START,
         runs_of(0, picture='run-1'),
-        '\ndeadlock at line 6: 1 of 2 runs', waits_for_itself(6, '0.1', 9), TO_ITSELF, FROM_START, runs_of(1, picture='run-2')))
+        '\ndeadlock at line 6: 1 of 2 runs', waits_for_itself(6, '0.1', 9), TO_ITSELF, still_sent(7, 1), FROM_START, runs_of(1, picture='run-2')))
 
 # ---- traps
 
@@ -552,7 +557,7 @@ def by_third(rank):
 
 def hang_and_trap(runs, decided):
     """What is told of its first two runs, of so many, by what decided each."""
-    return (f'\ndeadlock at line 4: 1 of {runs}', waits_for_itself(4, '0.1', 9), TO_ITSELF, decided[0], runs_of(0, picture='run-1'),
+    return (f'\ndeadlock at line 4: 1 of {runs}', waits_for_itself(4, '0.1', 9), TO_ITSELF, still_sent(7, 2, 3), decided[0], runs_of(0, picture='run-1'),
             f'\ntrap at line 5: 1 of {runs}', '  rank 0, line 5: trap assert', decided[1], runs_of(1, picture='run-2'))
 
 
@@ -632,7 +637,7 @@ BY_MESSAGE_OF = '''\
         value {0}, tag 0); with that of rank 1 (line 6, value 1, tag 0) it need
         not hang or trap
   at the prompt of `debug`, `blame` goes to this step and `redo all` to the end'''
-FOUR_HANG = ('\ndeadlock at line 4: 1 of 4 runs', waits_for_itself(4, '0.1', 9), TO_ITSELF, BY_MESSAGE_OF.format(2), runs_of(1, picture='drawn-1'))
+FOUR_HANG = ('\ndeadlock at line 4: 1 of 4 runs', waits_for_itself(4, '0.1', 9), TO_ITSELF, still_sent(6, 1, 3, 4), BY_MESSAGE_OF.format(2), runs_of(1, picture='drawn-1'))
 
 
 def four_trap(runs, picture):
@@ -662,8 +667,8 @@ def left_at_six(count, picture='drawn-2'):
 
 def at_a_line(line, rank, count, picture='drawn-1'):
     """The end at one of the two lines, by whose message is taken, how many of how many runs come to it, and its picture."""
-    return (f'\ndeadlock at line {line}: {several(count)}', waits_for_itself(line, '0.1', 9), TO_ITSELF, AT_A_LINE.format(rank),
-            runs_of(rank - 1, picture=picture))
+    return (f'\ndeadlock at line {line}: {several(count)}', waits_for_itself(line, '0.1', 9), TO_ITSELF,
+            still_sent(6, *(other for other in (1, 2, 3) if other != rank)), AT_A_LINE.format(rank), runs_of(rank - 1, picture=picture))
 
 
 TWO_LINES_FOUND = (none_found('1 run')[0], f'{LEAVES} 1 of 1 run', MORE, *left_at_six('1 of 1 run', 'run'))

@@ -183,6 +183,23 @@ if rank == 2 {
     tag 5;
 }
 '''
+# Rank 0 waits for its second request, and of its other calls one is left over; rank 1 waits for nothing, and of its three messages rank 2 takes the
+# first.
+LEFT_BESIDE_HANG = '''mpd 1; ranks 3; var x; req r[3];
+if rank == 0 {
+  irecv r[0] x from 1 tag 8;
+  irecv r[1] x from 1 tag 9;
+  wait r[1];
+}
+if rank == 1 {
+  isend r[0] 5 to 2 tag 1;
+  isend r[1] 6 to 2 tag 2;
+  issend r[2] 7 to 0 tag 3;
+}
+if rank == 2 { recv x from any tag 1; }
+'''
+# The same where rank 2 traps.
+LEFT_BESIDE_TRAP = LEFT_BESIDE_HANG.replace('recv x from any tag 1;', 'recv x from any tag 1; assert 0;')
 # Which of two messages is left over is decided by a choice.
 ONE_IS_LEFT = '''mpd 1; ranks 3; var x; req r;
 if rank == 0 { recv x from any tag any; }
@@ -246,6 +263,7 @@ WAITED_BUFFERED = '''leaf 0 [] deadlock 0.1
     line 4, 0.0 irecv from 1 tag 3: for a send of rank 1 with tag 3
     nearest miss: line 7, 1.0 isend to 0 tag 4 value 7: another tag
   rank 0 waits for rank 1 (ended)
+  left over: line 7, 1.0 isend to 0 tag 4 value 7
 leaves 1 more no
 '''
 WAITED_FOR_ANY = '''leaf 0 [] deadlock 0.2 1.0
@@ -341,6 +359,9 @@ MISSED_IN_ORDER = '''leaf 0 [] deadlock 1.0
   rank 1 waits at line 7, 1.0 send to 0 tag 0 value 7: for a receive of rank 0 from rank 1 with tag 0
     nearest miss: line 4, 0.1 irecv from 1 tag 1: another tag
   rank 1 waits for rank 0 (ended)
+  left over: line 3, 0.0 irecv from 2 tag 0
+  left over: line 4, 0.1 irecv from 1 tag 1
+  left over: line 5, 0.2 irecv from any tag 2
 leaves 1 more no
 '''
 MISSED_DUE_FIRST = '''leaf 0 [] deadlock 1.0 2.0
@@ -350,6 +371,9 @@ MISSED_DUE_FIRST = '''leaf 0 [] deadlock 1.0 2.0
     nearest miss: line 7, 1.0 send to 0 tag 0 value 7: another destination
   rank 1 waits for rank 0 (ended)
   rank 2 waits for rank 1
+  left over: line 3, 0.0 irecv from 2 tag 0
+  left over: line 4, 0.1 irecv from 1 tag 1
+  left over: line 5, 0.2 irecv from any tag 2
 leaves 1 more no
 '''
 MISSED_BY_SOURCE = '''leaf 0 [] deadlock 0.0 1.0
@@ -365,12 +389,17 @@ MISSED_BY_RANK = '''leaf 0 [] deadlock 0.0
   rank 0 waits at line 2, 0.0 recv from any tag 0: for a send of any rank with tag 0
     nearest miss: line 3, 1.1 issend to 0 tag 1 value 6: another tag
   rank 0 waits for any of rank 1 (ended), rank 2 (ended), rank 3 (ended)
+  left over: line 3, 1.0 issend to 3 tag 0 value 5
+  left over: line 3, 1.1 issend to 0 tag 1 value 6
+  left over: line 4, 2.0 issend to 0 tag 2 value 8
 leaves 1 more no
 '''
 MISSED_BY_DESTINATION_FIRST = '''leaf 0 [] deadlock 0.0
   rank 0 waits at line 2, 0.0 recv from 2 tag 0: for a send of rank 2 with tag 0
     nearest miss: line 4, 2.0 issend to 1 tag 0 value 6: another destination
   rank 0 waits for rank 2 (ended)
+  left over: line 3, 1.0 issend to 0 tag 0 value 5
+  left over: line 4, 2.0 issend to 1 tag 0 value 6
 leaves 1 more no
 '''
 MISSED_BY_RESULT = '''leaf 0 [] deadlock 0.0 1.1
@@ -381,6 +410,7 @@ MISSED_BY_RESULT = '''leaf 0 [] deadlock 0.0 1.1
   rank 0 waits for rank 1
   rank 1 waits for rank 0
   a cycle, where each waits for the next: rank 0, rank 1, rank 0
+  left over: line 4, 1.0 isend to 0 tag 1 value 5
 leaves 1 more no
 '''
 # The first message has the slot, and counts as the one that is waited for.
@@ -390,6 +420,8 @@ MISSED_BY_BUFFERED = '''leaf 0 [] deadlock 0.0
   rank 0 waits at line 2, 0.0 recv from 1 tag 2: for a send of rank 1 with tag 2
     nearest miss: line 4, 1.0 isend to 0 tag 1 value 5: another tag
   rank 0 waits for rank 1 (ended)
+  left over: line 4, 1.0 isend to 0 tag 1 value 5
+  left over: line 5, 1.1 send to 0 tag 3 value 6
 leaves 1 more no
 '''
 MISSED_BY_LAST = '''leaf 0 [] deadlock 0.0 1.3
@@ -401,6 +433,8 @@ MISSED_BY_LAST = '''leaf 0 [] deadlock 0.0 1.3
   rank 0 waits for rank 1
   rank 1 waits for rank 0
   a cycle, where each waits for the next: rank 0, rank 1, rank 0
+  left over: line 4, 1.0 isend to 0 tag 0 value 5
+  left over: line 4, 1.1 isend to 0 tag 1 value 5
 leaves 1 more no
 '''
 MISSED_BY_ONE_OF_ANY = '''leaf 0 [] deadlock 0.0 1.3
@@ -412,6 +446,7 @@ MISSED_BY_ONE_OF_ANY = '''leaf 0 [] deadlock 0.0 1.3
     nearest miss: line 2, 0.0 recv from 1 tag 7: another tag
   rank 0 waits for rank 1
   rank 1 waits for any of rank 0, rank 2 (ended)
+  left over: line 4, 1.0 isend to 0 tag 0 value 5
 leaves 1 more no
 '''
 SENT_ASTRAY = '''leaf 0 [] deadlock 0.0 1.0 2.0
@@ -451,6 +486,18 @@ TWO_ARE_LEFT = '''leaf 0 [0] leftovers 0.0 2.1
   left over: line 6, 2.1 isend to 1 tag 5 value 31
 leaves 1 more no
 '''
+# The message that was taken, the request that is waited for, and the wait aren't told; what nearly fits is.
+HANGS_AND_LEAVES = '''leaf 0 [0] deadlock 0.2
+  rank 0 waits at line 5, 0.2 wait 1: for request 0.1
+    line 4, 0.1 irecv from 1 tag 9: for a send of rank 1 with tag 9
+    nearest miss: line 10, 1.2 issend to 0 tag 3 value 7: another tag
+  rank 0 waits for rank 1 (ended)
+  left over: line 3, 0.0 irecv from 1 tag 8
+  left over: line 9, 1.1 isend to 2 tag 2 value 6
+  left over: line 10, 1.2 issend to 0 tag 3 value 7
+leaves 1 more no
+'''
+TRAPS_AND_LEAVES = 'leaf 0 [0] trap 2 assert\n  rank 2, line 12: trap assert\nleaves 1 more no\n'
 LAST_IS_LEFT, FIRST_IS_LEFT = '  left over: line 4, 2.0 issend to 0 tag 0 value 2\n', '  left over: line 3, 1.0 issend to 0 tag 0 value -1\n'
 EACH_IS_LEFT = f'leaf 0 [0] leftovers 2.0\n{LAST_IS_LEFT}leaf 1 [1] leftovers 1.0\n{FIRST_IS_LEFT}leaves 2 more no\n'
 EACH_END_IS_LEFT = f'end 0 leaves 1 first 0 leftovers 2.0\n{LAST_IS_LEFT}end 1 leaves 1 first 1 leftovers 1.0\n{FIRST_IS_LEFT}leaves 2 more no\n'
@@ -543,6 +590,8 @@ ROWS = (
     # what is left over, of sends and receives, the first line of a statement of two; the status is that of a report without it
     *(Explained(LEFT_BY_TWO, TWO_ARE_LEFT, Asked(mode=mode), 0) for mode in (None, BUFFERED, 'slots:1', 'slots:2')),
     *(Explained(ONE_IS_LEFT, EACH_IS_LEFT, Asked(witnesses=witnesses), 0) for witnesses in (False, True)),
+    # beside a deadlock they are told too, and beside a trap they aren't
+    Explained(LEFT_BESIDE_HANG, HANGS_AND_LEAVES), Explained(LEFT_BESIDE_TRAP, TRAPS_AND_LEAVES),
     Explained(ONE_IS_LEFT, EACH_END_IS_LEFT, GROUPED, 0), Explained(ONE_IS_LEFT, EACH_IS_LEFT, Asked(until=True), 0),
     Explained(ONE_IS_LEFT, f'leaf 0 [1] leftovers 1.0\n{FIRST_IS_LEFT}leaves 1 more no\n', Asked(piece=1), 0),
     Explained('freed_slot', f'leaf 0 [] leftovers 0.1\n{FREED}leaves 1 more no\n', Asked(mode=BUFFERED), 0),

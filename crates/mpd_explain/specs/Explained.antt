@@ -26,6 +26,7 @@ use Rattle.mpd_explain.specs.declared.near_miss.Miss.{Miss}
 use Rattle.mpd_explain.specs.Requests.{requests}
 use Rattle.mpd_explain.specs.Missed.{nearest, miss_text, taken}
 use Rattle.mpd_explain.specs.Waits.{waits_line, cycle_lines}
+use Rattle.mpd_explain.specs.Left.{left_line, awaited, left_lines}
 
 -- ---- what calls wait for
 
@@ -113,18 +114,14 @@ blocked_line s b c = line (codes "  rank " ++ decimal c.rank ++ codes " waits at
 abbrev pub blocked_lines : Program → World → CallId → List ℕ
 blocked_lines s w c = blocked_line s w.board c ++ details s w c (kind_at w.board c)
 
--- what is told of a deadlock in which these calls are blocked: of each of them, whom their ranks wait for, and which ranks wait for one
--- another
+-- what is told of a deadlock in which these calls are blocked: of each of them, whom their ranks wait for, which ranks wait for one
+-- another, and which other calls are left over
 abbrev pub deadlock_text : Program → World → List CallId → List ℕ
-deadlock_text s w blocked = flat_map (blocked_lines s w) blocked ++ flat_map (waits_line w) blocked ++ cycle_lines w
+deadlock_text s w blocked = flat_map (blocked_lines s w) blocked ++ flat_map (waits_line w) blocked ++ cycle_lines w ++ left_lines s w.board (awaited w blocked)
 
 -- `  rank 1, line 7: trap zero-divisor, with n = 0`: the values of the variables that the statement reads stand there
 abbrev pub trap_line : Program → World → TrappedRank → List ℕ
 trap_line s w t = line (codes "  rank " ++ decimal t.rank ++ codes ", line " ++ decimal (rank_line s.lines (slice_get w.ranks t.rank)) ++ codes ": trap " ++ trap_name t.trap ++ read_text s w t.rank (slice_get w.ranks t.rank))
-
--- `  left over: line 18, 3.0 isend to 0 tag 4 value 30`
-abbrev pub left_line : Program → Board → CallId → List ℕ
-left_line s b c = line (codes "  left over: " ++ placed s b c)
 
 -- whether something is told of a run that ends so
 abbrev pub tells_of : Ending → Bool

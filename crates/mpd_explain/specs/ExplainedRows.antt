@@ -1,7 +1,7 @@
 -- Worked rows of what is told of runs. What is wanted was worked out by hand.
 use Rattle.std.specs.Prelude.{◌≡◌, ℕ, pos, true, false, map, List, [], ◌∷◌, ◌++◌, Option, Some, None, codes, refl}
 use Rattle.std.specs.Fmt.{digits}
-use Rattle.mpd_model.specs.declared.place.DeclKind.TheVariants.{Variable}
+use Rattle.mpd_model.specs.declared.place.DeclKind.TheVariants.{Variable, Handle}
 use Rattle.mpd_model.specs.declared.expr.BinaryOp.TheVariants.{Equal, Divide}
 use Rattle.mpd_model.specs.declared.call.Mode.TheVariants.{Rendezvous, Buffered}
 use Rattle.mpd_model.specs.declared.call.Trap.TheVariants.{Assertion}
@@ -143,6 +143,31 @@ unread = record {
 pub row_unread : map {B = List ℕ} (λ (r : Run). explanation unread Buffered r.steps r.ending) (walk 20 (start unread Buffered)) ≡ (line (codes "  left over: line 5, 0.0 send to 1 tag 1 value 5") ++ line (codes "  left over: line 6, 0.1 send to 1 tag 2 value 6")) ∷ []
 unfolding walk decision digits
 row_unread = refl
+
+-- rank 0 waits for its second request; its first, and a message of rank 1 that nobody receives, are left over
+-- if rank == 0 { irecv r[0] x from 1 tag 8; irecv r[1] x from 1 tag 9; wait r[1]; } else { isend r[0] 5 to 0 tag 3; }
+abbrev two_requests : List Declared
+two_requests = record { kind = Variable; name = codes "x"; size = None } ∷ record { kind = Handle; name = codes "r"; size = Some 2 } ∷ []
+
+abbrev handle : ℕ → Target
+handle k = record { place = record { declaration = 1; first = 0; cells = 2 }; index = Some (n k) }
+
+abbrev posted : ℕ → ℕ → Tree
+posted k tag = simple (st.Irecv (record { request = handle k; recv = record { into = x; from = Some (n 1); tag = Some (n tag); status = None } }))
+
+abbrev beside : Program
+beside = record {
+  version = 1;
+  ranks = 2;
+  decls = two_requests;
+  body = branch (op2 Equal own_rank (n 0)) (then_more (posted 0 8) (then_more (posted 1 9) (then_more (simple (st.Wait (handle 1))) no_more))) (then_more (simple (st.Isend (record { request = handle 0; send = record { value = n 5; to = n 0; tag = n 3 } }))) no_more) ∷ [];
+  lines = 4 ∷ 5 ∷ 6 ∷ 7 ∷ 9 ∷ [];
+}
+
+pub row_beside : map {B = List ℕ} (λ (r : Run). explanation beside Rendezvous r.steps r.ending) (walk 20 (start beside Rendezvous))
+    ≡ (line (codes "  rank 0 waits at line 7, 0.2 wait 1: for request 0.1") ++ line (codes "    line 6, 0.1 irecv from 1 tag 9: for a send of rank 1 with tag 9") ++ line (codes "    nearest miss: line 9, 1.0 isend to 0 tag 3 value 5: another tag") ++ line (codes "  rank 0 waits for rank 1 (ended)") ++ line (codes "  left over: line 5, 0.0 irecv from 1 tag 8") ++ line (codes "  left over: line 9, 1.0 isend to 0 tag 3 value 5")) ∷ []
+unfolding walk decision digits
+row_beside = refl
 
 -- ---- cycles: ranks 1, 3 and 2 wait for one another, rank 0 for rank 1, rank 4 for no one rank
 

@@ -1,6 +1,7 @@
 pub mod Requests
 pub mod Missed
 pub mod Waits
+pub mod Left
 pub mod Explained
 pub mod Explanations
 pub mod Told

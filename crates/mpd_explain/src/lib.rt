@@ -5,6 +5,7 @@ pub mod explanation;
 pub mod grouped;
 mod groups;
 pub mod laws;
+mod left;
 mod list;
 mod near_miss;
 pub mod print;

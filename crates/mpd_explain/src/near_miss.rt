@@ -186,7 +186,7 @@ fn is_at_once(kind: Option<CallKind>) -> bool
 }
 
 /// Whether a call is one of these.
-fn is_among(calls: &[CallId], wanted: CallId) -> bool
+pub(crate) fn is_among(calls: &[CallId], wanted: CallId) -> bool
     ensures { result ≡ list_any (λ d. id_eq d wanted) calls.now }
 {
     calls.iter().any(|call| call.rank == wanted.rank && call.index == wanted.index)

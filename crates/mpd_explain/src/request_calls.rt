@@ -64,7 +64,7 @@ fn push_held(
 }
 
 /// Adds the calls that a wait or a waitany of a rank is for; none of any other call.
-fn push_requested(
+pub(crate) fn push_requested(
     core: &Core<'_>,
     calls: &mut Vec<CallId>,
     rank: usize,

@@ -9,6 +9,7 @@ ghost use Rattle.mpd_explain.specs.Explained as explained;
 ghost use Rattle.mpd_explain.specs.Explained.{tells_of};
 ghost use Rattle.mpd_explain.specs.Waits.{waits_line};
 
+use crate::left::{awaited, push_all_left, push_left_lines};
 use crate::near_miss::{Miss, miss_text, nearest, taken};
 use crate::request_calls::{is_at_barrier, requests};
 use crate::waits::{push_cycle_lines, push_waits_line};
@@ -340,7 +341,9 @@ fn push_deadlock(
 {
     push_all_blocked(alloc, core, out, calls)?;
     push_all_waits(alloc, core, out, calls)?;
-    push_cycle_lines(alloc, core, out)
+    push_cycle_lines(alloc, core, out)?;
+    let told = awaited(alloc, core, calls)?;
+    push_left_lines(core, out, &told)
 }
 
 /// Adds the line of a trapped rank.
@@ -361,25 +364,6 @@ fn push_traps(core: &Core<'_>, out: &mut String, traps: &[TrappedRank]) -> Resul
 {
     for trapped in traps {
         push_trap(core, out, *trapped)?;
-    }
-    Ok(())
-}
-
-/// Adds the line of a call that is left over.
-fn push_left(core: &Core<'_>, out: &mut String, call: CallId) -> Result<(), AllocError>
-    ensures { OnOk result (string_bytes out.new ≡ string_bytes out.old ++ explained.left_line core.now.program core.now.world.board call) }
-{
-    out.push_str("  left over: ")?;
-    push_placed(core, out, call)?;
-    out.push_str("\n")
-}
-
-/// Adds the lines of all calls that are left over.
-fn push_all_left(core: &Core<'_>, out: &mut String, calls: &[CallId]) -> Result<(), AllocError>
-    ensures { OnOk result (string_bytes out.new ≡ string_bytes out.old ++ flat_map (explained.left_line core.now.program core.now.world.board) calls.now) }
-{
-    for call in calls {
-        push_left(core, out, *call)?;
     }
     Ok(())
 }

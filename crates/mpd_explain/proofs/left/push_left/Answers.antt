@@ -2,7 +2,7 @@ use Rattle.std.proofs.Common.{List, ℕ, [], ◌∷◌, ◌++◌, codes, string_
 use Rattle.mpd_core.proofs.RangeLemmas.{on_ok}
 use Rattle.mpd_names.specs.Placed.{placed}
 use Rattle.mpd_names.proofs.JoinLemmas.{grown, pushed}
-use Rattle.mpd_explain.proofs.sentences.push_left.Goals as goal
+use Rattle.mpd_explain.proofs.left.push_left.Goals as goal
 
 pub returns : goal.returns
 returns c =
