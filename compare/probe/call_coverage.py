@@ -19,7 +19,7 @@ LEFT_OUT = {
     'mpd_core': {'all_ranks_are_there': 'a law'},
     'mpd_policy': {
         **dict.fromkeys(('decisions_can_be_followed', 'wide_decisions_can_be_followed'), 'a law'), 'run_on': 'called by the request run-on',
-        **dict.fromkeys(('only_step', 'sole'), BY_WORDS)},
+        **dict.fromkeys(('only_step', 'sole', 'last_hit'), BY_WORDS)},
     'mpd_trail': {'state_is_reached': 'a law'}, 'mpd_model': {'lines_lose_nothing': 'a law', 'ids': 'called by verify and witness_of'},
     'mpd_witness': dict.fromkeys(('written_witness_is_read', 'written_witness_of_a_leaf_is_read'), 'a law'),
     'mpd_c': {'text_ends_its_last_line': 'a law'},
@@ -31,7 +31,7 @@ LEFT_OUT = {
         'text_at': 'called by check_outcomes', 'firsts': 'called by print_grouped', 'explanation_at': 'called by print_grouped',
         'calls_name_their_statements': 'a law',
         **dict.fromkeys(('push_wish', 'push_helps', 'push_all_absent', 'push_told', 'requests'), BY_WORDS)},
-    'mpd_session': dict.fromkeys(('debugger', 'breaks', 'lay'), BY_WORDS),
+    'mpd_session': dict.fromkeys(('debugger', 'breaks', 'last_hit', 'lay'), BY_WORDS),
     'mpd_view': dict.fromkeys(('push_calls', 'push_enabled', 'push_history', 'push_queues', 'push_ranks', 'push_standing', 'push_step', 'push_step_line',
                                'push_why', 'push_why_rank', 'push_why_ranks', 'push_words', 'push_lost', 'push_all_lost', 'push_lost_told',
                                'lost_calls'), BY_WORDS),

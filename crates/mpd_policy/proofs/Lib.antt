@@ -9,3 +9,4 @@ pub mod HitLemmas
 pub mod WatchLemmas
 pub mod RunLemmas
 pub mod BackLemmas
+pub mod LastLemmas

@@ -335,7 +335,7 @@ going_refused t places max old now made g h = record {
 
 -- ---- after a refusal
 
-take_less : (n m : ℕ) (xs : List Step) → n ≤ m → take n (take m xs) ≡ take n xs
+pub take_less : (n m : ℕ) (xs : List Step) → n ≤ m → take n (take m xs) ≡ take n xs
 take_less zero m xs le = refl
 take_less (suc n) zero xs le = absurd (omega (arith, le))
 take_less (suc n) (suc m) [] le = refl

@@ -259,11 +259,12 @@ pub fn run_on(
 }
 
 /// Takes the last step back, and answers the lowest breakpoint that it hits.
-fn take_back_watched(debugger: &mut Debugger<'_>, breaks: &Breaks) -> Option<usize>
+pub(crate) fn take_back_watched(debugger: &mut Debugger<'_>, breaks: &Breaks) -> Option<usize>
     requires { 0 < debugger.old.trail.depth }
     ensures hit { result ≡ hit_at breaks.now debugger.old.trail (debugger.old.trail.depth - 1) }
     ensures trail { debugger.new.trail ≡ gone_back debugger.old.trail (debugger.old.trail.depth - 1) }
     ensures reached { IsReached (standing_of debugger.new) }
+    ensures room_left { debugger.old.room ≤ debugger.new.room }
 {
     let depth = debugger.depth();
     let core = debugger.core();
