@@ -4,13 +4,14 @@ from inspect import isfunction
 from itertools import islice
 
 from faults.policy_faults import Breakage
-from model import console, debugger, deciding, walks
+from model import console, debugger, deciding, policy, walks, wide
 from model.console import Console
 from model.deciding import Last
+from model.policy import Choice, Forced
 from model.walks import CUT
 
 SOUND = {name: value for name, value in vars(Console).items() if isfunction(value)}
-BY_WAYS, LINE_OF = deciding.by_ways, deciding.line_of
+BY_WAYS, LINE_OF, WORD_FOR = deciding.by_ways, deciding.line_of, console.word_for
 # So many runs are listed at most.
 SOME = 200
 
@@ -20,7 +21,7 @@ def moved(steps):
     def blame(self):
         told = SOUND['blame'](self)
         depth = self.debugger.depth + steps
-        return [told[0], *self.goto(depth)] if len(told) > 1 and 0 <= depth <= len(self.debugger.steps) else told
+        return [*told[:2], *self.goto(depth)] if len(told) > 1 and 0 <= depth <= len(self.debugger.steps) else told
     return blame
 
 
@@ -30,7 +31,7 @@ def stays(self):
     told = SOUND['blame'](self)
     if len(told) > 1:
         self.goto(depth)
-        return [told[0], *self.depth_lines()]
+        return [*told[:2], *self.depth_lines()]
     return told
 
 
@@ -56,7 +57,7 @@ def back_alone(self):
     told = SOUND['blame'](self)
     if self.debugger.depth > depth:
         self.goto(depth)
-        return [told[0]]
+        return told[:2]
     return told
 
 
@@ -118,8 +119,8 @@ def place_faults():
     """Those of where it goes, and of what is told."""
     blames = (('one step behind', moved(1)), ('one step before', moved(-1)), ('stays where it is', stays), ('the steps ahead are dropped', dropped),
               ('back alone', back_alone), ('to the end where it is not decided', goes_to_end), ('to the start where it was decided from there', goes_to_start),
-              ('not where it stands', lambda self: SOUND['blame'](self)[:2]), ('no depth', lambda self: (
-                  told[:1] + told[2:] if len(told := SOUND['blame'](self)) > 1 else told)),
+              ('not where it stands', lambda self: SOUND['blame'](self)[:3]), ('no depth', lambda self: (
+                  told[:2] + told[3:] if len(told := SOUND['blame'](self)) > 1 else told)),
               ('as an explanation', lambda self: [f'  {line}' if place == 0 else line for place, line in enumerate(SOUND['blame'](self))]),
               ('last of all', lambda self: [*(told := SOUND['blame'](self))[1:], told[0]]))
     return ([Breakage(f'blame: {name}', Console, 'blame', replacement) for name, replacement in blames]
@@ -129,5 +130,57 @@ def place_faults():
                Breakage('blame: lines that are not cut', console, 'UNFOLDED', console.UNFOLDED | {'blame'})])
 
 
+def by_its_word(world, step):
+    """What names the trace word, also where candidates are listed."""
+    return debugger.step_text(step)
+
+
+def of_all_listed(world, step):
+    """What counts a single candidate as a choice, too, or a step that is forced."""
+    decided = policy.decision(world)
+    listed = decided.steps if isinstance(decided, Choice) else [decided.step] if isinstance(decided, Forced) else []
+    return f'next {list(listed).index(step) + 1}' if step in listed else debugger.step_text(step)
+
+
+def of_wide_walk(world, step):
+    """What numbers the candidates of the wide walk."""
+    decided = wide.wide_decision(world)
+    listed = decided.steps if isinstance(decided, Choice) else ()
+    return f'next {list(listed).index(step) + 1}' if step in listed else debugger.step_text(step)
+
+
+def from_zero(world, step):
+    """What counts candidates from 0."""
+    said = WORD_FOR(world, step)
+    return f'next {int(said.removeprefix("next ")) - 1}' if said.startswith('next ') else said
+
+
+def of_the_one_taken(self, last):
+    """What names the step that was taken."""
+    world = deciding.worlds_along(self.debugger.worlds[0], self.debugger.steps[:last.depth])[-1]
+    return f'to try that: {WORD_FOR(world, self.debugger.steps[last.depth])}'
+
+
+def of_where_it_stood(self, last):
+    """What looks for candidates where it stood before."""
+    world = deciding.worlds_along(self.debugger.worlds[0], self.debugger.steps[:last.depth])[-1]
+    return f'to try that: {WORD_FOR(self.world, deciding.step_towards(world, last.ahead.well))}'
+
+
+def way_faults():
+    """Those of how another way is taken."""
+    return ([Breakage(f'blame: {name}', console, 'word_for', replacement) for name, replacement in (
+                ('its trace word at a choice', by_its_word), ('a step that comes next by its number', of_all_listed),
+                ('the number of the wide walk', of_wide_walk), ('candidates from 0', from_zero))]
+            + [Breakage(f'blame: {name}', Console, 'way_line', replacement) for name, replacement in (
+                ('how to take what was taken', of_the_one_taken), ('as candidates are listed where it stood', of_where_it_stood))]
+            + [Breakage('blame: no other way', Console, 'blame', lambda self: (
+                told[:1] + told[2:] if len(told := SOUND['blame'](self)) > 1 else told)),
+               Breakage('blame: the other way first', Console, 'blame', lambda self: (
+                   [told[1], told[0], *told[2:]] if len(told := SOUND['blame'](self)) > 1 else told)),
+               Breakage('blame: the other way where it stands', Console, 'blame', lambda self: (
+                   [told[0], *told[2:], told[1]] if len(told := SOUND['blame'](self)) > 1 else told))])
+
+
 def blame_faults():
-    return [*state_faults(), *place_faults()]
+    return [*state_faults(), *place_faults(), *way_faults()]

@@ -125,6 +125,13 @@ def none_called(word):
     return f"no variable or request is called '{shown(word)}'"
 
 
+def word_for(world, step):
+    """The word that takes a step in a world: `next` and its number where candidates are listed and it is one of these, else its trace word."""
+    decided = policy.settled(policy.decision(world))
+    listed = decided.steps if isinstance(decided, Choice) else ()
+    return f'next {listed.index(step) + 1}' if step in listed else debugger.step_text(step)
+
+
 def leaf_of(witness):
     """The run that a witness tells, without its choices."""
     return Leaf((), witness.steps, f'{witness.word} {" ".join(map(str, witness.blocked))}')
@@ -574,15 +581,22 @@ class Console:
 
     def blame(self):
         """Goes to the last state of the run that is kept from which some run still ends well, where none does from its end."""
-        line, depth = self.decided_at()
-        return [line] if depth is None else [line, *self.goto(depth)]
+        lines, depth = self.decided_at()
+        return lines if depth is None else [*lines, *self.goto(depth)]
 
     def decided_at(self):
-        """What is told of the step that decides, and the depth to go to, None where there is none."""
+        """The lines that tell the step that decides, and the depth to go to, None where there is none."""
         steps = self.debugger.steps
         last = self.last_not_doomed(states.Search(most=MOST_STATES))
         line = deciding.line_of(self.script, self.mode, steps, last)
-        return line, None if last is None or last.ahead.well is None or last.depth == len(steps) else last.depth
+        if last is None or last.ahead.well is None or last.depth == len(steps):
+            return [line], None
+        return [line, self.way_line(last)], last.depth
+
+    def way_line(self, last):
+        """How the step is taken that need not end badly, at the last state that isn't doomed."""
+        world = deciding.worlds_along(self.debugger.worlds[0], self.debugger.steps[:last.depth])[-1]
+        return f'to try that: {word_for(world, deciding.step_towards(world, last.ahead.well))}'
 
     def last_not_doomed(self, search):
         """The last state that isn't doomed of the run that is kept, the steps ahead with it, by a search."""
@@ -609,7 +623,7 @@ class Console:
 
 
 # How many lines stand before what happened on the way, where it isn't one: what decided is told before what `goto` tells.
-LINES_FIRST = {'blame': 2}
+LINES_FIRST = {'blame': 3}
 # What answers a word whose name is another than the word.
 METHODS = {'break': 'set_break', 'vars': 'variables', 'run-back': 'run_back', 'undo-choice': 'undo_choice'}
 

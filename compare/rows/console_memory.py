@@ -207,11 +207,11 @@ def is_silent(talked, line):
 
 
 def told_before(talked, line):
-    """What may stand before one of the two constant lines: of `blame` what decided, where it goes there."""
+    """What may stand before one of the two constant lines: of `blame` what decided and how to go another way, where it goes there."""
     if not takes_memory(line) or word_in(talked, line) != 'blame':
         return b''
-    decided, depth = talked.decided_at()
-    return b'' if depth is None else text_of(all_folded([decided])).encode()
+    lines, depth = talked.decided_at()
+    return b'' if depth is None else text_of(all_folded(lines)).encode()
 
 
 def answer_len(talked, line, said):

@@ -8,6 +8,7 @@ STOLEN_LINES = '''   13    if rank == 1 { send 42 to 0 tag 7; } else { send 5 to
 STOLEN_BLAME = f'''decided at depth 9: rank 0, line 8, takes the message of rank 1 (line 13, value
         42, tag 7); with that of rank 2 (line 13, value 5, tag 1) it need not
         hang or trap
+to try that: next 2
 depth 9
 2 ahead: match 1.0 0.0: rank 1, line 13, to rank 0, line 8
 {STOLEN_LINES}
@@ -70,6 +71,7 @@ ended: deadlock 0.1
 OF_LATER = f'''decided at depth 6: rank 0, line 2, takes the message of rank 1 (line 2, value
         1, tag 0); with that of rank 2 (line 2, value 2, tag 0) it need not hang
         or trap
+to try that: next 2
 depth 6
 4 ahead: match 1.0 0.0: rank 1, line 2, to rank 0, line 2
 {LATER_LINE}
@@ -78,6 +80,22 @@ stopped at a choice of rank 0, line 2; next N takes one:
   1 match 1.0 0.0: rank 1, line 2, to rank 0, line 2
   2 match 2.0 0.0: rank 2, line 2, to rank 0, line 2
 '''
+# If the waitany goes on by its first request it hangs; the second may be matched before.
+TOO_EARLY = '''mpd 2; ranks 3; var x; var i; req r[2];
+if rank == 0 {
+  irecv r[0] x from 1 tag 0;
+  irecv r[1] x from any tag 0;
+  waitany r to i;
+  if i == 0 { recv x from 0 tag 9; }
+} else { isend r[0] rank to 0 tag 0; }
+'''
+EARLY_BLAME = '''decided at depth 9: rank 0, line 5, goes on by line 3, 0.0 irecv from 1 tag 0;
+        if rank 0, line 4, takes the message of rank 2 (line 7, value 2, tag 0)
+        instead, it need not hang or trap
+to try that: match 2.0 0.1
+depth 9
+4 ahead: wakeany 0 0: line 5, by line 3, 0.0 irecv from 1 tag 0
+    5    waitany r to i;'''
 LATER_OR_EARLIER = 'decided at depth 6 or earlier: not all runs from there were counted\n'
 
 BLAME = (
@@ -174,6 +192,7 @@ deadlock 0.1 1.0 is 11 steps ahead
 decided at depth 7: rank 0, line 4, takes the message of rank 2 (line 6, value
         2, tag 0); with that of rank 1 (line 6, value 1, tag 0) it need not hang
         or trap
+to try that: next 1
 depth 7
 rank 0 prints 5
 4 ahead: match 2.0 0.0: rank 2, line 6, to rank 0, line 4
@@ -197,6 +216,7 @@ ended: trap 0 assert
 decided at depth 12: rank 0, line 10, goes on by line 9, 0.1 irecv from 2 tag 0;
         if rank 0, line 10, goes on by line 8, 0.0 irecv from 1 tag 0 instead,
         it need not hang or trap
+to try that: next 1
 depth 12
 4 ahead: wakeany 0 1: line 10, by line 9, 0.1 irecv from 2 tag 0
    10    waitany r to which;
@@ -248,6 +268,7 @@ deadlock 0.2 is 8 steps ahead
 decided at depth 4: rank 0, line 8, goes on; if rank 1, line 11, takes the
         message of rank 0 (line 7, value 1, tag 0) instead, it need not hang or
         trap
+to try that: match 0.0 1.0
 depth 4
 4 ahead: local 0: line 8
     8    isend r[1] 2 to 1 tag 1;
@@ -258,6 +279,30 @@ next: local 0: line 8
 > blame
 {NOT_DECIDED}
 ''', 'slots:1'),
+    # no candidate is listed where it was decided: `next 2` goes on into the hang, and the word that is told goes another way
+    Dialogue('a wake by a waitany that decided, where it alone comes next', TOO_EARLY, f'''
+> deadlock
+deadlock 0.3 is 13 steps ahead
+13 ahead: local 0: line 2
+    2  if rank == 0 {{
+> blame
+{EARLY_BLAME}
+> next 2
+2 steps, depth 11
+stopped: as many steps as were asked for
+2 ahead: local 0: line 6
+    6    if i == 0 {{ recv x from 0 tag 9; }}
+> blame
+{EARLY_BLAME}
+> match 2.0 0.1
+10 match 2.0 0.1: rank 2, line 7, to rank 0, line 4
+stopped at a choice of rank 0, line 5; next N takes one:
+    5    waitany r to i;
+  1 wakeany 0 0: line 5, by line 3, 0.0 irecv from 1 tag 0
+  2 wakeany 0 1: line 5, by line 4, 0.1 irecv from any tag 0
+> blame
+{NOT_DECIDED}
+'''),
     # by hand, before rank 2 has sent: what a run does there is its first statement
     Dialogue('a match by hand that decided, where a local step comes next', 'stolen_message.mpd', f'''
 > run 6
@@ -272,6 +317,7 @@ next: local 2: line 7
 > blame
 decided at depth 6: rank 0, line 8, takes the message of rank 1 (line 13, value
         42, tag 7); if rank 2, line 7, goes on instead, it need not hang or trap
+to try that: local 2
 depth 6
 1 ahead: match 1.0 0.0: rank 1, line 13, to rank 0, line 8
 {STOLEN_LINES}
@@ -285,6 +331,7 @@ next: local 2: line 7
 > blame
 decided at depth 6: rank 0, line 8, takes the message of rank 1 (line 13, value
         42, tag 7); if rank 2, line 7, goes on instead, it need not hang or trap
+to try that: local 2
 depth 6
 5 ahead: match 1.0 0.0: rank 1, line 13, to rank 0, line 8
 {STOLEN_LINES}
@@ -313,6 +360,7 @@ next: wake 0: line 4
 > blame
 decided at depth 11: rank 0, line 4, takes the message of rank 3 (line 7, value
         3, tag 0); if rank 1, line 7, goes on instead, it need not hang or trap
+to try that: wake 1
 depth 11
 1 ahead: match 3.0 0.1: rank 3, line 7, to rank 0, line 4
     7  } else { send rank to 0 tag 0; }
@@ -337,6 +385,7 @@ ended: deadlock 0.3
 decided at depth 9: rank 0, line 3, takes the message of rank 1 (line 7, value
         1, tag 0); if all ranks leave the barrier instead, it need not hang or
         trap
+to try that: release
 depth 9
 6 ahead: match 1.0 0.0: rank 1, line 7, to rank 0, line 3
     7  } else { isend h rank to 0 tag 0; barrier; }

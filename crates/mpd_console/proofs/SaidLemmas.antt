@@ -126,9 +126,9 @@ pub ruleset telling = (told_whole, told_not, looked_whole, looked_not)
 
 -- ---- what a word does
 
-pub carried : (p : Bool) (script : List ℕ) (s t : Held) (x y : Word) (c : Command) (lead before after : List ℕ) (k : Known) (r : Reply) → y ≡ x → lead ≡ lead_said s x → k ≡ known_in s x → r ≡ (respond s (asking c)).0 → t ≡ (respond s (asking c)).1
+carried_there : (p : Bool) (script : List ℕ) (s t : Held) (x y : Word) (c : Command) (lead before after : List ℕ) (k : Known) (r : Reply) → y ≡ x → lead ≡ lead_said s x → k ≡ known_in s x → r ≡ (respond s (asking c)).0 → t ≡ (respond s (asking c)).1
     → Adds (Told (reply_said p script t y lead k r)) before after → Adds (Carried p script s x c t) before after
-carried p script s t x y c lead before after k r same is knows e held (z, h, told) = (
+carried_there p script s t x y c lead before after k r same is knows e held (z, h, told) = (
   z,
   h,
   inl (
@@ -138,6 +138,12 @@ carried p script s t x y c lead before after k r same is knows e held (z, h, tol
         (subst (λ i. Told (reply_said p script t x lead k i) z) e (subst (λ i. Told (reply_said p script t i lead k r) z) same told))),
   ),
 )
+
+-- the session is as the reply left it where the answer was told
+pub carried : (p : Bool) (script : List ℕ) (s t u : Held) (x y : Word) (c : Command) (lead before after : List ℕ) (k : Known) (r : Reply) → y ≡ x → lead ≡ lead_said s x → k ≡ known_in s x → r ≡ (respond s (asking c)).0 → t ≡ (respond s (asking c)).1
+    → u ≡ t → Adds (Told (reply_said p script t y lead k r)) before after → Adds (Carried p script s x c u) before after
+carried p script s t u x y c lead before after k r same is knows e held found told =
+    subst (λ i. Adds (Carried p script s x c i) before after) (sym found) (carried_there p script s t x y c lead before after k r same is knows e held told)
 
 pub not_carried : (p : Bool) (script : List ℕ) (s t : Held) (x : Word) (c : Command) (before after : List ℕ) → t ≡ s → after ≡ before ++ memory_line → Adds (Carried p script s x c t) before after
 not_carried p script s t x c before after e h = (memory_line, h, inr (e, refl))

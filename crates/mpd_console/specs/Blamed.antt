@@ -1,12 +1,19 @@
 -- What is told of the step that decided how the kept run ends.
-use Rattle.std.specs.Prelude.{◌≡◌, ℕ, ◌+◌, ◌-◌, nat_lt, if◌then◌else◌, List, length}
+use Rattle.std.specs.Prelude.{◌≡◌, ℕ, ◌+◌, ◌-◌, nat_lt, if◌then◌else◌, List, [], ◌++◌, length, Option, Some, None, codes}
+use Rattle.std.specs.Fmt.{decimal}
+use Rattle.std.specs.List.{position}
 use Rattle.mpd_model.specs.declared.limits.TheConstants.{STEPS_MAX}
+use Rattle.mpd_model.specs.declared.step.Step.{Step}
+use Rattle.mpd_model.specs.declared.decision.Decision.{Decision}
+use Rattle.mpd_model.specs.declared.decision.Decision.TheVariants.{Forced, Choice, Leaf}
 use Rattle.mpd_model.specs.steps.World.{World, start}
-use Rattle.mpd_model.specs.runs.Trail.{Trail}
-use Rattle.mpd_model.specs.texts.Texts.{line}
+use Rattle.mpd_model.specs.runs.Decisions.{decision}
+use Rattle.mpd_model.specs.runs.Trail.{Trail, step_eq}
+use Rattle.mpd_model.specs.texts.Texts.{line, step_text}
 use Rattle.mpd_runs.specs.declared.listing.TheConstants.{FUEL}
 use Rattle.mpd_runs.specs.declared.states.TheConstants.{STATES_VISITED}
 use Rattle.mpd_blame.specs.declared.back.Blame.{Blame}
+use Rattle.mpd_blame.specs.declared.back.Blame.TheVariants as blame_is
 use Rattle.mpd_blame.specs.Blame.{IsBlame, IsThere}
 use Rattle.mpd_blame.specs.Words.{blame_words}
 
@@ -21,9 +28,41 @@ pub record IsWhole (t u : Trail) : Type 0 where
   pub steps : u.steps ≡ t.steps
   pub depth : u.depth ≡ length t.steps
 
--- the line tells where it was decided how the kept run ends
+-- ---- how the other step is taken, which ends well
+
+-- the place of a step among the candidates of a choice of two or more
+abbrev pub place_among : Step → List Step → Option ℕ
+place_among a steps = if nat_lt 1 (length steps) then position (λ b. step_eq b a) steps else None
+
+-- candidates are counted from 1
+abbrev pub number_at : Option ℕ → Option ℕ
+number_at None = None
+number_at (Some place) = Some (place + 1)
+
+-- the number with which `next` takes a step, where it does
+abbrev pub number_by : Step → Decision → Option ℕ
+number_by a (Choice steps) = number_at (place_among a steps)
+number_by a (Forced b) = None
+number_by a (Leaf o) = None
+
+-- `next 2`, or the trace word of a step that isn't listed
+abbrev pub word_by : Step → Option ℕ → List ℕ
+word_by a (Some number) = codes "next " ++ decimal number
+word_by a None = step_text a
+
+abbrev pub word_for : World → Step → List ℕ
+word_for w a = word_by a (number_by a (decision w))
+
+-- `to try that: match 2.0 0.1`
+abbrev pub way_line : World → Blame → List ℕ
+way_line w (blame_is.At d) = line (codes "to try that: " ++ word_for w d.other)
+way_line w b = []
+
+-- ---- both
+
+-- the lines tell where it was decided how the kept run ends, and how another way is taken there
 pub record TellsBlame (t : Trail) (b : Blame) (text : List ℕ) : Type 0 where
   pub is : IsBlame STATES_VISITED (kept_limit (length t.steps)) (start t.program t.mode) t.steps b
   pub world : World
   pub there : IsThere (start t.program t.mode) t.steps b world
-  pub text_is : text ≡ line (blame_words t.program world b)
+  pub text_is : text ≡ line (blame_words t.program world b) ++ way_line world b

@@ -1,7 +1,10 @@
 //! The word `blame`: the step that decided how the run ends that is kept (docs/CONSOLE.md, "The step that decides").
 
-ghost use Rattle.std.specs.Prelude.{◌≡◌, ◌+◌, ◌≤◌, ◌++◌, IfOk, OnOk, OnErr, length, string_bytes, vec_len, vec_capacity};
+ghost use Rattle.std.specs.Prelude.{◌≡◌, ◌+◌, ◌<◌, ◌≤◌, ◌++◌, IfOk, IfSome, OnOk, OnErr, length, string_bytes, vec_len, vec_capacity};
+ghost use Rattle.std.specs.List.{position};
+ghost use Rattle.mpd_model.specs.runs.Trail.{step_eq};
 ghost use Rattle.mpd_fold.specs.Folding.{folded};
+ghost use Rattle.mpd_console.specs.Blamed as way;
 ghost use Rattle.mpd_console.specs.Blamed.{kept_limit, IsWhole, TellsBlame};
 ghost use Rattle.mpd_console.specs.Says as spec;
 ghost use Rattle.mpd_console.specs.Says.{Adds, Looked, IsGone, BlamedBy};
@@ -9,18 +12,20 @@ ghost use Rattle.mpd_console.specs.Says.{Adds, Looked, IsGone, BlamedBy};
 use crate::desk::{MEMORY, Screen, add, carry_out};
 use crate::prompts::said;
 use mpd_blame::{Blame, blame_run, push_blame};
+use mpd_core::Core;
 use mpd_fold::push_folded;
 use mpd_lines::{ROOM, push_all};
-use mpd_model::STEPS_MAX;
+use mpd_model::{Decision, STEPS_MAX, Step};
 use mpd_moves::goto_command;
 use mpd_outcomes::StateLimits;
+use mpd_policy::decide;
 use mpd_runs::{FUEL, STATES_KEPT, STATES_VISITED};
 use mpd_session::Session;
 use mpd_trail::Debugger;
 use mpd_vocabulary::Word;
 use std::alloc::{AllocError, Global};
 
-/// Where it was decided how the kept run ends, and that as a line.
+/// Where it was decided how the kept run ends, and that as a line, with a second one where another way is known.
 #[derive(Drop)]
 struct BlameLine {
     blame: Blame,
@@ -58,7 +63,79 @@ fn whole_copy<'c>(alloc: Global, debugger: &Debugger<'c>) -> Result<Debugger<'c>
     Ok(copy)
 }
 
-/// Where it was decided how the run of a debugger ends, and that as a line. The debugger is left on the way back along its run.
+/// Whether two steps are one.
+fn is_same(one: Step, other: Step) -> bool
+    ensures { result ≡ step_eq one other }
+{
+    one == other
+}
+
+/// The place of a step in a list, from 0, where it is there.
+fn place_in(step: Step, steps: &[Step]) -> Option<usize>
+    ensures place { result ≡ position (λ b. step_eq b step) steps.now }
+    ensures small { IfSome result (λ place. place < length steps.now) }
+{
+    steps.iter().position(|other| is_same(*other, step))
+}
+
+/// Its place among candidates, where these are two or more.
+fn place_among(step: Step, candidates: &[Step]) -> Option<usize>
+    ensures place { result ≡ way.place_among step candidates.now }
+    ensures small { IfSome result (λ place. place < length candidates.now) }
+{
+    if 1 < candidates.len() {
+        return place_in(step, candidates);
+    }
+    None
+}
+
+/// Its number among these, from 1.
+fn number_among(step: Step, candidates: &[Step]) -> Option<usize>
+    ensures { result ≡ way.number_at (way.place_among step candidates.now) }
+{
+    let place = place_among(step, candidates)?;
+    Some(place + 1)
+}
+
+/// The number with which `next` takes a step, by what comes next.
+fn number_by(step: Step, decided: &Decision) -> Option<usize>
+    ensures { result ≡ way.number_by step decided.now }
+{
+    match decided {
+        Decision::Choice(candidates) => number_among(step, &candidates.items),
+        Decision::Forced(_) | Decision::Leaf(_) => None,
+    }
+}
+
+/// Adds the word that takes a step: `next` with its number, or its trace word where it has none.
+fn push_word(out: &mut String, step: Step, number: Option<usize>) -> Result<(), AllocError>
+    ensures { OnOk result (string_bytes out.new ≡ string_bytes out.old ++ way.word_by step number) }
+{
+    match number {
+        Some(number) => write!(out, "next {number}"),
+        None => write!(out, "{step}"),
+    }
+}
+
+/// Adds a line with the word that takes the step that ends well, where it is known which, in the state before it.
+fn push_way(
+    alloc: Global,
+    core: &Core<'_>,
+    out: &mut String,
+    blame: Blame,
+) -> Result<(), AllocError>
+    ensures { OnOk result (string_bytes out.new ≡ string_bytes out.old ++ way.way_line core.now.world blame) }
+{
+    let Blame::At(decided) = blame else {
+        return Ok(());
+    };
+    let next = decide(alloc, core)?;
+    out.push_str("to try that: ")?;
+    push_word(out, decided.other, number_by(decided.other, &next))?;
+    out.push('\n')
+}
+
+/// Where it was decided how the run of a debugger ends, and that as lines. The debugger is left on the way back along its run.
 fn line_of(alloc: Global, whole: &mut Debugger<'_>) -> Result<BlameLine, AllocError>
     requires clean { length whole.old.trail.steps ≡ whole.old.trail.depth }
     ensures { IfOk result (λ b. TellsBlame whole.old.trail b.blame (string_bytes b.line)) }
@@ -75,6 +152,7 @@ fn line_of(alloc: Global, whole: &mut Debugger<'_>) -> Result<BlameLine, AllocEr
     let mut line = String::new(alloc);
     push_blame(whole.core(), &mut line, blame)?;
     line.push('\n')?;
+    push_way(alloc, whole.core(), &mut line, blame)?;
     Ok(BlameLine { blame, line })
 }
 

@@ -6,6 +6,7 @@ ghost use Rattle.mpd_runs.specs.Seek.{LiesAhead, FoundLies, no_run_line};
 ghost use Rattle.mpd_runs.specs.LastChoice.{last_choice as last_choice_of, no_choice_line};
 ghost use Rattle.mpd_vocabulary.specs.Reading.{line_of};
 ghost use Rattle.mpd_moves.specs.News.{told};
+ghost use Rattle.mpd_moves.specs.Moves.{told_hit};
 ghost use Rattle.mpd_console.specs.Says as spec;
 ghost use Rattle.mpd_console.specs.Says.{Adds, OrElse, Told, Carried, UndoneBy, SoughtFrom, FollowedBy, Answered, Looked, RepeatSays};
 
@@ -73,7 +74,18 @@ pub(crate) fn add(text: &[u8], otherwise: &[u8], out: &mut Vec<u8>)
     }
 }
 
-/// The answer to a word by the reply of the session, behind it.
+/// The lowest breakpoint that the step hits which was told, if one was. The session is as it was found. An `Err` is want of memory.
+fn hit_told(session: &mut Session<'_>, lead: &str) -> Result<Option<usize>, AllocError>
+    ensures hit { IfOk result (λ hit. hit ≡ told_hit session.old.breaks session.old.trail lead.now) }
+    ensures held { session.new ≡ session.old }
+{
+    if lead.is_empty() {
+        return Ok(None);
+    }
+    session.last_hit()
+}
+
+/// The answer to a word by the reply of the session, behind it, given the breakpoint that the step hits which was told.
 #[tactic(auto, using(crate::proofs::SaidLemmas::replying))]
 fn reply_text(
     alloc: Global,
@@ -81,7 +93,9 @@ fn reply_text(
     screen: Screen<'_>,
     lead: &Lead,
     reply: &Reply,
+    hit: Option<usize>,
 ) -> Result<Vec<u8>, AllocError>
+    requires hit { hit ≡ told_hit session.now.breaks session.now.trail (string_bytes lead.now.text) }
     ensures { IfOk result (λ t. t.items ≡ spec.reply_said screen.entry.is_prompting screen.entry.script.now session.now lead.now.word (string_bytes lead.now.text) (told lead.now.known.depth lead.now.known.printed.items lead.now.known.lost.items) reply.now) }
 {
     let mut told = String::new(alloc);
@@ -91,26 +105,44 @@ fn reply_text(
         debugger,
         text: screen.script,
         breaks: session.breaks(),
+        hit,
     };
     push_reply(alloc, scene, &mut told, lead, reply)?;
     said(alloc, session, screen.is_prompting, &told)
 }
 
-/// Adds the answer to a word by the reply of the session, behind it.
+/// The same, whatever that step hits. The session is as it was found.
+#[tactic(auto, using(crate::proofs::SaidLemmas::replying))]
+fn told_text(
+    alloc: Global,
+    session: &mut Session<'_>,
+    screen: Screen<'_>,
+    lead: &Lead,
+    reply: &Reply,
+) -> Result<Vec<u8>, AllocError>
+    ensures text { IfOk result (λ t. t.items ≡ spec.reply_said screen.entry.is_prompting screen.entry.script.now session.old lead.now.word (string_bytes lead.now.text) (told lead.now.known.depth lead.now.known.printed.items lead.now.known.lost.items) reply.now) }
+    ensures held { session.new ≡ session.old }
+{
+    let hit = hit_told(session, lead.text.as_str())?;
+    reply_text(alloc, session, screen, lead, reply, hit)
+}
+
+/// Adds the answer to a word by the reply of the session, behind it. The session is as it was found.
 #[tactic(auto, using(crate::proofs::SaidLemmas::telling))]
 fn tell_reply(
     alloc: Global,
-    session: &Session<'_>,
+    session: &mut Session<'_>,
     screen: Screen<'_>,
     lead: &Lead,
     reply: &Reply,
     out: &mut Vec<u8>,
 )
     requires room { vec_len out.old + ROOM ≤ vec_capacity out.old }
-    ensures told { Adds (Told (spec.reply_said screen.entry.is_prompting screen.entry.script.now session.now lead.now.word (string_bytes lead.now.text) (told lead.now.known.depth lead.now.known.printed.items lead.now.known.lost.items) reply.now)) out.old.items out.new.items }
+    ensures told { Adds (Told (spec.reply_said screen.entry.is_prompting screen.entry.script.now session.old lead.now.word (string_bytes lead.now.text) (told lead.now.known.depth lead.now.known.printed.items lead.now.known.lost.items) reply.now)) out.old.items out.new.items }
+    ensures held { session.new ≡ session.old }
     ensures capacity { vec_capacity out.old ≤ vec_capacity out.new }
 {
-    let Ok(text) = reply_text(alloc, session, screen, lead, reply) else {
+    let Ok(text) = told_text(alloc, session, screen, lead, reply) else {
         return push_all(out, UNPRINTED);
     };
     add(&text, UNPRINTED, out)

@@ -14,7 +14,7 @@ use Rattle.mpd_model.specs.script.Declaration.{Declared}
 use Rattle.mpd_model.specs.script.Program.{Program}
 use Rattle.mpd_model.specs.steps.World.{World}
 use Rattle.mpd_model.specs.runs.Decisions.{decision}
-use Rattle.mpd_model.specs.runs.Running.{all_applied, ran_back}
+use Rattle.mpd_model.specs.runs.Running.{all_applied}
 use Rattle.mpd_model.specs.runs.Trail.{Trail, step_eq, forgotten}
 use Rattle.mpd_model.specs.texts.Texts.{line}
 use Rattle.mpd_model.specs.runs.Breakpoints.{no_breaks, break_at}
@@ -27,6 +27,7 @@ use Rattle.mpd_request.specs.declared.reply.Refusal.TheVariants as refusal
 use Rattle.mpd_request.specs.declared.reply.Reply.{Reply}
 use Rattle.mpd_request.specs.declared.reply.Reply.TheVariants as reply
 use Rattle.mpd_policy.specs.Single.{single, only_step, ran_on}
+use Rattle.mpd_policy.specs.Last.{last_hit}
 use Rattle.mpd_names.specs.Called.{break_text}
 use Rattle.mpd_view.specs.Steps.{step_words}
 use Rattle.mpd_view.specs.Standing.{standing_text}
@@ -187,19 +188,7 @@ break_line_of ds n (Some b) = break_line ds n b
 
 -- ---- what is told of a single step
 
-abbrev pub cause_number : Cause → Option ℕ
-cause_number (for.Break n) = Some n
-cause_number other = None
-
--- the breakpoint of a run back that undoes one step
-abbrev pub hit_by : Stop → Option ℕ
-hit_by stop = if stop.steps == 1 then cause_number stop.cause else None
-
--- the lowest breakpoint that the last step hits, before which a run back would stop at once; what is undone doesn't matter
-abbrev pub last_hit : List (Option Break) → Trail → Option ℕ
-last_hit places t = hit_by (ran_back places (forgotten t) (forgotten t).depth)
-
--- that, where a step was told
+-- the lowest breakpoint that the last step hits, where a step was told
 abbrev pub told_hit : List (Option Break) → Trail → List ℕ → Option ℕ
 told_hit places t [] = None
 told_hit places t (b ∷ lead) = last_hit places t

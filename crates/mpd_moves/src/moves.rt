@@ -588,12 +588,13 @@ fn push_run(
 ) -> Result<(), AllocError>
     ensures { OnOk result (string_bytes out.new ≡ string_bytes out.old ++ spec.run_text scene.entry.text.now scene.entry.debugger.now.trail scene.entry.debugger.now.world scene.entry.breaks.now lead.now.word depth stop (told lead.now.known.depth lead.now.known.printed.items lead.now.known.lost.items)) }
 {
-    let standing = standing_of(alloc, scene, lead)?;
     let Scene {
         debugger,
         text,
         breaks,
+        ..
     } = scene;
+    let standing = standing_of(alloc, debugger, &lead.known)?;
     let decls = debugger.core().code().decls();
     push_ran(out, lead.word, depth, stop.steps)?;
     push_news(debugger, out, &lead.known, &standing)?;
@@ -635,16 +636,20 @@ fn push_stepped(
     out: &mut String,
     word: Word,
     lead: &str,
-    hit: Option<usize>,
 ) -> Result<(), AllocError>
-    requires hit { hit ≡ spec.told_hit scene.breaks.now scene.debugger.now.trail lead.now }
+    requires hit { scene.hit ≡ spec.told_hit scene.breaks.now scene.debugger.now.trail lead.now }
     ensures { OnOk result (string_bytes out.new ≡ string_bytes out.old ++ spec.stepped_text scene.entry.debugger.now.trail scene.entry.breaks.now word lead.now) }
 {
     if lead.is_empty() {
         return Ok(());
     }
-    let decls = scene.debugger.core().code().decls();
-    push_hit(out, decls, scene.breaks, hit)?;
+    let Scene {
+        debugger,
+        breaks,
+        hit,
+        ..
+    } = scene;
+    push_hit(out, debugger.core().code().decls(), breaks, hit)?;
     out.push_str(along_line(word, hit))
 }
 
@@ -656,17 +661,19 @@ fn push_move(
     lead: &Lead,
     depth: usize,
 ) -> Result<(), AllocError>
+    requires hit { scene.hit ≡ spec.told_hit scene.breaks.now scene.debugger.now.trail (string_bytes lead.now.text) }
     ensures { OnOk result (string_bytes out.new ≡ string_bytes out.old ++ spec.move_text scene.entry.text.now scene.entry.debugger.now.trail scene.entry.debugger.now.world scene.entry.breaks.now lead.now.word depth (string_bytes lead.now.text) (told lead.now.known.depth lead.now.known.printed.items lead.now.known.lost.items)) }
 {
-    let standing = standing_of(alloc, scene, lead)?;
+    let standing = standing_of(alloc, scene.debugger, &lead.known)?;
     let step = lead.text.as_str();
     push_moved(out, depth, step)?;
     push_news(scene.debugger, out, &lead.known, &standing)?;
-    push_stepped(scene, out, lead.word, step, standing.hit)?;
+    push_stepped(scene, out, lead.word, step)?;
     push_standing(alloc, scene.debugger, scene.text, out, standing.decision)
 }
 
-/// Adds what is told of a reply to a word after it, by what was told and known before. An `Err` is want of memory.
+/// Adds what is told of a reply to a word after it, by what was told and known before; the breakpoint of the scene is the one that the
+/// last step hits, where a step was told. An `Err` is want of memory.
 pub fn push_reply(
     alloc: Global,
     scene: Scene<'_, '_>,
@@ -674,6 +681,7 @@ pub fn push_reply(
     lead: &Lead,
     reply: &Reply,
 ) -> Result<(), AllocError>
+    requires hit { scene.hit ≡ spec.told_hit scene.breaks.now scene.debugger.now.trail (string_bytes lead.now.text) }
     ensures { OnOk result (string_bytes out.new ≡ string_bytes out.old ++ spec.reply_text scene.entry.text.now scene.entry.debugger.now.trail scene.entry.debugger.now.world scene.entry.breaks.now lead.now.word (string_bytes lead.now.text) (told lead.now.known.depth lead.now.known.printed.items lead.now.known.lost.items) reply.now) }
 {
     let Scene { debugger, text, .. } = scene;

@@ -1,13 +1,12 @@
 //! Where a session stands after a word: found once, and handed on to all that tells it (docs/CONSOLE.md, "Where it stands").
 
-ghost use Rattle.std.specs.Prelude.{◌≡◌, IfOk, string_bytes};
+ghost use Rattle.std.specs.Prelude.{◌≡◌, IfOk};
 ghost use Rattle.mpd_model.specs.runs.Decisions.{decision};
 ghost use Rattle.mpd_moves.specs.News.{told, lost_after};
-ghost use Rattle.mpd_moves.specs.Moves as spec;
 
-use crate::news::{Known, Lead};
-use mpd_model::{CallId, Cause, Decision, Stop};
-use mpd_policy::{Breaks, decide, run_back};
+use crate::news::Known;
+use mpd_model::{CallId, Decision};
+use mpd_policy::{Breaks, decide};
 use mpd_trail::Debugger;
 use mpd_view::lost_calls;
 use std::alloc::{AllocError, Global};
@@ -21,6 +20,8 @@ pub struct Scene<'s, 'c> {
     pub text: &'s [u8],
     /// Its breakpoints.
     pub breaks: &'s Breaks,
+    /// The lowest of these that the step hits which was told; none where none was.
+    pub hit: Option<usize>,
 }
 
 /// Where a session stands after a word.
@@ -30,8 +31,6 @@ pub(crate) struct Standing {
     pub(crate) decision: Decision,
     /// The requests that are lost, where more steps are taken than before the word.
     pub(crate) lost: Vec<CallId>,
-    /// The lowest breakpoint that the step hits which was told; none where none was.
-    pub(crate) hit: Option<usize>,
 }
 
 /// The requests that are lost after a word, where more steps are taken than before it. An `Err` is want of memory.
@@ -48,60 +47,18 @@ fn lost_after(
     lost_calls(alloc, debugger.core())
 }
 
-/// The breakpoint of a run back that undoes one step.
-fn hit_by(stop: Stop) -> Option<usize>
-    ensures { result ≡ spec.hit_by stop }
-{
-    match stop.cause {
-        Cause::Break(number) if stop.steps == 1 => Some(number),
-        _ => None,
-    }
-}
-
-/// The lowest breakpoint that the last step hits, before which a run back would stop at once. An `Err` is want of memory.
-fn last_hit(debugger: &Debugger<'_>, breaks: &Breaks) -> Result<Option<usize>, AllocError>
-    ensures { IfOk result (λ o. o ≡ spec.last_hit breaks.now debugger.now.trail) }
-{
-    let mut copy = debugger.copy()?;
-    let stop = run_back(&mut copy, breaks);
-    drop(copy);
-    Ok(hit_by(stop))
-}
-
-/// That of a step that was told; none where none was. An `Err` is want of memory.
-fn told_hit(
-    debugger: &Debugger<'_>,
-    breaks: &Breaks,
-    lead: &str,
-) -> Result<Option<usize>, AllocError>
-    ensures { IfOk result (λ o. o ≡ spec.told_hit breaks.now debugger.now.trail lead.now) }
-{
-    if lead.is_empty() {
-        return Ok(None);
-    }
-    last_hit(debugger, breaks)
-}
-
-/// Where a session stands after a word, given what was told and known before it. An `Err` is want of memory.
+/// Where a session stands after a word, given what was known before it. An `Err` is want of memory.
 pub(crate) fn standing_of(
     alloc: Global,
-    scene: Scene<'_, '_>,
-    lead: &Lead,
+    debugger: &Debugger<'_>,
+    known: &Known,
 ) -> Result<Standing, AllocError>
-    ensures decision { IfOk result (λ standing. standing.decision ≡ decision scene.entry.debugger.now.world) }
-    ensures lost { IfOk result (λ standing. standing.lost.items ≡ lost_after (told lead.now.known.depth lead.now.known.printed.items lead.now.known.lost.items) scene.entry.debugger.now.trail scene.entry.debugger.now.world) }
-    ensures hit { IfOk result (λ standing. standing.hit ≡ spec.told_hit scene.entry.breaks.now scene.entry.debugger.now.trail (string_bytes lead.now.text)) }
+    ensures decision { IfOk result (λ standing. standing.decision ≡ decision debugger.now.world) }
+    ensures lost { IfOk result (λ standing. standing.lost.items ≡ lost_after (told known.now.depth known.now.printed.items known.now.lost.items) debugger.now.trail debugger.now.world) }
 {
-    let Scene {
-        debugger,
-        breaks,
-        ..
-    } = scene;
-    let hit = told_hit(debugger, breaks, lead.text.as_str())?;
-    let lost = lost_after(alloc, debugger, &lead.known)?;
+    let lost = lost_after(alloc, debugger, known)?;
     Ok(Standing {
         decision: decide(alloc, debugger.core())?,
         lost,
-        hit,
     })
 }

@@ -46,4 +46,8 @@ module _ (t : Trail) (places : List (Option Break)) (v : ℕ) (w : World) (q : R
       ap (λ x. held x set n) trail ∙ ap (λ x. held comes.1.0 x n) breaks ∙ ap (held comes.1.0 comes.1.1) (version ∙ ap (version_then v) is)
       ∙ ap (λ (p : Replied). p.1) (sym (current (held t places v) w q h.world now))
 
+-- a session whose debugger is as it was found
+pub found : (t u : Trail) (places : List (Option Break)) (v : ℕ) → u ≡ t → held u places v ≡ held t places v
+found t u places v same = ap (λ x. held x places v) same
+
 pub ruleset answering = (stale_0, stale_1, current_0, current_1)

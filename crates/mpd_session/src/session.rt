@@ -1,8 +1,9 @@
 //! A session, which answers requests one at a time.
 
-ghost use Rattle.std.specs.Prelude.{◌≡◌, ℕ, IfOk, OnOk, OnErr, true, take};
+ghost use Rattle.std.specs.Prelude.{◌≡◌, ◌<◌, ℕ, IfOk, OnOk, OnErr, true, take};
 ghost use Rattle.mpd_model.specs.runs.Trail.{IsReached, IsRun, done_steps};
 ghost use Rattle.mpd_trail.specs.Views.{standing_of};
+ghost use Rattle.mpd_policy.specs.Last as last;
 ghost use Rattle.mpd_session.specs.Held.{opened};
 ghost use Rattle.mpd_session.specs.Respond.{carried, respond, reply_to, version_then, raised, is_current, may_want, laid};
 
@@ -11,7 +12,7 @@ use crate::limits::VERSION_MAX;
 use crate::{breaks, looks, runs, steps};
 use mpd_code::Code;
 use mpd_model::{Mode, Step};
-use mpd_policy::Breaks;
+use mpd_policy::{Breaks, last_hit};
 use mpd_request::{Command, Desk, DeskFault, Refusal, Reply, Request};
 use mpd_trail::Debugger;
 use std::alloc::{AllocError, Global};
@@ -141,6 +142,17 @@ impl<'c> Session<'c> {
         ensures { result.now ≡ self.now.breaks }
     {
         &self.breaks
+    }
+
+    /// The lowest of its breakpoints that the last step hits, before which a run back would stop at once; none where no step is taken, or
+    /// where it hits none. The session is as it was found. An `Err` is want of memory, and comes only where a step is taken.
+    #[tactic(auto, using(crate::proofs::AnswerLemmas::found))]
+    pub fn last_hit(&mut self) -> Result<Option<usize>, AllocError>
+        ensures hit { IfOk result (λ hit. hit ≡ last.last_hit self.old.breaks self.old.trail) }
+        ensures held { self.new ≡ self.old }
+        ensures taken { OnErr result (0 < self.old.trail.depth) }
+    {
+        last_hit(&mut self.debugger, &self.breaks)
     }
 
     /// Has these steps as the ones that are kept. They begin with those that are not undone, and lead on from there; those behind the
