@@ -1,12 +1,13 @@
 #!/usr/bin/env python3
 """Nothing of what this makes is proved: a page of runs of a script, put together from what mpdbg answers.
 
-    page/make.py FILE [--mode M] [--ranks N] [--choices C | --witness W | --words W | --runs N] [--ends] [--hide] > FILE.html
+    page/make.py FILE [--mode M] [--ranks N] [--choices C | --witness W | --words W | --runs N] [--ends] [--fuel N] [--hide] > FILE.html
 
-docs/PAGES.md tells what stands in a page. Which runs: those with the choices C, of the witness or the report W, by the trace words W, or the
-first N that `check` lists; without any of these the first run that hangs or traps, and the first that ends well, or else the run of the
-first candidates. `--ends` takes choices and runs along the wide walk, and `--hide` covers how runs end until the key h. MPDBG names the
-program (./mpdbg of this repository without it). The status is 0, or 2 where no page can be made, which is told on standard error.
+docs/PAGES.md tells what stands in a page. Which runs: those with the choices C, of the witness or the report W, by the trace words W,
+or the first N that `check` lists; without any of these the first run that hangs or traps, and the first that ends well, or else the
+run of the first candidates. `--ends` takes choices and runs along the wide walk, `--fuel` is how many steps a run has at most, and
+`--hide` covers how runs end until the key h. MPDBG names the program (./mpdbg of this repository without it). The status is 0, or 2
+if no page can be made, which is told on standard error.
 """
 
 import argparse
@@ -36,8 +37,8 @@ class Refused(Exception):
 class Program:
     """The program, asked of one script in one mode."""
 
-    def __init__(self, path, script, mode, ranks):
-        self.path, self.script = path, script if not script.startswith('-') else './' + script
+    def __init__(self, path, script, mode, ranks, fuel):
+        self.path, self.script, self.fuel = path, script if not script.startswith('-') else './' + script, ['--fuel', fuel]
         self.options = ['--mode', mode] + (['--ranks', ranks] if ranks else [])
 
     def words(self, command, *more):
@@ -166,7 +167,7 @@ class Way(NamedTuple):
 
 
 def by_choices(program, choices, ends):
-    text = program.answer('words', '--choices', choices, *['--ends'] * ends)
+    text = program.answer('words', '--choices', choices, *program.fuel, *['--ends'] * ends)
     return Way(text.split('\n')[:-1], [int(choice) for choice in choices.split()])
 
 
@@ -178,7 +179,7 @@ def of_report(report):
 
 def first_ones(program, ends):
     """The first run that hangs or traps and the first that ends well, or else the first; what is said of all; whether there are more."""
-    report = program.answer('check', '--outcomes')
+    report = program.answer('check', '--outcomes', *program.fuel)
     listed, more = of_report(report)
     bad = [choices for outcome, choices in listed if BAD.match(outcome)][:1]
     good = [choices for outcome, choices in listed if re.match('done|leftovers', outcome)][:1]
@@ -205,7 +206,7 @@ def ways_of(program, asked, is_wide):
         with open(asked.words, encoding='ascii') as file:
             return [Way(file.read().splitlines(), None)], [], True
     if asked.runs is not None:
-        report = program.answer('check', '--runs', str(asked.runs), '--split', '0', *['--ends'] * is_wide)
+        report = program.answer('check', '--runs', str(asked.runs), '--split', '0', *program.fuel, *['--ends'] * is_wide)
         listed, more = of_report(report)
         return [by_choices(program, choices, is_wide) for _, choices in listed], [], more
     return first_ones(program, is_wide)
@@ -242,6 +243,11 @@ class View:
         for name, value in vars(self).items():
             setattr(other, name, [list(each) if isinstance(each, list) else each for each in value])
         return other
+
+
+def others(now, before):
+    """The cells of each rank that hold something else than before."""
+    return [[rank, cell, value] for rank, cells in enumerate(now) for cell, value in enumerate(cells) if value != before[rank][cell]]
 
 
 class Tree:
@@ -285,8 +291,7 @@ class Tree:
             node = {'p': parent, **node}
         changed = {
             'd': [[rank, *view.places[rank]] for rank in ranks if view.places[rank] != before.places[rank]],
-            'v': [[rank, cell, value] for rank in ranks for cell, value in enumerate(view.values[rank]) if value != before.values[rank][cell]],
-            'h': [[rank, cell, value] for rank in ranks for cell, value in enumerate(view.handles[rank]) if value != before.handles[rank][cell]],
+            'v': others(view.values, before.values), 'h': others(view.handles, before.handles),
             'o': [[rank, value] for rank in ranks for value in view.printed[rank][len(before.printed[rank]):]],
             'c': issued, 'k': None,
             'w': [[rank, view.why[rank]] for rank in ranks if view.why[rank] != before.why[rank]]}
@@ -377,13 +382,12 @@ def declared(script, kind):
 def script_lines(script):
     """The lines of a script, without the carriage return at the end of one."""
     lines = script.split(b'\n')
-    return [line[:-1] if line.endswith(b'\r') and number < len(lines) else line
-            for number, line in enumerate(lines[:-1] if lines[-1] == b'' else lines, 1)]
+    return [line[:-1] if line.endswith(b'\r') else line for line in (lines[:-1] if lines[-1] == b'' else lines)]
 
 
 def page_of(asked):
     """The page that is asked for."""
-    program = Program(os.environ.get('MPDBG', os.path.join(TOP, 'mpdbg')), asked.file, asked.mode, asked.ranks)
+    program = Program(os.environ.get('MPDBG', os.path.join(TOP, 'mpdbg')), asked.file, asked.mode, asked.ranks, asked.fuel)
     program.answer('trace')  # a script that is refused is told so
     with open(asked.file, 'rb') as file:
         script = file.read()
@@ -403,7 +407,8 @@ def page_of(asked):
             'vars': declared(script, b'var'), 'handles': declared(script, b'req')}
     before, after = parted()
     data = data_of(head, tree.nodes, tree.ends, more)
-    return before + data + after, f'{len(tree.nodes)} states, {len(tree.ends)} runs, data {len(data)} bytes, page {len(before + data + after)} bytes'
+    page = before + data + after
+    return page, f'{len(tree.nodes)} states, {len(tree.ends)} runs, data {len(data)} bytes, page {len(page)} bytes'
 
 
 def main():
@@ -417,6 +422,7 @@ def main():
     which.add_argument('--words')
     which.add_argument('--runs', type=int)
     parser.add_argument('--ends', action='store_true', help='choices and runs along the wide walk')
+    parser.add_argument('--fuel', default='100000', help='how many steps a run has at most (100000)')
     parser.add_argument('--hide', action='store_true', help='cover how runs end until the key h')
     parser.add_argument('--told', action='store_true', help='tell on standard error how large it is')
     asked = parser.parse_args()
