@@ -46,7 +46,7 @@ TRIAL = r'''
   const press = key => document.dispatchEvent(new KeyboardEvent('keydown', { key, bubbles: true, cancelable: true }));
   const click = of => of && of.dispatchEvent(new MouseEvent('click', { bubbles: true }));
   const lanesText = () => el('lanes').scrollWidth > el('lanes').clientWidth + 2 ? '' : el('lanes').textContent; // where lanes are scrolled, a part is drawn
-  const text = () => ['source', 'tree', 'choice', 'told', 'table', 'step', 'verdict'].map(part => el(part).textContent).join('|') + lanesText();
+  const text = () => ['source', 'tree', 'choice', 'told', 'table', 'step', 'verdict'].map(part => el(part).hidden ? '' : el(part).textContent).join('|') + lanesText();
   const held = () => JSON.stringify([S.place, S.values, S.requests, S.printed, S.calls.map(list => list.map(call => [call.line, call.text, call.partner || null])), S.why]);
   let count = 0;
   function look(how) {
