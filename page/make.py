@@ -391,7 +391,8 @@ def page_of(asked):
     program.answer('trace')  # a script that is refused is told so
     with open(asked.file, 'rb') as file:
         script = file.read()
-    is_other = asked.mode.startswith('slots') or re.search(rb'\bwaitany\b', re.sub(rb'#[^\n]*', b'', script)) is not None
+    code = re.sub(rb'#[^\n]*', b'', script)
+    is_other = asked.mode.startswith('slots') or re.search(rb'\bwaitany\b', code) is not None
     by_default = asked.choices is asked.witness is asked.words is asked.runs is None
     by_choices_alone = asked.witness is asked.words is None
     is_wide = by_choices_alone and asked.ends or by_default and is_other

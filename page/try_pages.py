@@ -36,7 +36,8 @@ PAGES = (('stolen_message', ('examples/stolen_message.mpd',), '#run=0&step=9'), 
          ('lost', ('examples/lost_request.mpd',), '#run=0&step=99'), ('slots', ('examples/freed_slot.mpd', '--mode', 'slots:2'), '#run=0&step=99'),
          ('sixteen', ('examples/one_in_seven.mpd', '--ranks', '16', '--choices', '3'), '#run=0&step=60'),
          ('signs', ('signs.mpd', '--mode', 'buffered'), '#run=0&step=5'))
-SIGNS = b'mpd 1;\r\nranks 2;\r\nvar x;\r\n#\t</script><!-- "\\ &lt; \r x\r\nif rank == 0 { send -5 to 1 tag 7; send 6 to 0 tag 2; } else { recv x from 0 tag 7; }\r\n'
+SIGNS = (b'mpd 1;\r\nranks 2;\r\nvar x;\r\n#\t</script><!-- "\\ &lt; \r x\r\n'
+         b'if rank == 0 { send -5 to 1 tag 7; send 6 to 0 tag 2; } else { recv x from 0 tag 7; }\r\n')
 
 # What is done in the browser, at the end of a page: it leaves what it has found as text in the place of the page.
 TRIAL = r'''
@@ -45,14 +46,19 @@ TRIAL = r'''
   window.addEventListener('error', event => wrong(event.message));
   const press = key => document.dispatchEvent(new KeyboardEvent('keydown', { key, bubbles: true, cancelable: true }));
   const click = of => of && of.dispatchEvent(new MouseEvent('click', { bubbles: true }));
-  const lanesText = () => el('lanes').scrollWidth > el('lanes').clientWidth + 2 ? '' : el('lanes').textContent; // where lanes are scrolled, a part is drawn
+  // Of lanes that are scrolled a part alone is drawn, which depends on where they stood before.
+  const lanesText = () => el('lanes').scrollWidth > el('lanes').clientWidth + 2 ? '' : el('lanes').textContent;
   const text = () => ['source', 'tree', 'choice', 'told', 'table', 'step', 'verdict'].map(part => el(part).hidden ? '' : el(part).textContent).join('|') + lanesText();
-  const held = () => JSON.stringify([S.place, S.values, S.requests, S.printed, S.calls.map(list => list.map(call => [call.line, call.text, call.partner || null])), S.why]);
+  const callsHeld = () => S.calls.map(list => list.map(call => [call.line, call.text, call.partner || null]));
+  const held = () => JSON.stringify([S.place, S.values, S.requests, S.printed, callsHeld(), S.why]);
   let count = 0;
   function look(how) {
     const key = `${endOf()} ${k} ${covered}`, now = text(), state = run[k];
     count++;
-    if (drawn.has(key) && drawn.get(key) !== now) { const was = drawn.get(key), at = [...now].findIndex((sign, i) => sign !== was[i]); wrong(`${how}: run ${endOf()}, step ${k} is drawn otherwise: ${JSON.stringify([was.slice(at - 20, at + 30), now.slice(at - 20, at + 30)])}`); }
+    if (drawn.has(key) && drawn.get(key) !== now) {
+      const was = drawn.get(key), at = [...now].findIndex((sign, i) => sign !== was[i]);
+      wrong(`${how}: run ${endOf()}, step ${k} is drawn otherwise: ${was.slice(at - 20, at + 30)} | ${now.slice(at - 20, at + 30)}`);
+    }
     if (!drawn.has(key)) found.push(`STATE ${state} ${held()}`);
     drawn.set(key, now);
     if (/undefined|NaN|Infinity|\[object/.test(document.querySelector('main').innerHTML)) wrong(`${how}: step ${k} has no number or no text`);
@@ -69,10 +75,20 @@ TRIAL = r'''
       for (let d = 1; d <= last(); d++) { press('ArrowRight'); expect(k === d, 'right'); }
       press('ArrowRight'); expect(k === last(), 'right at the end');
       for (let d = last() - 1; d >= 0; d--) { press('ArrowLeft'); expect(k === d, 'left'); }
-      for (let d = 0; d <= last(); d += 3) { el('slider').value = d; el('slider').dispatchEvent(new Event('input')); expect(k === d, 'the slider'); }
-      for (const [name, to] of [['start', 0], ['on', Math.min(1, last())], ['back', 0], ['end', last()]]) { click(document.querySelector(`[data-go="${name}"]`)); expect(k === to, name); }
+      for (let d = 0; d <= last(); d += 3) {
+        el('slider').value = d;
+        el('slider').dispatchEvent(new Event('input'));
+        expect(k === d, 'the slider');
+      }
+      for (const [name, to] of [['start', 0], ['on', Math.min(1, last())], ['back', 0], ['end', last()]]) {
+        click(document.querySelector(`[data-go="${name}"]`));
+        expect(k === to, name);
+      }
       press('b'); look('b');
-      for (const d of [...document.querySelectorAll('#marks [data-step]')].map(mark => +mark.dataset.step)) { click(document.querySelector(`#marks [data-step="${d}"]`)); expect(k === d, 'a mark'); }
+      for (const d of [...document.querySelectorAll('#marks [data-step]')].map(mark => +mark.dataset.step)) {
+        click(document.querySelector(`#marks [data-step="${d}"]`));
+        expect(k === d, 'a mark');
+      }
       press('Home');
       for (const d of choices().filter(d => d > 0)) { press('c'); expect(k === d, 'c'); }
       press('End');
@@ -84,7 +100,10 @@ TRIAL = r'''
         expect(to === undefined ? k === d && button.disabled : run[k] === to, `candidate ${c} by ${by}`);
       }
     }
-    for (const node of document.querySelectorAll('[data-node]')) { const at = +node.dataset.node; click(document.querySelector(`[data-node="${at}"]`)); expect(run[k] === at, 'a click on a choice'); }
+    for (const at of [...document.querySelectorAll('[data-node]')].map(node => +node.dataset.node)) {
+      click(document.querySelector(`[data-node="${at}"]`));
+      expect(run[k] === at, 'a click on a choice');
+    }
     press('h'); look('h'); press('h'); look('h again');
     printing = true; lanes(); printing = false; lanes();
     location.hash = '#run=0&step=1'; come(); expect(endOf() === 0 && k === Math.min(1, last()), 'the address');

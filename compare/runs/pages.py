@@ -341,7 +341,8 @@ def met(asked, data):
     for what, sign in (('a release', '"release"'), ('a waitany', '"wakeany '), ('a request', '"h"'), ('complete', '"complete"'), ('printed', '"o"'),
                        ('another parent', '"p"')):
         yield from [what] * (sign in text)
-    yield from ['held back'] * any(' ' in other for node in data['nodes'] for _, why in node.get('w', []) for one in why or () for other in map(str, one[1:]))
+    reasons = [one for node in data['nodes'] for _, why in node.get('w', []) for one in why or ()]
+    yield from ['held back'] * any(' ' in str(other) for one in reasons for other in one[1:])
     yield from ['a choice'] * any(len(node.get('k', ())) > 1 for node in data['nodes'])
     yield from ['another candidate'] * any(node.get('n', 0) > 0 for node in data['nodes'])
     yield from ['a `<`'] * any('<' in line for line in data['script'])
