@@ -30,7 +30,7 @@ from runs.pages import CLOSING, OPENING, Shown
 BROWSERS = 'chromium', 'chromium-browser', 'google-chrome', 'chrome'
 # The pages: a name, the words of each, and the moment of its screenshot.
 PAGES = (('stolen_message', ('examples/stolen_message.mpd',), '#run=0&step=9'), ('race', ('examples/race.mpd',), '#run=1&step=14'),
-         ('seven', ('examples/one_in_seven.mpd', '--runs', '24'), '#run=6&step=64'), ('hidden', ('examples/one_in_seven.mpd', '--hide'), '#run=1&step=17'),
+         ('seven', ('examples/one_in_seven.mpd', '--runs', '3'), '#run=2&step=64'), ('hidden', ('examples/one_in_seven.mpd', '--hide'), '#run=1&step=17'),
          ('waitany', ('examples/waitany.mpd',), '#run=0&step=13'), ('order', ('examples/order_decides.mpd',), '#run=1&step=99'),
          ('trap', ('examples/trap.mpd',), '#run=0&step=99'), ('barrier', ('examples/skipped_barrier.mpd',), '#run=0&step=99'),
          ('lost', ('examples/lost_request.mpd',), '#run=0&step=99'), ('slots', ('examples/freed_slot.mpd', '--mode', 'slots:2'), '#run=0&step=99'),
@@ -184,7 +184,7 @@ def main():
     parser.add_argument('--size', default='1280,720', help='width and height of a window (1280,720)')
     parser.add_argument('--dark', action='store_true', help='dark colours')
     parser.add_argument('--only', help='one page alone, by its name')
-    parser.add_argument('--seconds', type=float, default=120, help='how long the browser may take (120)')
+    parser.add_argument('--seconds', type=float, default=300, help='how long the browser may take (300)')
     asked = parser.parse_args()
     program, bad = browser(), 0
     if program is None:
