@@ -36,7 +36,7 @@ from started.console_terminal import read as read_terminal, wrong_end
 SECONDS = 60
 
 # What begins a command that is not run here, since it is none of the program.
-NOT_RUN = ('.ci/', 'GATE_', 'rt ', 'python3 compare/', 'python3 bench/', 'git ', 'mpicc ', 'mpiexec ', 'tools/record/', './mpdbg --prove')
+NOT_RUN = ('.ci/', 'GATE_', 'rt ', 'python3 compare/', 'python3 bench/', 'git ', 'mpicc ', 'mpiexec ', 'tools/record/', 'page/', './mpdbg --prove')
 # What begins a command that is run.
 RUN = ('./mpdbg', 'cat ', 'sed ', 'echo ', 'mkdir ', 'seq ', 'sbatch ', 'sh examples/', 'python3 examples/')
 # How a block begins that shows neither commands nor what one of the commands answers: a line of another command, or a form.
@@ -47,6 +47,7 @@ EXCERPTS = {
     'docs/CONSOLE.md': ('help lists ',),
     'docs/FROM_A_RUN.md': ('mpdrec stands ', 'recv x from any tag 2 '),
     'docs/GATE.md': ('fn: ',),
+    'docs/PAGES.md': ('{"format":', '{"s":"local 2"'),
     'docs/PICTURES.md': ('<line class', '0 1 2')}
 # Files that a page names by a word: a script, words for it, and a witness of it, which is made.
 FILES = {'FILE': 'examples/race.mpd', 'WORDS': 'examples/race.words', 'WITNESS': 'made.witness', '--port P': '--port 7007', '--clients N': '--clients 2'}

@@ -1,0 +1,459 @@
+"""Reads pages of recorded runs by docs/PAGES.md, and compares each of their states with the model.
+
+    python3 compare/runs/pages.py PROGRAM                pages of 20 random scripts of both versions, in all modes, and of the examples
+    python3 compare/runs/pages.py PROGRAM --count 300    more of them
+    python3 compare/runs/pages.py --broken               faults that are put into pages (page_faults.py), each of which must be noticed
+
+page/make.py makes the pages, of what PROGRAM answers. Of each script there is one of the runs that it takes by itself, of choices along
+decisions and along the wide walk, of the first leaves, of trace words, and of a witness. A page is read again: its changes are applied to
+one view after another, and each view must show what `show` of the model does where the steps lead, the lines, why ranks wait, and the
+candidates. The text is that of the model, too, to the byte. Without a PROGRAM the pages are the model's. The status is 0 where nothing
+differs, and all was met that must be.
+"""
+
+import json
+import os
+import subprocess
+import sys
+import tempfile
+from collections import Counter
+from itertools import islice
+from pathlib import Path
+from random import Random
+from typing import NamedTuple, Optional
+
+sys.path.insert(0, os.path.dirname(os.path.dirname(os.path.abspath(__file__))))
+
+from cases.piece_cases import script_of
+from cases.reread_cases import report_asked
+from faults import page_faults
+from model import page_model, picture_model, states, walks, wide
+from model.debugger import CallId, RENDEZVOUS, enabled_steps, first_world, next_world, outcome, show, step_of, step_text
+from model.explaining import Reached
+from model.files import held
+from model.language import Fault, read_script
+from model.page_model import BAD, DECISIONS, WIDE, WORDS
+from model.remembered import steps_remembered
+from model.run_words import run_by
+from model.walks import Run
+from places import EXAMPLES, TOP
+from runs import driving
+
+MAKER, TEMPLATE = f'{TOP}/page/make.py', f'{TOP}/page/page.html'
+FIRST, OPENING, CLOSING = b'<!DOCTYPE html>', b'<script type="application/json" id="run">', b'</script>'
+NOTE = 'Made by page/make.py: nothing of it is proved.'
+CHUNK, MOST_FUEL, MOST_LOOKED_AT, MANY = 5, 300, 3000, 20
+# The examples whose pages are read, each with its mode.
+SHOWN = (('stolen_message', RENDEZVOUS), ('race', RENDEZVOUS), ('one_in_seven', RENDEZVOUS), ('waitany', RENDEZVOUS), ('order_decides', RENDEZVOUS),
+         ('trap', RENDEZVOUS), ('skipped_barrier', RENDEZVOUS), ('lost_request', RENDEZVOUS), ('freed_slot', 'slots:2'), ('head_to_head', 'buffered'),
+         ('loop', RENDEZVOUS), ('wrong_handle', RENDEZVOUS))
+MUST_MEET = ('by itself', 'choices', 'runs', 'words', 'witness', 'choices along the wide walk', 'runs along the wide walk', 'several runs', 'done',
+             'deadlock', 'trap', 'leftovers', 'cut', 'rendezvous', 'buffered', 'slots', 'a release', 'a waitany', 'a choice', 'another candidate',
+             'a request', 'held back', 'complete', 'a lost request', 'a step that decides', 'no step that decides', 'printed', 'another parent', 'a `<`')
+
+
+class Asked(NamedTuple):
+    """A page that is asked for: the words of it, and what the model makes it of."""
+    kind: str
+    words: tuple
+    file: Optional[bytes]
+    of: page_model.Asked
+
+    def told_in(self, folder):
+        """The words that ask the maker, with files in a folder."""
+        words = [held(folder, 'asked', self.file) if word is None else word for word in self.words]
+        return held(folder, self.of.name, self.of.text), '--mode', self.of.mode, *['--hide'] * self.of.hide, *words
+
+
+# ---- what is asked
+
+def with_choices(leaf, ends):
+    return '--choices', ' '.join(map(str, leaf.choices)), *['--ends'] * ends
+
+
+def random_choices(random, begun, ends):
+    """The choices of a run that are drawn at random."""
+    run, followed = begun, wide.followed if ends else walks.followed
+    while True:
+        run, decided = followed(run)
+        if walks.ending(decided, run.fuel) is not None:
+            return run_by(begun, run.choices, ends)
+        place = random.randrange(len(decided.steps))
+        run = walks.taken(run, decided.steps[place], place)
+
+
+def random_steps(random, script, mode):
+    """Steps that are enabled one after another, in any order."""
+    world, steps = first_world(script, mode), []
+    for _ in range(random.randrange(60)):
+        if not (enabled := enabled_steps(world)):
+            break
+        steps.append(random.choice(enabled))
+        world = next_world(world, steps[-1])
+    return tuple(steps)
+
+
+def leaves_of(begun, ends):
+    """The leaves that a report lists."""
+    return (leaf for leaf in wide.ways_behind(begun) if leaf.outcome != wide.ASLEEP) if ends else walks.walk(begun.world, begun.fuel)
+
+
+def is_told_wide(text, mode):
+    """Whether the runs that a page takes by itself are told along the wide walk."""
+    code = b'\n'.join(line.split(b'#')[0] for line in text.split(b'\n'))
+    return mode.startswith('slots') or b'waitany' in code
+
+
+def by_itself(begun):
+    """The runs that a page has where none is asked for, and whether there are more; None where too many states are come to."""
+    found = states.searched(begun, most=MOST_LOOKED_AT)
+    if found.more:
+        return None
+    bad, good = (next((way for ended, way in found.ways.items() if ended.split()[0] in words), None) for words in (BAD, ('done', 'leftovers')))
+    chosen = [way for way in found.ways.values() if way in (bad, good)] if bad and good else list(found.ways.values())[:1]
+    return tuple(run_by(begun, way.first, True).steps for way in chosen), sum(way.runs for way in found.ways.values()) > len(chosen)
+
+
+def questions(text, script, mode, random, fuel, name):
+    """The pages that are asked for of a script."""
+    begun = Run(first_world(script, mode), fuel)
+    told = ('--fuel', str(fuel))
+
+    def asked(kind, words, walk, runs, more=True, file=None):
+        of = page_model.Asked(text, script, mode, walk, tuple(runs), name, random.random() < 0.3, NOTE, (), more, MOST_LOOKED_AT)
+        return Asked(kind, (*words, *told), file, of)
+
+    if (found := by_itself(begun)) is not None:
+        yield asked('by itself', (), WIDE if is_told_wide(text, mode) else DECISIONS, *found)
+    for ends in (False, True):
+        leaf, walk, name_of = random_choices(random, begun, ends), WIDE if ends else DECISIONS, ' along the wide walk' if ends else ''
+        yield asked('choices' + name_of, with_choices(leaf, ends), walk, [leaf.steps])
+        count = random.randrange(1, 6)
+        leaves = list(islice(leaves_of(begun, ends), count + 1))
+        yield asked('runs' + name_of, ('--runs', str(count), *['--ends'] * ends), walk, [one.steps for one in leaves[:count]], len(leaves) > count)
+        if leaf.steps and leaf.outcome.split()[0] in BAD:
+            witness = f'{leaf.outcome}\n{", ".join(map(step_text, leaf.steps))}\n'.encode()
+            yield asked('witness', ('--witness', None), WORDS, [leaf.steps], file=witness)
+    steps = random_steps(random, script, mode)
+    yield asked('words', ('--words', None), WORDS, [steps], file=''.join(f'{step_text(step)}\n' for step in steps).encode())
+
+
+# ---- what is made
+
+def made(chosen, asked):
+    """The page that is made, and what is said on standard error."""
+    if chosen.program is None:
+        return by_model(asked), b''
+    with tempfile.TemporaryDirectory(prefix='pages-') as folder:
+        done = subprocess.run([sys.executable, MAKER, *asked.told_in(folder)], capture_output=True, timeout=chosen.seconds * 10, check=False,
+                              env=os.environ | {'MPDBG': chosen.program})
+    return done.stdout, done.stderr
+
+
+def parts():
+    """What stands in a page before its data, and behind it."""
+    head, tail = Path(TEMPLATE).read_bytes().split(OPENING + b'null')
+    return head.replace(FIRST, FIRST + f'<!-- {NOTE} -->'.encode(), 1) + OPENING, tail
+
+
+def by_model(asked):
+    """The page that the model makes."""
+    head, tail = parts()
+    return head + page_model.data_text(page_model.data_of(asked.of)) + tail
+
+
+# ---- a page is read
+
+KEYS = ['format', 'name', 'mode', 'ranks', 'walk', 'hide', 'note', 'said', 'script', 'vars', 'handles', 'nodes', 'ends', 'more']
+ORDERS = (('p', 's', 'n', 'd', 'v', 'h', 'o', 'c', 'k', 'w'), 'nodes'), (('node', 'outcome', 'told', 'lost', 'decided'), 'ends')
+
+
+class Wrong(Exception):
+    """What is wrong with a page."""
+
+
+def must(holds, what):
+    if not holds:
+        raise Wrong(what)
+
+
+def data_in(page):
+    """The data of a page, which is the template about it, has no `<`, and is written in one way alone."""
+    head, tail = parts()
+    must(page.startswith(head) and page.endswith(tail), 'it is not the template about its data')
+    text = page[len(head):len(page) - len(tail)]
+    must(b'<' not in text, 'a `<` in the data')
+    data = json.loads(text.decode())
+    must(list(data) == KEYS and data['format'] == page_model.FORMAT, 'what stands first')
+    must(page_model.data_text(data) == text, 'the data is written otherwise')
+    must(all(list(one) == [key for key in order if key in one] for order, key_of in ORDERS for one in data[key_of]), 'keys in another order')
+    return data
+
+
+class Shown:
+    """A view that changes are applied to."""
+
+    def __init__(self, data):
+        sizes = [sum(1 if size is None else size for _, size in data[names]) for names in ('vars', 'handles')]
+        ranks = range(data['ranks'])
+        self.places, self.why, self.partners = [[0] for _ in ranks], [None for _ in ranks], {}
+        self.values, self.handles = [['0'] * sizes[0] for _ in ranks], [[None] * sizes[1] for _ in ranks]
+        self.printed, self.calls = [[] for _ in ranks], [[] for _ in ranks]
+
+    def copied(self):
+        other = object.__new__(Shown)
+        for name, value in vars(self).items():
+            setattr(other, name, dict(value) if name == 'partners' else [list(one) if isinstance(one, list) else one for one in value])
+        return other
+
+    def apply(self, node):
+        """Applies the changes of a node, each of which must change something."""
+        for rank, *place in node.get('d', []):
+            must(self.places[rank] != place, 'a place that is no other')
+            self.places[rank] = place
+        for held_in, key in ((self.values, 'v'), (self.handles, 'h')):
+            for rank, cell, value in node.get(key, []):
+                must(held_in[rank][cell] != value, 'a cell that holds the same')
+                held_in[rank][cell] = value
+        for rank, value in node.get('o', []):
+            self.printed[rank].append(value)
+        if 'c' in node:
+            self.calls[int(node['s'].split()[1])].append(node['c'])
+        for rank, why in node.get('w', []):
+            must(self.why[rank] != why, 'a reason that is no other')
+            self.why[rank] = why
+        kind, *names = node['s'].split(' ')
+        if kind == 'match':
+            self.partners |= {names[0]: names[1], names[1]: names[0]}
+
+    def call_line(self, rank, number):
+        """A call as `show` has it."""
+        _, text = self.calls[rank][number]
+        other = self.partners.get(f'{rank}.{number}')
+        state = ''
+        if 'send' in text or 'recv' in text:
+            state = ' free' if other is None else f' with {other}'
+        if 'recv' in text and other is not None:
+            sender, place = map(int, other.split('.'))
+            state += f' value {self.calls[sender][place][1].split(" ")[6]}'
+        return f'call {rank}.{number} {text}{state}'
+
+    def free(self, rank, word):
+        """The calls of a rank of this word that have no partner."""
+        return [number for number, (_, text) in enumerate(self.calls[rank]) if word in text.split(' ')[0] and f'{rank}.{number}' not in self.partners]
+
+    def lines(self):
+        """The lines of `show` that a view has."""
+        ranks = range(len(self.places))
+        for rank in ranks:
+            line, *word = self.places[rank]
+            doing = word[0] if word else f'at {line}'
+            yield f'rank {rank} {f"blocked {len(self.calls[rank]) - 1}" if doing == "blocked" else doing}'
+            for name, held_in in (('vars', self.values), ('handles', self.handles), ('out', self.printed)):
+                yield ' '.join([name, *('-' if value is None else str(value) for value in held_in[rank])])
+            yield from (self.call_line(rank, number) for number in range(len(self.calls[rank])))
+        for source in ranks:
+            for target in ranks:
+                to = [number for number in self.free(source, 'send') if self.calls[source][number][1].split(' ')[2] == str(target)]
+                yield from [' '.join([f'pending {source} to {target}:', *map(str, to)])] * bool(to)
+        for rank in ranks:
+            yield from [' '.join([f'posted {rank}:', *map(str, posted)]) for posted in [self.free(rank, 'recv')] if posted]
+
+
+def listed(value):
+    """Tuples as lists."""
+    return [listed(one) for one in value] if isinstance(value, (list, tuple)) else value
+
+
+def compare_view(view, at):
+    """Tells what a view shows otherwise than the model."""
+    wanted = [line for line in show(at.world, 0, 0).split('\n')[1:-1] if not line.startswith(('set ', 'outcome '))]
+    for line, other in zip([*view.lines(), '(nothing)'], [*wanted, '(nothing)']):
+        must(line == other, f'{line!r} in place of {other!r}')
+    ranks = range(len(view.places))
+    must(view.places == [listed(page_model.place_of(at, rank)) for rank in ranks], 'where ranks stand')
+    must(view.why == [listed(page_model.why_of(at.world, rank)) for rank in ranks], 'why ranks wait')
+    lines = [[at.lines[CallId(rank, number)] for number in range(len(at.world.ranks[rank].calls))] for rank in ranks]
+    must([[line for line, _ in calls] for calls in view.calls] == lines, 'the lines of calls')
+
+
+def compare_page(page, of):
+    """Raises what is wrong with a page, as it is read; gives the data."""
+    data = data_in(page)
+    must((data['mode'], data['ranks'], data['walk'], data['hide'], data['more']) == (of.mode, of.script.ranks, of.walk, of.hide, of.more), 'what stands first')
+    must(data['script'] == page_model.source_lines(of.text) and data['name'] == of.name, 'the script')
+    must(data['vars'] == page_model.declared(of.script, 'var') and data['handles'] == page_model.declared(of.script, 'req'), 'the names')
+    views, reached, below, ends = [], [], set(), {end['node'] for end in data['ends']}
+    for number, node in enumerate(data['nodes']):
+        if number == 0:
+            must('p' not in node and node['s'] == '', 'the start')
+            view, at = Shown(data), Reached(first_world(of.script, of.mode), {})
+        else:
+            parent = node.get('p', number - 1)
+            step = step_of(node['s'].encode().split())
+            must(0 <= parent < number and ('p' in node) == (parent != number - 1), 'a parent')
+            must((parent, step) not in below, 'a state twice')
+            below.add((parent, step))
+            must(step in enabled_steps(reached[parent].world), 'a step that is not enabled')
+            view, at = views[parent].copied(), page_model.behind(reached[parent], step)
+            chosen = page_model.candidates(reached[parent].world, of.walk) or []
+            must(node.get('n') == (chosen.index(node['s']) if node['s'] in chosen else None), 'the number of a candidate')
+            must(data['nodes'][parent].get('k') == (chosen or None), 'candidates')
+        view.apply(node)
+        compare_view(view, at)
+        views.append(view)
+        reached.append(at)
+    has_kids = {parent for parent, _ in below}
+    must(all(number in ends and 'k' not in node for number, node in enumerate(data['nodes']) if number not in has_kids), 'a state that leads nowhere')
+    compare_ends(data, of)
+    return data
+
+
+def compare_ends(data, of):
+    """Tells what ends are told otherwise: the way to each is the run."""
+    nodes = data['nodes']
+    must(len(data['ends']) == len(of.runs), 'the number of ends')
+    for end, steps in zip(data['ends'], of.runs):
+        way, node = [], end['node']
+        while node:
+            way.append(nodes[node]['s'])
+            node = nodes[node].get('p', node - 1)
+        must(way[::-1] == [step_text(step) for step in steps], 'the way to an end')
+        tree = page_model.Tree(of.script, of.mode, of.walk)
+        wanted = page_model.end_of(tree, tree.follow(steps), steps, of.most)
+        for key in ('outcome', 'told', 'lost', 'decided'):
+            if key != 'decided' or wanted[key] is not None or wanted['outcome'].split()[0] not in BAD:
+                must((end.get(key) or None) == (wanted[key] or None), f'{key} of an end')
+
+
+# ---- what is met
+
+def met(asked, data):
+    """What a maker may do wrongly."""
+    yield asked.kind
+    yield 'slots' if asked.of.mode.startswith('slots') else asked.of.mode
+    yield from ['several runs'] * (len(data['ends']) > 1)
+    for end in data['ends']:
+        yield end['outcome'].split()[0]
+        yield from ['a lost request'] * ('lost' in end)
+        yield from ['no step that decides' if end['decided'][0] is None else 'a step that decides'] if 'decided' in end else []
+    text = json.dumps(data['nodes'])
+    for what, sign in (('a release', '"release"'), ('a waitany', '"wakeany '), ('a request', '"h"'), ('complete', '"complete"'), ('printed', '"o"'),
+                       ('another parent', '"p"')):
+        yield from [what] * (sign in text)
+    reasons = [one for node in data['nodes'] for _, why in node.get('w', []) for one in why or ()]
+    yield from ['held back'] * any(' ' in str(other) for one in reasons for other in one[1:])
+    yield from ['a choice'] * any(len(node.get('k', ())) > 1 for node in data['nodes'])
+    yield from ['another candidate'] * any(node.get('n', 0) > 0 for node in data['nodes'])
+    yield from ['a `<`'] * any('<' in line for line in data['script'])
+
+
+# ---- random scripts and examples
+
+def of_number(seed, number):
+    """The pages of a random script."""
+    case = report_asked(seed, number)
+    script = None if case is None else script_of(case)
+    if script is None:
+        return
+    random, mode = Random(f'{seed} {number} pages'), case.asked.mode or RENDEZVOUS
+    fuel = random.choice([MOST_FUEL, MOST_FUEL, random.randrange(1, 40)])
+    text = case.script + b'# </script> \\ "<!-- \t' if random.random() < 0.3 else case.script
+    yield from questions(text, script if text == case.script else read_script(text), mode, random, fuel, random.choice(['run.mpd', 'a b".mpd', '\u00fc<b>.mpd']))
+
+
+def of_example(name, mode):
+    """The pages of an example."""
+    text = Path(EXAMPLES, f'{name}.mpd').read_bytes()
+    yield from questions(text, read_script(text), mode, Random(f'{name} pages'), MOST_FUEL, f'{name}.mpd')
+
+
+def compare_one(chosen, asked, seen):
+    """What is wrong with a page; None where nothing is."""
+    page, errors = made(chosen, asked)
+    if not page:
+        return f'no page: {errors.decode(errors="replace").strip()}'
+    try:
+        data = compare_page(page, asked.of)
+    except (Wrong, ValueError, KeyError, IndexError, TypeError, AttributeError) as why:
+        return f'{type(why).__name__}: {why}'
+    seen.update(met(asked, data))
+    of = asked.of._replace(said=tuple(data['said'])) if asked.kind == 'by itself' else asked.of
+    wanted = page_model.data_of(of)
+    for end, other in zip(data['ends'], wanted['ends']):  # one that wasn't sought to its end is left as it is
+        if other['decided'] is None and 'decided' in end:
+            other['decided'] = end['decided']
+    if page_model.data_text(wanted) != page_model.data_text(data):
+        return 'the text is another'
+    return None
+
+
+def compare_chunk(chosen, numbers):
+    """What differs of the pages of some scripts, how many were asked for, and what was met."""
+    return compare_all(chosen, ((f'script {number}', of_number(chosen.seed, number)) for number in numbers))
+
+
+def compare_all(chosen, scripts):
+    found, seen, count = [], Counter(), 0
+    for name, pages in scripts:
+        with steps_remembered():
+            for asked in pages:
+                count += 1
+                how = compare_one(chosen, asked, seen)
+                found += [] if how is None else [f'{name}, {asked.kind}, {asked.of.mode}: {how}']
+    return found, seen, count
+
+
+def compare(chosen, pool):
+    """How many pages are wrong, or how much was not met."""
+    tasks = [pool.submit(compare_all, chosen, [(name, tuple(of_example(name, mode)))]) for name, mode in SHOWN]
+    differing, seen, count = [], Counter(), 0
+    for found, seen_there, count_there in (*driving.by_chunks(pool, compare_chunk, chosen, CHUNK), *(task.result() for task in tasks)):
+        driving.tell(found)
+        differing += found
+        seen += seen_there
+        count += count_there
+    missed = driving.unmet(MUST_MEET, seen, chosen.count >= MANY)
+    print(f'{count} pages, {len(differing)} wrong')
+    return len(differing) + missed + (not count)
+
+
+# ---- faults
+
+def is_noticed(page, asked):
+    """Whether a page with a fault is found to be wrong."""
+    try:
+        compare_page(page, asked.of)
+    except (Wrong, ValueError, KeyError, IndexError, TypeError, AttributeError):
+        return True
+    return False
+
+
+def compare_broken(chosen):
+    """How many faults of pages are not noticed: each must be, on each page that it changes, and there must be one."""
+    pages = [asked for name, mode in SHOWN for asked in of_example(name, mode)]
+    left = {name: 0 for name in page_faults.FAULTS}
+    missed = set()
+    head, tail = parts()
+    for asked in pages:
+        page = by_model(asked)
+        must(not is_noticed(page, asked), f'{asked.kind} of {asked.of.name} is wrong without a fault')
+        for name, broken in page_faults.FAULTS.items():
+            text = broken(page[len(head):len(page) - len(tail)])
+            if text is not None and head + text + tail != page:
+                left[name] += 1
+                missed |= set() if is_noticed(head + text + tail, asked) else {name}
+    for name, count in left.items():
+        print(f'{name}: {count} pages{", NOT NOTICED" if name in missed else ""}{"" if count else ", NEVER THERE"}', flush=True)
+    wrong = len(missed | {name for name, count in left.items() if not count})
+    print(f'{len(left)} faults of pages, {len(left) - wrong} noticed')
+    return wrong
+
+
+def main():
+    chosen = driving.chosen_by(driving.parser_of(__doc__, 'scripts (20)', 20, 'answer'))
+    return driving.driven(chosen, compare, lambda chosen, _: compare_broken(chosen))
+
+
+if __name__ == '__main__':
+    sys.exit(main())

@@ -1,0 +1,206 @@
+#!/usr/bin/env python3
+"""Draws every state of twelve pages in a browser, forward and back, by keys, clicks and the slider, and takes a screenshot of each.
+
+    page/try_pages.py PROGRAM                  of pages that page/make.py makes of what PROGRAM answers
+    page/try_pages.py PROGRAM --keep FOLDER    pages and screenshots stay there
+    page/try_pages.py PROGRAM --size 1024,768 --dark
+
+A state must be drawn alike on the way there and back, and the browser must hold what the changes of the data give by docs/PAGES.md, as
+compare/runs/pages.py applies them. The browser is Chromium without a window; where none is there, *skipped* is written, and the status
+is 0. Else it is 0 where nothing was wrong.
+"""
+
+import argparse
+import json
+import os
+import re
+import shutil
+import signal
+import subprocess
+import sys
+import tempfile
+from html import unescape
+from pathlib import Path
+
+TOP = os.path.dirname(os.path.dirname(os.path.abspath(__file__)))
+sys.path.insert(0, f'{TOP}/compare')
+
+from runs.pages import CLOSING, OPENING, Shown
+
+BROWSERS = 'chromium', 'chromium-browser', 'google-chrome', 'chrome'
+# The pages: a name, the words of each, and the moment of its screenshot.
+PAGES = (('stolen_message', ('examples/stolen_message.mpd',), '#run=0&step=9'), ('race', ('examples/race.mpd',), '#run=1&step=14'),
+         ('seven', ('examples/one_in_seven.mpd', '--runs', '3'), '#run=2&step=64'), ('hidden', ('examples/one_in_seven.mpd', '--hide'), '#run=1&step=17'),
+         ('waitany', ('examples/waitany.mpd',), '#run=0&step=13'), ('order', ('examples/order_decides.mpd',), '#run=1&step=99'),
+         ('trap', ('examples/trap.mpd',), '#run=0&step=99'), ('barrier', ('examples/skipped_barrier.mpd',), '#run=0&step=99'),
+         ('lost', ('examples/lost_request.mpd',), '#run=0&step=99'), ('slots', ('examples/freed_slot.mpd', '--mode', 'slots:2'), '#run=0&step=99'),
+         ('sixteen', ('examples/one_in_seven.mpd', '--ranks', '16', '--choices', '3'), '#run=0&step=60'),
+         ('signs', ('signs.mpd', '--mode', 'buffered'), '#run=0&step=5'))
+SIGNS = (b'mpd 1;\r\nranks 2;\r\nvar x;\r\n#\t</script><!-- "\\ &lt; \r x\r\n'
+         b'if rank == 0 { send -5 to 1 tag 7; send 6 to 0 tag 2; } else { recv x from 0 tag 7; }\r\n')
+
+# What is done in the browser, at the end of a page: it leaves what it has found as text in the place of the page.
+TRIAL = r'''
+(() => {
+  const found = [], drawn = new Map(), wrong = text => found.push('WRONG ' + text);
+  window.addEventListener('error', event => wrong(event.message));
+  const press = key => document.dispatchEvent(new KeyboardEvent('keydown', { key, bubbles: true, cancelable: true }));
+  const click = of => of && of.dispatchEvent(new MouseEvent('click', { bubbles: true }));
+  // Of lanes that are scrolled a part alone is drawn, which depends on where they stood before.
+  const lanesText = () => el('lanes').scrollWidth > el('lanes').clientWidth + 2 ? '' : el('lanes').textContent;
+  const text = () => ['source', 'tree', 'choice', 'told', 'table', 'step', 'verdict'].map(part => el(part).hidden ? '' : el(part).textContent).join('|') + lanesText();
+  const callsHeld = () => S.calls.map(list => list.map(call => [call.line, call.text, call.partner || null]));
+  const held = () => JSON.stringify([S.place, S.values, S.requests, S.printed, callsHeld(), S.why]);
+  let count = 0;
+  function look(how) {
+    const key = `${endOf()} ${k} ${covered}`, now = text(), state = run[k];
+    count++;
+    if (drawn.has(key) && drawn.get(key) !== now) {
+      const was = drawn.get(key), at = [...now].findIndex((sign, i) => sign !== was[i]);
+      wrong(`${how}: run ${endOf()}, step ${k} is drawn otherwise: ${was.slice(at - 20, at + 30)} | ${now.slice(at - 20, at + 30)}`);
+    }
+    if (!drawn.has(key)) found.push(`STATE ${state} ${held()}`);
+    drawn.set(key, now);
+    if (/undefined|NaN|Infinity|\[object/.test(document.querySelector('main').innerHTML)) wrong(`${how}: step ${k} has no number or no text`);
+    if (document.querySelectorAll('#source .badge').length !== N) wrong(`${how}: step ${k} has not each rank`);
+    if (+el('slider').value !== k) wrong(`${how}: the slider`);
+  }
+  function expect(what, how) { if (!what) wrong(how); look(how); }
+  try {
+    look('the address');
+    for (let e = 0; e < ends.length; e++) {
+      const sign = document.querySelector(`[data-end="${e}"]`);
+      if (sign) { click(sign); expect(endOf() === e && k === last(), 'a click on an end'); } else choose(e, 0);
+      press('Home'); expect(k === 0, 'Home');
+      for (let d = 1; d <= last(); d++) { press('ArrowRight'); expect(k === d, 'right'); }
+      press('ArrowRight'); expect(k === last(), 'right at the end');
+      for (let d = last() - 1; d >= 0; d--) { press('ArrowLeft'); expect(k === d, 'left'); }
+      for (let d = 0; d <= last(); d += 3) {
+        el('slider').value = d;
+        el('slider').dispatchEvent(new Event('input'));
+        expect(k === d, 'the slider');
+      }
+      for (const [name, to] of [['start', 0], ['on', Math.min(1, last())], ['back', 0], ['end', last()]]) {
+        click(document.querySelector(`[data-go="${name}"]`));
+        expect(k === to, name);
+      }
+      press('b'); look('b');
+      for (const d of [...document.querySelectorAll('#marks [data-step]')].map(mark => +mark.dataset.step)) {
+        click(document.querySelector(`#marks [data-step="${d}"]`));
+        expect(k === d, 'a mark');
+      }
+      press('Home');
+      for (const d of choices().filter(d => d > 0)) { press('c'); expect(k === d, 'c'); }
+      press('End');
+      for (const d of choices().reverse().filter(d => d < last())) { press('u'); expect(k === d, 'u'); }
+      for (const d of choices()) for (let c = 0; c < nodes[run[d]].k.length; c++) for (const by of ['key', 'click']) {
+        choose(e, d);
+        const to = taken(run[d], c), button = document.querySelector(`[data-take="${c}"]`);
+        if (by === 'key' && c < 9) press(String(c + 1)); else click(button);
+        expect(to === undefined ? k === d && button.disabled : run[k] === to, `candidate ${c} by ${by}`);
+      }
+    }
+    for (const at of [...document.querySelectorAll('[data-node]')].map(node => +node.dataset.node)) {
+      click(document.querySelector(`[data-node="${at}"]`));
+      expect(run[k] === at, 'a click on a choice');
+    }
+    press('h'); look('h'); press('h'); look('h again');
+    printing = true; lanes(); printing = false; lanes();
+    location.hash = '#run=0&step=1';
+    come();
+    expect(endOf() === 0 && k === Math.min(1, last()), 'the address');
+    go(0);
+    note();
+    expect(location.hash === '#run=0&step=0', 'the address is noted');
+    found.push(`DRAWN ${count}`);
+  } catch (why) { wrong(why.stack); }
+  document.body.innerHTML = '<pre id="found"></pre>'; el('found').textContent = found.join('\n');
+})();
+'''
+
+
+def browser():
+    """The browser, or None."""
+    return next((found for name in (os.environ.get('BROWSER', ''), *BROWSERS) if name and (found := shutil.which(name))), None)
+
+
+def started(program, asked, *words):
+    """What the browser writes, with a profile of its own; nothing where it takes too long."""
+    look = '--blink-settings=preferredColorScheme=' + ('0' if asked.dark else '1')
+    with tempfile.TemporaryDirectory(prefix='browser-', ignore_cleanup_errors=True) as profile:
+        line = [program, '--headless', '--no-sandbox', '--disable-gpu', '--hide-scrollbars', '--no-first-run', '--disable-extensions', look,
+                f'--window-size={asked.size}', f'--user-data-dir={profile}', *words]
+        with subprocess.Popen(line, stdout=subprocess.PIPE, stderr=subprocess.DEVNULL, start_new_session=True) as process:
+            try:
+                return process.communicate(timeout=asked.seconds)[0].decode(errors='replace')
+            except subprocess.TimeoutExpired:
+                os.killpg(process.pid, signal.SIGKILL)
+                return ''
+
+
+def wrong_states(data, lines):
+    """The states that the browser holds otherwise than the changes of the data give, and how many were looked at."""
+    views, wrong = [], []
+    for number, node in enumerate(data['nodes']):
+        views.append(views[node.get('p', number - 1)].copied() if number else Shown(data))
+        views[-1].apply(node)
+    for line in lines:
+        _, number, held = line.split(' ', 2)
+        view = views[int(number)]
+        calls = [[[*call, view.partners.get(f'{rank}.{place}')] for place, call in enumerate(of_rank)] for rank, of_rank in enumerate(view.calls)]
+        if json.loads(held) != [view.places, view.values, view.handles, view.printed, calls, view.why]:
+            wrong.append(f'state {number} holds something else')
+    return wrong
+
+
+def tried(program, folder, asked, name, words, moment):
+    """What is wrong with a page in the browser, how many states were drawn, and its screenshot."""
+    words = [str(Path(folder, word)) if word == 'signs.mpd' else word for word in words]
+    made = subprocess.run([sys.executable, f'{TOP}/page/make.py', *words], capture_output=True, cwd=TOP, check=False,
+                          env=os.environ | {'MPDBG': os.path.abspath(asked.program)})
+    if made.returncode:
+        return [made.stderr.decode().strip()], 0
+    page, trial, picture = (Path(folder, f'{name}{end}') for end in ('.html', '-trial.html', '.png'))
+    page.write_bytes(made.stdout)
+    trial.write_bytes(made.stdout.replace(b'</body>', b'<script>' + TRIAL.encode() + b'</script>\n</body>'))
+    text = started(program, asked, '--dump-dom', f'file://{trial}')
+    found = re.search('<pre id="found">(.*?)</pre>', text, re.S)
+    lines = unescape(found[1]).split('\n') if found else ['WRONG nothing was found']
+    data = json.loads(made.stdout.split(OPENING)[1].split(CLOSING)[0])
+    states = [line for line in lines if line.startswith('STATE ')]
+    wrong = [line for line in lines if line.startswith('WRONG ')] + wrong_states(data, states)
+    if not wrong and len({line.split()[1] for line in states}) != len(data['nodes']):
+        wrong.append('not each state was drawn')
+    started(program, asked, f'--screenshot={picture}', f'file://{page}{moment}')
+    if not picture.exists() or picture.stat().st_size < 10000:
+        wrong.append('no screenshot')
+    return wrong, sum(int(line.split()[1]) for line in lines if line.startswith('DRAWN '))
+
+
+def main():
+    parser = argparse.ArgumentParser(description=__doc__, formatter_class=argparse.RawDescriptionHelpFormatter)
+    parser.add_argument('program', metavar='PROGRAM')
+    parser.add_argument('--keep', metavar='FOLDER', help='where pages and screenshots stay')
+    parser.add_argument('--size', default='1280,720', help='width and height of a window (1280,720)')
+    parser.add_argument('--dark', action='store_true', help='dark colours')
+    parser.add_argument('--only', help='one page alone, by its name')
+    parser.add_argument('--seconds', type=float, default=300, help='how long the browser may take (300)')
+    asked = parser.parse_args()
+    program, bad = browser(), 0
+    if program is None:
+        print('skipped: no browser is there (chromium)')
+        return 0
+    with tempfile.TemporaryDirectory(prefix='pages-') as temporary:
+        folder = os.path.abspath(asked.keep or temporary)
+        os.makedirs(folder, exist_ok=True)
+        Path(folder, 'signs.mpd').write_bytes(SIGNS)
+        for name, words, moment in PAGES:
+            if asked.only in (None, name):
+                wrong, drawn = tried(program, folder, asked, name, words, moment)
+                print(f'{name}: {drawn} drawn, {len(wrong)} wrong', *wrong[:5], sep='\n  ', flush=True)
+                bad += bool(wrong)
+    return 1 if bad else 0
+
+
+if __name__ == '__main__':
+    sys.exit(main())
