@@ -4,8 +4,8 @@
     .ci/noticed.py             at the top of the repository: prints `--broken` where these runs are due, and nothing where they are remembered
     .ci/noticed.py --record    writes that all faults were noticed, of these files
 
-The program takes no part in them, so what they show depends on the files of `compare/`, of the examples and of two pages that rows read: a
-digest of those stands in `.ci/noticed.txt`. A whole gate makes these runs, and an ordinary one where the digest is another; where
+The program takes no part in them, so what they show depends on the files of `compare/`, of `page/`, of the examples and of two pages that
+rows read: a digest of those stands in `.ci/noticed.txt`. A whole gate makes these runs, and an ordinary one where the digest is another; where
 nothing fails it is written.
 """
 import os
@@ -14,7 +14,7 @@ import sys
 from record import bytes_of, digest_of, files_below
 
 FILE = '.ci/noticed.txt'
-FOLDERS = ('compare', 'examples')
+FOLDERS = ('compare', 'examples', 'page')
 PAGES = ('docs/CONSOLE.md', 'docs/FORMATS.md')
 HEAD = '# Written by .ci/noticed.py --record behind a gate that made these runs and passed, and never by hand.\n'
 
