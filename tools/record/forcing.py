@@ -88,7 +88,7 @@ def is_static(program: str) -> bool:
     path = shutil.which(program) or program
     with open(path, 'rb') as file:
         is_code = file.read(4) == b'\x7fELF'
-    return is_code and not libraries_of(program)
+    return is_code and '=>' not in libraries_of(program)
 
 
 def tools_of(program: str) -> Tuple[str, str]:
