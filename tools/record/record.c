@@ -245,7 +245,7 @@ static void add_communicator(MPI_Comm handle, const struct communicator *parent,
     if (parent)
         snprintf(c->name, sizeof c->name, "%.40s.%d/%d", parent->name, parent->children, c->world[0]);
     else
-        snprintf(c->name, sizeof c->name, "%s", name);
+        snprintf(c->name, sizeof c->name, handle == MPI_COMM_SELF ? "%s/%d" : "%s", name, me);
     c->next = communicators;
     communicators = c;
     put("comm %s", c->name);

@@ -2,6 +2,7 @@
 
 import os
 import re
+import signal
 from collections import Counter, defaultdict
 from dataclasses import dataclass, field
 from typing import Any, Dict, List, Optional, Tuple
@@ -63,9 +64,15 @@ def recorded(run: Run) -> Recorded:
 ENDED = {Ending.WELL: 'ended well', Ending.STANDS: 'stood still, and was ended', Ending.LATE: 'did not end in time, and was ended'}
 
 
+def signal_of(status: int) -> str:
+    """The signal that a status may stand for, as starters tell it; empty if it stands for none."""
+    number = status - 128 if status > 128 else status
+    return f' ({signal.Signals(number).name})' if number in (signal.SIGABRT, signal.SIGBUS, signal.SIGFPE, signal.SIGILL, signal.SIGKILL, signal.SIGSEGV) else ''
+
+
 def tell_ending(page: Page, ran: Ran, run: Run) -> None:
     """How the run ended, and where ranks stood."""
-    how = ENDED.get(ran.ending, f'ended with status {ran.status}')
+    how = ENDED.get(ran.ending) or f'ended with status {ran.status}{signal_of(ran.status)}'
     wildcards = sum(call.is_wildcard for call in run.all_calls())
     calls = sum(map(len, run.calls))
     page.tell('RUN', f'{how}: {calls} calls on {run.size} ranks, {wildcards} of them with a wildcard', ran.ending != Ending.WELL)
@@ -75,6 +82,11 @@ def tell_ending(page: Page, ran: Ran, run: Run) -> None:
             page.tell('', f'rank {call.rank} stands at {call.told()}{looks}')
         for call in (calls[-1] for calls in run.calls if calls and calls[-1].name == 'Abort'):
             page.tell('', f'rank {call.rank} aborts at {call.told()}')
+    if ran.ending == Ending.STATUS:
+        standing = {call.rank for call in run.standing()}
+        for calls in (calls for calls in run.calls if calls and calls[-1].name not in ('Finalize', 'Abort') and calls[-1].rank not in standing):
+            page.tell('', f'rank {calls[-1].rank} ended in no call, after {calls[-1].told()}')
+        page.tell('', f'what was printed stands in {ran.folder}/printed')
 
 
 def tell_clashes(page: Page, plan: Plan) -> None:
