@@ -119,7 +119,7 @@ def not_recorded(program: str, recorder: str) -> List[str]:
     """The functions of MPI that a program names, and that the recorder neither writes down nor may leave out."""
     def names(path: str, which: str) -> set:
         told = subprocess.run(['nm', '-D', which, path], capture_output=True, text=True, check=False).stdout
-        fortran = re.findall(r'\bmpi_(?!fortran_)(\w+?)_(?:f08_)?$', told, re.M)
+        fortran = re.findall(r'\bmpi_(?!fortran_)(\w+?)_(?:f08(?:ts)?_)?$', told, re.M)
         return set(re.findall(r'\bMPI_\w+', told)) | {'MPI_' + name.capitalize() for name in fortran}
     wanted = names(shutil.which(program) or program, '--undefined-only')
     return sorted(name for name in wanted - names(recorder, '--defined-only') if not CALM.match(name))

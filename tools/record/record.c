@@ -46,8 +46,7 @@ static __thread int inside;             /* in a call of the library, which may m
     library = library ? library : (__typeof__(library))dlsym(RTLD_NEXT, "PMPI_" #name); \
     inside++; \
     int error_ = library arguments; \
-    inside--; \
-    error_; })
+    inside--, error_; })
 #ifdef OPEN_MPI                         /* its Fortran calls the second name of a function, so both stand here */
 #define NAMED(name, parameters) int PMPI_##name parameters __attribute__((alias("MPI_" #name))); int MPI_##name parameters
 #else
@@ -193,8 +192,7 @@ static void put_place(void *caller)
         i++;
     if (i == count) {
         frames[0] = caller;
-        i = 0;
-        count = 1;
+        i = 0, count = 1;
     }
     put(" @");
     for (int shown = 0; i < count && shown < FRAMES; i++) {
@@ -706,8 +704,7 @@ static void refuse(const char *name, void *caller)
         refuse(#name, HERE); \
     return MADE(name, arguments); }
 
-typedef MPI_Datatype T; typedef MPI_Request R; typedef MPI_Status S; typedef MPI_Message M;
-typedef const void V; typedef const int I;
+typedef MPI_Datatype T; typedef MPI_Request R; typedef MPI_Status S; typedef MPI_Message M; typedef const void V; typedef const int I;
 
 SEND(Send, Ssend) SEND(Ssend, Ssend) SEND(Bsend, Bsend) SEND(Rsend, Rsend)
 ISEND(Isend, Issend) ISEND(Issend, Issend) ISEND(Ibsend, Ibsend) ISEND(Irsend, Irsend)
@@ -798,7 +795,6 @@ REFUSED(Comm_create_group, (MPI_Comm c, MPI_Group g, int tag, MPI_Comm *o), (c, 
 REFUSED(Intercomm_create, (MPI_Comm c, int q, MPI_Comm peer, int p, int tag, MPI_Comm *o), (c, q, peer, p, tag, o))
 REFUSED(Graph_create, (MPI_Comm c, int n, I *x, I *e, int reorder, MPI_Comm *o), (c, n, x, e, reorder, o))
 REFUSED(Dist_graph_create, (MPI_Comm c, int n, I *s, I *d, I *e, I *w, MPI_Info i, int r, MPI_Comm *o), (c, n, s, d, e, w, i, r, o))
-REFUSED(Dist_graph_create_adjacent, (MPI_Comm c, int n, I *s, I *sw, int m, I *d, I *dw, MPI_Info i, int reorder, MPI_Comm *o),
-        (c, n, s, sw, m, d, dw, i, reorder, o))
+REFUSED(Dist_graph_create_adjacent, (MPI_Comm c, int n, I *s, I *x, int m, I *d, I *y, MPI_Info i, int r, MPI_Comm *o), (c, n, s, x, m, d, y, i, r, o))
 REFUSED(Neighbor_allgather, (V *b, int n, T t, void *o, int m, T u, MPI_Comm c), (b, n, t, o, m, u, c))
 REFUSED(Neighbor_alltoall, (V *b, int n, T t, void *o, int m, T u, MPI_Comm c), (b, n, t, o, m, u, c))

@@ -64,10 +64,13 @@ def recorded(run: Run) -> Recorded:
 ENDED = {Ending.WELL: 'ended well', Ending.STANDS: 'stood still, and was ended', Ending.LATE: 'did not end in time, and was ended'}
 
 
+FATAL = (signal.SIGABRT, signal.SIGBUS, signal.SIGFPE, signal.SIGILL, signal.SIGKILL, signal.SIGSEGV)
+
+
 def signal_of(status: int) -> str:
     """The signal that a status may stand for, as starters tell it; empty if it stands for none."""
     number = status - 128 if status > 128 else status
-    return f' ({signal.Signals(number).name})' if number in (signal.SIGABRT, signal.SIGBUS, signal.SIGFPE, signal.SIGILL, signal.SIGKILL, signal.SIGSEGV) else ''
+    return f' ({signal.Signals(number).name})' if number in FATAL else ''
 
 
 def tell_ending(page: Page, ran: Ran, run: Run) -> None:
@@ -148,7 +151,8 @@ def tell_same_matches(page: Page, found: Recorded, ran: Ran) -> bool:
     buffered = report_of(found.same_path, 'buffered', MOST_SHOWN)
     blocked = [leaf for leaf in buffered.leaves if leaf.outcome == 'deadlock']
     for leaf in blocked[:1]:
-        tell_hang(page, 'HANG', 'it hangs, whatever is buffered:', leaf, found.run, found.same)
+        held = 'it ended well here, but hangs where a collective waits for all its ranks, as MPI_Bcast and MPI_Reduce may:'
+        tell_hang(page, 'HANG', held if ran.ending == Ending.WELL else 'it hangs, whatever is buffered:', leaf, found.run, found.same)
     for leaf in [leaf for leaf in buffered.leaves if leaf.outcome == 'leftovers'][:1]:
         tell_leftovers(page, leaf, found.same)
     if not blocked:
