@@ -47,11 +47,8 @@ static __thread int inside;             /* in a call of the library, which may m
     inside++; \
     int error_ = library arguments; \
     inside--, error_; })
-#ifdef OPEN_MPI                         /* its Fortran calls the second name of a function, so both stand here */
+/* Fortran of Open MPI, and mpi_f08 of MPICH, call the second name of a function, so that both stand here. */
 #define NAMED(name, parameters) int PMPI_##name parameters __attribute__((alias("MPI_" #name))); int MPI_##name parameters
-#else
-#define NAMED(name, parameters) int MPI_##name parameters
-#endif
 
 /* ---- lines of the record ---- */
 
