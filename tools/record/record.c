@@ -343,11 +343,13 @@ static void read_forced(const char *path)
         fclose(in);
 }
 
+/* A receive that can't take that message stays as it is: the program is another than the one that was recorded. */
 static void force(int call, MPI_Comm comm, int *from, int *tag)
 {
     const struct communicator *c = communicator_of(comm);
     for (int i = 0; i < forced_count; i++) {
-        if (forced[i].rank != me || forced[i].call != call)
+        if (forced[i].rank != me || forced[i].call != call || (*tag != MPI_ANY_TAG && *tag != forced[i].tag)
+                || (*from != MPI_ANY_SOURCE && in_world(c, *from) != forced[i].source))
             continue;
         if (*from == MPI_ANY_SOURCE)
             for (int rank = 0; c && rank < c->size; rank++)

@@ -33,6 +33,10 @@ class Page:
         self.lines.append(f'{word:<9} {text}' if word else f'{"":<9}   {text}')
         self.is_bad = self.is_bad or is_bad
 
+    def has(self, word: str) -> bool:
+        """Whether something is told by this word."""
+        return any(line.startswith(f'{word} ') for line in self.lines)
+
 
 @dataclass
 class Recorded:
@@ -190,6 +194,13 @@ def tell_hang(page: Page, word: str, text: str, leaf: Leaf, run: Run, script: Sc
     return True
 
 
+def tell_why(page: Page, found: Recorded) -> None:
+    """Why a run hung that was forced, if its script tells."""
+    blocked = [leaf for leaf in report_of(found.same_path, 'buffered', MOST_SHOWN).leaves if leaf.outcome == 'deadlock']
+    for leaf in blocked[:1]:
+        tell_hang(page, 'HANG', f'the first of those that hung, {os.path.dirname(found.same_path)}:', leaf, found.run, found.same)
+
+
 def tell_leftovers(page: Page, leaf: Leaf, script: Script) -> None:
     """Messages that nobody receives, by the sends that they are of."""
     named = [tuple(map(int, word.split('.'))) for word in leaf.named]
@@ -220,7 +231,7 @@ def tell_others(page: Page, run: Run, found: Others, took: Counter) -> None:
     for never in (True, False):
         for told, calls in together({kind: calls for kind, calls in could.items() if (kind not in took) == never}):
             page.tell('ORDER', f'{told.receive} could have taken {told.send} {times_of(len(set().union(*calls)))}'
-                      + ('; it never did in the run here' if never else ''))
+                      + ('; it never did in this run' if never else ''))
     if not found.is_whole:
         page.tell('NOT ALL', 'some matches that could have come are not listed: there are too many')
 

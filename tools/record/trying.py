@@ -12,20 +12,21 @@ from forcing import Command, Ending, Forced, Ran, printed_of
 from matching import MODE, Other, Others, kind_of, others, taken_kinds
 from plan import Plan
 from records import Refused, Run, read_run
-from report import ENDED, Page, recorded
+from report import ENDED, Page, Recorded, recorded, tell_why
 
 # So many lines that a run printed, and others did not, are told, up to so many characters each.
 MOST_LINES, MOST_LENGTH = 3, 100
+HUNG = 'hung'
 
 
 @dataclass
 class Tried:
-    """A run that was forced: what was forced, how it ended, where ranks stood, and the script of it, if one could be made."""
+    """A run that was forced: what was forced, how it ended, where ranks stood, and its scripts, if they could be made."""
     folder: str
     came: str
     stands: Tuple[str, ...]
     is_bad: bool
-    script: Optional[str] = None
+    made: Optional[Recorded] = None
 
 
 def key_of(forced: Forced) -> Tuple:
@@ -80,7 +81,7 @@ class Tries:
         self.tried.append(self.tried_of(ran, run, other.forced))
         try:
             made = recorded(run)
-            self.tried[-1].script, plan = made.same_path, made.plan
+            self.tried[-1].made, plan = made, made.plan
             self.plans.append(plan)
             self.took += taken_kinds(plan)
             found = others(plan, 'rendezvous' if self.command.is_synchronous else MODE)
@@ -93,7 +94,7 @@ class Tries:
     def tried_of(self, ran: Ran, run: Run, forced: Forced) -> Tried:
         if ran.ending == Ending.STANDS and not_followed(run, forced):
             return Tried(ran.folder, 'could not be followed', (), False)
-        came = 'hung' if ran.ending == Ending.STANDS else ENDED.get(ran.ending, f'ended with status {ran.status}')
+        came = HUNG if ran.ending == Ending.STANDS else ENDED.get(ran.ending, f'ended with status {ran.status}')
         return Tried(ran.folder, came, stands_of(ran, run), ran.ending != Ending.WELL)
 
 
@@ -110,7 +111,7 @@ def tell_synchronous(page: Page, command: Command, folder: str) -> None:
         stands = stands_of(ran, read_run(ran.folder))
     except Refused as why:
         stands = (f'refused: {why}',)
-    came = {Ending.STANDS: 'hung', Ending.WELL: 'ended well'}.get(ran.ending, ran.ending.value)
+    came = {Ending.STANDS: HUNG, Ending.WELL: 'ended well'}.get(ran.ending, ran.ending.value)
     page.tell('TRIED', f'with synchronous sends it {came}' + (f': {"; ".join(stands)}' if stands else ''), ran.ending != Ending.WELL)
     if ran.ending != Ending.WELL:
         page.tell('', f'  again: {replace(command, is_synchronous=True).shown(ran.folder)}')
@@ -157,8 +158,8 @@ def tell_lines(page: Page, command: Command, others_printed: Dict[str, Tried], o
 def tell_again(page: Page, command: Command, tried: Tried) -> None:
     """The commands that run a run again, and that open its script."""
     page.tell('', f'  again: {command.shown(tried.folder)}')
-    if tried.script:
-        page.tell('', f'  steps: {shown("debug", tried.script)}')
+    if tried.made:
+        page.tell('', f'  steps: {shown("debug", tried.made.same_path)}')
 
 
 def tell_tries(page: Page, command: Command, most: int, first: Ran, plan: Plan, found: Others) -> None:
@@ -183,5 +184,8 @@ def tell_tries(page: Page, command: Command, most: int, first: Ran, plan: Plan, 
         page.tell('', f'{came}{times}{": " if stands else ""}{"; ".join(stands)}', alike[0].is_bad)
         if alike[0].is_bad:
             tell_again(page, command, alike[0])
+    hung = [tried.made for tried in tries.tried if tried.came == HUNG and tried.made]
+    if hung and not page.has('HANG'):
+        tell_why(page, hung[0])
     if first.ending == Ending.WELL:
         tell_printed(page, command, folder, plan, tries.tried)
