@@ -175,7 +175,7 @@ def tell_tries(page: Page, command: Command, most: int, first: Ran, plan: Plan, 
     left = 0 if tries.next() is None else len(tries.waiting) + 1
     if tries.tried or left:
         more = f'; {left} more could be tried' if left else '; nothing is left to try' if tries.is_whole else ''
-        page.tell('TRIED', f'{len(tries.tried)} runs with messages forced{more}')
+        page.tell('TRIED', f'{len(tries.tried)} run{"s" * (len(tries.tried) != 1)} with messages forced{more}')
     by_end: Dict[Tuple, List[Tried]] = defaultdict(list)
     for tried in tries.tried:
         by_end[tried.came, tried.stands].append(tried)
