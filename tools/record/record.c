@@ -528,7 +528,7 @@ static int probed(struct probing p, int *flag, MPI_Message *message, MPI_Status 
 
 /* ---- waits and tests ---- */
 
-enum kind { ALL, ANY, SOME };
+enum kind { ONE, ALL, ANY, SOME };
 struct waiting { const char *name; enum kind kind; int is_test, count; MPI_Request *list; void *caller; };
 
 static int begin_wait(const struct waiting *w, const int *which)
@@ -550,10 +550,11 @@ static int made_wait(const struct waiting *w, int *is_done, int *done, int *inde
 {
     int n = w->count, error;
     MPI_Request *list = w->list;
-    *is_done = 1;
-    if (w->kind == ALL) {
+    *is_done = 1, *done = n;
+    if (w->kind == ONE) {
+        error = w->is_test ? MADE(Test, (list, is_done, statuses)) : MADE(Wait, (list, statuses));
+    } else if (w->kind == ALL) {
         error = w->is_test ? MADE(Testall, (n, list, is_done, statuses)) : MADE(Waitall, (n, list, statuses));
-        *done = n;
     } else if (w->kind == ANY) {
         error = w->is_test ? MADE(Testany, (n, list, indexes, is_done, statuses)) : MADE(Waitany, (n, list, indexes, statuses));
         *done = *is_done && *indexes != MPI_UNDEFINED;
@@ -584,7 +585,7 @@ static int waited(struct waiting w, int *flag, int *done, int *indexes, MPI_Stat
             call = begin_wait(&w, which);
         put("< %d", call);
         for (int i = 0; i < many && many != MPI_UNDEFINED; i++)
-            complete(which[w.kind == ALL ? i : indexes[i]], &own[i]);
+            complete(which[w.kind <= ALL ? i : indexes[i]], &own[i]);
         end_line();
         if (statuses && many != MPI_UNDEFINED)
             memcpy(statuses, own, (w.kind == ANY ? 1 : many) * sizeof *own);
@@ -727,11 +728,11 @@ ROW(Probe, (int from, int tag, MPI_Comm c, S *s), (from, tag, c, s), probed(PROB
 ROW(Mprobe, (int from, int tag, MPI_Comm c, M *m, S *s), (from, tag, c, m, s), probed(PROBING(Mprobe), NULL, m, s))
 ROW(Iprobe, (int from, int tag, MPI_Comm c, int *f, S *s), (from, tag, c, f, s), probed(PROBING(Iprobe), f, NULL, s))
 ROW(Improbe, (int from, int tag, MPI_Comm c, int *f, M *m, S *s), (from, tag, c, f, m, s), probed(PROBING(Improbe), f, m, s))
-ROW(Wait, (R *r, S *s), (r, s), waited(WAITING(Wait, ALL, 0, 1), NULL, NULL, NULL, ONE(s)))
+ROW(Wait, (R *r, S *s), (r, s), waited(WAITING(Wait, ONE, 0, 1), NULL, NULL, NULL, ONE(s)))
 ROW(Waitall, (int n, R r[], S s[]), (n, r, s), waited(WAITING(Waitall, ALL, 0, n), NULL, NULL, NULL, MANY(s)))
 ROW(Waitany, (int n, R r[], int *x, S *s), (n, r, x, s), waited(WAITING(Waitany, ANY, 0, n), NULL, NULL, x, ONE(s)))
 ROW(Waitsome, (int n, R r[], int *m, int x[], S s[]), (n, r, m, x, s), waited(WAITING(Waitsome, SOME, 0, n), NULL, m, x, MANY(s)))
-ROW(Test, (R *r, int *f, S *s), (r, f, s), waited(WAITING(Test, ALL, 1, 1), f, NULL, NULL, ONE(s)))
+ROW(Test, (R *r, int *f, S *s), (r, f, s), waited(WAITING(Test, ONE, 1, 1), f, NULL, NULL, ONE(s)))
 ROW(Testall, (int n, R r[], int *f, S s[]), (n, r, f, s), waited(WAITING(Testall, ALL, 1, n), f, NULL, NULL, MANY(s)))
 ROW(Testany, (int n, R r[], int *x, int *f, S *s), (n, r, x, f, s), waited(WAITING(Testany, ANY, 1, n), f, NULL, x, ONE(s)))
 ROW(Testsome, (int n, R r[], int *m, int x[], S s[]), (n, r, m, x, s), waited(WAITING(Testsome, SOME, 1, n), NULL, m, x, MANY(s)))
