@@ -8,7 +8,8 @@
 Rows (worked_records.py) are records of a few calls, with their statements or their refusals worked out by hand. Stored records, of eight programs
 with a bug each, give scripts that are stored too, byte for byte; what `check` says of these, and what receives could have taken, was worked out by
 hand. A record that is cut anywhere, with zeros after it, gives a script that `check` takes, or a refusal. Under a library the programs are run, with
-the matches of their stored record forced, and give the same scripts; mended, nothing bad is told of them, also in runs that are forced. The round trip
+the matches of their stored record forced, and give the same scripts; mended, nothing bad is told of them, also in runs that are forced. A program
+in Fortran is recorded, one whose result hangs on an order of messages is told by what it prints, and what was forced on one passes when it is mended. The round trip
 goes from the examples by `mpdbg c` through the library and the recorder back to scripts, which must end as `check --ends` lists. What is skipped is
 said. The status is 0 where nothing was wrong.
 """
@@ -38,9 +39,9 @@ import forcing
 from matching import others, taken_kinds
 from plan import Plan
 from records import WORLD, Refused, paths_of, read_run
-from report import Page, recorded, tell_clashes, tell_ending, tell_others, tell_same_matches
+from report import Page, recorded, tags_of, tell_clashes, tell_ending, tell_others, tell_same_matches
 from script import script_of
-from trying import Tries
+from trying import Tries, tell_tries
 
 STORED = f'{TOP}/compare/recorded'
 SEED, CUT = 65, 200
@@ -202,6 +203,46 @@ def wrong_program(library, recorder, row, folder, most):
     return problems + [f'{row.name}, mended, forced: {tried.came}' for tried in tries.tried if tried.is_bad]
 
 
+# The calls of rank 0 of rod.f90, and their lines, in each of its two turns and after them; then comes MPI_Finalize.
+TURN = [('Irecv', 15), ('Isend', 16), ('Waitall', 17), ('Sendrecv', 18)]
+ROD = [(name, f'rod.f90:{line}') for name, line in [*TURN, *TURN, ('Reduce', 21)]]
+# Tags, and how they are told.
+TAGS = (([3], 'tag 3'), ([3, 3], 'tag 3'), ([1, 2], 'tags 1, 2'), ([7, 1, 3, 2], 'tags 1 to 3, 7'))
+
+
+def wrong_fortran(library, recorder, folder):
+    """What is wrong with the record of a program in Fortran; None in place of it where there is no compiler."""
+    compiler = f'mpif90.{library.name}'
+    if shutil.which(compiler) is None or shutil.which('gfortran') is None:
+        return None
+    program = f'{folder}/rod'
+    subprocess.run([compiler, '-g', f'{STORED}/programs/rod.f90', '-o', program], check=True, capture_output=True)
+    run = read_run(forcing.run(command_of(library, recorder, program, 3), f'{folder}/0').folder)
+    calls = [(call.name, call.place) for call in run.calls[0]]
+    return [] if calls[:-1] == ROD and calls[-1][0] == 'Finalize' else [f'rod.f90: {calls}']
+
+
+def wrong_printed(library, recorder, folder):
+    """What is wrong with what is told of a program whose result hangs on the order of messages, and of its mended form."""
+    problems = []
+    for words in ((), ('-DMENDED',)):
+        command = command_of(library, recorder, compiled(library, f'{STORED}/programs/minors.c', f'{folder}/minors', words), 4)
+        ran = forcing.run(command, f'{folder}/0')
+        plan, page = recorded(read_run(ran.folder)).plan, Page()
+        tell_tries(page, command, 3, ran, plan, others(plan))
+        if page.has('PRINTED') == bool(words) or page.is_bad:
+            problems.append(f'minors.c {words}: {page.lines}')
+    return problems
+
+
+def wrong_old_force(library, recorder, folder):
+    """What is wrong where messages are forced on a program that was mended, so that it can't take one of them."""
+    program = compiled(library, f'{TOP}/examples/gather_results.c', f'{folder}/gather', ('-DMENDED',))
+    ran = forcing.run(command_of(library, recorder, program, 3), f'{folder}/0', {(0, 0): (2, 1), (0, 1): (2, 2)})
+    sources = [completion.message.source for call in read_run(ran.folder).calls[0][:2] for completion in call.completions]
+    return [] if ran.ending == forcing.Ending.WELL and sources == [2, 1] else [f'forced on the mended gather_results: {ran}, {sources}']
+
+
 # ---- the round trip
 
 def ends_of_script(path, mode):
@@ -260,6 +301,12 @@ def under(library, chosen, folder):
     for row in RUNS:
         problems += wrong_program(library, recorder, row, folder, 10 if chosen.all else 3)
         met['programs'] += 1
+    for wrong in (wrong_printed, wrong_old_force, wrong_fortran):
+        found = wrong(library, recorder, folder)
+        problems += found or []
+        met['programs'] += found is not None
+        if found is None:
+            print(f'skipped: no program in Fortran, since there is no compiler of it for {library.name}')
     examples = [name for name in sorted(os.listdir(f'{TOP}/examples')) if name.endswith('.mpd')]
     for number, name in enumerate(examples):
         for mode in MODES if chosen.all else MODES[number % 2:][:1]:
@@ -285,6 +332,7 @@ def main():
             problems += [] if wrong is None else [f'{row.name}: {wrong}']
         os.mkdir(f'{folder}/unseen')
         problems += wrong_unseen(f'{folder}/unseen')
+        problems += [f'tags {tags}: {tags_of(tags)}, wanted {told}' for tags, told in TAGS if tags_of(tags) != told]
         for row in RUNS:
             problems += [f'{row.name}: {wrong}' for wrong in wrong_stored(row)]
         for number in range(CUT):

@@ -2,6 +2,7 @@
 
 import os
 import re
+import signal
 import subprocess
 from dataclasses import dataclass, field
 from typing import List, NamedTuple, Optional, Tuple
@@ -42,15 +43,40 @@ def program() -> str:
     return os.environ.get('MPDBG') or os.path.join(TOP, 'mpdbg')
 
 
+def shown(*words: str) -> str:
+    """A command of mpdbg as it is typed where mpdrec was started."""
+    path = os.path.relpath(program())
+    path = program() if path.startswith('..') else path
+    return ' '.join([path if '/' in path else f'./{path}', *words])
+
+
+def make_ready() -> None:
+    """Waits until mpdbg answers. The one of this tree is built first where it is not, which it says itself, and may take long."""
+    try:
+        ran = subprocess.run([program(), '--version'], stdin=subprocess.DEVNULL, stdout=subprocess.DEVNULL, check=False)
+    except OSError as why:
+        raise NotChecked(f'no mpdbg: {why}') from None
+    if ran.returncode:
+        raise NotChecked(f'{program()} doesn\'t start: build it, or name another by MPDBG')
+
+
 def said(*words: str) -> str:
     """What mpdbg answers; it is started as one that is not at a terminal."""
+    told = ' '.join(words[:2])
     try:
-        ran = subprocess.run([program(), *words], stdin=subprocess.DEVNULL, capture_output=True, text=True, timeout=SECONDS, check=False)
-    except (OSError, subprocess.TimeoutExpired) as why:
-        raise NotChecked(f'{" ".join(words[:2])}: {why}') from None
-    if ran.returncode not in (0, 1):
-        raise NotChecked(f'{" ".join(words[:2])}: {ran.stderr.strip()}')
-    return ran.stdout
+        process = subprocess.Popen([program(), *words], stdin=subprocess.DEVNULL, stdout=subprocess.PIPE, stderr=subprocess.PIPE,
+                                   text=True, start_new_session=True)
+    except OSError as why:
+        raise NotChecked(f'{told}: {why}') from None
+    try:
+        output, errors = process.communicate(timeout=SECONDS)
+    except subprocess.TimeoutExpired:
+        os.killpg(process.pid, signal.SIGKILL)
+        process.communicate()
+        raise NotChecked(f'{told}: no answer in {SECONDS} seconds') from None
+    if process.returncode not in (0, 1):
+        raise NotChecked(f'{told}: {errors.strip()}')
+    return output
 
 
 def report_of(path: str, mode: str, runs: int) -> Report:

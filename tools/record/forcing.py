@@ -2,6 +2,7 @@
 
 import os
 import re
+import shlex
 import shutil
 import signal
 import subprocess
@@ -65,8 +66,9 @@ class Command:
         return [*self.starter, '-n', str(self.ranks), 'env', f'LD_PRELOAD={self.recorder}', *self.words]
 
     def shown(self, folder: str) -> str:
-        """The command that runs the program again with the matches of a folder forced."""
-        return ' '.join([f'MPDREC_FORCE={folder}/force', *self.started()])
+        """The command that runs the program again as in a folder: with its matches forced, or with synchronous sends."""
+        setting = 'MPDREC_SYNCHRONOUS=1' if self.is_synchronous else f'MPDREC_FORCE={folder}/force'
+        return ' '.join([setting, *map(shlex.quote, self.started())])
 
 
 # ---- the recorder
@@ -81,8 +83,18 @@ def libraries_of(program: str) -> str:
     return ''.join(subprocess.run(['ldd', one], capture_output=True, text=True, check=False).stdout for one in paths)
 
 
+def is_static(program: str) -> bool:
+    """Whether a program is one file of code that loads no library."""
+    path = shutil.which(program) or program
+    with open(path, 'rb') as file:
+        is_code = file.read(4) == b'\x7fELF'
+    return is_code and '=>' not in libraries_of(program)
+
+
 def tools_of(program: str) -> Tuple[str, str]:
     """The compiler and the starter of the MPI library that a program is linked with: MPICC and MPIEXEC if they are set."""
+    if is_static(program):
+        raise Refused(f'{program} is linked statically: nothing stands between it and its MPI library')
     told = libraries_of(program)
     ending = '.mpich' if 'libmpich' in told else '.openmpi' if 'libmpi.so.40' in told else ''
     found = []
@@ -107,9 +119,16 @@ def not_recorded(program: str, recorder: str) -> List[str]:
     """The functions of MPI that a program names, and that the recorder neither writes down nor may leave out."""
     def names(path: str, which: str) -> set:
         told = subprocess.run(['nm', '-D', which, path], capture_output=True, text=True, check=False).stdout
-        return set(re.findall(r'\bMPI_\w+', told))
+        fortran = re.findall(r'\bmpi_(?!fortran_)(\w+?)_(?:f08(?:ts)?_)?$', told, re.M)
+        return set(re.findall(r'\bMPI_\w+', told)) | {'MPI_' + name.capitalize() for name in fortran}
     wanted = names(shutil.which(program) or program, '--undefined-only')
     return sorted(name for name in wanted - names(recorder, '--defined-only') if not CALM.match(name))
+
+
+def printed_of(folder: str) -> List[str]:
+    """The lines that a run printed."""
+    with open(f'{folder}/printed', encoding='utf-8', errors='replace') as file:
+        return file.read().splitlines()
 
 
 # ---- runs

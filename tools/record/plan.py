@@ -101,6 +101,14 @@ class Plan:
             raise Refused(f'more than {LAST_TAG - LAST_KEPT_TAG:,} tags that are above {LAST_KEPT_TAG:,} or of other communicators')
         return number
 
+    def told_tags(self) -> Dict[int, str]:
+        """What the tags stand for that are not those of the program: a tag of the world or of a communicator, or a collective."""
+        found = {}
+        for (comm, tag), number in self.tags.items():
+            space = comm.partition(' collective')
+            found[number] = tag if comm == WORLD else f'of {tag.split()[0]} on {space[0]}' if space[1] else f'{tag} on {comm}'
+        return found
+
     # ---- collectives
 
     def members(self, call: Call) -> List[int]:

@@ -38,6 +38,17 @@ static int me, calls;
 static int synchronous;                 /* standard sends are made synchronous ones */
 static pthread_t owner;                 /* the thread whose calls are recorded */
 static volatile int has_other_threads;
+static __thread int inside;             /* in a call of the library, which may make others of its own */
+
+/* The library's own function, called. */
+#define MADE(name, arguments) ({ \
+    static __typeof__(&PMPI_##name) library; \
+    library = library ? library : (__typeof__(library))dlsym(RTLD_NEXT, "PMPI_" #name); \
+    inside++; \
+    int error_ = library arguments; \
+    inside--, error_; })
+/* Fortran of Open MPI, and mpi_f08 of MPICH, call the second name of a function, so that both stand here. */
+#define NAMED(name, parameters) int PMPI_##name parameters __attribute__((alias("MPI_" #name))); int MPI_##name parameters
 
 /* ---- lines of the record ---- */
 
@@ -178,8 +189,7 @@ static void put_place(void *caller)
         i++;
     if (i == count) {
         frames[0] = caller;
-        i = 0;
-        count = 1;
+        i = 0, count = 1;
     }
     put(" @");
     for (int shown = 0; i < count && shown < FRAMES; i++) {
@@ -230,7 +240,7 @@ static void add_communicator(MPI_Comm handle, const struct communicator *parent,
     if (parent)
         snprintf(c->name, sizeof c->name, "%.40s.%d/%d", parent->name, parent->children, c->world[0]);
     else
-        snprintf(c->name, sizeof c->name, "%s", name);
+        snprintf(c->name, sizeof c->name, handle == MPI_COMM_SELF ? "%s/%d" : "%s", name, me);
     c->next = communicators;
     communicators = c;
     put("comm %s", c->name);
@@ -333,11 +343,13 @@ static void read_forced(const char *path)
         fclose(in);
 }
 
+/* A receive that can't take that message stays as it is: the program is another than the one that was recorded. */
 static void force(int call, MPI_Comm comm, int *from, int *tag)
 {
     const struct communicator *c = communicator_of(comm);
     for (int i = 0; i < forced_count; i++) {
-        if (forced[i].rank != me || forced[i].call != call)
+        if (forced[i].rank != me || forced[i].call != call || (*tag != MPI_ANY_TAG && *tag != forced[i].tag)
+                || (*from != MPI_ANY_SOURCE && in_world(c, *from) != forced[i].source))
             continue;
         if (*from == MPI_ANY_SOURCE)
             for (int rank = 0; c && rank < c->size; rank++)
@@ -371,25 +383,25 @@ static void start(void)
     add_communicator(MPI_COMM_SELF, NULL, "self");
 }
 
-#define STARTS(name, parameters, arguments) int MPI_##name parameters { int error = PMPI_##name arguments; start(); return error; }
+#define STARTS(name, parameters, arguments) NAMED(name, parameters) { int error = MADE(name, arguments); start(); return error; }
 STARTS(Init, (int *count, char ***words), (count, words))
 STARTS(Init_thread, (int *count, char ***words, int required, int *provided), (count, words, required, provided))
 
-int MPI_Finalize(void)
+NAMED(Finalize, (void))
 {
     int call = begin("Finalize");
     begun(HERE);
-    int error = ended(call, PMPI_Finalize());
+    int error = ended(call, MADE(Finalize, ()));
     if (record == NULL || ftruncate(file, used) != 0)
         record = NULL;
     return error;
 }
 
-int MPI_Abort(MPI_Comm comm, int code)
+NAMED(Abort, (MPI_Comm comm, int code))
 {
     begin("Abort");
     begun(HERE);
-    return PMPI_Abort(comm, code);
+    return MADE(Abort, (comm, code));
 }
 
 /* ---- requests ---- */
@@ -505,9 +517,9 @@ static int probed(struct probing p, int *flag, MPI_Message *message, MPI_Status 
     int from = p.from, tag = p.tag, error, call = flag ? calls : begin_probe(p);
     force(call, p.comm, &from, &tag);
     if (flag)
-        error = message ? PMPI_Improbe(from, tag, p.comm, flag, message, s) : PMPI_Iprobe(from, tag, p.comm, flag, s);
+        error = message ? MADE(Improbe, (from, tag, p.comm, flag, message, s)) : MADE(Iprobe, (from, tag, p.comm, flag, s));
     else
-        error = message ? PMPI_Mprobe(from, tag, p.comm, message, s) : PMPI_Probe(from, tag, p.comm, s);
+        error = message ? MADE(Mprobe, (from, tag, p.comm, message, s)) : MADE(Probe, (from, tag, p.comm, s));
     if (!flag || *flag)
         return found(flag ? begin_probe(p) : call, p.comm, s, error);
     looked(p.name, p.caller);
@@ -516,7 +528,7 @@ static int probed(struct probing p, int *flag, MPI_Message *message, MPI_Status 
 
 /* ---- waits and tests ---- */
 
-enum kind { ALL, ANY, SOME };
+enum kind { ONE, ALL, ANY, SOME };
 struct waiting { const char *name; enum kind kind; int is_test, count; MPI_Request *list; void *caller; };
 
 static int begin_wait(const struct waiting *w, const int *which)
@@ -538,15 +550,16 @@ static int made_wait(const struct waiting *w, int *is_done, int *done, int *inde
 {
     int n = w->count, error;
     MPI_Request *list = w->list;
-    *is_done = 1;
-    if (w->kind == ALL) {
-        error = w->is_test ? PMPI_Testall(n, list, is_done, statuses) : PMPI_Waitall(n, list, statuses);
-        *done = n;
+    *is_done = 1, *done = n;
+    if (w->kind == ONE) {
+        error = w->is_test ? MADE(Test, (list, is_done, statuses)) : MADE(Wait, (list, statuses));
+    } else if (w->kind == ALL) {
+        error = w->is_test ? MADE(Testall, (n, list, is_done, statuses)) : MADE(Waitall, (n, list, statuses));
     } else if (w->kind == ANY) {
-        error = w->is_test ? PMPI_Testany(n, list, indexes, is_done, statuses) : PMPI_Waitany(n, list, indexes, statuses);
+        error = w->is_test ? MADE(Testany, (n, list, indexes, is_done, statuses)) : MADE(Waitany, (n, list, indexes, statuses));
         *done = *is_done && *indexes != MPI_UNDEFINED;
     } else {
-        error = w->is_test ? PMPI_Testsome(n, list, done, indexes, statuses) : PMPI_Waitsome(n, list, done, indexes, statuses);
+        error = w->is_test ? MADE(Testsome, (n, list, done, indexes, statuses)) : MADE(Waitsome, (n, list, done, indexes, statuses));
         *is_done = *done != 0;
     }
     return error;
@@ -572,7 +585,7 @@ static int waited(struct waiting w, int *flag, int *done, int *indexes, MPI_Stat
             call = begin_wait(&w, which);
         put("< %d", call);
         for (int i = 0; i < many && many != MPI_UNDEFINED; i++)
-            complete(which[w.kind == ALL ? i : indexes[i]], &own[i]);
+            complete(which[w.kind <= ALL ? i : indexes[i]], &own[i]);
         end_line();
         if (statuses && many != MPI_UNDEFINED)
             memcpy(statuses, own, (w.kind == ANY ? 1 : many) * sizeof *own);
@@ -591,7 +604,7 @@ static int freed(void *caller, MPI_Request *request)
     begun(caller);
     if (i >= 0)
         requests[i].is_live = 0;
-    return ended(call, PMPI_Request_free(request));
+    return ended(call, MADE(Request_free, (request)));
 }
 
 /* ---- persistent requests: a start of one is an Isend, an Issend or an Irecv ---- */
@@ -647,65 +660,54 @@ static void refuse(const char *name, void *caller)
 
 /* ---- the table of calls: each row is a function of MPI, with its parameters and what is passed on ---- */
 
-#define PASS(name, arguments) if (is_other_thread()) return PMPI_##name arguments
-#define ROW(name, parameters, arguments, recorded) int MPI_##name parameters { PASS(name, arguments); return recorded; }
+#define PASS(name, arguments) if (is_other_thread() || inside) return MADE(name, arguments)
+#define ROW(name, parameters, arguments, recorded) NAMED(name, parameters) { PASS(name, arguments); return recorded; }
 #define OF(count, type, rank, tag) &(struct message){ count, type, rank, tag, c }
-#define SEND(name, make) int MPI_##name(V *b, int n, T t, int q, int tag, MPI_Comm c) { \
+#define SEND(name, other) NAMED(name, (V *b, int n, T t, int q, int tag, MPI_Comm c)) { \
     PASS(name, (b, n, t, q, tag, c)); \
     int call = begin_message(#name, OF(n, t, q, tag), NULL, -1, HERE); \
-    return ended(call, (make)(b, n, t, q, tag, c)); }
-#define ISEND(name, make) int MPI_##name(V *b, int n, T t, int q, int tag, MPI_Comm c, R *r) { \
+    return ended(call, synchronous ? MADE(other, (b, n, t, q, tag, c)) : MADE(name, (b, n, t, q, tag, c))); }
+#define ISEND(name, other) NAMED(name, (V *b, int n, T t, int q, int tag, MPI_Comm c, R *r)) { \
     PASS(name, (b, n, t, q, tag, c, r)); \
     int i = add_request(r, 0, communicator_of(c)), call = begin_message(#name, OF(n, t, q, tag), NULL, i, HERE); \
-    int error = (make)(b, n, t, q, tag, c, r); \
+    int error = synchronous ? MADE(other, (b, n, t, q, tag, c, r)) : MADE(name, (b, n, t, q, tag, c, r)); \
     return issued(call, i, *r, error); }
-#define RECEIVE(name, parameters, arguments, out, in) int MPI_##name parameters { \
+#define RECEIVE(name, parameters, arguments, out, in) NAMED(name, parameters) { \
     PASS(name, arguments); \
     S own; \
     s = s == MPI_STATUS_IGNORE ? &own : s; \
     int call = begin_message(#name, out, in, -1, HERE); \
     force(call, c, &q, &wanted); \
-    int error = PMPI_##name arguments; \
+    int error = MADE(name, arguments); \
     return found(call, c, s, error); }
 #define PERSISTENT(name, as, CONST) ROW(name, (CONST void *b, int n, T t, int q, int tag, MPI_Comm c, R *r), \
-    (b, n, t, q, tag, c, r), made_persistent(as, *OF(n, t, q, tag), r, PMPI_##name(b, n, t, q, tag, c, r)))
+    (b, n, t, q, tag, c, r), made_persistent(as, *OF(n, t, q, tag), r, MADE(name, (b, n, t, q, tag, c, r))))
 #define PROBING(name) (struct probing){ #name, from, tag, c, HERE }
 #define WAITING(name, kind, is_test, count) (struct waiting){ #name, kind, is_test, count, r, HERE }
 #define ONE(status) ((status) == MPI_STATUS_IGNORE ? NULL : (status))
 #define MANY(statuses) ((statuses) == MPI_STATUSES_IGNORE ? NULL : (statuses))
-#define COLLECTIVE(name, root, parameters, arguments) int MPI_##name parameters { \
+#define COLLECTIVE(name, root, parameters, arguments) NAMED(name, parameters) { \
     PASS(name, arguments); \
     int call = begin_collective(#name, root, c, -1, HERE); \
-    return ended(call, PMPI_##name arguments); }
-#define ICOLLECTIVE(name, root, parameters, arguments) int MPI_##name parameters { \
+    return ended(call, MADE(name, arguments)); }
+#define ICOLLECTIVE(name, root, parameters, arguments) NAMED(name, parameters) { \
     PASS(name, arguments); \
     int i = add_request(r, 0, communicator_of(c)), call = begin_collective(#name, root, c, i, HERE); \
-    int error = PMPI_##name arguments; \
+    int error = MADE(name, arguments); \
     return issued(call, i, *r, error); }
-#define MAKES(name, parameters, arguments) int MPI_##name parameters { \
+#define MAKES(name, parameters, arguments) NAMED(name, parameters) { \
     PASS(name, arguments); \
     int call = begin_collective(#name, -1, c, -1, HERE); \
-    return made_communicator(call, PMPI_##name arguments, c, made); }
-#define REFUSED(name, parameters, arguments) int MPI_##name parameters { \
-    if (!is_other_thread()) \
+    return made_communicator(call, MADE(name, arguments), c, made); }
+#define REFUSED(name, parameters, arguments) NAMED(name, parameters) { \
+    if (!is_other_thread() && !inside) \
         refuse(#name, HERE); \
-    return PMPI_##name arguments; }
+    return MADE(name, arguments); }
 
-typedef MPI_Datatype T;
-typedef MPI_Request R;
-typedef MPI_Status S;
-typedef MPI_Message M;
-typedef const void V;
-typedef const int I;
+typedef MPI_Datatype T; typedef MPI_Request R; typedef MPI_Status S; typedef MPI_Message M; typedef const void V; typedef const int I;
 
-SEND(Send, synchronous ? PMPI_Ssend : PMPI_Send)
-SEND(Ssend, PMPI_Ssend)
-SEND(Bsend, PMPI_Bsend)
-SEND(Rsend, PMPI_Rsend)
-ISEND(Isend, synchronous ? PMPI_Issend : PMPI_Isend)
-ISEND(Issend, PMPI_Issend)
-ISEND(Ibsend, PMPI_Ibsend)
-ISEND(Irsend, PMPI_Irsend)
+SEND(Send, Ssend) SEND(Ssend, Ssend) SEND(Bsend, Bsend) SEND(Rsend, Rsend)
+ISEND(Isend, Issend) ISEND(Issend, Issend) ISEND(Ibsend, Ibsend) ISEND(Irsend, Irsend)
 
 RECEIVE(Recv, (void *b, int n, T t, int q, int wanted, MPI_Comm c, S *s), (b, n, t, q, wanted, c, s), NULL, OF(n, t, q, wanted))
 RECEIVE(Sendrecv, (V *b, int n, T t, int to, int tag, void *o, int m, T u, int q, int wanted, MPI_Comm c, S *s),
@@ -713,12 +715,12 @@ RECEIVE(Sendrecv, (V *b, int n, T t, int to, int tag, void *o, int m, T u, int q
 RECEIVE(Sendrecv_replace, (void *b, int n, T t, int to, int tag, int q, int wanted, MPI_Comm c, S *s),
         (b, n, t, to, tag, q, wanted, c, s), OF(n, t, to, tag), OF(n, t, q, wanted))
 
-int MPI_Irecv(void *b, int n, T t, int q, int tag, MPI_Comm c, R *r)
+NAMED(Irecv, (void *b, int n, T t, int q, int tag, MPI_Comm c, R *r))
 {
     PASS(Irecv, (b, n, t, q, tag, c, r));
     int i = add_request(r, 1, communicator_of(c)), call = begin_message("Irecv", NULL, OF(n, t, q, tag), i, HERE);
     force(call, c, &q, &tag);
-    int error = PMPI_Irecv(b, n, t, q, tag, c, r);
+    int error = MADE(Irecv, (b, n, t, q, tag, c, r));
     return issued(call, i, *r, error);
 }
 
@@ -726,11 +728,11 @@ ROW(Probe, (int from, int tag, MPI_Comm c, S *s), (from, tag, c, s), probed(PROB
 ROW(Mprobe, (int from, int tag, MPI_Comm c, M *m, S *s), (from, tag, c, m, s), probed(PROBING(Mprobe), NULL, m, s))
 ROW(Iprobe, (int from, int tag, MPI_Comm c, int *f, S *s), (from, tag, c, f, s), probed(PROBING(Iprobe), f, NULL, s))
 ROW(Improbe, (int from, int tag, MPI_Comm c, int *f, M *m, S *s), (from, tag, c, f, m, s), probed(PROBING(Improbe), f, m, s))
-ROW(Wait, (R *r, S *s), (r, s), waited(WAITING(Wait, ALL, 0, 1), NULL, NULL, NULL, ONE(s)))
+ROW(Wait, (R *r, S *s), (r, s), waited(WAITING(Wait, ONE, 0, 1), NULL, NULL, NULL, ONE(s)))
 ROW(Waitall, (int n, R r[], S s[]), (n, r, s), waited(WAITING(Waitall, ALL, 0, n), NULL, NULL, NULL, MANY(s)))
 ROW(Waitany, (int n, R r[], int *x, S *s), (n, r, x, s), waited(WAITING(Waitany, ANY, 0, n), NULL, NULL, x, ONE(s)))
 ROW(Waitsome, (int n, R r[], int *m, int x[], S s[]), (n, r, m, x, s), waited(WAITING(Waitsome, SOME, 0, n), NULL, m, x, MANY(s)))
-ROW(Test, (R *r, int *f, S *s), (r, f, s), waited(WAITING(Test, ALL, 1, 1), f, NULL, NULL, ONE(s)))
+ROW(Test, (R *r, int *f, S *s), (r, f, s), waited(WAITING(Test, ONE, 1, 1), f, NULL, NULL, ONE(s)))
 ROW(Testall, (int n, R r[], int *f, S s[]), (n, r, f, s), waited(WAITING(Testall, ALL, 1, n), f, NULL, NULL, MANY(s)))
 ROW(Testany, (int n, R r[], int *x, int *f, S *s), (n, r, x, f, s), waited(WAITING(Testany, ANY, 1, n), f, NULL, x, ONE(s)))
 ROW(Testsome, (int n, R r[], int *m, int x[], S s[]), (n, r, m, x, s), waited(WAITING(Testsome, SOME, 1, n), NULL, m, x, MANY(s)))
@@ -740,13 +742,13 @@ PERSISTENT(Ssend_init, "Issend", const)
 PERSISTENT(Bsend_init, "Ibsend", const)
 PERSISTENT(Rsend_init, "Irsend", const)
 PERSISTENT(Recv_init, "Irecv", )
-ROW(Start, (R *r), (r), (started(HERE, r), PMPI_Start(r)))
+ROW(Start, (R *r), (r), (started(HERE, r), MADE(Start, (r))))
 
-int MPI_Startall(int n, R r[])
+NAMED(Startall, (int n, R r[]))
 {
-    for (int i = 0; i < n && !is_other_thread(); i++)
+    for (int i = 0; i < n && !is_other_thread() && !inside; i++)
         started(HERE, &r[i]);
-    return PMPI_Startall(n, r);
+    return MADE(Startall, (n, r));
 }
 
 COLLECTIVE(Barrier, -1, (MPI_Comm c), (c))
@@ -792,9 +794,7 @@ REFUSED(Comm_idup, (MPI_Comm c, MPI_Comm *o, R *r), (c, o, r))
 REFUSED(Comm_create_group, (MPI_Comm c, MPI_Group g, int tag, MPI_Comm *o), (c, g, tag, o))
 REFUSED(Intercomm_create, (MPI_Comm c, int q, MPI_Comm peer, int p, int tag, MPI_Comm *o), (c, q, peer, p, tag, o))
 REFUSED(Graph_create, (MPI_Comm c, int n, I *x, I *e, int reorder, MPI_Comm *o), (c, n, x, e, reorder, o))
-REFUSED(Dist_graph_create, (MPI_Comm c, int n, I *s, I *d, I *e, I *w, MPI_Info i, int reorder, MPI_Comm *o),
-        (c, n, s, d, e, w, i, reorder, o))
-REFUSED(Dist_graph_create_adjacent, (MPI_Comm c, int n, I *s, I *sw, int m, I *d, I *dw, MPI_Info i, int reorder, MPI_Comm *o),
-        (c, n, s, sw, m, d, dw, i, reorder, o))
+REFUSED(Dist_graph_create, (MPI_Comm c, int n, I *s, I *d, I *e, I *w, MPI_Info i, int r, MPI_Comm *o), (c, n, s, d, e, w, i, r, o))
+REFUSED(Dist_graph_create_adjacent, (MPI_Comm c, int n, I *s, I *x, int m, I *d, I *y, MPI_Info i, int r, MPI_Comm *o), (c, n, s, x, m, d, y, i, r, o))
 REFUSED(Neighbor_allgather, (V *b, int n, T t, void *o, int m, T u, MPI_Comm c), (b, n, t, o, m, u, c))
 REFUSED(Neighbor_alltoall, (V *b, int n, T t, void *o, int m, T u, MPI_Comm c), (b, n, t, o, m, u, c))

@@ -230,8 +230,7 @@ def read_run(folder: str) -> Run:
                 raise Refused(f'line {number} of the record of rank {rank} can\'t be read') from None
         readers.append(reader)
     if not readers:
-        raise Refused('nothing was recorded: does the program call MPI_Init? One that is linked statically is not recorded, '
-                      'nor one in Fortran under Open MPI, whose Fortran calls pass the recorder by')
+        raise Refused('nothing was recorded: no rank came to MPI_Init, or they called another MPI library than the recorder was built for')
     if any(reader.size != len(readers) for reader in readers):
         raise Refused(f'{sum(reader.size > 0 for reader in readers)} ranks of {max(reader.size for reader in readers)} left a record')
     first = readers[0]

@@ -2,11 +2,12 @@
 
 import os
 import re
+import signal
 from collections import Counter, defaultdict
 from dataclasses import dataclass, field
-from typing import Dict, List, Optional, Tuple
+from typing import Any, Dict, List, Optional, Tuple
 
-from checking import Leaf, least_mode, report_of
+from checking import Leaf, least_mode, report_of, shown
 from forcing import Ending, Ran
 from matching import Kind, Others, kind_of
 from plan import Plan
@@ -14,8 +15,8 @@ from records import Call, Refused, Run
 from script import Mark, Note, Script, marks_of, script_of
 
 FIRST_LINE = 'mpdrec stands beside mpdbg: nothing on this page is proved'
-GRANTED = ('Taken for granted: a rank that has got the same messages (source and tag) makes the same calls; nothing else decides, '
-           'neither time nor chance nor a thread. A rank that gets another message has left the record, and nothing is said of what follows.')
+GRANTED = ['Taken for granted: a rank that has got the same messages (source and tag) makes the same calls; nothing else decides,',
+           '  neither time nor chance nor a thread. A rank that gets another message has left the record: nothing is said of what follows.']
 MOST_SLOTS = 8
 MOST_SHOWN = 12
 SOFT = (Note.POLL.value, Note.SEVERAL.value)
@@ -31,6 +32,10 @@ class Page:
     def tell(self, word: str, text: str, is_bad: bool = False) -> None:
         self.lines.append(f'{word:<9} {text}' if word else f'{"":<9}   {text}')
         self.is_bad = self.is_bad or is_bad
+
+    def has(self, word: str) -> bool:
+        """Whether something is told by this word."""
+        return any(line.startswith(f'{word} ') for line in self.lines)
 
 
 @dataclass
@@ -63,9 +68,18 @@ def recorded(run: Run) -> Recorded:
 ENDED = {Ending.WELL: 'ended well', Ending.STANDS: 'stood still, and was ended', Ending.LATE: 'did not end in time, and was ended'}
 
 
+FATAL = (signal.SIGABRT, signal.SIGBUS, signal.SIGFPE, signal.SIGILL, signal.SIGKILL, signal.SIGSEGV)
+
+
+def signal_of(status: int) -> str:
+    """The signal that a status may stand for, as starters tell it; empty if it stands for none."""
+    number = status - 128 if status > 128 else status
+    return f' ({signal.Signals(number).name})' if number in FATAL else ''
+
+
 def tell_ending(page: Page, ran: Ran, run: Run) -> None:
     """How the run ended, and where ranks stood."""
-    how = ENDED.get(ran.ending, f'ended with status {ran.status}')
+    how = ENDED.get(ran.ending) or f'ended with status {ran.status}{signal_of(ran.status)}'
     wildcards = sum(call.is_wildcard for call in run.all_calls())
     calls = sum(map(len, run.calls))
     page.tell('RUN', f'{how}: {calls} calls on {run.size} ranks, {wildcards} of them with a wildcard', ran.ending != Ending.WELL)
@@ -75,6 +89,11 @@ def tell_ending(page: Page, ran: Ran, run: Run) -> None:
             page.tell('', f'rank {call.rank} stands at {call.told()}{looks}')
         for call in (calls[-1] for calls in run.calls if calls and calls[-1].name == 'Abort'):
             page.tell('', f'rank {call.rank} aborts at {call.told()}')
+    if ran.ending == Ending.STATUS:
+        standing = {call.rank for call in run.standing()}
+        for calls in (calls for calls in run.calls if calls and calls[-1].name not in ('Finalize', 'Abort') and calls[-1].rank not in standing):
+            page.tell('', f'rank {calls[-1].rank} ended in no call, after {calls[-1].told()}')
+        page.tell('', f'what was printed stands in {ran.folder}/printed')
 
 
 def tell_clashes(page: Page, plan: Plan) -> None:
@@ -93,10 +112,12 @@ def ranks_of(ranks: List[int]) -> str:
 
 # ---- what the matches of the run come to
 
-def with_places(line: str, text: str) -> str:
-    """A line of an explanation, with the program's places in the place of the script's lines."""
-    marks = marks_of(text)
+def with_places(line: str, script: Script) -> str:
+    """A line of an explanation, with the program's places, tags and lengths in the place of the script's lines, tags and values."""
+    marks = marks_of(script.text)
     line = re.sub(r'(line \d+), \d+\.\d+ ', r'\1, ', line.strip())
+    line = re.sub(r'\btag (\d+)', lambda match: f'tag {script.tags.get(int(match[1]), match[1])}', line)
+    line = re.sub(r'(to \d+ tag [^,:]*?) value (\d+)', r'\1 of \2 bytes', line)
     return re.sub(r'line (\d+)', lambda match: marks[int(match[1])].told() if int(match[1]) in marks else match[0], line)
 
 
@@ -134,7 +155,8 @@ def tell_same_matches(page: Page, found: Recorded, ran: Ran) -> bool:
     buffered = report_of(found.same_path, 'buffered', MOST_SHOWN)
     blocked = [leaf for leaf in buffered.leaves if leaf.outcome == 'deadlock']
     for leaf in blocked[:1]:
-        tell_hang(page, 'HANG', 'it hangs, whatever is buffered:', leaf, found.run, found.same)
+        held = 'it ended well here, but hangs where a collective waits for all its ranks, as MPI_Bcast and MPI_Reduce may:'
+        tell_hang(page, 'HANG', held if ran.ending == Ending.WELL else 'it hangs, whatever is buffered:', leaf, found.run, found.same)
     for leaf in [leaf for leaf in buffered.leaves if leaf.outcome == 'leftovers'][:1]:
         tell_leftovers(page, leaf, found.same)
     if not blocked:
@@ -150,8 +172,9 @@ def tell_same_matches(page: Page, found: Recorded, ran: Ran) -> bool:
 
 def least_told(mode: Optional[str]) -> str:
     slots = re.fullmatch(r'slots:(\d+)', mode or '')
-    return f'it does not where {slots[1] if slots else f"more than {MOST_SLOTS}"} sends of each rank can be buffered' \
-        + (f' (mode {mode})' if slots else '')
+    if not slots:
+        return f'it does not where enough sends of each rank are buffered: more than {MOST_SLOTS}'
+    return f'it does not where {slots[1]} send{"s" * (slots[1] != "1")} of each rank can be buffered (mode {mode})'
 
 
 def tell_hang(page: Page, word: str, text: str, leaf: Leaf, run: Run, script: Script) -> bool:
@@ -167,8 +190,15 @@ def tell_hang(page: Page, word: str, text: str, leaf: Leaf, run: Run, script: Sc
         return False
     page.tell(word, text, True)
     for line in told_of(leaf, ranks):
-        page.tell('', ('  ' if line.startswith('    ') else '') + with_places(line, script.text))
+        page.tell('', ('  ' if line.startswith('    ') else '') + with_places(line, script))
     return True
+
+
+def tell_why(page: Page, found: Recorded) -> None:
+    """Why a run hung that was forced, if its script tells."""
+    blocked = [leaf for leaf in report_of(found.same_path, 'buffered', MOST_SHOWN).leaves if leaf.outcome == 'deadlock']
+    for leaf in blocked[:1]:
+        tell_hang(page, 'HANG', f'the first of those that hung, {os.path.dirname(found.same_path)}:', leaf, found.run, found.same)
 
 
 def tell_leftovers(page: Page, leaf: Leaf, script: Script) -> None:
@@ -198,19 +228,56 @@ def tell_others(page: Page, run: Run, found: Others, took: Counter) -> None:
             could[kind_of(receive, send)].add((receive.rank, receive.number))
     for kind, (receive, send) in sorted(too_long.items()):
         page.tell('LENGTH', f'{kind.receive} has room for {receive.fields["room"]} bytes, and could get {send.fields["bytes"]} of {kind.send}', True)
-    for kind, calls in sorted(could.items(), key=lambda pair: (pair[0] in took, pair[0])):
-        never = '' if kind in took else '; it never did in a run here'
-        page.tell('ORDER', f'{kind.receive} could have taken {kind.send} at {len(calls)} call{"s" * (len(calls) > 1)}{never}')
+    for never in (True, False):
+        for told, calls in together({kind: calls for kind, calls in could.items() if (kind not in took) == never}):
+            page.tell('ORDER', f'{told.receive} could have taken {told.send} {times_of(len(set().union(*calls)))}'
+                      + ('; it never did in this run' if never else ''))
     if not found.is_whole:
         page.tell('NOT ALL', 'some matches that could have come are not listed: there are too many')
+
+
+def tags_of(tags: List[int]) -> str:
+    """Tags as they are told: those that follow one another from the first to the last."""
+    rows: List[List[int]] = []
+    for tag in sorted(set(tags)):
+        if rows and rows[-1][-1] == tag - 1:
+            rows[-1].append(tag)
+        else:
+            rows.append([tag])
+    told = [f'{row[0]} to {row[-1]}' if len(row) > 2 else ', '.join(map(str, row)) for row in rows]
+    return ('tags ' if len(set(tags)) > 1 else 'tag ') + ', '.join(told)
+
+
+def times_of(count: int) -> str:
+    return f'at {count} call{"s" * (count != 1)}'
+
+
+def together(by_kind: Dict[Kind, Any]) -> List[Tuple[Kind, List[Any]]]:
+    """Kinds that differ in the tag alone as one, with what belongs to each."""
+    tags, values = defaultdict(list), defaultdict(list)
+    for kind, value in sorted(by_kind.items(), key=lambda pair: pair[0]):
+        place, _, tag = kind.send.rpartition(' (tag ')
+        tags[kind.receive, place].append(int(tag[:-1]))
+        values[kind.receive, place].append(value)
+    return [(Kind(receive, f'{place} ({tags_of(tags[receive, place])})'), values[receive, place]) for receive, place in tags]
+
+
+def tell_taken(page: Page, took: Counter) -> None:
+    """What the wildcard receives of a run took that did not end well: what came seldom first."""
+    kinds = sorted(((sum(counts), kind) for kind, counts in together(took)))
+    by_receive = Counter(kind.receive for _, kind in kinds)
+    for count, kind in [(count, kind) for count, kind in kinds if by_receive[kind.receive] > 1][:MOST_SHOWN]:
+        page.tell('TOOK', f'{kind.receive} took {kind.send} {times_of(count)}')
 
 
 def tell_end(page: Page, found: Recorded, seconds: float) -> None:
     """What was taken for granted, and how the scripts are opened."""
     for note in found.plan.notes:
         page.tell('NOTE', note)
-    page.lines.append(GRANTED)
-    page.lines.append(f'{seconds:.1f} s; the scripts, {found.same.statements} statements with the matches of this run and '
-                      f'{found.asked.statements} with its wildcards:')
-    page.lines.append(f'  ./mpdbg debug {found.same_path}')
-    page.lines.append(f'  ./mpdbg debug {found.asked_path}')
+    page.lines += GRANTED
+    page.lines.append(f'{seconds:.1f} s; the script with the matches of this run, {found.same.statements} statements:')
+    page.lines += [f'  {shown(word, found.same_path)}' for word in ('debug', 'diagnose')]
+    if found.asked.statements > found.same.statements:
+        page.lines.append(f'and with its wildcards, {found.asked.statements} statements, where a trap marked [{Note.LEFT.value}] is a rank '
+                          'that leaves the record:')
+        page.lines += [f'  {shown(word, found.asked_path)}' for word in ('debug', 'diagnose')]

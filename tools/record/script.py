@@ -57,11 +57,12 @@ def marks_of(text: str) -> Dict[int, Mark]:
 
 @dataclass
 class Script:
-    """The text of a script, and which call of the program each call of the script is."""
+    """The text of a script, which call of the program each call of the script is, and what its own tags stand for."""
     text: str
     statements: int
     sends: Dict[Tuple[int, int], Call]
     receives: Dict[Tuple[int, int], Call]
+    tags: Dict[int, str]
 
     def too_long(self) -> Optional[str]:
         """What limit of the language the text is over; None if it is over none."""
@@ -282,7 +283,7 @@ def script_of(plan: Plan, asked: AbstractSet[int]) -> Script:
         body += [Line(f'if rank == {rank} {{'), *folded(writer.lines), Line('}')]
     lines = [*head_of(run, asked), *declarations(body, handles), *body]
     statements = sum(line.text not in ('', '}') for line in body)
-    return Script('\n'.join(laid_out(lines)) + '\n', statements, sends, receives)
+    return Script('\n'.join(laid_out(lines)) + '\n', statements, sends, receives, plan.told_tags())
 
 
 def head_of(run: Run, asked: AbstractSet[int]) -> List[Line]:

@@ -1,26 +1,32 @@
 """Runs the program again with messages forced that it could have taken, and tells what came of each."""
 
 import os
-from collections import defaultdict
+import re
+from collections import Counter, defaultdict
 from dataclasses import dataclass, replace
 from typing import Callable, Dict, List, Optional, Set, Tuple
 
 import forcing
-from checking import NotChecked
-from forcing import Command, Ending, Forced, Ran
+from checking import NotChecked, shown
+from forcing import Command, Ending, Forced, Ran, printed_of
 from matching import MODE, Other, Others, kind_of, others, taken_kinds
 from plan import Plan
 from records import Refused, Run, read_run
-from report import ENDED, Page
+from report import ENDED, Page, Recorded, recorded, tell_why
+
+# So many lines that a run printed, and others did not, are told, up to so many characters each.
+MOST_LINES, MOST_LENGTH = 3, 100
+HUNG = 'hung'
 
 
 @dataclass
 class Tried:
-    """A run that was forced: what was forced, how it ended, and where ranks stood."""
+    """A run that was forced: what was forced, how it ended, where ranks stood, and its scripts, if they could be made."""
     folder: str
     came: str
     stands: Tuple[str, ...]
     is_bad: bool
+    made: Optional[Recorded] = None
 
 
 def key_of(forced: Forced) -> Tuple:
@@ -74,7 +80,8 @@ class Tries:
             return
         self.tried.append(self.tried_of(ran, run, other.forced))
         try:
-            plan = Plan(run)
+            made = recorded(run)
+            self.tried[-1].made, plan = made, made.plan
             self.plans.append(plan)
             self.took += taken_kinds(plan)
             found = others(plan, 'rendezvous' if self.command.is_synchronous else MODE)
@@ -87,7 +94,7 @@ class Tries:
     def tried_of(self, ran: Ran, run: Run, forced: Forced) -> Tried:
         if ran.ending == Ending.STANDS and not_followed(run, forced):
             return Tried(ran.folder, 'could not be followed', (), False)
-        came = 'hung' if ran.ending == Ending.STANDS else ENDED.get(ran.ending, f'ended with status {ran.status}')
+        came = HUNG if ran.ending == Ending.STANDS else ENDED.get(ran.ending, f'ended with status {ran.status}')
         return Tried(ran.folder, came, stands_of(ran, run), ran.ending != Ending.WELL)
 
 
@@ -104,23 +111,71 @@ def tell_synchronous(page: Page, command: Command, folder: str) -> None:
         stands = stands_of(ran, read_run(ran.folder))
     except Refused as why:
         stands = (f'refused: {why}',)
-    came = {Ending.STANDS: 'hung', Ending.WELL: 'ended well'}.get(ran.ending, ran.ending.value)
+    came = {Ending.STANDS: HUNG, Ending.WELL: 'ended well'}.get(ran.ending, ran.ending.value)
     page.tell('TRIED', f'with synchronous sends it {came}' + (f': {"; ".join(stands)}' if stands else ''), ran.ending != Ending.WELL)
+    if ran.ending != Ending.WELL:
+        page.tell('', f'  again: {replace(command, is_synchronous=True).shown(ran.folder)}')
 
 
-def tell_tries(page: Page, command: Command, folder: str, most: int, first: Plan, found: Others) -> None:
-    """Tries what could have come, at most so often, and tells what came of it."""
+# ---- what was printed
+
+def form_of(line: str) -> str:
+    """A line without its numbers."""
+    return re.sub(r'-?\d+(?:\.\d*)?(?:[eE][-+]?\d+)?|-?\b(?:nan|inf)\b', '0', line)
+
+
+def more_printed(one: str, other: str) -> List[str]:
+    """The lines that a run printed and another did not, whatever their order."""
+    return [line.strip() for line in Counter(printed_of(one)) - Counter(printed_of(other)) if line.strip()]
+
+
+def tell_printed(page: Page, command: Command, folder: str, first: Plan, tried: List[Tried]) -> None:
+    """Tells of runs that ended well and printed other lines than the first, which ended well too. What a run with the matches of
+    the first prints otherwise, such as a time, is left out."""
+    of_first, well = os.path.join(folder, '0'), [one for one in tried if one.came == ENDED[Ending.WELL]]
+    if not any(more_printed(one.folder, of_first) for one in well):
+        return
+    again = forcing.run(command, os.path.join(folder, 'same'), {call: took[:2] for call, took in first.took.items()})
+    if again.ending != Ending.WELL:
+        return
+    unsteady = {form_of(line) for line in more_printed(of_first, again.folder) + more_printed(again.folder, of_first)}
+    by_form: Dict[str, Dict[str, Tried]] = defaultdict(dict)
+    for one in well:
+        for line in more_printed(one.folder, of_first):
+            by_form[form_of(line)].setdefault(line, one)
+    for form in [form for form in by_form if form not in unsteady][:MOST_LINES]:
+        tell_lines(page, command, by_form[form], [line.strip() for line in printed_of(of_first) if form_of(line.strip()) == form])
+
+
+def tell_lines(page: Page, command: Command, others_printed: Dict[str, Tried], of_first: List[str]) -> None:
+    """Tells lines of one form that runs printed, and those that the first printed."""
+    lines = [line[:MOST_LENGTH] for line in others_printed]
+    told = '; '.join(lines[:MOST_LINES]) + (f'; and {len(lines) - MOST_LINES} others' if len(lines) > MOST_LINES else '')
+    page.tell('PRINTED', f'{told}; the first run: {"; ".join(line[:MOST_LENGTH] for line in of_first[:MOST_LINES]) or "no such line"}')
+    tell_again(page, command, next(iter(others_printed.values())))
+
+
+def tell_again(page: Page, command: Command, tried: Tried) -> None:
+    """The commands that run a run again, and that open its script."""
+    page.tell('', f'  again: {command.shown(tried.folder)}')
+    if tried.made:
+        page.tell('', f'  steps: {shown("debug", tried.made.same_path)}')
+
+
+def tell_tries(page: Page, command: Command, most: int, first: Ran, plan: Plan, found: Others) -> None:
+    """Tries what could have come in the first run, at most so often, and tells what came of it."""
+    folder = os.path.dirname(first.folder)
     if not most:
         if found.found:
             page.tell('NOT TRIED', f'what follows {len(found.found)} of these: --try N runs the program with each of them forced')
         return
-    tries = Tries(command, folder, first, found)
+    tries = Tries(command, folder, plan, found)
     while len(tries.tried) < most and (fresh := tries.next()):
         tries.run(fresh)
     left = 0 if tries.next() is None else len(tries.waiting) + 1
     if tries.tried or left:
         more = f'; {left} more could be tried' if left else '; nothing is left to try' if tries.is_whole else ''
-        page.tell('TRIED', f'{len(tries.tried)} runs with messages forced{more}')
+        page.tell('TRIED', f'{len(tries.tried)} run{"s" * (len(tries.tried) != 1)} with messages forced{more}')
     by_end: Dict[Tuple, List[Tried]] = defaultdict(list)
     for tried in tries.tried:
         by_end[tried.came, tried.stands].append(tried)
@@ -128,4 +183,9 @@ def tell_tries(page: Page, command: Command, folder: str, most: int, first: Plan
         times = f', {len(alike)} times' if len(alike) > 1 else ''
         page.tell('', f'{came}{times}{": " if stands else ""}{"; ".join(stands)}', alike[0].is_bad)
         if alike[0].is_bad:
-            page.tell('', f'  again: {command.shown(alike[0].folder)}')
+            tell_again(page, command, alike[0])
+    hung = [tried.made for tried in tries.tried if tried.came == HUNG and tried.made]
+    if hung and not page.has('HANG'):
+        tell_why(page, hung[0])
+    if first.ending == Ending.WELL:
+        tell_printed(page, command, folder, plan, tries.tried)
