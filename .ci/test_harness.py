@@ -554,11 +554,13 @@ class Growing(WithFolder):
         for name in ('low/src/gone.rt', 'low/specs/Gone', 'gone/src/lib.rt', 'low/out/kept.rt', 'gone.py', 'low/src/main.rt'):
             self.assertEqual(self.gone(f'a line\n| `{name}` | in a table |'), [(2, name)])
 
-    def test_by_its_end_where_the_line_names_its_crate(self):
+    def test_by_its_end_where_the_paragraph_names_its_crate(self):
         self.assertEqual(self.gone('`low/src/lib.rt`, `Lines.antt` and `specs/Lines`'), [])
         self.assertEqual(self.gone('`lib.rt` of `low`'), [])
         self.assertEqual(self.gone('`high/src/main.rt`, `Lines.antt`'), [(1, 'Lines.antt')])
-        self.assertEqual(self.gone('`low/src/lib.rt`\n`Lines.antt`'), [(2, 'Lines.antt')])
+        self.assertEqual(self.gone('`low/src/lib.rt`\n`Lines.antt`'), [])
+        for between in ('\n\n', '\n- ', '\n| '):
+            self.assertEqual(self.gone(f'`low/src/lib.rt`{between}`Lines.antt`'), [(1 + between.count('\n'), 'Lines.antt')])
         self.assertEqual(self.gone('`low`, `ines.antt`'), [(1, 'ines.antt')])
 
     def test_what_is_no_file(self):
