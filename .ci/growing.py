@@ -4,7 +4,7 @@
     .ci/growing.py    at the top of the repository: status 0 where all are
 
 A piece in backticks with a slash in it, or that ends as a file does, names a file or a folder: from the top, or below `crates/`; by its
-end alone where the same line names its crate. A proof or a definition may stand without its `.antt`.
+end alone where the same paragraph, or row of a table, names its crate. A proof or a definition may stand without its `.antt`.
 """
 import os
 import re
@@ -33,14 +33,24 @@ def is_there(name, crates, found):
     return False
 
 
+def paragraphs(text):
+    """The lines of each paragraph, item of a list or row of a table, each with its number."""
+    found = [[]]
+    for number, line in enumerate(text.split('\n'), 1):
+        if not line.strip() or re.match(r' *(?:[-*|]|\d+\.)', line):
+            found.append([])
+        found[-1].append((number, line))
+    return found
+
+
 def missing(text, found):
     """The files that a text names and that are not there, each with the number of its line."""
     gone = []
-    for number, line in enumerate(text.split('\n'), 1):
-        pieces = re.findall(r'`([^`]+)`', line)
-        crates = {it.split('/')[0] for it in pieces if f"crates/{it.split('/')[0]}" in found}
-        names = [it.strip('/') for it in pieces if ' ' not in it and ('/' in it or it.endswith(ENDS))]
-        gone += [(number, it) for it in names if not is_there(it, crates, found)]
+    for lines in paragraphs(text):
+        pieces = [(number, it) for number, line in lines for it in re.findall(r'`([^`]+)`', line)]
+        crates = {it.split('/')[0] for _, it in pieces if f"crates/{it.split('/')[0]}" in found}
+        names = [(number, it.strip('/')) for number, it in pieces if ' ' not in it and ('/' in it or it.endswith(ENDS))]
+        gone += [(number, it) for number, it in names if not is_there(it, crates, found)]
     return gone
 
 

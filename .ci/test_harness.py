@@ -24,6 +24,7 @@ import planted
 import read_lines
 import processes
 import record
+import reference
 import rounds
 import told
 # (their tests are run with those of this file)
@@ -553,11 +554,13 @@ class Growing(WithFolder):
         for name in ('low/src/gone.rt', 'low/specs/Gone', 'gone/src/lib.rt', 'low/out/kept.rt', 'gone.py', 'low/src/main.rt'):
             self.assertEqual(self.gone(f'a line\n| `{name}` | in a table |'), [(2, name)])
 
-    def test_by_its_end_where_the_line_names_its_crate(self):
+    def test_by_its_end_where_the_paragraph_names_its_crate(self):
         self.assertEqual(self.gone('`low/src/lib.rt`, `Lines.antt` and `specs/Lines`'), [])
         self.assertEqual(self.gone('`lib.rt` of `low`'), [])
         self.assertEqual(self.gone('`high/src/main.rt`, `Lines.antt`'), [(1, 'Lines.antt')])
-        self.assertEqual(self.gone('`low/src/lib.rt`\n`Lines.antt`'), [(2, 'Lines.antt')])
+        self.assertEqual(self.gone('`low/src/lib.rt`\n`Lines.antt`'), [])
+        for between in ('\n\n', '\n- ', '\n| '):
+            self.assertEqual(self.gone(f'`low/src/lib.rt`{between}`Lines.antt`'), [(1 + between.count('\n'), 'Lines.antt')])
         self.assertEqual(self.gone('`low`, `ines.antt`'), [(1, 'ines.antt')])
 
     def test_what_is_no_file(self):
@@ -670,6 +673,77 @@ class ReadLines(WithFolder):
         text, wrong = self.wrong(('a step', 'state without `World`', '63'), ('words', '`Words`', '64'))
         self.assertEqual(wrong, ['a step: 63, and not 62'])
         self.assertIn('| a step | `ok` | state without `World` | 62 |\n| words | `ok` | `Words` | 64 |\n\nbehind', text)
+
+
+class Reference(WithFolder):
+    """The page of public functions that is made from the sources."""
+
+    def setUp(self):
+        super().setUp()
+        self.write('crates.txt', 'high: low clap\nlow:\nmiddle: low\ntop: high low middle\n')
+        self.write('crates/low/src/lib.rt', '//! Lists. Not\n//! much.\n#![tactic(auto)]\n\npub mod list;\nmod inner;\n\npub use inner::{Shown, shown};\n')
+        self.write('crates/low/src/list.rt', SOURCE + """
+/// A law. With more.
+pub fn law_of_more()
+    ensures { more }
+{}
+
+/// A desk.
+pub trait Desk {
+    ghost says: { Self → Type 0 };
+
+    /// What it
+    /// answers. And more.
+    fn answer(&mut self) -> u64
+        requires open { true }
+        ensures { true }
+        ensures more { true };
+}
+
+/// Not seen.
+fn hidden() -> u64 {
+    0
+}
+
+/// A word and what it does.
+pub type Told = (&'static str, &'static str);
+
+pub const GO: Told = ("go", "goes");
+
+pub const STOP: Told = (
+    "stop",
+    "stops",
+);
+
+pub const BARE: u64 = 0;
+""")
+        self.write('crates/low/src/inner.rt', '/// Is | shown.\n#[derive(Drop)]\npub struct Shown;\n\nimpl Shown {\n    /// One.\n    pub fn one(\n        n: u64,\n    ) -> u64\n'
+                   '        ensures exact { true }\n    {\n        n\n    }\n}\n\npub fn shown() {}\n\n/// Not seen.\npub fn unseen() {}\n')
+        self.write('crates/high/src/main.rt', '//! The program.\n\npub fn left() {}\n')
+
+    def test_what_is_public_with_its_clauses(self):
+        said, items = reference.crate_items(f'{self.folder}/crates/low')
+        self.assertEqual(said, 'Lists. Not much.')
+        told = {it.name: it for it in items}
+        self.assertEqual(told['law_of_more'], ('law', 'law_of_more', 'A law.', {'requires': [], 'ensures': ['']}))
+        self.assertEqual(told['Desk::answer'], ('fn', 'Desk::answer', 'What it answers.', {'requires': ['open'], 'ensures': ['', 'more']}))
+        self.assertEqual(told['Shown::one'], ('fn', 'Shown::one', 'One.', {'requires': [], 'ensures': ['exact']}))
+        self.assertEqual(told['Shown'][:3], ('struct', 'Shown', 'Is | shown.'))
+        self.assertTrue({'List', 'List::len', 'shown'} <= told.keys())
+        self.assertFalse({'hidden', 'unseen', 'left', 'List::hidden'} & told.keys())
+
+    def test_the_page(self):
+        page = reference.page(self.folder)
+        self.assertLess(page.index('## `low`'), page.index('## `high`'))
+        self.assertIn('\n## `high`\n\nThe program.\n\nLayer 2; stands on `low`.\n', page)
+        self.assertIn('| `Desk::answer` | What it answers. | `open` | `more`, (1) |\n', page)
+        self.assertIn('| `Shown` | struct | Is \\| shown. |\n', page)
+        self.assertIn('| `Told` | type | A word and what it does. |\n| `GO`, `STOP` | const | A `Told`. |\n', page)
+        self.assertEqual([*reference.thin(self.folder)], ['low: BARE', 'low: shown'])
+
+    def test_what_a_crate_stands_on(self):
+        self.assertEqual(reference.levels('high: low clap\nlow:\nmiddle: low\ntop: high low middle\n'),
+                         {'high': (2, ['low']), 'low': (1, []), 'middle': (2, ['low']), 'top': (3, ['high', 'middle'])})
 
 
 class Processes(unittest.TestCase):
