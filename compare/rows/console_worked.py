@@ -236,7 +236,9 @@ def lines_problem():
     with open(PAGE, encoding='ascii') as file:
         page = file.read()
     told = [f'`{line}`' for line in (*MORE_FIRST, *MORE_HELP, CHOICE)]
-    missing = [line for line in (f'\n    {console.GREETING}\n', FIRST_TOLD, *told) if line not in page]
+    missing = [line for line in (f'\n    {console.GREETING}\n', *told) if line not in page]
+    if FIRST_TOLD not in ' '.join(page.split()):
+        missing.append(FIRST_TOLD)
     return f'the page has no {missing}' if missing else None
 
 
