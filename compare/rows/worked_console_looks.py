@@ -567,7 +567,7 @@ stopped at a choice of rank 0, line 7; next N takes one:
 R | |  7: 0.0 recv from any tag any free
 | S |  7: 1.0 send to 0 tag 0 free
 | | S  7: 2.0 send to 0 tag 0 free
-! ! !  at the end
+~ ~ ~  at the end
 S send, R receive, W wait, A wait for any, B barrier, o-> match, == release
 at the end: E ended, V can go on, ~ waits, ! blocked, X trapped
 > next 1
