@@ -124,6 +124,8 @@ def command_faults():
     both = (
         ('the picture first', lambda *told: SOUND['commands'](*told)[::-1]),
         ('no picture', lambda *told: SOUND['commands'](*told)[:1]),
+        ('not that a run is too long', lambda *told: [line for line in SOUND['commands'](*told) if ' too long ' not in line]),
+        ('that a run is too long without its steps', lambda *told: [re.sub('run of [0-9]+ steps', 'run', line) for line in SOUND['commands'](*told)]),
         ('the picture of another run', of_two_runs),
         ('of all choices but the last', lambda asked, leaf, picture: SOUND['commands'](asked, leaf._replace(choices=leaf.choices[:-1]), picture)))
     files = (

@@ -8,6 +8,7 @@ otherwise; other statuses, and others that are refused; runs that are drawn wher
 import re
 
 from faults import decided_faults
+from faults.diagnosed_bug_faults import bug_faults
 from faults.diagnosed_command_faults import command_faults, named
 from faults.policy_faults import Breakage
 from model import diagnosed, explaining, outcomes, sampler, states
@@ -21,7 +22,7 @@ from model.states import Found, Search, answered, decided, word_of
 from model.walks import CUT
 
 SOUND = {name: getattr(owner, name) for owner, names in (
-    (diagnosed, ('places', 'lines_of', 'ends_of', 'bug_of', 'bugs_of', 'several', 'of_runs', 'runs_of', 'mode_of',
+    (diagnosed, ('places', 'lines_of', 'ends_of', 'bug_of', 'bugs_of', 'several', 'those_runs', 'of_runs', 'runs_of', 'mode_of',
                  'verdict_lines', 'always', 'fails_both', 'well_line', 'tried_next', 'hints', 'verdict', 'heading', 'bug_lines', 'all_bug_lines', 'text_of', 'status',
                  'answer', 'drawn_of', 'drawn_lines', 'drawn_verdict')),
     (outcomes, ('explained', 'is_whole'))) for name in names}
@@ -155,7 +156,7 @@ def of_as_many_ends(count, found):
 
 def of_told_runs(count, found):
     """What counts those runs alone that hang, trap or leave something over."""
-    return f'{count_text(count)} of {SOUND["several"](sum(SOUND["runs_of"](found, kind) for kind in (HANG, TRAP, LEFT)), "run")}'
+    return f'{count} of {SOUND["several"](sum(SOUND["runs_of"](found, kind) for kind in (HANG, TRAP, LEFT)), "run")}'
 
 
 def ends_alike(found, kind, *others):
@@ -205,9 +206,15 @@ def verdict_faults():
         ('the first end alone', of_first_end))
     words = (
         ('1 runs', lambda count, what: SOUND['several'](count, what) + 's' * (count == 1)),
-        ('2 run', lambda count, what: f'{count_text(count)} {what}'),
+        ('2 run', lambda count, what: f'{count} {what}'),
         ('1 states', lambda count, what: SOUND['several'](count, what) + 's' * (count == 1 and what == 'state')),
-        ('counts of any size', lambda count, what: f'{count} {what}{"" if count == 1 else "s"}'))
+        ('counts of any size', lambda count, what: f'{count} {what}{"" if count == 1 else "s"}'),
+        ('at least so many', lambda count, what: f'{count_text(count)} {what}{"" if count == 1 else "s"}'))
+    those = (
+        ('never the first', lambda found: SOUND['several'](total(found), 'run')), ('always the first', lambda found: SOUND['those_runs'](found._replace(more=True))),
+        ('the first where one is cut', lambda found: SOUND['those_runs'](found._replace(more=found.more or CUT in found.ways))),
+        ('the first where none is bad', lambda found: SOUND['those_runs'](found._replace(more=found.more and not any(map(is_bad, found.ways))))),
+        ('the first where some are bad', lambda found: SOUND['those_runs'](found._replace(more=found.more and any(map(is_bad, found.ways))))))
     always_so = (
         ('never', lambda found, kind: False), ('though a run is cut', lambda found, kind: not found.more and ends_alike(found, kind, CUT)),
         ('though there are more', lambda found, kind: CUT not in found.ways and ends_alike(found, kind)),
@@ -245,101 +252,9 @@ def verdict_faults():
         ('a command that tries others first', lambda *told: sorted(SOUND['verdict'](*told), key=lambda line: './mpdbg' not in line)))
     return [*named('verdict', diagnosed, 'verdict_lines', lines), *named('verdict', diagnosed, 'runs_of', counts),
             *named('verdict', diagnosed, 'of_runs', (('of as many ends', of_as_many_ends), ('of bad runs alone', of_told_runs))),
-            *named('verdict', diagnosed, 'several', words), *named('verdict', diagnosed, 'verdict', commands),
+            *named('verdict', diagnosed, 'several', words), *named('verdict', diagnosed, 'those_runs', those), *named('verdict', diagnosed, 'verdict', commands),
             *named('always', diagnosed, 'always', always_so), *named('both', diagnosed, 'fails_both', both), *named('verdict', diagnosed, 'well_line', modes),
             *named('verdict', diagnosed, 'tried_next', following)]
-
-
-# ---- which ends are one bug, and which is explained
-
-def steps_of(end):
-    """How many steps the first run of an end has."""
-    return len(end.leaf.steps)
-
-
-def by_ranks(end):
-    """What tells ends apart by their ranks, and not by lines."""
-    return end.kind, tuple(word.split('.')[0] for word in end.leaf.outcome.split()[1:])
-
-
-def by_trap(end):
-    """What tells traps apart by the last of their names, too."""
-    return *SOUND['bug_of'](end), end.leaf.outcome.split()[-1] if end.kind == TRAP else ''
-
-
-def leftovers_together(ends):
-    """Bugs with all leftovers in one."""
-    ends = list(ends)
-    left = [end for end in ends if end.kind == LEFT]
-    return SOUND['bugs_of'](end for end in ends if end.kind != LEFT) + [left] * bool(left)
-
-
-def sorted_by(place):
-    """What has bugs in another order."""
-    return lambda ends: sorted(SOUND['bugs_of'](ends), key=place)
-
-
-def by_first_runs(ends):
-    """Bugs in the order of the first of each, whatever their kind."""
-    ends = list(ends)
-    return sorted(SOUND['bugs_of'](ends), key=lambda bug: ends.index(bug[0]))
-
-
-def neighbours(ends):
-    """Bugs of ends that stand next to each other alone."""
-    found = []
-    for end in ends:
-        if found and diagnosed.bug_of(found[-1][0]) == diagnosed.bug_of(end):
-            found[-1].append(end)
-        else:
-            found.append([end])
-    return found
-
-
-def without_ends(kind):
-    """What leaves out the ends of a kind."""
-    return lambda asked, found: (end for end in SOUND['ends_of'](asked, found) if end.kind != kind)
-
-
-def with_ways(change):
-    """What tells ends by other ways that were found."""
-    return lambda asked, found: SOUND['ends_of'](asked, found._replace(ways=change(found.ways)))
-
-
-def first_runs(ways):
-    """The ways, all with the first run of the first one of their kind."""
-    firsts = {}
-    for outcome, way in ways.items():
-        firsts.setdefault(word_of(outcome), way.first)
-    return {outcome: way._replace(first=firsts[word_of(outcome)]) for outcome, way in ways.items()}
-
-
-def bug_faults():
-    """Those of ends that are told together."""
-    together = (
-        ('by kinds alone', lambda end: end.kind), ('by lines alone', lambda end: end.lines), ('by outcomes', lambda end: end.leaf.outcome),
-        ('by the first line', lambda end: (end.kind, end.lines[:1])), ('by the last line', lambda end: (end.kind, end.lines[-1:])),
-        ('by ranks and not by lines', by_ranks), ('by kinds and how many lines', lambda end: (end.kind, len(end.lines))),
-        ('by lengths, too', lambda end: (*SOUND['bug_of'](end), steps_of(end))), ('of a trap by its name, too', by_trap))
-    bugs = (
-        ('leftovers are one bug', leftovers_together), ('in the order of their first runs', by_first_runs),
-        ('leftovers first', sorted_by(lambda bug: bug[0].kind != LEFT)), ('by their lines', sorted_by(lambda bug: bug[0].lines)),
-        ('hangs first', sorted_by(lambda bug: (HANG, TRAP, LEFT, CUT).index(bug[0].kind))),
-        ('by their runs', sorted_by(lambda bug: -sum(end.runs for end in bug))),
-        ('from the last to the first', lambda ends: SOUND['bugs_of'](ends)[::-1]), ('the first alone', lambda ends: SOUND['bugs_of'](ends)[:1]),
-        ('of ends beside each other', neighbours), ('without the last end of one', lambda ends: [bug[:-1] or bug for bug in SOUND['bugs_of'](ends)]))
-    explained = (
-        ('the first', lambda ends: ends[0]), ('the last', lambda ends: ends[-1]), ('the longest', lambda ends: max(ends, key=steps_of)),
-        ('the last of equals', lambda ends: min(reversed(ends), key=steps_of)),
-        ('that with the fewest choices', lambda ends: min(ends, key=lambda end: len(end.leaf.choices))),
-        ('that with the most runs', lambda ends: max(ends, key=lambda end: end.runs)),
-        ('that with the fewest runs', lambda ends: min(ends, key=lambda end: end.runs)))
-    ends = (
-        ('none that is cut', without_ends(CUT)), ('no leftovers', without_ends(LEFT)), ('no traps', without_ends(TRAP)), ('no deadlocks', without_ends(HANG)),
-        ('the first run of another end', with_ways(first_runs)), ('the last end is left out', with_ways(lambda ways: dict(list(ways.items())[:-1]))),
-        ('no end of one run', with_ways(lambda ways: {outcome: way for outcome, way in ways.items() if way.runs > 1})))
-    return [*named('bugs', diagnosed, 'bug_of', together), *named('bugs', diagnosed, 'bugs_of', bugs),
-            *named('explained', diagnosed, 'explained_of', explained), *named('ends', diagnosed, 'ends_of', ends)]
 
 
 # ---- lines of the script, headings, explanations
@@ -758,7 +673,7 @@ def breakages():
 # Those that the text itself must show, or all runs of its script, one after another; rows show them all.
 BY_TEXT = {
     'states': ('those without a choice, too', 'those that are kept', 'one more', 'the first is not counted'),
-    'verdict': ('not that it can hang', 'not that it can trap', 'not that it never hangs', 'not what is left over', 'traps before hangs',
+    'verdict': ('never the first', 'always the first', 'not that it can hang', 'not that it can trap', 'not that it never hangs', 'not what is left over', 'traps before hangs',
                 'never hangs nor traps beside what is bad', 'of no run, too', 'ends that hang', 'hangs are traps', 'the first end alone',
                 'of as many ends', '1 runs',
                 '1 states',
@@ -773,7 +688,7 @@ BY_TEXT = {
     'pictures': ('no numbers', 'always a number', 'from 0', 'run though it was drawn', 'from the last to the first'),
     'bugs': ('by kinds alone', 'by lines alone', 'by outcomes', 'by the first line', 'by ranks and not by lines', 'by their lines', 'hangs first',
              'in the order of their first runs',
-             'leftovers first', 'from the last to the first', 'the first alone', 'of ends beside each other', 'without the last end of one'),
+             'two bugs before one of them', 'leftovers first', 'from the last to the first', 'the first alone', 'of ends beside each other', 'without the last end of one'),
     'explained': ('the first', 'the longest', 'the last of equals', 'that with the most runs'),
     'ends': ('no leftovers', 'no traps', 'the first run of another end', 'no end of one run'),
     'lines': ('not sorted', 'repeated', 'as texts', 'the first alone', 'from 0', 'of all calls', 'of calls that are left over, too'),

@@ -5,7 +5,7 @@ import re
 from faults.policy_faults import Breakage
 from model import ranks
 
-SOUND = {name: getattr(ranks, name) for name in ('with_ranks', 'number_place', 'numbers_in', 'heading', 'brief', 'in_short', 'several', 'modes_up_to', 'mode_in_short', 'in_modes')}
+SOUND = {name: getattr(ranks, name) for name in ('with_ranks', 'number_place', 'numbers_in', 'heading', 'brief', 'in_short', 'several', 'modes_up_to', 'mode_in_short', 'leaves_some', 'in_modes')}
 
 
 def put(name, attribute, replacement):
@@ -19,6 +19,12 @@ def texts(name, change):
 
 def place_of(found):
     return found.start(), found.end()
+
+
+def first_part_alone(modes, answers, command):
+    """What names the first alone of the modes that aren't whole, or where calls can be left over."""
+    text, status = SOUND['in_modes'](modes, answers, command)
+    return re.sub(rb'(tried in \S+?|left over in \S+?),(?: \S+)*(?:\n {8}.*)?', rb'\1', text), status
 
 
 FAULTS = (
@@ -64,6 +70,9 @@ FAULTS = (
         + SOUND['in_modes'](modes[::-1], answers[::-1], command)[0].partition(b'\n\n')[2].join([b'\n', b'']), SOUND['in_modes'](modes, answers, command)[1])),
     put('the first mode that is not whole before a bad one', 'in_modes', lambda modes, answers, command: SOUND['in_modes'](
         modes, [it._replace(status=0) if it.status == 1 and 4 in {other.status for other in answers} else it for it in answers], command)),
+    put('the first mode that is not whole alone', 'in_modes', first_part_alone), put('not that calls can be left over', 'leaves_some', lambda answer: False),
+    put('calls are left over in each mode', 'leaves_some', lambda answer: True),
+    put('other words for calls that are left over', 'LEFT_IN', 'calls are left over in'),
     put('nothing is said of good modes', 'ALL_GOOD', ''), put('nothing is said of modes that are not whole', 'NOT_ALL', ''),
     put('the status of the last mode', 'in_modes', lambda modes, answers, command: (SOUND['in_modes'](modes, answers, command)[0], answers[-1].status)),
     put('a status of 0 with a bad mode', 'in_modes', lambda modes, answers, command: (SOUND['in_modes'](modes, answers, command)[0], 0)),

@@ -19,7 +19,7 @@ from model.explorer import NOT_WHOLE
 from model.files import held
 from model.language import Fault
 from model.modes import is_mode, slots_of
-from model.outcomes import count_text, is_bad, is_whole
+from model.outcomes import MOST_COUNTED, is_bad, is_whole
 from model.policy import Forced
 from model.run_words import run_by
 from model.states import NO_RUNS, Found, answered, word_of
@@ -124,8 +124,8 @@ def is_drawn(found):
 
 
 def drawn_of(asked, found):
-    """What is found of the runs that are drawn behind a search; None where none are."""
-    return states.of_leaves(asked.drawn(), more=True) if is_drawn(found) else None
+    """What is found of the runs that are drawn behind a search, which are all that were; None where none are."""
+    return states.of_leaves(asked.drawn(), more=False) if is_drawn(found) else None
 
 
 # ---- ends, and those that are told together
@@ -183,12 +183,19 @@ def is_left(ends):
     return ends[0].kind in (LEFT, CUT)
 
 
+def is_wider(ends, others):
+    """Whether ends stand at all lines of others of their kind, and at more."""
+    return ends[0].kind == others[0].kind and set(others[0].lines) < set(ends[0].lines)
+
+
 def bugs_of(ends):
-    """The ends that are told together, deadlocks and traps first, and of each in the order of the first."""
+    """The ends that are told together, deadlocks and traps first; of each those last that stand at all lines of another and at more; and else in the order
+    of the first."""
     found = {}
     for end in ends:
         found.setdefault(bug_of(end), []).append(end)
-    return sorted(found.values(), key=is_left)
+    bugs = list(found.values())
+    return sorted(bugs, key=lambda bug: (is_left(bug), any(is_wider(bug, other) for other in bugs)))
 
 
 def explained_of(ends):
@@ -198,14 +205,29 @@ def explained_of(ends):
 
 # ---- what is written
 
+def can_be_counted(count):
+    return count <= MOST_COUNTED
+
+
+def number_of(count):
+    """A count of runs by itself."""
+    return str(count) if can_be_counted(count) else 'more than can be counted'
+
+
 def several(count, what):
     """A count of runs or states."""
-    return f'{count_text(count)} {what}{"" if count == 1 else "s"}'
+    return f'{count} {what}{"" if count == 1 else "s"}' if can_be_counted(count) else f'more {what}s than can be counted'
+
+
+def those_runs(found):
+    """All runs that were found, which are the first ones where there are more."""
+    runs = outcomes.total(found)
+    return f'{"the first " * (found.more and can_be_counted(runs))}{several(runs, "run")}'
 
 
 def of_runs(count, found):
-    """How many of all runs."""
-    return f'{count_text(count)} of {several(outcomes.total(found), "run")}'
+    """How many of these."""
+    return f'{count} of {those_runs(found)}' if can_be_counted(count) else several(count, 'run')
 
 
 def runs_of(found, kind):
@@ -251,7 +273,7 @@ def bad_lines(asked, found):
     runs = several(outcomes.total(found), 'run')
     if fails_both(found):
         hang, trap = runs_of(found, HANG), runs_of(found, TRAP)
-        yield f'it always fails in {mode_of(asked)}: it hangs in {of_runs(hang, found)} and traps in {count_text(trap)}'
+        yield f'it always fails in {mode_of(asked)}: it hangs in {of_runs(hang, found)} and traps in {number_of(trap)}'
         return
     for kind, word in ((HANG, 'hang'), (TRAP, 'trap')):
         if always(found, kind):
@@ -262,10 +284,10 @@ def bad_lines(asked, found):
 
 def well_line(asked, search, found):
     """That no run does."""
-    runs = several(outcomes.total(found), 'run')
     if is_whole(found):
+        runs = several(outcomes.total(found), 'run')
         return f'{NEVER} {mode_of(asked)}, {TAKEN} ({runs}, {several(search.counted, "state")})'
-    return f'{NOT_FOUND} {runs} in {mode_of(asked)}'
+    return f'{NOT_FOUND} {those_runs(found)} in {mode_of(asked)}'
 
 
 def verdict_lines(asked, search, found):
@@ -338,9 +360,10 @@ def is_pictured(leaf):
 
 
 def commands(asked, leaf, picture):
-    """The commands that debug a run, and draw it to a file, if it is drawn."""
+    """The commands that debug a run, and draw it to a file, if it is drawn; else that it isn't."""
     run = f"{file_of(asked)} --ends --choices '{' '.join(map(str, leaf.choices))}'"
-    return [f'  ./mpdbg debug {run}', *[f'  ./mpdbg picture {run} > {picture}'] * is_pictured(leaf)]
+    too_long = f'  a run of {len(leaf.steps)} steps is too long for a picture'
+    return [f'  ./mpdbg debug {run}', f'  ./mpdbg picture {run} > {picture}' if is_pictured(leaf) else too_long]
 
 
 def bug_lines(asked, ends, found, picture):

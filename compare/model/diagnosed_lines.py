@@ -10,7 +10,14 @@ from model.outcomes import MOST_COUNTED
 from model.report_lines import choices_of, must_be
 
 COMMAND, GOES_ON, WIDTH = '  ./mpdbg ', ' ' * 8, 80
-COUNT = '((?:at least )?[0-9]+)'
+COUNT = '([0-9]+)'
+# What is told in the place of a number of runs that can't be counted; such a number is read as one run more than are counted.
+MANY_RUNS, MANY = 'more runs than can be counted', 'more than can be counted'
+# What tells that the runs which were come to aren't all.
+OF_FIRST = re.compile(r' (?:of|found in) the first [0-9]+ runs?\b')
+TELLS_RUNS = re.compile(r' (?:of|found in) (?:the first )?[0-9]+ runs?\b')
+# A run that is too long has no picture.
+TOO_LONG, PICTURED = re.compile('  a run of ([0-9]+) steps is too long for a picture'), 1000
 RUNS = f'{COUNT} (runs?)'
 RENDEZVOUS = 'rendezvous'
 # What becomes of the runs in a mode, in the order of the lines.
@@ -80,8 +87,26 @@ class Told(NamedTuple):
 
 
 def count_of(text):
-    """A count; what is counted `at least` is read as one run more than are counted."""
-    return MOST_COUNTED + 1 if text.startswith('at least ') else int(text)
+    """A count."""
+    return int(text)
+
+
+def with_numbers(line):
+    """A line with a number in the place of each that can't be counted."""
+    number = MOST_COUNTED + 1
+    line = line.replace(f' of {MANY_RUNS}', f' of {number} runs')
+    line = re.sub(rf'(found in |\(){MANY_RUNS}', rf'\g<1>{number} runs', line)
+    return line.replace(MANY_RUNS, f'{number} of {number} runs').replace(MANY, str(number))
+
+
+def with_all_runs(lines, more):
+    """Lines with numbers, without what tells that these are the first runs, which is told where there are more, unless they can't be counted."""
+    found = [with_numbers(line) for line in lines]
+    for line in found:
+        if not line.startswith(' ') and (told := TELLS_RUNS.search(line)) is not None:
+            is_first = more and str(MOST_COUNTED + 1) not in told[0]
+            must_be((OF_FIRST.search(line) is not None) == is_first, f'{line!r}, where there are {"" if more else "no "}more')
+    return [line if line.startswith(' ') else line.replace(' the first ', ' ') for line in found]
 
 
 def runs_in(count, word):
@@ -198,10 +223,12 @@ def bug_in(lines, named, runs, picture):
     must_be(places == tuple(sorted(set(places))) and (told[2] == 'line') == (len(places) == 1), f'{told[2]} {places}')
     must_be(runs_in(told[5], told[6]) == runs, f'{told[0]} of {runs} runs')
     first = next((place for place, line in enumerate(lines) if line.startswith(COMMAND)), len(lines))
-    must_be(len(lines) - first in (1, 2), f'{lines[first:]} are no commands')
+    too_long = TOO_LONG.fullmatch(lines[-1])
+    must_be(too_long is None or int(too_long[1]) > PICTURED, lines[-1])
+    must_be(len(lines) - first == 2, f'{lines[first:]} are no commands')
     must_be((first > 1) == (told[1] != 'cut at'), f'{lines[1:first]} explain {told[0]!r}')
     choices = [choices_in(line, named, f"{COMMAND}{word} {named.words()} --ends --choices '", behind)
-               for line, word, behind in zip(lines[first:], ('debug', 'picture'), ("'", f"' > {picture}"))]
+               for line, word, behind in zip(lines[first:len(lines) - (too_long is not None)], ('debug', 'picture'), ("'", f"' > {picture}"))]
     must_be(choices[0] == choices[-1], f'commands of two runs, {choices}')
     explained, decided = lines[1:first], None
     must_be((HINT in explained) == any(map(DECIDED_AT.match, explained)), f'what to type is told by {explained}')
@@ -224,7 +251,8 @@ def bugs_in(blocks_of_bugs, named, counts, runs, picture):
     numbers = [''] if len(blocks_of_bugs) == 1 else [f'-{place}' for place in range(1, len(blocks_of_bugs) + 1)]
     bugs = tuple(bug_in(lines, named, runs, f'{picture}{number}.svg') for lines, number in zip(blocks_of_bugs, numbers))
     left = [bug.kind in ('left', 'cut') for bug in bugs]
-    must_be(left == sorted(left), 'what is left over comes before what hangs or traps')
+    wide = [any(other.kind == bug.kind and set(other.lines) < set(bug.lines) for other in bugs) for bug in bugs]
+    must_be(list(zip(left, wide)) == sorted(zip(left, wide)), 'what is left over comes before what hangs or traps, or two bugs before one of them')
     must_be(len({(bug.kind, bug.lines) for bug in bugs}) == len(bugs), 'a bug twice')
     for kind in counts:
         there = sum(bug.runs for bug in bugs if bug.kind == kind)
@@ -252,10 +280,12 @@ def drawn_in(verdict, others, named):
 def read_diagnosis(text, named):
     """What is told of a script that is named so; raises why it is none."""
     verdict, *others = blocks(text.decode())
+    place = next((place for place, lines in enumerate(others) if lines[0].startswith(AT_RANDOM)), len(others))
+    more = any(line.endswith('there are more runs than these') for line in verdict)
+    verdict, *others = (with_all_runs(lines, more and number <= place) for number, lines in enumerate([verdict, *others]))
     patterns = tuple((name, re.compile(line.replace('MODE', named.mode))) for name, line in VERDICT)
     told, command = told_and_next(verdict, patterns, named)
     counts, runs = counts_in(told)
-    place = next((place for place, lines in enumerate(others) if lines[0].startswith(AT_RANDOM)), len(others))
     is_drawn = 'more' in told and not counts['hang'] and not counts['trap']
     must_be((place < len(others)) == is_drawn, f'{"nothing" if is_drawn else "something"} is told of runs that were drawn')
     are_all_bad = runs <= MOST_COUNTED and counts['hang'] + counts['trap'] == runs and 'more' not in told

@@ -6,8 +6,11 @@ compare/runs/ranked.py compares a program with it.
 
 import re
 
+from model import diagnosed
 from model.console_lines import folded
 from model.debugger import BUFFERED, RENDEZVOUS
+from model.diagnosed import can_be_counted, number_of
+from model.diagnosed_lines import with_numbers
 from model.language import Fault, Tokens, read_script
 
 MOST_RANKS = 16
@@ -47,7 +50,7 @@ def heading(ranks):
 
 
 # How a diagnosis tells how many runs do something, and how many there are in all; those of drawn runs begin otherwise.
-COUNT = r'((?:at least )?\d+)'
+COUNT = r'(\d+)'
 OPENING = {
     'hang': (rf'it always hangs in \S+ \({COUNT} runs?\)', rf'it can hang: {COUNT} of {COUNT} runs?'),
     'trap': (rf'it always traps in \S+ \({COUNT} runs?\)', rf'it can trap: {COUNT} of {COUNT} runs?'),
@@ -66,8 +69,8 @@ BOTH = re.compile(rf'it always fails in \S+: it hangs in ({COUNT} of ({COUNT} ru
 
 
 def unfolded(text):
-    """A text whose long lines go on in no further lines, with a line each for how many runs hang and trap."""
-    lines = re.sub(r'\n {8}(?=\S)', ' ', text)
+    """A text whose long lines go on in no further lines, with a line each for how many runs hang and trap, and a number of runs in each, of all."""
+    lines = '\n'.join(line if line.startswith(' ') else with_numbers(line).replace(' the first ', ' ') for line in re.sub(r'\n {8}(?=\S)', ' ', text).split('\n'))
     return BOTH.sub(r'it can hang: \1\nit can trap: \5 of \3', lines)
 
 
@@ -81,7 +84,8 @@ def ways_in(lines, forms, more=''):
     """How many runs lines tell of, and in short what becomes of them, with what stands between."""
     counts = counts_in(lines, forms)
     total = next((total for _, total in counts.values()), 'no')
-    return ', '.join([f'{total} run{"" if total == "1" else "s"}{more}', *(IN_SHORT[name].format(count) for name, (count, _) in counts.items())])
+    runs = f'{total} run{"" if total == "1" else "s"}' if total == 'no' or can_be_counted(int(total)) else diagnosed.several(int(total), 'run')
+    return ', '.join([f'{runs}{more}', *(IN_SHORT[name].format(number_of(int(count))) for name, (count, _) in counts.items())])
 
 
 def brief(head, text, place):
@@ -109,6 +113,7 @@ def several(numbers, answers, command, mode=RENDEZVOUS):
 # ---- several modes
 
 ALL_GOOD = 'no run hangs or traps in any of these modes'
+LEFT_IN = 'calls can be left over in'
 NOT_ALL = 'no hang and no trap was found, but not everything was tried in'
 
 
@@ -122,12 +127,21 @@ def mode_in_short(mode, text):
     return brief(f'{mode}: ', text, '')
 
 
+def leaves_some(answer):
+    """Whether a run ends with calls left over, by what is answered of a mode."""
+    return re.search('^(?:it can|drawn at random: .*) end with calls left over', unfolded(answer.output.decode()), re.MULTILINE) is not None
+
+
 def in_modes(modes, answers, command):
     """What is said of several modes, and the status, by what is answered in each; `command` tells how more is seen of one."""
     lines = [mode_in_short(mode, answer.output.decode()) for mode, answer in zip(modes, answers)]
     bad, part = ([mode for mode, answer in zip(modes, answers) if answer.status == status] for status in (1, 4))
+    left = [mode for mode, answer in zip(modes, answers) if leaves_some(answer)]
     if bad:
-        told = [f'  {command(bad[0])}']
+        said = []
+    elif part:
+        said = [f'{NOT_ALL} {", ".join(part)}']
     else:
-        told = [f'{NOT_ALL} {part[0]}', f'  {command(part[0])}'] if part else [ALL_GOOD]
+        said = [ALL_GOOD, *[f'{LEFT_IN} {", ".join(left)}'] * bool(left)]
+    told = [*(line for part_of in said for line in folded(part_of)), *(f'  {command(mode)}' for mode in (bad or part or left)[:1])]
     return ''.join([*lines, '\n', *(f'{line}\n' for line in told)]).encode(), 1 if bad else 4 if part else 0

@@ -10,11 +10,11 @@ from typing import NamedTuple, Optional
 
 from model.debugger import BUFFERED, RENDEZVOUS, Result
 from model.diagnosed import Diagnosis, Limits
-from model.outcomes import MOST_COUNTED
 from rows.examples import open_example
+from rows.worked_both_stuck import BOTH_STUCK, MORE_LINES, OF_BOTH_STUCK, OF_MORE_LINES, OF_TWO_KINDS, TWO_KINDS
 from rows.worked_ends import FREED_SLOT, THREE_SENDERS, TWO_REQUESTS
 from rows.worked_explorer import LOW_WANTED, gathering
-from rows.worked_outcomes import AT_LEAST, BAD_SCRIPT, HIGH_WANTED, LAST_OF_ALL, SWAPPED_TAGS, TRAPS, TWO_ASSERTS, taken
+from rows.worked_outcomes import BAD_SCRIPT, HIGH_WANTED, LAST_OF_ALL, SWAPPED_TAGS, TRAPS, TWO_ASSERTS, taken
 from rows.worked_runs import EMPTY, ON_AND_ON, THREE, UNRECEIVED
 
 
@@ -98,8 +98,8 @@ SIX_RUNS, SIX_BUFFERED = never('6 runs, 13\n        states'), never('6 runs, 13 
 # (80 bytes stand before the last blank.)
 RACES = never('40320 runs, 1025\n        states')
 # Of each of 64 rounds one of two requests is taken, and nothing tells which any more as the next is begun: 64 choices of two, and the first state.
-# 70 bytes stand before the last blank at which it can be cut
-MANY_RUNS = never(f'at least\n        {MOST_COUNTED} runs, 129 states', BUFFERED)
+# 80 bytes stand before the last blank at which it can be cut
+MANY_RUNS = never('more runs than can\n        be counted, 129 states', BUFFERED)
 WELL = (
     row(EMPTY, 0, ONE_RUN, in_turn()), row(EMPTY, 0, ONE_RUN, in_turn(), mode=RENDEZVOUS, strict=True),
     row(EMPTY, 0, never('1 run, 1 state', 'slots:1'), in_turn(), mode='slots:1'),
@@ -309,6 +309,7 @@ HANGS = (
         left_waiting_of(2, 3, 1), runs_of(0, picture='run-1'),
         '\ndeadlock at lines 6, 7: 2 of 3 runs, one of them:', waits_for_itself(6, '0.1', 8), left_waiting_of(1, 3, 2), runs_of(1, picture='run-2')),
     row(ONE_SENDER_LEFT, 1, *always('hangs', '2 runs'), *one_left(2, 4, 1, 3), '', *one_left(1, 3, 2, 4)),
+    row(BOTH_STUCK, 1, OF_BOTH_STUCK[:-1]), row(MORE_LINES, 1, OF_MORE_LINES[:-1]), row(TWO_KINDS, 1, OF_TWO_KINDS[:-1]),
     row(LATER_LINE_FIRST, 1, OF_LATER_LINE, FROM_START, runs_of('')),
     row(LONGER_FIRST, 1, *of_longer(1, 2)), row(LONGER_LAST, 1, *of_longer(2, 1)), row(AS_LONG, 1, *of_longer(2, 1)),
     row(SAME_CALL, 1, *always('hangs', '2 runs'), 'deadlock at line 5: 1 of 2 runs', waits_for_itself(5, '0.1', 9), TO_ITSELF, still_sent(7, 2), FROM_START,
@@ -457,13 +458,19 @@ REFUSED = (
     refused(None, 'device', 3), refused(None, 'device', 3, mode=BUFFERED, strict=True),
     refused(BAD_SCRIPT, 'script refused 4 expected at 19 line 1', 2))
 CUT_ONCE = 'no hang and no trap was found in 1 run in rendezvous', 'not everything was tried: 1 of 1 run was cut after 100000 steps'
-# (Of so many steps no picture is named.)
-CUT = (row(ON_AND_ON, 4, *CUT_ONCE, '\ncut at line 1: 1 of 1 run', "  ./mpdbg debug script.mpd --ends --choices ''"),)
+
+
+def too_long(steps):
+    """What is told in the place of the command that draws a run of so many steps."""
+    return f'  a run of {steps} steps is too long for a picture'
+
+
+CUT = (row(ON_AND_ON, 4, *CUT_ONCE, '\ncut at line 1: 1 of 1 run', "  ./mpdbg debug script.mpd --ends --choices ''", too_long(100000)),)
 
 # Those of many states, or of many lines: they take the model longer than all others.
 LARGE = (
     row(taken(2, 'i < 64'), 0, MANY_RUNS, in_turn(), mode=BUFFERED),
-    row(taken(2, 'i < 64', LAST_OF_ALL), 1, f'it can trap: {2 ** 63} of {AT_LEAST} runs\n', f'trap at line 3: {2 ** 63} of {AT_LEAST} runs, one\n        of them:',
+    row(taken(2, 'i < 64', LAST_OF_ALL), 1, f'it can trap: {2 ** 63} of more runs than can be counted\n', f'trap at line 3: {2 ** 63} of more runs than can be counted, one of\n        them:',
         '  rank 0, line 3: trap assert, with x = 1', BY_LAST, runs_of(' '.join('0' * 63 + '1'), WITH_BUFFERS), mode=BUFFERED),
     row(ALONE, 1, *OF_ALONE), row(TWO_EACH, 1, OF_TWO_EACH, runs_of('0 0', 'two_each.mpd'), file='two_each.mpd'),
     row(open_example('four_races.mpd').decode(), 0, RACES, in_turn()))
@@ -485,7 +492,7 @@ TREE = ('mpd 2; ranks 1; var i; var w; var x; req r[2];\n'
 
 def none_found(runs, mode=RENDEZVOUS):
     """What is told of so many runs in a mode, where there are more."""
-    return f'no hang and no trap was found in {runs} in {mode}', MORE
+    return f'no hang and no trap was found in the first {runs} in {mode}', MORE
 
 
 def none_drawn(runs, file='script.mpd'):
@@ -524,7 +531,7 @@ deadlock at line 2: 1 of 2 runs
 OR_EARLIER = '  decided at depth {} or earlier: not all runs from there were counted'
 # Of STOLEN the choice and both ends are come to. The first run has 11 steps: from its end one state is come to, from the state before it the end
 # again, and from the state of the choice three: five in all.
-OF_THE_FIRST = 'it can hang: 1 of 1 run', MORE, others(), '\ndeadlock at lines 9, 13: 1 of 1 run', OF_STOLEN, BY_MESSAGE, runs_of(0)
+OF_THE_FIRST = 'it can hang: 1 of the first 1 run', MORE, others(), '\ndeadlock at lines 9, 13: 1 of the first 1 run', OF_STOLEN, BY_MESSAGE, runs_of(0)
 # Of THREE_SENDERS, in the order of the walk: all three, 2 3, 3, none, 2, none; 1 3, 3 again, 1, none; 1 2, 2 again, 1 again. At the 4th, 6th, 8th,
 # 10th, 12th and 13th state a run ends. Drawn are 2 0 0, 2 1 0, 1 1 0, 0 0 0, 0 0 0, 0 1 0, 0 0 0 and 1 0 0, numbers below 3, 2 and 1 in turn.
 SENDERS_FOUND = ((3, '0 runs', 1, '1 run'), (4, '1 run', 2, '2 runs'), (5, '1 run', 4, '4 runs'), (7, '2 runs', 5, '4 runs'),
@@ -563,14 +570,14 @@ def hang_and_trap(runs, decided):
 
 LIMITED = (
     # some runs hang and the others that were come to trap, and there are more, or one is cut
-    row(THREE_WAYS, 1, 'it can hang: 1 of 2 runs\nit can trap: 1 of 2 runs', MORE, others(), *hang_and_trap('2 runs', [by_third(1), by_third(2)]), limits=few(come_to=3)),
+    row(THREE_WAYS, 1, 'it can hang: 1 of the first 2 runs\nit can trap: 1 of the first 2 runs', MORE, others(), *hang_and_trap('the first 2 runs', [by_third(1), by_third(2)]), limits=few(come_to=3)),
     row(THREE_WAYS, 1, 'it can hang: 1 of 3 runs\nit can trap: 1 of 3 runs', 'not everything was tried: 1 of 3 runs was cut after 13 steps',
         *hang_and_trap('3 runs', [OR_EARLIER.format(8)] * 2), '\ncut at line 6: 1 of 3 runs', runs_of(2, picture='run-3'), limits=few(fuel=13)),
     *(row(ON_AND_ON, 4, 'no hang and no trap was found in 1 run in rendezvous', f'not everything was tried: 1 of 1 run was cut after {fuel} steps',
           '\ncut at line 1: 1 of 1 run', runs_of(''), limits=few(fuel=fuel), strict=strict) for fuel in (1, 5) for strict in (False, True)),
     # of 1,000 steps there is a picture, of one more none
     row(ON_AND_ON, 4, *cut_after(1000), '\ncut at line 1: 1 of 1 run', runs_of(''), limits=few(fuel=1000)),
-    row(ON_AND_ON, 4, *cut_after(1001), '\ncut at line 1: 1 of 1 run', "  ./mpdbg debug script.mpd --ends --choices ''", limits=few(fuel=1001)),
+    row(ON_AND_ON, 4, *cut_after(1001), '\ncut at line 1: 1 of 1 run', "  ./mpdbg debug script.mpd --ends --choices ''", too_long(1001), limits=few(fuel=1001)),
     row(BLOCKED_AND_ON, 4, *cut_after(20), '\ncut at lines 3, 5: 1 of 1 run', runs_of(''), limits=few(fuel=20)),
     row(THREE, 1, CUT_AND_HANG, runs_of(1, picture='run-1'), '\ncut at line 2: 1 of 2 runs', runs_of(0, picture='run-2'), limits=few(fuel=12)),
     row(THREE, 4, 'no hang and no trap was found in 2 runs in rendezvous',
@@ -602,7 +609,7 @@ CUT_THEN_HANG = CUT_AND_HANG.partition('\n\n')[2]
 SECOND_TRAPS = ('\ndrawn at random: 1 of 2 runs trap', '\ntrap at line 12: 1 of 2 runs', '  rank 0, line 12: trap assert, with answers = [0, 20]', BY_REQUEST,
                 runs_of(1, picture='drawn'))
 # Numbers below 3: 2, 0, 0, 2, 2, 0, 1. Each run of ONE_OF_THREE leaves the two others over, which are one bug by three ends.
-FIRST_LEFT = (f'{LEAVES} 1 of 1 run', MORE, '\nleft over from line 2: 1 of 1 run', *TWO_LEFT)
+FIRST_LEFT = (f'{LEAVES} 1 of the first 1 run', MORE, '\nleft over from line 2: 1 of the first 1 run', *TWO_LEFT)
 
 
 def left_of_drawn(runs, others_left, choices):
@@ -629,7 +636,7 @@ def left_of_four(choice, runs, picture='drawn'):
     return f'\nleft over from line 6: {several(runs)}', *there, runs_of(choice, picture=picture)
 
 
-FOUR_FOUND = (none_found('1 run')[0], f'{LEAVES} 1 of 1 run', MORE, *left_of_four(0, '1 of 1 run', 'run'))
+FOUR_FOUND = (none_found('1 run')[0], f'{LEAVES} 1 of the first 1 run', MORE, *left_of_four(0, '1 of the first 1 run', 'run'))
 
 
 BY_MESSAGE_OF = '''\
@@ -671,7 +678,7 @@ def at_a_line(line, rank, count, picture='drawn-1'):
             still_sent(6, *(other for other in (1, 2, 3) if other != rank)), AT_A_LINE.format(rank), runs_of(rank - 1, picture=picture))
 
 
-TWO_LINES_FOUND = (none_found('1 run')[0], f'{LEAVES} 1 of 1 run', MORE, *left_at_six('1 of 1 run', 'run'))
+TWO_LINES_FOUND = (none_found('1 run')[0], f'{LEAVES} 1 of the first 1 run', MORE, *left_at_six('1 of the first 1 run', 'run'))
 # Nothing is left over where rank 1 comes first, and a message of rank 0 to itself where rank 2 does.
 LEFT_BY_SECOND = '''mpd 1; ranks 3; var x; req r;
 if rank == 0 {
@@ -703,15 +710,15 @@ DRAWN = (
         '\ntrap at line 12: 1 of 1 run', '  rank 0, line 12: trap assert, with answers = [0, 20]',
         BY_REQUEST, runs_of(1, WITH_BUFFERS, 'drawn'), mode=BUFFERED, limits=few(1, come_to=2)),
     # a trap is found, and nothing is drawn
-    row(TRAPS, 1, 'it can trap: 1 of 1 run', MORE, others(WITH_BUFFERS), '\ntrap at line 3: 1 of 1 run', '  rank 0, line 3: trap bad-tag, with i = 0',
+    row(TRAPS, 1, 'it can trap: 1 of the first 1 run', MORE, others(WITH_BUFFERS), '\ntrap at line 3: 1 of the first 1 run', '  rank 0, line 3: trap bad-tag, with i = 0',
         FROM_START, runs_of(0, WITH_BUFFERS), mode=BUFFERED, limits=few(come_to=2)),
-    row(HIGH_WANTED, 1, 'it can trap: 1 of 1 run', MORE, others(), '\ntrap at line 2: 1 of 1 run', '  rank 0, line 2: trap assert, with x = 1',
+    row(HIGH_WANTED, 1, 'it can trap: 1 of the first 1 run', MORE, others(), '\ntrap at line 2: 1 of the first 1 run', '  rank 0, line 2: trap assert, with x = 1',
         FROM_START, runs_of(0), limits=few(come_to=2)),
     # by 10 to 12 steps the first run is cut, and the other hangs; by 9 steps both are cut
-    *(row(THREE, 1, none_found('1 run')[0], f'not everything was tried: 1 of 1 run was cut after {fuel} steps', MORE,
-          '\ncut at line 2: 1 of 1 run', runs_of(0), '\ndrawn at random: 1 of 2 runs hang\n', CUT_THEN_HANG, runs_of(1, picture='drawn-1'),
+    *(row(THREE, 1, none_found('1 run')[0], f'not everything was tried: 1 of the first 1 run was cut after {fuel} steps', MORE,
+          '\ncut at line 2: 1 of the first 1 run', runs_of(0), '\ndrawn at random: 1 of 2 runs hang\n', CUT_THEN_HANG, runs_of(1, picture='drawn-1'),
           '\ncut at line 2: 1 of 2 runs', runs_of(0, picture='drawn-2'), limits=few(come_to=2, fuel=fuel)) for fuel in (10, 12)),
-    row(THREE, 4, none_found('1 run')[0], 'not everything was tried: 1 of 1 run was cut after 9 steps', MORE, '\ncut at line 2: 1 of 1 run', runs_of(0),
+    row(THREE, 4, none_found('1 run')[0], 'not everything was tried: 1 of the first 1 run was cut after 9 steps', MORE, '\ncut at line 2: 1 of the first 1 run', runs_of(0),
         *none_drawn('2 runs'), '\ncut at line 2: 2 of 2 runs, one of them:', runs_of(0, picture='drawn'), limits=few(come_to=2, fuel=9)),
     # messages that are left over, by what was found and what was drawn
     *(row(ONE_OF_THREE, status, none_found('1 run')[0], *FIRST_LEFT, *left_of_drawn(runs, others_left, choice), strict=strict,
@@ -721,11 +728,11 @@ DRAWN = (
     *(row(LEFT_BY_SECOND, status, *none_found('1 run'), *DRAWN_LEFT, strict=strict, limits=few(come_to=3))
       for strict, status in ((False, 4), (True, 1))),
     # they are left over by the first run that was found, and not by that which was drawn
-    row(LEFT_BY_SECOND.replace('x == 2', 'x == 1'), 1, none_found('1 run')[0], f'{LEAVES} 1 of 1 run', MORE,
-        '\nleft over from line 4: 1 of 1 run', '  left over: line 4, 0.1 isend to 0 tag 5 value 7', runs_of('0 0'), *none_drawn('1 run'), strict=True,
+    row(LEFT_BY_SECOND.replace('x == 2', 'x == 1'), 1, none_found('1 run')[0], f'{LEAVES} 1 of the first 1 run', MORE,
+        '\nleft over from line 4: 1 of the first 1 run', '  left over: line 4, 0.1 isend to 0 tag 5 value 7', runs_of('0 0'), *none_drawn('1 run'), strict=True,
         limits=few(1, come_to=3)),
     # both runs end alike: one is found, and the other drawn
-    row(TWO_REQUESTS, 4, none_found('1 run', BUFFERED)[0], f'{LEAVES} 1 of 1 run', MORE, '\nleft over from line 2: 1 of 1 run', *BOTH_LEFT,
+    row(TWO_REQUESTS, 4, none_found('1 run', BUFFERED)[0], f'{LEAVES} 1 of the first 1 run', MORE, '\nleft over from line 2: 1 of the first 1 run', *BOTH_LEFT,
         runs_of('0 0', WITH_BUFFERS), *none_drawn('1 run')[:1], 'drawn at random: 1 of 1 run end with calls left over', others(WITH_BUFFERS),
         '\nleft over from line 2: 1 of 1 run', *BOTH_LEFT, runs_of('1 0', WITH_BUFFERS, 'drawn'), mode=BUFFERED, limits=few(1, come_to=3)),
     # beside a trap, and beside a deadlock and a trap

@@ -24,11 +24,13 @@ FOUR = b'it never hangs or traps in rendezvous, whatever is taken first (4 runs,
 BOTH = b'it can hang: 4 of 24 runs\nit can trap: 20 of 24 runs\n\ndeadlock at line 3: 4 of 24 runs, one of them:\n\ntrap at line 4: 20 of 24 runs, one of them:\n'
 CUT = b'no hang and no trap was found in 2 runs in rendezvous\nnot everything was tried: 1 of 2 runs was cut after 100000 steps\n'
 FAILS = b'it always fails in buffered: it hangs in 4 of 24 runs and traps in 20\n  ./mpdbg diagnose FILE --modes 4\n\ndeadlock at line 3: 4 of 24 runs, one of them:\n'
+MANY_HANG = (b'it can hang: 5 of more runs than can be counted\nit can trap: more runs than can be counted\n'
+             b'it can end with calls left over: 7 of more runs than can be counted\n\ndeadlock at line 5: 5 of more runs than can be counted, one of them:\n')
 LEFT = b'it never hangs or traps in rendezvous, whatever is taken first (3 runs, 5\n        states)\nit can end with calls left over: 2 of 3 runs\n\nleft over from line 3: 2 of 3 runs, one of them:\n'
-DRAWN = (b'no hang and no trap was found in 7 runs in rendezvous\nit can end with calls left over: 2 of 7 runs\n'
-         b'not everything was tried: there are more runs than these\n\nleft over from line 3: 2 of 7 runs, one of them:\n\ndrawn at random: 3 of 4096 runs hang\n'
+DRAWN = (b'no hang and no trap was found in the first 7 runs in rendezvous\nit can end with calls left over: 2 of the first 7 runs\n'
+         b'not everything was tried: there are more runs than these\n\nleft over from line 3: 2 of the first 7 runs, one of them:\n\ndrawn at random: 3 of 4096 runs hang\n'
          b'drawn at random: 1 of 4096 runs end with calls left over\n\ndeadlock at line 5: 3 of 4096 runs, one of them:\n')
-NONE_DRAWN = (b'no hang and no trap was found in 7 runs in rendezvous\nnot everything was tried: there are more runs than these\n\n'
+NONE_DRAWN = (b'no hang and no trap was found in the first 7 runs in rendezvous\nnot everything was tried: there are more runs than these\n\n'
               b'drawn at random: none of 4096 runs hangs or traps\n  ./mpdbg check FILE --sample 65536 --group --explain\n')
 SEVERAL = (
     (((2, WELL, 0), (3, b'it always hangs in rendezvous (1 run)\n  ./mpdbg diagnose FILE --modes 4\n\nmore\n', 1), (4, BOTH, 1), (5, b'it always traps in rendezvous (2 runs)\n', 1)),
@@ -49,9 +51,16 @@ MODES = (
     ((('rendezvous', WELL, 0), ('slots:1', NONE_DRAWN, 4), ('slots:2', LEFT, 0), ('buffered', CUT, 4)),
      b'rendezvous: 1 run, none hangs or traps\nslots:1: 7 runs and more, none hangs or traps; drawn at random: 4096 runs, none\n        hangs or traps\n'
      b'slots:2: 3 runs, none hangs or traps, 2 with calls left over\nbuffered: 2 runs, none hangs or traps, 1 cut\n\n'
-     b'no hang and no trap was found, but not everything was tried in slots:1\n  see slots:1\n', 4),
+     b'no hang and no trap was found, but not everything was tried in slots:1, buffered\n  see slots:1\n', 4),
+    ((('rendezvous', WELL, 0), ('slots:1', CUT, 4), ('slots:12', CUT, 4), ('buffered', WELL, 0)),
+     b'rendezvous: 1 run, none hangs or traps\nslots:1: 2 runs, none hangs or traps, 1 cut\nslots:12: 2 runs, none hangs or traps, 1 cut\n'
+     b'buffered: 1 run, none hangs or traps\n\nno hang and no trap was found, but not everything was tried in slots:1, slots:12\n  see slots:1\n', 4),
+    ((('rendezvous', CUT, 4), ('buffered', CUT, 4)),
+     b'rendezvous: 2 runs, none hangs or traps, 1 cut\nbuffered: 2 runs, none hangs or traps, 1 cut\n\n'
+     b'no hang and no trap was found, but not everything was tried in rendezvous,\n        buffered\n  see rendezvous\n', 4),
     ((('rendezvous', WELL, 0), ('buffered', LEFT, 0)),
-     b'rendezvous: 1 run, none hangs or traps\nbuffered: 3 runs, none hangs or traps, 2 with calls left over\n\nno run hangs or traps in any of these modes\n', 0),
+     b'rendezvous: 1 run, none hangs or traps\nbuffered: 3 runs, none hangs or traps, 2 with calls left over\n\nno run hangs or traps in any of these modes\ncalls can be left over in buffered\n  see buffered\n', 0),
+    ((('rendezvous', MANY_HANG, 1),), b'rendezvous: more runs than can be counted, 5 hang, more than can be counted\n        trap, 7 with calls left over\n\n  see rendezvous\n', 1),
     ((('rendezvous', WELL, 0), ('buffered', LEFT, 1)),
      b'rendezvous: 1 run, none hangs or traps\nbuffered: 3 runs, none hangs or traps, 2 with calls left over\n\n  see buffered\n', 1))
 # The modes that are tried up to so many slots.
@@ -128,7 +137,8 @@ ROWS = (
     Row(RING, 2, 'diagnose --ranks 3 --modes 2', 'rendezvous: 1 run, 1 hang\nslots:1: 1 run, none hangs or traps, 1 with calls left over\n'
         'slots:2: 1 run, none hangs or traps, 1 with calls left over\nbuffered: 1 run, none hangs or traps, 1 with calls left over\n\n  ./mpdbg diagnose FILE --ranks 3\n', 1),
     Row(LEFT_OVER, 1, 'diagnose --modes=1', 'rendezvous: 1 run, none hangs or traps, 1 with calls left over\nslots:1: 1 run, none hangs or traps, 1 with calls left over\n'
-        'buffered: 1 run, none hangs or traps, 1 with calls left over\n\nno run hangs or traps in any of these modes\n'),
+        'buffered: 1 run, none hangs or traps, 1 with calls left over\n\nno run hangs or traps in any of these modes\n'
+        'calls can be left over in rendezvous, slots:1, buffered\n  ./mpdbg diagnose FILE\n'),
     Row(LEFT_OVER, 1, 'diagnose --modes=1 --strict', 'rendezvous: 1 run, none hangs or traps, 1 with calls left over\nslots:1: 1 run, none hangs or traps, 1 with calls left over\n'
         'buffered: 1 run, none hangs or traps, 1 with calls left over\n\n  ./mpdbg diagnose FILE --strict\n', 1),
     # in a mode of slots it is a choice which of the two messages is matched first
@@ -136,7 +146,7 @@ ROWS = (
         'buffered: 1 run, none hangs or traps\n\n  ./mpdbg diagnose FILE\n', 1),
     Row(BUFFERED_HANGS, 3, 'diagnose --modes 0', 'rendezvous: 1 run, none hangs or traps\nbuffered: 2 runs, 1 hang\n\n  ./mpdbg diagnose FILE --mode buffered\n', 1),
     Row(FOREVER, 1, 'diagnose --modes 0', 'rendezvous: 1 run, none hangs or traps, 1 cut\nbuffered: 1 run, none hangs or traps, 1 cut\n\n'
-        'no hang and no trap was found, but not everything was tried in rendezvous\n  ./mpdbg diagnose FILE\n', 4),
+        'no hang and no trap was found, but not everything was tried in rendezvous,\n        buffered\n  ./mpdbg diagnose FILE\n', 4),
     Row(REFUSED, 2, 'diagnose --modes 1', '', 2, 'mpdbg: script refused 4 expected at 22 line 4\n'),
     Row(REFUSED, 2, 'diagnose --modes 1 --mode fast', '', 2, "mpdbg: --modes and --mode can't stand together\n"),
     Row(REFUSED, 2, 'diagnose --modes 1 --mode rendezvous --ranks x', '', 2, "mpdbg: --modes and --mode can't stand together\n"),

@@ -213,7 +213,8 @@ def told_by_runs(asked, leaves):
     for end in ended(asked, leaves):
         if end.kind in PLACES:
             found.setdefault((end.kind, end.lines), []).append(end)
-    for (kind, lines), ends in sorted(found.items(), key=lambda bug: bug[0][0] == 'left'):
+    wide = {(kind, lines): any(kind == other and set(fewer) < set(lines) for other, fewer in found) for kind, lines in found}
+    for (kind, lines), ends in sorted(found.items(), key=lambda bug: (bug[0][0] == 'left', wide[bug[0]])):
         least = min(len(end.leaf.steps) for end in ends)
         yield (kind, lines, sum(end.runs for end in ends)), next(end.leaf for end in ends if len(end.leaf.steps) == least)
 

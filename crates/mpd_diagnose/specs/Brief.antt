@@ -5,11 +5,10 @@ use Rattle.mpd_model.specs.declared.call.Mode.{Mode}
 use Rattle.mpd_model.specs.texts.Modes.{mode_word}
 use Rattle.mpd_model.specs.texts.Texts.{line}
 use Rattle.mpd_outcomes.specs.declared.report.Count.{Count}
-use Rattle.mpd_outcomes.specs.CountText.{count_text}
 use Rattle.mpd_runs.specs.declared.counts.WayCounts.{WayCounts}
 use Rattle.mpd_runs.specs.Counts.{is_count}
 use Rattle.mpd_fold.specs.Folding.{folded}
-use Rattle.mpd_diagnose.specs.Told.{ends_well, in_mode, runs_text}
+use Rattle.mpd_diagnose.specs.Told.{ends_well, in_mode, number_text, runs_text}
 
 -- `1 rank: `, `3 ranks: `
 abbrev pub ranks_head : ℕ → List ℕ
@@ -17,7 +16,7 @@ ranks_head n = decimal n ++ (if n == 1 then codes " rank: " else codes " ranks: 
 
 -- `, 4 hang`, none where no run does
 abbrev pub count_if : Count → List ℕ → List ℕ
-count_if n does = if is_count 0 n then [] else codes ", " ++ count_text n ++ does
+count_if n does = if is_count 0 n then [] else codes ", " ++ number_text n ++ does
 
 -- that none hangs or traps
 abbrev pub none_text : WayCounts → List ℕ

@@ -42,13 +42,17 @@ debug_command file ranks mode choices = run_command (codes "  ./mpdbg debug ") f
 unfoldable pub draw_command : List ℕ → Option ℕ → Mode → List ℕ → List ℕ → List ℕ
 draw_command file ranks mode choices picture = run_command (codes "  ./mpdbg picture ") file ranks mode (choices_words choices) (to_file picture)
 
-abbrev pub draw_if : Bool → List ℕ → Option ℕ → Mode → List ℕ → List ℕ → List ℕ
-draw_if false file ranks mode choices picture = []
-draw_if true file ranks mode choices picture = draw_command file ranks mode choices picture
+-- that a run of so many steps has none
+unfoldable pub too_long : ℕ → List ℕ
+too_long steps = line (codes "  a run of " ++ decimal steps ++ codes " steps is too long for a picture")
 
--- the commands that debug the run with these choices, and draw it if it is drawn
-abbrev pub run_commands : List ℕ → Option ℕ → Mode → List ℕ → Bool → List ℕ → List ℕ
-run_commands file ranks mode choices drawn picture = debug_command file ranks mode choices ++ draw_if drawn file ranks mode choices picture
+abbrev pub draw_if : Bool → List ℕ → Option ℕ → Mode → List ℕ → ℕ → List ℕ → List ℕ
+draw_if false file ranks mode choices steps picture = too_long steps
+draw_if true file ranks mode choices steps picture = draw_command file ranks mode choices picture
+
+-- the commands that debug the run with these choices, which has so many steps, and draw it if it is drawn
+abbrev pub run_commands : List ℕ → Option ℕ → Mode → List ℕ → Bool → ℕ → List ℕ → List ℕ
+run_commands file ranks mode choices drawn steps picture = debug_command file ranks mode choices ++ draw_if drawn file ranks mode choices steps picture
 
 -- `run.svg`, or `run-2.svg`: the number stands there where there are several
 abbrev pub picture_file : List ℕ → Bool → ℕ → List ℕ

@@ -14,7 +14,7 @@ use Rattle.mpd_runs.specs.declared.counts.WayCounts.{WayCounts}
 use Rattle.mpd_runs.specs.Counts.{told_counts}
 use Rattle.mpd_diagnose.specs.declared.groups.Group.{Group}
 use Rattle.mpd_diagnose.specs.declared.diagnosis.Diagnosis.{Diagnosis}
-use Rattle.mpd_diagnose.specs.Headings.{heading_of, steps_to}
+use Rattle.mpd_diagnose.specs.Headings.{heading_of, lines_of, steps_to}
 use Rattle.mpd_diagnose.specs.Groups.{groups, bad_first}
 use Rattle.mpd_diagnose.specs.Details.{AreDetailed}
 use Rattle.mpd_diagnose.specs.Told as told
@@ -26,7 +26,7 @@ headings_of fuel d leaves = map (heading_of d.trail.program fuel d.world) leaves
 
 -- those of them that are told together, deadlocks and traps first
 abbrev pub groups_in : ℕ → Standing → Outcomes → List Group
-groups_in fuel d o = bad_first o.firsts.leaves.items (groups (headings_of fuel d o.firsts.leaves.items) o.counts.items (map (steps_to fuel d.world) o.firsts.leaves.items))
+groups_in fuel d o = bad_first o.firsts.leaves.items (map (lines_of d.trail.program fuel d.world) o.firsts.leaves.items) (groups (headings_of fuel d o.firsts.leaves.items) o.counts.items (map (steps_to fuel d.world) o.firsts.leaves.items))
 
 -- how a search for the step that decides is limited
 abbrev pub blaming : StateLimits → ℕ → StateLimits
@@ -36,7 +36,7 @@ blaming limits most = record { fuel = limits.fuel; kept = limits.kept; visited =
 pub record IsTold (file : List ℕ) (ranks : Option ℕ) (kind : List ℕ) (limits : StateLimits) (most : ℕ) (d : Standing) (o : Outcomes) (begun text : List ℕ) (c : WayCounts) : Type 0 where
   pub details : List (List ℕ)
   pub detailed : AreDetailed (blaming limits most) d o.firsts.leaves.items (groups_in limits.fuel d o) details
-  pub text_is : text ≡ begun ++ all_groups_text file ranks d.trail.mode kind o.total (headings_of limits.fuel d o.firsts.leaves.items) o.firsts.leaves.items (groups_in limits.fuel d o) details
+  pub text_is : text ≡ begun ++ all_groups_text file ranks d.trail.mode kind o.total o.firsts.more (headings_of limits.fuel d o.firsts.leaves.items) o.firsts.leaves.items (groups_in limits.fuel d o) details
   pub counts_are : c ≡ told_counts o
 
 -- It is of the runs that a search with these limits comes to.
@@ -50,11 +50,12 @@ IsFirst file ranks limits most d text c =
 abbrev pub one : Leaf → Count
 one l = Exactly 1
 
--- So many runs are drawn, and each different one is told once.
+-- So many runs are drawn, and each different one is told once: no other was drawn.
 pub record AreDrawn (fuel runs : ℕ) (w : World) (o : Outcomes) : Type 0 where
   pub leaves_are : o.firsts.leaves.items ≡ map shown (sampled (draws false fuel runs w (seeded 0)) fuel w)
   pub counts_are : o.counts.items ≡ map one o.firsts.leaves.items
   pub total_is : o.total ≡ Exactly (length o.firsts.leaves.items)
+  pub all_are : o.firsts.more ≡ false
 
 abbrev pub IsDrawn : List ℕ → Option ℕ → StateLimits → ℕ → ℕ → Standing → List ℕ → WayCounts → Type 0
 IsDrawn file ranks limits most runs d text c =

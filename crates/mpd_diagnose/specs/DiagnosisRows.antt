@@ -1,16 +1,22 @@
 -- Worked rows of what a diagnosis tells. What is wanted was worked out by hand.
-use Rattle.std.specs.Prelude.{◌≡◌, true, false, [], ◌∷◌, ◌++◌, Some, None, codes, refl}
+use Rattle.std.specs.Prelude.{◌≡◌, ℕ, true, false, map, [], ◌∷◌, ◌++◌, Some, None, codes, refl}
 use Rattle.std.specs.Fmt.{digits}
 use Rattle.mpd_model.specs.declared.call.Mode.TheVariants.{Rendezvous, Buffered, Slots}
+use Rattle.mpd_model.specs.declared.outcome.Outcome.TheVariants.{Leftovers, Deadlock, Trap}
+use Rattle.mpd_walk.specs.declared.ending.Ending.{Ending}
+use Rattle.mpd_walk.specs.declared.ending.Ending.TheVariants.{Ended}
+use Rattle.mpd_explore.specs.declared.report.Leaf.{Leaf}
+use Rattle.mpd_fold.specs.Folding.{cut, folded}
 use Rattle.mpd_lines.specs.declared.verdict.Verdict.TheVariants.{Good, Bad, NotWhole}
 use Rattle.mpd_outcomes.specs.declared.report.Count.TheVariants.{Exactly, More}
 use Rattle.mpd_runs.specs.declared.counts.WayCounts.{WayCounts}
 use Rattle.mpd_diagnose.specs.Headings.{with_numbers, with_some, lines_text}
-use Rattle.mpd_diagnose.specs.Groups.{groups, shortest}
+use Rattle.mpd_diagnose.specs.declared.groups.Group.{Group}
+use Rattle.mpd_diagnose.specs.Groups.{bad_first, groups, shortest}
 use Rattle.mpd_diagnose.specs.Hints.{tells_step}
 use Rattle.mpd_diagnose.specs.Words.{named}
-use Rattle.mpd_diagnose.specs.Commands.{picture_file, run_commands, debug_command, draw_command, choices_words, to_file, full_command}
-use Rattle.mpd_diagnose.specs.Modes.{modes_up_to, worst, worst_mode, closing, all_good, not_all_tried}
+use Rattle.mpd_diagnose.specs.Commands.{picture_file, run_commands, debug_command, draw_command, too_long, choices_words, to_file, full_command}
+use Rattle.mpd_diagnose.specs.Modes.{modes_up_to, worst, noticed, closing, all_good, not_all_tried}
 use Rattle.mpd_diagnose.specs.Told.{always_hangs, always_traps, fails_both, both_line, cut_after, of_one, is_drawn, in_mode, draws, never_fails, share}
 use Rattle.mpd_diagnose.specs.Brief.{ranks_head, mode_head, brief_text, ways_text, drawn_text}
 use Rattle.mpd_diagnose.specs.Verdicts.{verdict_of}
@@ -36,7 +42,22 @@ pub row_groups : groups (codes "a" ∷ [] ∷ codes "b" ∷ codes "a" ∷ []) (E
     ≡ record { first = 0; count = Exactly 7; shown = 3; steps = 7 } ∷ record { first = 2; count = Exactly 1; shown = 2; steps = 6 } ∷ []
 row_groups = refl
 
-pub row_share : share (Exactly 1) (Exactly 1) ++ share More (Exactly 24) ≡ codes "1 of 1 runat least 18446744073709551615 of 24 runs"
+-- ends of a kind at the lines of another one, and at more, come after the others of their part: of deadlocks at 4 and 8, at 8 and at 4 the
+-- first; of what is left over from 8 and from 3 and 8 the second; not a deadlock at the lines of a trap
+abbrev ends_so : Ending → Leaf
+ends_so e = record { choices = []; ending = e }
+
+abbrev alone : ℕ → Group
+alone n = record { first = n; count = Exactly 1; shown = n; steps = 9 }
+
+pub row_order : map (λ (g : Group). g.first) (bad_first (ends_so (Ended (Deadlock [])) ∷ ends_so (Ended (Leftovers [])) ∷ ends_so (Ended (Deadlock [])) ∷ ends_so (Ended (Deadlock [])) ∷ ends_so (Ended (Leftovers [])) ∷ []) ((4 ∷ 8 ∷ []) ∷ (8 ∷ []) ∷ (8 ∷ []) ∷ (4 ∷ []) ∷ (3 ∷ 8 ∷ []) ∷ []) (alone 0 ∷ alone 1 ∷ alone 2 ∷ alone 3 ∷ alone 4 ∷ [])) ≡ 2 ∷ 3 ∷ 0 ∷ 1 ∷ 4 ∷ []
+row_order = refl
+
+pub row_kinds : map (λ (g : Group). g.first) (bad_first (ends_so (Ended (Deadlock [])) ∷ ends_so (Ended (Trap [])) ∷ []) ((4 ∷ 8 ∷ []) ∷ (8 ∷ []) ∷ []) (alone 0 ∷ alone 1 ∷ [])) ≡ 0 ∷ 1 ∷ []
+row_kinds = refl
+
+pub row_share : share (Exactly 1) (Exactly 1) false ++ share (Exactly 1) (Exactly 24) true ++ share (Exactly 5) More false ++ share (Exactly 5) More true ++ share More More false
+    ≡ codes "1 of 1 run" ++ codes "1 of the first 24 runs" ++ codes "5 of more runs than can be counted" ++ codes "5 of more runs than can be counted" ++ codes "more runs than can be counted"
 unfolding digits
 row_share = refl
 
@@ -117,9 +138,9 @@ row_of_one = refl
 pub row_drawn : is_drawn 0 ∷ is_drawn 1000 ∷ is_drawn 1001 ∷ is_drawn 100000 ∷ [] ≡ true ∷ true ∷ false ∷ false ∷ []
 row_drawn = refl
 
-pub row_run : run_commands (codes "a") None Buffered (0 ∷ 2 ∷ []) false (codes "run.svg") ++ run_commands (codes "a") None Rendezvous [] true (codes "run-1.svg")
-    ≡ codes "  ./mpdbg debug a --mode buffered --ends --choices '0 2'\n" ++ codes "  ./mpdbg debug a --ends --choices ''\n  ./mpdbg picture a --ends --choices '' > run-1.svg\n"
-unfolding debug_command draw_command choices_words to_file digits
+pub row_run : run_commands (codes "a") None Buffered (0 ∷ 2 ∷ []) false 1001 (codes "run.svg") ++ run_commands (codes "a") None Rendezvous [] true 12 (codes "run-1.svg")
+    ≡ codes "  ./mpdbg debug a --mode buffered --ends --choices '0 2'\n  a run of 1001 steps is too long for a picture\n" ++ codes "  ./mpdbg debug a --ends --choices ''\n  ./mpdbg picture a --ends --choices '' > run-1.svg\n"
+unfolding debug_command draw_command too_long choices_words to_file digits
 row_run = refl
 
 -- where ranks stand, of which one has ended
@@ -161,14 +182,18 @@ row_mode_text = refl
 pub row_modes : modes_up_to 0 ∷ modes_up_to 2 ∷ [] ≡ (Rendezvous ∷ Buffered ∷ []) ∷ (Rendezvous ∷ Slots 1 ∷ Slots 2 ∷ Buffered ∷ []) ∷ []
 row_modes = refl
 
--- bad where one is, else not whole where one is; of the worst the first is told
+-- bad where one is, else not whole where one is
 pub row_worst : worst [] ∷ worst (Good ∷ Good ∷ []) ∷ worst (Good ∷ NotWhole ∷ Good ∷ []) ∷ worst (NotWhole ∷ Good ∷ Bad ∷ []) ∷ [] ≡ Good ∷ Good ∷ NotWhole ∷ Bad ∷ []
 row_worst = refl
 
-pub row_worst_mode : worst_mode (modes_up_to 2) (Good ∷ NotWhole ∷ Bad ∷ Bad ∷ []) ∷ worst_mode (modes_up_to 2) (Good ∷ NotWhole ∷ NotWhole ∷ Good ∷ []) ∷ worst_mode (modes_up_to 2) (Good ∷ Good ∷ Good ∷ Bad ∷ []) ∷ [] ≡ Slots 2 ∷ Slots 1 ∷ Buffered ∷ []
-row_worst_mode = refl
+-- where all are good, those that leave calls over are told; else those whose verdict is the worst
+pub row_noticed : noticed Good (modes_up_to 1) (Good ∷ Good ∷ Good ∷ []) (false ∷ true ∷ true ∷ []) ∷ noticed NotWhole (modes_up_to 2) (Good ∷ NotWhole ∷ NotWhole ∷ Good ∷ []) (true ∷ false ∷ false ∷ false ∷ []) ∷ noticed Bad (modes_up_to 1) (NotWhole ∷ Good ∷ Bad ∷ []) (true ∷ true ∷ false ∷ []) ∷ []
+    ≡ (Slots 1 ∷ Buffered ∷ []) ∷ (Slots 1 ∷ Slots 2 ∷ []) ∷ (Buffered ∷ []) ∷ []
+row_noticed = refl
 
-pub row_closing : closing (codes "a b") (Some 4) true (modes_up_to 1) (Good ∷ NotWhole ∷ Bad ∷ []) ++ closing (codes "a") None false (modes_up_to 1) (Good ∷ NotWhole ∷ Good ∷ []) ++ closing (codes "a") None false (modes_up_to 1) (Good ∷ Good ∷ Good ∷ [])
-    ≡ codes "\n  ./mpdbg diagnose 'a b' --ranks 4 --mode buffered --strict\n" ++ codes "\nno hang and no trap was found, but not everything was tried in slots:1\n  ./mpdbg diagnose a --mode slots:1\n" ++ codes "\nno run hangs or traps in any of these modes\n"
-unfolding all_good not_all_tried full_command digits
+pub row_closing : closing (codes "a b") (Some 4) true (modes_up_to 1) (Good ∷ NotWhole ∷ Bad ∷ []) (true ∷ false ∷ false ∷ []) ++ closing (codes "a") None false (modes_up_to 1) (Good ∷ NotWhole ∷ NotWhole ∷ []) (true ∷ false ∷ false ∷ [])
+    ++ closing (codes "a") None false (modes_up_to 1) (Good ∷ Good ∷ Good ∷ []) (false ∷ false ∷ false ∷ []) ++ closing (codes "a") None false (modes_up_to 1) (Good ∷ Good ∷ Good ∷ []) (false ∷ true ∷ true ∷ [])
+    ≡ codes "\n  ./mpdbg diagnose 'a b' --ranks 4 --mode buffered --strict\n" ++ codes "\nno hang and no trap was found, but not everything was tried in slots:1, buffered\n  ./mpdbg diagnose a --mode slots:1\n"
+    ++ codes "\nno run hangs or traps in any of these modes\n" ++ codes "\nno run hangs or traps in any of these modes\ncalls can be left over in slots:1, buffered\n  ./mpdbg diagnose a --mode slots:1\n"
+unfolding all_good not_all_tried full_command folded cut digits
 row_closing = refl

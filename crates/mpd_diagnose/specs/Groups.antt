@@ -1,6 +1,9 @@
 -- Ends that are told together, since they are called the same.
-use Rattle.std.specs.Prelude.{ℕ, Bool, true, false, not, nat_lt, if◌then◌else◌, List, [], ◌∷◌, ◌++◌, Option, Some, None, length, map, slice_get, slice_index_or}
-use Rattle.std.specs.List.{filter, range_with_len}
+use Rattle.std.specs.Prelude.{ℕ, Bool, true, false, not, nat_lt, ◌&&◌, ◌==◌, if◌then◌else◌, List, [], ◌∷◌, ◌++◌, Option, Some, None, length, map, slice_get, slice_index_or}
+use Rattle.std.specs.List.{filter, list_any, list_all, range_with_len}
+use Rattle.mpd_model.specs.declared.outcome.Outcome.TheVariants.{Leftovers, Deadlock, Trap}
+use Rattle.mpd_walk.specs.declared.ending.Ending.{Ending}
+use Rattle.mpd_walk.specs.declared.ending.Ending.TheVariants.{Ended, Cut}
 use Rattle.mpd_explore.specs.declared.report.Leaf.{Leaf}
 use Rattle.mpd_explore.specs.Report.{is_bad}
 use Rattle.mpd_outcomes.specs.declared.report.Count.{Count}
@@ -56,11 +59,53 @@ is_bad_leaf (Some l) = is_bad l.ending
 abbrev pub is_bad_at : List Leaf → Group → Bool
 is_bad_at leaves g = is_bad_leaf (slice_get leaves g.first)
 
--- whether they are, or whether they are neither
-abbrev pub is_of : Bool → List Leaf → Group → Bool
-is_of true leaves g = is_bad_at leaves g
-is_of false leaves g = not (is_bad_at leaves g)
+-- the lines at which the end of a number stands
+abbrev pub lines_in : Option (List ℕ) → List ℕ
+lines_in None = []
+lines_in (Some ls) = ls
 
--- those that are, and then those that are neither
-abbrev pub bad_first : List Leaf → List Group → List Group
-bad_first leaves gs = filter (is_of true leaves) gs ++ filter (is_of false leaves) gs
+abbrev pub lines_at : List (List ℕ) → ℕ → List ℕ
+lines_at lines n = lines_in (slice_get lines n)
+
+abbrev pub is_one_of : List ℕ → ℕ → Bool
+is_one_of ls wanted = list_any (λ l. l == wanted) ls
+
+abbrev pub are_among : List ℕ → List ℕ → Bool
+are_among many few = list_all (is_one_of many) few
+
+-- whether some lines are all among others, and not all of those among them
+abbrev pub is_less : List ℕ → List ℕ → Bool
+is_less few many = are_among many few && not (are_among few many)
+
+-- whether two runs end in the same kind of way
+abbrev pub same_kind : Ending → Ending → Bool
+same_kind (Ended (Deadlock cs)) (Ended (Deadlock ds)) = true
+same_kind (Ended (Trap ts)) (Ended (Trap us)) = true
+same_kind (Ended (Leftovers cs)) (Ended (Leftovers ds)) = true
+same_kind Cut Cut = true
+same_kind e f = false
+
+abbrev pub same_kind_of : Option Leaf → Option Leaf → Bool
+same_kind_of (Some l) (Some k) = same_kind l.ending k.ending
+same_kind_of l k = false
+
+-- whether ends stand at all lines of others of their kind, and at more
+abbrev pub exceeds : List Leaf → List (List ℕ) → Group → Group → Bool
+exceeds leaves lines g h = same_kind_of (slice_get leaves g.first) (slice_get leaves h.first) && is_less (lines_at lines h.first) (lines_at lines g.first)
+
+-- whether they do so of any of those that are told
+abbrev pub is_wide : List Leaf → List (List ℕ) → List Group → Group → Bool
+is_wide leaves lines gs g = list_any (exceeds leaves lines g) gs
+
+-- whether something is so, or whether it isn't
+abbrev pub is_so : Bool → Bool → Bool
+is_so true b = b
+is_so false b = not b
+
+-- whether they are deadlocks or traps or neither, and whether they stand at all lines of others and at more or not
+abbrev pub is_of : Bool → Bool → List Leaf → List (List ℕ) → List Group → Group → Bool
+is_of bad wide leaves lines gs g = is_so bad (is_bad_at leaves g) && is_so wide (is_wide leaves lines gs g)
+
+-- deadlocks and traps, and then others; of each those that stand at all lines of others and at more come last
+abbrev pub bad_first : List Leaf → List (List ℕ) → List Group → List Group
+bad_first leaves lines gs = filter (is_of true false leaves lines gs) gs ++ filter (is_of true true leaves lines gs) gs ++ filter (is_of false false leaves lines gs) gs ++ filter (is_of false true leaves lines gs) gs

@@ -70,6 +70,18 @@ heading s w (Ended (Leftovers cs)) = codes "left over from" ++ lines_text (call_
 heading s w (Ended (Deadlock cs)) = codes "deadlock at" ++ lines_text (call_lines s w.board cs)
 heading s w (Ended (Trap ts)) = codes "trap at" ++ lines_text (trap_lines s w ts)
 
+-- the lines alone
+abbrev pub lines_in : Program → World → Ending → List ℕ
+lines_in s w Cut = standing_lines s w
+lines_in s w (Ended Done) = []
+lines_in s w (Ended (Leftovers cs)) = call_lines s w.board cs
+lines_in s w (Ended (Deadlock cs)) = call_lines s w.board cs
+lines_in s w (Ended (Trap ts)) = trap_lines s w ts
+
+abbrev pub lines_at : Program → Option World → Ending → List ℕ
+lines_at s None e = []
+lines_at s (Some w) e = lines_in s w e
+
 abbrev pub heading_at : Program → Option World → Ending → List ℕ
 heading_at s None e = []
 heading_at s (Some w) e = heading s w e
@@ -81,3 +93,7 @@ steps_to fuel w l = length (steps_by (run_by wide_decision fuel l.choices w))
 -- the heading of its end
 abbrev pub heading_of : Program → ℕ → World → Leaf → List ℕ
 heading_of s fuel w l = heading_at s (fold w (steps_by (run_by wide_decision fuel l.choices w))) l.ending
+
+-- the lines at which it stands
+abbrev pub lines_of : Program → ℕ → World → Leaf → List ℕ
+lines_of s fuel w l = lines_at s (fold w (steps_by (run_by wide_decision fuel l.choices w))) l.ending

@@ -1,10 +1,12 @@
 -- Modes that are diagnosed in turn, and what their verdicts come to; so do those of several numbers of ranks.
-use Rattle.std.specs.Prelude.{◌≡◌, ℕ, ◌+◌, Bool, true, false, is_some, if◌then◌else◌, List, [], ◌∷◌, ◌++◌, Option, Some, None, slice_index_or, codes}
+use Rattle.std.specs.Prelude.{◌≡◌, ℕ, ◌+◌, Bool, true, false, is_some, if◌then◌else◌, List, [], ◌∷◌, ◌++◌, length, map, Option, Some, None, slice_index_or, codes}
 use Rattle.std.specs.List.{flat_map, range_with_len}
 use Rattle.mpd_model.specs.declared.call.Mode.{Mode}
 use Rattle.mpd_model.specs.declared.call.Mode.TheVariants.{Rendezvous, Buffered, Slots}
+use Rattle.mpd_model.specs.texts.Modes.{mode_word}
 use Rattle.mpd_model.specs.texts.Texts.{line}
 use Rattle.mpd_model.specs.runs.Trail.{Standing}
+use Rattle.mpd_fold.specs.Folding.{folded}
 use Rattle.mpd_lines.specs.declared.verdict.Verdict.{Verdict}
 use Rattle.mpd_lines.specs.declared.verdict.Verdict.TheVariants.{Good, Bad, NotWhole}
 use Rattle.mpd_outcomes.specs.declared.report.StateLimits.{StateLimits}
@@ -13,7 +15,7 @@ use Rattle.mpd_diagnose.specs.declared.modes.ModeTold.{ModeTold}
 use Rattle.mpd_diagnose.specs.Commands.{full_command}
 use Rattle.mpd_diagnose.specs.Told.{in_mode}
 use Rattle.mpd_diagnose.specs.Brief.{mode_line}
-use Rattle.mpd_diagnose.specs.Verdicts.{verdict_of}
+use Rattle.mpd_diagnose.specs.Verdicts.{leaves, verdict_of}
 use Rattle.mpd_diagnose.specs.Diagnosed.{IsDiagnosis}
 
 -- one slot more than this number
@@ -30,9 +32,9 @@ modes_up_to most = Rendezvous ∷ slots_up_to most ++ Buffered ∷ []
 
 -- ---- one of them
 
--- The line of a mode and its verdict are those of its diagnosis.
+-- The line of a mode and its verdict are those of its diagnosis, and so is whether calls can be left over.
 abbrev pub IsModeTold : List ℕ → Option ℕ → StateLimits → ℕ → ℕ → Bool → Standing → Mode → ModeTold → Type 0
-IsModeTold file ranks limits most runs strict d mode t = (it : Diagnosis) × IsDiagnosis file ranks limits most runs d it × (t.line.items ≡ mode_line mode it.counts it.drawn) × (t.verdict ≡ verdict_of strict it.counts it.drawn)
+IsModeTold file ranks limits most runs strict d mode t = (it : Diagnosis) × IsDiagnosis file ranks limits most runs d it × (t.line.items ≡ mode_line mode it.counts it.drawn) × (t.verdict ≡ verdict_of strict it.counts it.drawn) × (t.leaves ≡ leaves it.counts it.drawn)
 
 -- ---- what verdicts come to
 
@@ -56,34 +58,56 @@ worst vs = if is_some (first_of Bad vs) then Bad else (if is_some (first_of NotW
 
 -- ---- what is told after all of them
 
-abbrev pub mode_at : List Mode → Option ℕ → Mode
-mode_at modes None = Rendezvous
-mode_at modes (Some n) = slice_index_or modes n Rendezvous
+-- which verdicts are this one
+abbrev pub which : Verdict → List Verdict → List Bool
+which wanted vs = map (λ v. same_verdict v wanted) vs
 
-unfoldable pub all_good : List ℕ
-all_good = line (codes "no run hangs or traps in any of these modes")
+-- of some modes those at whose places true stands
+abbrev pub mode_if : List Mode → List Bool → ℕ → List Mode
+mode_if modes flags n = if slice_index_or flags n false then slice_index_or modes n Rendezvous ∷ [] else []
 
-unfoldable pub not_all_tried : Mode → List ℕ
-not_all_tried mode = line (codes "no hang and no trap was found, but not everything was tried" ++ in_mode mode)
+abbrev pub chosen : List Mode → List Bool → List Mode
+chosen modes flags = flat_map (mode_if modes flags) (range_with_len 0 (length modes))
 
--- what is said by the verdict of the worst mode
-abbrev pub said_of : Verdict → Mode → List ℕ
-said_of Good mode = all_good
-said_of Bad mode = []
-said_of NotWhole mode = not_all_tried mode
+-- the modes that something is told of: those whose verdict is what all come to, and where that is good those where calls can be left over
+abbrev pub noticed : Verdict → List Mode → List Verdict → List Bool → List Mode
+noticed Good modes vs left = chosen modes left
+noticed Bad modes vs left = chosen modes (which Bad vs)
+noticed NotWhole modes vs left = chosen modes (which NotWhole vs)
 
--- the command that diagnoses it, but for a good one
-abbrev pub worst_command : Verdict → List ℕ → Option ℕ → Mode → Bool → List ℕ
-worst_command Good file ranks mode strict = []
-worst_command Bad file ranks mode strict = full_command file ranks mode strict
-worst_command NotWhole file ranks mode strict = full_command file ranks mode strict
+abbrev pub further_mode : Mode → List ℕ
+further_mode mode = codes ", " ++ mode_word mode
 
--- the worst mode: the first whose verdict is what all come to
-abbrev pub worst_mode : List Mode → List Verdict → Mode
-worst_mode modes vs = mode_at modes (first_of (worst vs) vs)
+-- ` in slots:1, slots:2`
+abbrev pub in_modes : List Mode → List ℕ
+in_modes [] = []
+in_modes (m ∷ ms) = in_mode m ++ flat_map further_mode ms
 
-abbrev pub closing_by : Verdict → List ℕ → Option ℕ → Mode → Bool → List ℕ
-closing_by v file ranks mode strict = 10 ∷ said_of v mode ++ worst_command v file ranks mode strict
+-- a line of some modes, none where there are none
+abbrev pub modes_line : List ℕ → List Mode → List ℕ
+modes_line before [] = []
+modes_line before (m ∷ ms) = line (before ++ in_modes (m ∷ ms))
 
-abbrev pub closing : List ℕ → Option ℕ → Bool → List Mode → List Verdict → List ℕ
-closing file ranks strict modes vs = closing_by (worst vs) file ranks (worst_mode modes vs) strict
+unfoldable pub all_good : List Mode → List ℕ
+all_good ms = line (codes "no run hangs or traps in any of these modes") ++ modes_line (codes "calls can be left over") ms
+
+unfoldable pub not_all_tried : List Mode → List ℕ
+not_all_tried ms = modes_line (codes "no hang and no trap was found, but not everything was tried") ms
+
+-- what is said of these modes by what all verdicts come to
+abbrev pub said_of : Verdict → List Mode → List ℕ
+said_of Good ms = all_good ms
+said_of Bad ms = []
+said_of NotWhole ms = not_all_tried ms
+
+-- the command that diagnoses the first of them
+abbrev pub first_command : List ℕ → Option ℕ → Bool → List Mode → List ℕ
+first_command file ranks strict [] = []
+first_command file ranks strict (m ∷ ms) = full_command file ranks m strict
+
+-- long lines are folded, but for commands
+abbrev pub closing_by : List ℕ → Option ℕ → Bool → Verdict → List Mode → List ℕ
+closing_by file ranks strict v ms = 10 ∷ folded (said_of v ms) ++ first_command file ranks strict ms
+
+abbrev pub closing : List ℕ → Option ℕ → Bool → List Mode → List Verdict → List Bool → List ℕ
+closing file ranks strict modes vs left = closing_by file ranks strict (worst vs) (noticed (worst vs) modes vs left)

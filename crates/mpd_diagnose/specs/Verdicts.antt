@@ -7,9 +7,21 @@ use Rattle.mpd_runs.specs.Counts.{is_count}
 use Rattle.mpd_runs.specs.Runs.{sees_all}
 use Rattle.mpd_diagnose.specs.Told.{ends_well}
 
--- whether a run ends with calls left over, where that is asked for
+-- whether a run ends with calls left over
+abbrev pub leaves_some : WayCounts → Bool
+leaves_some c = not (is_count 0 c.leftovers)
+
+abbrev pub leaves_if : Option WayCounts → Bool
+leaves_if None = false
+leaves_if (Some c) = leaves_some c
+
+-- the same of one that was drawn, too
+abbrev pub leaves : WayCounts → Option WayCounts → Bool
+leaves c drawn = leaves_some c || leaves_if drawn
+
+-- the same where that is asked for
 abbrev pub is_untidy : Bool → WayCounts → Bool
-is_untidy strict c = strict && not (is_count 0 c.leftovers)
+is_untidy strict c = strict && leaves_some c
 
 -- whether a run hangs or traps, or does so
 abbrev pub is_bad : Bool → WayCounts → Bool

@@ -11,17 +11,18 @@ ghost use Rattle.mpd_walk.specs.Walks.{Beyond};
 ghost use Rattle.mpd_explore.specs.Witness.{HasWitness};
 ghost use Rattle.mpd_diagnose.specs.Headings as spec;
 
-use crate::heading::heading_of;
+use crate::heading::{LineList, heading_of, lines_of};
 use mpd_explore::Leaf;
 use mpd_model::STEPS_MAX;
 use mpd_trail::Debugger;
 use mpd_walk::{Wide, follow, put_back};
 use std::alloc::{AllocError, Global};
 
-/// How a run ends: what its end is called, and how many steps it has.
+/// How a run ends: what its end is called, at which lines it stands, and how many steps the run has.
 #[derive(Drop)]
 struct End {
     heading: String,
+    lines: Vec<usize>,
     steps: usize,
 }
 
@@ -29,6 +30,7 @@ struct End {
 #[derive(Drop)]
 pub(crate) struct Ends {
     pub(crate) headings: Vec<String>,
+    pub(crate) lines: Vec<LineList>,
     pub(crate) steps: Vec<usize>,
 }
 
@@ -62,12 +64,18 @@ fn end_there(
     requires fits { debugger.old.trail.depth + fuel ≤ STEPS_MAX }
     requires listed { IsSome (run_by wide_decision fuel leaf.now.choices debugger.old.world) }
     ensures heading { IfOk result (λ e. string_bytes e.heading ≡ spec.heading_of debugger.old.trail.program fuel debugger.old.world leaf.now) }
+    ensures lines { IfOk result (λ e. e.lines.items ≡ spec.lines_of debugger.old.trail.program fuel debugger.old.world leaf.now) }
     ensures steps { IfOk result (λ e. e.steps ≡ spec.steps_to fuel debugger.old.world leaf.now) }
     ensures beyond { Beyond (standing_of debugger.old) (standing_of debugger.new) }
 {
     let steps = go_along(alloc, debugger, fuel, &leaf.choices.items)?;
     let heading = heading_of(alloc, debugger.core(), &leaf.ending)?;
-    Ok(End { heading, steps })
+    let lines = lines_of(alloc, debugger.core(), &leaf.ending)?;
+    Ok(End {
+        heading,
+        lines,
+        steps,
+    })
 }
 
 /// The end of the run of a leaf. The debugger is left as found.
@@ -81,6 +89,7 @@ fn end_of(
     requires fits { debugger.old.trail.depth + fuel ≤ STEPS_MAX }
     requires listed { IsSome (run_by wide_decision fuel leaf.now.choices debugger.old.world) }
     ensures heading { IfOk result (λ e. string_bytes e.heading ≡ spec.heading_of debugger.old.trail.program fuel debugger.old.world leaf.now) }
+    ensures lines { IfOk result (λ e. e.lines.items ≡ spec.lines_of debugger.old.trail.program fuel debugger.old.world leaf.now) }
     ensures steps { IfOk result (λ e. e.steps ≡ spec.steps_to fuel debugger.old.world leaf.now) }
     ensures as_found { AsFound (standing_of debugger.old) (standing_of debugger.new) }
 {
@@ -94,10 +103,16 @@ fn end_of(
 /// Adds an end to others.
 fn push_end(ends: &mut Ends, end: End) -> Result<(), AllocError>
     ensures headings { OnOk result (map string_bytes ends.new.headings.items ≡ map string_bytes ends.old.headings.items ++ string_bytes end.heading ∷ []) }
+    ensures lines { OnOk result (ends.new.lines.items ≡ ends.old.lines.items ++ end.lines.items ∷ []) }
     ensures steps { OnOk result (ends.new.steps.items ≡ ends.old.steps.items ++ end.steps ∷ []) }
 {
-    let End { heading, steps } = end;
+    let End {
+        heading,
+        lines,
+        steps,
+    } = end;
     ends.headings.push(heading)?;
+    ends.lines.push(LineList { items: lines })?;
     ends.steps.push(steps)?;
     Ok(())
 }
@@ -114,12 +129,14 @@ pub(crate) fn ends_of(
     requires fits { debugger.old.trail.depth + fuel ≤ STEPS_MAX }
     requires listed { AllByRecursion (HasWitness wide_decision debugger.old.trail.program debugger.old.trail.mode (done_steps debugger.old.trail) fuel debugger.old.world) leaves.now }
     ensures headings { IfOk result (λ e. map string_bytes e.headings.items ≡ map (spec.heading_of debugger.old.trail.program fuel debugger.old.world) leaves.now) }
+    ensures lines { IfOk result (λ e. e.lines.items ≡ map (spec.lines_of debugger.old.trail.program fuel debugger.old.world) leaves.now) }
     ensures steps { IfOk result (λ e. e.steps.items ≡ map (spec.steps_to fuel debugger.old.world) leaves.now) }
     ensures as_found { AsFound (standing_of debugger.old) (standing_of debugger.new) }
 {
     debugger.state_is_reached();
     let mut ends = Ends {
         headings: Vec::new(alloc),
+        lines: Vec::new(alloc),
         steps: Vec::new(alloc),
     };
     for leaf in leaves {

@@ -5,10 +5,10 @@ ghost use Rattle.mpd_diagnose.specs.Told.{in_mode};
 ghost use Rattle.mpd_diagnose.specs.Brief as spec;
 
 use crate::diagnosis::Diagnosis;
-use crate::told::{ends_well, push_in_mode, push_runs};
+use crate::told::{ends_well, push_in_mode, push_number, push_runs};
 use mpd_fold::push_folded;
 use mpd_model::Mode;
-use mpd_outcomes::{Count, push_count};
+use mpd_outcomes::Count;
 use mpd_runs::{WayCounts, is_count};
 use std::alloc::{AllocError, Global};
 
@@ -48,7 +48,7 @@ fn push_count_if(out: &mut String, count: Count, does: &str) -> Result<(), Alloc
         return Ok(());
     }
     out.push_str(", ")?;
-    push_count(out, count)?;
+    push_number(out, count)?;
     out.push_str(does)
 }
 

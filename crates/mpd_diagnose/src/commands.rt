@@ -130,37 +130,61 @@ fn push_draw(
     push_command(alloc, out, "  ./mpdbg picture ", named, &words, &after)
 }
 
-/// The same where it is drawn.
+/// The picture of a run: its file, and whether a run of so many steps is drawn.
+#[derive(Drop)]
+pub(crate) struct Picture {
+    pub(crate) file: String,
+    pub(crate) is_drawn: bool,
+    pub(crate) steps: usize,
+}
+
+/// That a run of so many steps has no picture.
+fn too_long(alloc: Global, steps: usize) -> Result<String, AllocError>
+    ensures { IfOk result (λ t. string_bytes t ≡ spec.too_long steps) }
+{
+    let mut out = String::new(alloc);
+    write!(out, "  a run of {steps} steps is too long for a picture")?;
+    out.push_str("\n")?;
+    Ok(out)
+}
+
+/// Adds that a run of so many steps has no picture.
+fn push_too_long(alloc: Global, out: &mut Vec<u8>, steps: usize) -> Result<(), AllocError>
+    ensures { OnOk result (out.new.items ≡ out.old.items ++ spec.too_long steps) }
+{
+    let text = too_long(alloc, steps)?;
+    push_text(out, &text)
+}
+
+/// The same where it is drawn; else that it has no picture.
 fn push_draw_if(
     alloc: Global,
     out: &mut Vec<u8>,
     named: Named<'_>,
     choices: &[usize],
-    is_drawn: bool,
-    picture: &str,
+    picture: &Picture,
 ) -> Result<(), AllocError>
-    ensures { OnOk result (out.new.items ≡ out.old.items ++ spec.draw_if is_drawn named.entry.file.now named.entry.ranks named.entry.mode choices.now picture.now) }
+    ensures { OnOk result (out.new.items ≡ out.old.items ++ spec.draw_if picture.now.is_drawn named.entry.file.now named.entry.ranks named.entry.mode choices.now picture.now.steps (string_bytes picture.now.file)) }
 {
-    if is_drawn {
-        push_draw(alloc, out, named, choices, picture)
+    if picture.is_drawn {
+        push_draw(alloc, out, named, choices, &picture.file)
     } else {
-        Ok(())
+        push_too_long(alloc, out, picture.steps)
     }
 }
 
-/// Adds the commands that debug the run with these choices, and draw it to this file where it is drawn.
+/// Adds the commands that debug the run with these choices, and draw it where it is drawn.
 pub(crate) fn push_run(
     alloc: Global,
     out: &mut Vec<u8>,
     named: Named<'_>,
     choices: &[usize],
-    is_drawn: bool,
-    picture: &str,
+    picture: &Picture,
 ) -> Result<(), AllocError>
-    ensures { OnOk result (out.new.items ≡ out.old.items ++ spec.run_commands named.entry.file.now named.entry.ranks named.entry.mode choices.now is_drawn picture.now) }
+    ensures { OnOk result (out.new.items ≡ out.old.items ++ spec.run_commands named.entry.file.now named.entry.ranks named.entry.mode choices.now picture.now.is_drawn picture.now.steps (string_bytes picture.now.file)) }
 {
     push_debug(alloc, out, named, choices)?;
-    push_draw_if(alloc, out, named, choices, is_drawn, picture)?;
+    push_draw_if(alloc, out, named, choices, picture)?;
     Ok(())
 }
 

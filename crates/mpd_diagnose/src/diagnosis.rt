@@ -86,9 +86,13 @@ fn told_ends(
 {
     debugger.state_is_reached();
     let leaves = &outcomes.firsts.leaves;
-    let Ends { headings, steps } = ends_of(alloc, debugger, limits.fuel, leaves)?;
+    let Ends {
+        headings,
+        lines,
+        steps,
+    } = ends_of(alloc, debugger, limits.fuel, leaves)?;
     let groups = groups_of(alloc, &headings, &outcomes.counts, &steps)?;
-    let groups = bad_first(alloc, leaves, &groups)?;
+    let groups = bad_first(alloc, leaves, &lines, &groups)?;
     let limits = blaming(limits, blamed);
     let details = details_of(alloc, debugger, limits, &outcomes.firsts, &groups)?;
     Ok(ToldEnds {
@@ -165,7 +169,7 @@ fn ones(alloc: Global, leaves: &[Leaf]) -> Result<Vec<Count>, AllocError>
     Ok(counts)
 }
 
-/// So many runs that are drawn, each different one told once. The debugger is left as found.
+/// So many runs that are drawn, each different one told once; no other was drawn. The debugger is left as found.
 fn drawn_runs(
     alloc: Global,
     debugger: &mut Debugger<'_>,
@@ -187,7 +191,8 @@ fn drawn_runs(
         until_bad: false,
         ends: false,
     };
-    let firsts = sample(alloc, debugger, 0, limits, &mut Unwatched)?;
+    let mut firsts = sample(alloc, debugger, 0, limits, &mut Unwatched)?;
+    firsts.more = false;
     let counts = ones(alloc, &firsts.leaves)?;
     let total = Count::Exactly(firsts.leaves.len() as u64);
     Ok(Outcomes {

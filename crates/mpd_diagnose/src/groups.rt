@@ -1,13 +1,15 @@
 //! Ends that are told together, since they are of the same kind and stand at the same lines.
 
-ghost use Rattle.std.specs.Prelude.{◌≡◌, ◌++◌, ◌∷◌, [], if◌then◌else◌, IfOk, OnOk, map, string_bytes};
+ghost use Rattle.std.specs.Prelude.{◌≡◌, ◌++◌, ◌∷◌, [], if◌then◌else◌, IfOk, OnOk, map, slice_get, string_bytes};
 ghost use Rattle.std.specs.List.{filter};
 ghost use Rattle.mpd_outcomes.specs.declared.report.Count.TheVariants as count_is;
 ghost use Rattle.mpd_explain.specs.Told.{same_at};
 ghost use Rattle.mpd_diagnose.specs.Groups as spec;
 
+use crate::heading::LineList;
 use mpd_explain::{firsts, text_at};
-use mpd_explore::Leaf;
+use mpd_explore::{Ending, Leaf};
+use mpd_model::Outcome;
 use mpd_outcomes::Count;
 use std::alloc::{AllocError, Global};
 
@@ -171,31 +173,139 @@ fn push_group_if(chosen: &mut Vec<Group>, group: Group, is_chosen: bool) -> Resu
     Ok(())
 }
 
-/// Adds those groups that are deadlocks or traps, or those that are neither.
+/// The lines at which the end of a number stands; none where there is no such end.
+fn lines_at(lines: &[LineList], number: usize) -> &[usize]
+    ensures { result.now ≡ spec.lines_at lines.now number }
+{
+    match lines.get(number) {
+        None => &[],
+        Some(list) => &list.items,
+    }
+}
+
+/// Whether a line is one of these.
+fn is_one_of(lines: &[usize], wanted: usize) -> bool
+    ensures { result ≡ spec.is_one_of lines.now wanted }
+{
+    lines.iter().any(|line| *line == wanted)
+}
+
+/// Whether all of some lines are among others.
+fn are_among(many: &[usize], few: &[usize]) -> bool
+    ensures { result ≡ spec.are_among many.now few.now }
+{
+    few.iter().all(|line| is_one_of(many, *line))
+}
+
+/// Whether some lines are all among others, and not all of those among them.
+fn is_less(few: &[usize], many: &[usize]) -> bool
+    ensures { result ≡ spec.is_less few.now many.now }
+{
+    are_among(many, few) && !are_among(few, many)
+}
+
+/// Whether two runs end in the same kind of way.
+fn same_kind(one: &Ending, other: &Ending) -> bool
+    ensures { result ≡ spec.same_kind one.now other.now }
+{
+    match (one, other) {
+        (Ending::Ended(Outcome::Deadlock(_)), Ending::Ended(Outcome::Deadlock(_))) => true,
+        (Ending::Ended(Outcome::Trap(_)), Ending::Ended(Outcome::Trap(_))) => true,
+        (Ending::Ended(Outcome::Leftovers(_)), Ending::Ended(Outcome::Leftovers(_))) => true,
+        (Ending::Cut, Ending::Cut) => true,
+        _ => false,
+    }
+}
+
+/// Whether the runs of the leaves of two numbers do.
+fn same_kind_at(leaves: &[Leaf], one: usize, other: usize) -> bool
+    ensures { result ≡ spec.same_kind_of (slice_get leaves.now one) (slice_get leaves.now other) }
+{
+    match (leaves.get(one), leaves.get(other)) {
+        (Some(one), Some(other)) => same_kind(&one.ending, &other.ending),
+        _ => false,
+    }
+}
+
+/// Whether ends that are told together stand at all lines of others of their kind, and at more.
+fn exceeds(leaves: &[Leaf], lines: &[LineList], group: Group, other: Group) -> bool
+    ensures { result ≡ spec.exceeds leaves.now lines.now group other }
+{
+    let few = lines_at(lines, other.first);
+    let many = lines_at(lines, group.first);
+    same_kind_at(leaves, group.first, other.first) && is_less(few, many)
+}
+
+/// Whether they do so of any of those that are told.
+fn is_wide(leaves: &[Leaf], lines: &[LineList], groups: &[Group], group: Group) -> bool
+    ensures { result ≡ spec.is_wide leaves.now lines.now groups.now group }
+{
+    groups
+        .iter()
+        .any(|other| exceeds(leaves, lines, group, *other))
+}
+
+/// Which groups are meant: deadlocks and traps or others, and of these those that stand at all lines of others and at more, or those that
+/// don't.
+#[derive(Clone, Copy)]
+struct Kind {
+    bad: bool,
+    wide: bool,
+}
+
+/// Whether a group is meant.
+fn is_of(kind: Kind, leaves: &[Leaf], lines: &[LineList], groups: &[Group], group: Group) -> bool
+    ensures { result ≡ spec.is_of kind.bad kind.wide leaves.now lines.now groups.now group }
+{
+    is_bad_group(leaves, group) == kind.bad && is_wide(leaves, lines, groups, group) == kind.wide
+}
+
+/// Adds those groups that are meant.
 fn push_those(
     chosen: &mut Vec<Group>,
     leaves: &[Leaf],
+    lines: &[LineList],
     groups: &[Group],
-    bad: bool,
+    kind: Kind,
 ) -> Result<(), AllocError>
-    ensures { OnOk result (chosen.new.items ≡ chosen.old.items ++ filter (spec.is_of bad leaves.now) groups.now) }
+    ensures { OnOk result (chosen.new.items ≡ chosen.old.items ++ filter (spec.is_of kind.bad kind.wide leaves.now lines.now groups.now) groups.now) }
 {
     for group in groups {
-        push_group_if(chosen, *group, is_bad_group(leaves, *group) == bad)?;
+        push_group_if(chosen, *group, is_of(kind, leaves, lines, groups, *group))?;
     }
     Ok(())
 }
 
-/// The groups, those that are deadlocks or traps before all others.
+/// The groups, those that are deadlocks or traps before all others; of each those that stand at all lines of others and at more come last.
 pub(crate) fn bad_first(
     alloc: Global,
     leaves: &[Leaf],
+    lines: &[LineList],
     groups: &[Group],
 ) -> Result<Vec<Group>, AllocError>
-    ensures { IfOk result (λ gs. gs.items ≡ spec.bad_first leaves.now groups.now) }
+    ensures { IfOk result (λ gs. gs.items ≡ spec.bad_first leaves.now lines.now groups.now) }
 {
     let mut ordered = Vec::new(alloc);
-    push_those(&mut ordered, leaves, groups, true)?;
-    push_those(&mut ordered, leaves, groups, false)?;
+    let hard = Kind {
+        bad: true,
+        wide: false,
+    };
+    let soft = Kind { bad: false, ..hard };
+    push_those(&mut ordered, leaves, lines, groups, hard)?;
+    push_those(
+        &mut ordered,
+        leaves,
+        lines,
+        groups,
+        Kind { wide: true, ..hard },
+    )?;
+    push_those(&mut ordered, leaves, lines, groups, soft)?;
+    push_those(
+        &mut ordered,
+        leaves,
+        lines,
+        groups,
+        Kind { wide: true, ..soft },
+    )?;
     Ok(ordered)
 }

@@ -12,6 +12,7 @@ use mpd_model::{Activity, IssuedCall, Outcome, TrappedRank};
 use mpd_names::{issue_line, rank_line};
 use std::alloc::{AllocError, Global};
 use std::collections::BTreeSet;
+use std::marker::Model;
 
 /// Adds a number to some.
 fn insert(numbers: &mut BTreeSet<usize>, number: usize) -> Result<(), AllocError>
@@ -130,6 +131,43 @@ fn placed(alloc: Global, kind: &str, numbers: &BTreeSet<usize>) -> Result<String
     out.push_str(kind)?;
     push_lines(&mut out, &lines)?;
     Ok(out)
+}
+
+/// Lines of a script; contracts see them as a list.
+#[derive(Drop)]
+pub(crate) struct LineList {
+    pub(crate) items: Vec<usize>,
+}
+
+impl Model for LineList {
+    ghost use Rattle.std.specs.Prelude.{List, ℕ};
+
+    ghost Value = { List ℕ };
+
+    ghost view = { λ l. l.items.items };
+}
+
+/// The lines at which an end stands that a run comes to; none where a run ends well.
+pub(crate) fn lines_of(
+    alloc: Global,
+    core: &Core<'_>,
+    ending: &Ending,
+) -> Result<Vec<usize>, AllocError>
+    ensures { IfOk result (λ list. list.items ≡ spec.lines_in core.now.program core.now.world ending.now) }
+{
+    match ending {
+        Ending::Ended(Outcome::Deadlock(calls)) => {
+            listed(alloc, &call_lines(alloc, core, &calls.items)?)
+        }
+        Ending::Ended(Outcome::Trap(traps)) => {
+            listed(alloc, &trap_lines(alloc, core, &traps.items)?)
+        }
+        Ending::Ended(Outcome::Leftovers(calls)) => {
+            listed(alloc, &call_lines(alloc, core, &calls.items)?)
+        }
+        Ending::Cut => listed(alloc, &standing_lines(alloc, core)?),
+        Ending::Ended(Outcome::Done) => Ok(Vec::new(alloc)),
+    }
 }
 
 /// The kind of an end that a run comes to, and the lines at which it stands; empty where a run ends well.

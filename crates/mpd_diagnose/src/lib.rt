@@ -17,5 +17,7 @@ mod words;
 pub use brief::ranks_line;
 pub use commands::full_command;
 pub use diagnosis::{Diagnosis, DiagnosisPlan, diagnose};
-pub use modes::{ModeTold, closing_of, diagnose_mode, first_of, modes_up_to, worst_of};
+pub use modes::{
+    ModeTold, ScriptInModes, closing_of, diagnose_mode, first_of, modes_up_to, worst_of,
+};
 pub use verdict::verdict_of;

@@ -1,6 +1,7 @@
 //! Modes that are diagnosed in turn, and what their verdicts come to (docs/FORMATS.md, "Several modes").
 
 ghost use Rattle.std.specs.Prelude.{◌≡◌, ◌≤◌, ◌++◌, ◌∷◌, [], IfOk, OnOk, string_bytes};
+ghost use Rattle.std.specs.List.{flat_map};
 ghost use Rattle.mpd_model.specs.runs.Trail.{first_standing};
 ghost use Rattle.mpd_diagnose.specs.Modes as spec;
 
@@ -8,9 +9,9 @@ use crate::brief::mode_line;
 use crate::commands::full_command;
 use crate::diagnosis::{DiagnosisPlan, diagnose};
 use crate::told::push_in_mode;
-use crate::verdict::verdict_of;
-use crate::words::{Named, push_text};
+use crate::verdict::{leaves, verdict_of};
 use mpd_code::Subject;
+use mpd_fold::push_folded;
 use mpd_lines::Verdict;
 use mpd_model::{Mode, STEPS_MAX};
 use std::alloc::{AllocError, Global};
@@ -44,13 +45,15 @@ fn push_slots(modes: &mut Vec<Mode>, most: usize) -> Result<(), AllocError>
     Ok(())
 }
 
-/// What is told of a mode: its line, and its verdict.
+/// What is told of a mode: its line, its verdict, and whether a run ends with calls left over.
 #[derive(Drop)]
 pub struct ModeTold {
     /// The line.
     pub line: Vec<u8>,
     /// The verdict.
     pub verdict: Verdict,
+    /// Whether a run ends with calls left over.
+    pub leaves: bool,
 }
 
 /// Diagnoses a script in a mode, and tells what its runs come to by a line; its verdict is that of the diagnosis, `strict` or not. An `Err`
@@ -68,8 +71,13 @@ pub fn diagnose_mode(
     let told = diagnose(alloc, subject, plan)?;
     let line = mode_line(alloc, mode, &told)?;
     let verdict = verdict_of(&told, strict);
+    let leaves = leaves(&told);
     drop(told);
-    Ok(ModeTold { line, verdict })
+    Ok(ModeTold {
+        line,
+        verdict,
+        leaves,
+    })
 }
 
 /// Whether a verdict is this one.
@@ -109,97 +117,200 @@ pub fn worst_of(verdicts: &[Verdict]) -> Verdict
     Verdict::Good
 }
 
-/// The mode at a place, rendezvous where there is none.
-fn mode_at(modes: &[Mode], place: Option<usize>) -> Mode
-    ensures { result ≡ spec.mode_at modes.now place }
+/// Which verdicts are this one.
+fn which(alloc: Global, verdicts: &[Verdict], wanted: Verdict) -> Result<Vec<bool>, AllocError>
+    ensures { IfOk result (λ flags. flags.items ≡ spec.which wanted verdicts.now) }
 {
-    match place {
-        None => Mode::Rendezvous,
-        Some(number) => modes.get(number).copied().unwrap_or(Mode::Rendezvous),
+    let mut flags = Vec::new(alloc);
+    for verdict in verdicts {
+        flags.push(is_same(*verdict, wanted))?;
     }
+    Ok(flags)
 }
 
-/// That all modes are good.
-fn all_good(alloc: Global) -> Result<String, AllocError>
-    ensures { IfOk result (λ t. string_bytes t ≡ spec.all_good) }
+/// Adds the mode at a place, where true stands there.
+fn push_mode_if(
+    chosen: &mut Vec<Mode>,
+    modes: &[Mode],
+    flags: &[bool],
+    place: usize,
+) -> Result<(), AllocError>
+    ensures { OnOk result (chosen.new.items ≡ chosen.old.items ++ spec.mode_if modes.now flags.now place) }
 {
-    let mut out = String::new(alloc);
-    out.push_str("no run hangs or traps in any of these modes\n")?;
-    Ok(out)
-}
-
-/// That nothing bad was found, and that this mode isn't whole.
-fn not_all_tried(alloc: Global, mode: Mode) -> Result<String, AllocError>
-    ensures { IfOk result (λ t. string_bytes t ≡ spec.not_all_tried mode) }
-{
-    let mut out = String::new(alloc);
-    out.push_str("no hang and no trap was found, but not everything was tried")?;
-    push_in_mode(&mut out, mode)?;
-    out.push_str("\n")?;
-    Ok(out)
-}
-
-/// What the verdicts of modes come to.
-fn said_of(alloc: Global, worst: Verdict, mode: Mode) -> Result<String, AllocError>
-    ensures { IfOk result (λ t. string_bytes t ≡ spec.said_of worst mode) }
-{
-    match worst {
-        Verdict::Good => all_good(alloc),
-        Verdict::Bad => Ok(String::new(alloc)),
-        Verdict::NotWhole => not_all_tried(alloc, mode),
+    if flags.get(place).copied().unwrap_or(false) {
+        let mode = modes.get(place).copied().unwrap_or(Mode::Rendezvous);
+        chosen.push(mode)?;
     }
+    Ok(())
 }
 
-/// The command that diagnoses the worst mode, but for a good one.
-fn worst_command(
+/// Of some modes those at whose places true stands.
+fn chosen(alloc: Global, modes: &[Mode], flags: &[bool]) -> Result<Vec<Mode>, AllocError>
+    ensures { IfOk result (λ ms. ms.items ≡ spec.chosen modes.now flags.now) }
+{
+    let mut chosen = Vec::new(alloc);
+    let count = modes.len();
+    for place in 0..count {
+        push_mode_if(&mut chosen, modes, flags, place)?;
+    }
+    Ok(chosen)
+}
+
+/// Those whose verdict is this one.
+fn chosen_by(
+    alloc: Global,
+    modes: &[Mode],
+    verdicts: &[Verdict],
+    wanted: Verdict,
+) -> Result<Vec<Mode>, AllocError>
+    ensures { IfOk result (λ ms. ms.items ≡ spec.chosen modes.now (spec.which wanted verdicts.now)) }
+{
+    let flags = which(alloc, verdicts, wanted)?;
+    chosen(alloc, modes, &flags)
+}
+
+/// The modes that something is told of: those whose verdict is the worst, and where that is good those where calls can be left over.
+fn noticed(
     alloc: Global,
     worst: Verdict,
-    named: Named<'_>,
-    strict: bool,
-) -> Result<Vec<u8>, AllocError>
-    ensures { IfOk result (λ t. t.items ≡ spec.worst_command worst named.entry.file.now named.entry.ranks named.entry.mode strict) }
+    modes: &[Mode],
+    verdicts: &[Verdict],
+    left: &[bool],
+) -> Result<Vec<Mode>, AllocError>
+    ensures { IfOk result (λ ms. ms.items ≡ spec.noticed worst modes.now verdicts.now left.now) }
 {
     match worst {
-        Verdict::Good => Ok(Vec::new(alloc)),
-        Verdict::Bad | Verdict::NotWhole => {
-            full_command(alloc, named.file, named.ranks, named.mode, strict)
+        Verdict::Good => chosen(alloc, modes, left),
+        Verdict::Bad => chosen_by(alloc, modes, verdicts, Verdict::Bad),
+        Verdict::NotWhole => chosen_by(alloc, modes, verdicts, Verdict::NotWhole),
+    }
+}
+
+/// Adds the modes after the first.
+fn push_further_modes(out: &mut String, modes: &[Mode]) -> Result<(), AllocError>
+    ensures { OnOk result (string_bytes out.new ≡ string_bytes out.old ++ flat_map spec.further_mode modes.now) }
+{
+    for mode in modes {
+        write!(out, ", {mode}")?;
+    }
+    Ok(())
+}
+
+/// Adds some modes.
+fn push_in_modes(out: &mut String, modes: &[Mode]) -> Result<(), AllocError>
+    ensures { OnOk result (string_bytes out.new ≡ string_bytes out.old ++ spec.in_modes modes.now) }
+{
+    match modes {
+        [] => Ok(()),
+        [mode, further @ ..] => {
+            push_in_mode(out, *mode)?;
+            push_further_modes(out, further)
         }
     }
 }
 
-/// What is told after the lines of modes, by the worst mode and its verdict.
+/// Adds a line of some modes, where there are some.
+fn push_modes_line(out: &mut String, before: &str, modes: &[Mode]) -> Result<(), AllocError>
+    ensures { OnOk result (string_bytes out.new ≡ string_bytes out.old ++ spec.modes_line before.now modes.now) }
+{
+    if modes.is_empty() {
+        return Ok(());
+    }
+    out.push_str(before)?;
+    push_in_modes(out, modes)?;
+    out.push('\n')
+}
+
+/// That all modes are good, and in which of them calls can be left over.
+fn all_good(alloc: Global, left: &[Mode]) -> Result<String, AllocError>
+    ensures { IfOk result (λ t. string_bytes t ≡ spec.all_good left.now) }
+{
+    let mut out = String::new(alloc);
+    out.push_str("no run hangs or traps in any of these modes\n")?;
+    push_modes_line(&mut out, "calls can be left over", left)?;
+    Ok(out)
+}
+
+/// That nothing bad was found, and which modes aren't whole.
+fn not_all_tried(alloc: Global, modes: &[Mode]) -> Result<String, AllocError>
+    ensures { IfOk result (λ t. string_bytes t ≡ spec.not_all_tried modes.now) }
+{
+    let mut out = String::new(alloc);
+    push_modes_line(
+        &mut out,
+        "no hang and no trap was found, but not everything was tried",
+        modes,
+    )?;
+    Ok(out)
+}
+
+/// What is said of these modes, by what all verdicts come to.
+fn said_of(alloc: Global, worst: Verdict, modes: &[Mode]) -> Result<String, AllocError>
+    ensures { IfOk result (λ t. string_bytes t ≡ spec.said_of worst modes.now) }
+{
+    match worst {
+        Verdict::Good => all_good(alloc, modes),
+        Verdict::Bad => Ok(String::new(alloc)),
+        Verdict::NotWhole => not_all_tried(alloc, modes),
+    }
+}
+
+/// A script that is diagnosed in several modes.
+#[derive(Clone, Copy)]
+pub struct ScriptInModes<'a> {
+    /// Its file, as it was given.
+    pub file: &'a str,
+    /// How many ranks it has, where that was asked for.
+    pub ranks: Option<usize>,
+    /// Whether calls that can be left over count.
+    pub strict: bool,
+}
+
+/// The command that diagnoses the script in the first of some modes.
+fn first_command(
+    alloc: Global,
+    script: ScriptInModes<'_>,
+    modes: &[Mode],
+) -> Result<Vec<u8>, AllocError>
+    ensures { IfOk result (λ t. t.items ≡ spec.first_command script.entry.file.now script.entry.ranks script.entry.strict modes.now) }
+{
+    match modes {
+        [] => Ok(Vec::new(alloc)),
+        [mode, ..] => full_command(alloc, script.file, script.ranks, *mode, script.strict),
+    }
+}
+
+/// What is told after the lines of modes, of those that something is told of, by what all verdicts come to.
 fn closing_by(
     alloc: Global,
+    script: ScriptInModes<'_>,
     worst: Verdict,
-    named: Named<'_>,
-    strict: bool,
+    modes: &[Mode],
 ) -> Result<Vec<u8>, AllocError>
-    ensures { IfOk result (λ t. t.items ≡ spec.closing_by worst named.entry.file.now named.entry.ranks named.entry.mode strict) }
+    ensures { IfOk result (λ t. t.items ≡ spec.closing_by script.entry.file.now script.entry.ranks script.entry.strict worst modes.now) }
 {
-    let said = said_of(alloc, worst, named.mode)?;
-    let command = worst_command(alloc, worst, named, strict)?;
+    let said = said_of(alloc, worst, modes)?;
+    let command = first_command(alloc, script, modes)?;
     let mut out = Vec::new(alloc);
     out.push(b'\n')?;
-    push_text(&mut out, &said)?;
+    push_folded(&mut out, said.as_bytes())?;
     out.extend_from_slice(&command)?;
     Ok(out)
 }
 
-/// What is told after the lines of modes, of the script of a file, by their verdicts: that all are good; or what the worst comes to, and
-/// the command that diagnoses it. An `Err` is want of memory.
+/// What is told after the lines of modes, by their verdicts, and by whether calls can be left over in each: what they come to, with the
+/// modes of which that is so, and the command that diagnoses the first of these. Where all are good these are the modes where calls can be
+/// left over. An `Err` is want of memory.
 pub fn closing_of(
     alloc: Global,
-    file: &str,
-    ranks: Option<usize>,
-    strict: bool,
+    script: ScriptInModes<'_>,
     modes: &[Mode],
     verdicts: &[Verdict],
+    left: &[bool],
 ) -> Result<Vec<u8>, AllocError>
-    ensures { IfOk result (λ t. t.items ≡ spec.closing file.now ranks strict modes.now verdicts.now) }
+    ensures { IfOk result (λ t. t.items ≡ spec.closing script.entry.file.now script.entry.ranks script.entry.strict modes.now verdicts.now left.now) }
 {
     let worst = worst_of(verdicts);
-    let place = first_of(verdicts, worst);
-    let mode = mode_at(modes, place);
-    let named = Named { file, ranks, mode };
-    closing_by(alloc, worst, named, strict)
+    let modes = noticed(alloc, worst, modes, verdicts, left)?;
+    closing_by(alloc, script, worst, &modes)
 }

@@ -5,35 +5,78 @@ ghost use Rattle.std.specs.Option.{option_map};
 ghost use Rattle.mpd_diagnose.specs.Commands as command;
 ghost use Rattle.mpd_diagnose.specs.Told as spec;
 
-use crate::commands::{modes_command, picture_file, push_run, sample_command};
+use crate::commands::{Picture, modes_command, picture_file, push_run, sample_command};
 use crate::groups::Group;
 use crate::words::Named;
 use mpd_explain::text_at;
 use mpd_explore::Leaf;
 use mpd_fold::push_folded;
 use mpd_model::Mode;
-use mpd_outcomes::{Count, Outcomes, push_count};
+use mpd_outcomes::{Count, Outcomes};
 use mpd_runs::{WayCounts, is_count, sees_all};
 use std::alloc::{AllocError, Global};
 
 /// How many steps a run has at most that is drawn: no step shows more than 17 glyphs, and 20,000 can be drawn (docs/PICTURES.md).
 const PICTURED_STEPS: usize = 1_000;
 
+/// Adds a count, or that it is none that can be held.
+pub(crate) fn push_number(out: &mut String, count: Count) -> Result<(), AllocError>
+    ensures { OnOk result (string_bytes out.new ≡ string_bytes out.old ++ spec.number_text count) }
+{
+    match count {
+        Count::Exactly(number) => write!(out, "{number}"),
+        Count::More => out.push_str("more than can be counted"),
+    }
+}
+
 /// Adds how many runs there are.
 pub(crate) fn push_runs(out: &mut String, count: Count) -> Result<(), AllocError>
     ensures { OnOk result (string_bytes out.new ≡ string_bytes out.old ++ spec.runs_text count) }
 {
-    push_count(out, count)?;
-    out.push_str(if is_count(count, 1) { " run" } else { " runs" })
+    match count {
+        Count::Exactly(number) => {
+            write!(out, "{number}")?;
+            out.push_str(if number == 1 { " run" } else { " runs" })
+        }
+        Count::More => out.push_str("more runs than can be counted"),
+    }
 }
 
-/// Adds how many of all runs do something.
-fn push_share(out: &mut String, count: Count, total: Count) -> Result<(), AllocError>
-    ensures { OnOk result (string_bytes out.new ≡ string_bytes out.old ++ spec.share count total) }
+/// Adds that so many are the first, where there are more.
+fn push_first_if(out: &mut String, more: bool) -> Result<(), AllocError>
+    ensures { OnOk result (string_bytes out.new ≡ string_bytes out.old ++ spec.first_if more) }
 {
-    push_count(out, count)?;
-    out.push_str(" of ")?;
-    push_runs(out, total)
+    if more {
+        out.push_str("the first ")
+    } else {
+        Ok(())
+    }
+}
+
+/// Adds how many runs were looked at, and that they are the first where there are more.
+fn push_those(out: &mut String, total: Count, more: bool) -> Result<(), AllocError>
+    ensures { OnOk result (string_bytes out.new ≡ string_bytes out.old ++ spec.those_runs total more) }
+{
+    match total {
+        Count::Exactly(_) => {
+            push_first_if(out, more)?;
+            push_runs(out, total)
+        }
+        Count::More => push_runs(out, total),
+    }
+}
+
+/// Adds how many of all runs do something, or of the first where there are more.
+fn push_share(out: &mut String, count: Count, total: Count, more: bool) -> Result<(), AllocError>
+    ensures { OnOk result (string_bytes out.new ≡ string_bytes out.old ++ spec.share count total more) }
+{
+    match count {
+        Count::Exactly(number) => {
+            write!(out, "{number} of ")?;
+            push_those(out, total, more)
+        }
+        Count::More => push_runs(out, count),
+    }
 }
 
 /// Adds how many states there are.
@@ -49,16 +92,16 @@ fn push_line_if(
     out: &mut String,
     before: &str,
     count: Count,
-    total: Count,
+    counts: WayCounts,
     after: &str,
 ) -> Result<(), AllocError>
-    ensures { OnOk result (string_bytes out.new ≡ string_bytes out.old ++ spec.line_if before.now count total after.now) }
+    ensures { OnOk result (string_bytes out.new ≡ string_bytes out.old ++ spec.line_if before.now count counts after.now) }
 {
     if is_count(count, 0) {
         return Ok(());
     }
     out.push_str(before)?;
-    push_share(out, count, total)?;
+    push_share(out, count, counts.total, counts.more)?;
     out.push_str(after)?;
     out.push('\n')
 }
@@ -99,11 +142,11 @@ fn push_never(out: &mut String, mode: Mode, total: Count, states: usize) -> Resu
 }
 
 /// Adds that of the runs that were looked at none does.
-fn push_none_found(out: &mut String, mode: Mode, total: Count) -> Result<(), AllocError>
-    ensures { OnOk result (string_bytes out.new ≡ string_bytes out.old ++ spec.none_found_text mode total) }
+fn push_none_found(out: &mut String, mode: Mode, counts: WayCounts) -> Result<(), AllocError>
+    ensures { OnOk result (string_bytes out.new ≡ string_bytes out.old ++ spec.none_found_text mode counts) }
 {
     out.push_str("no hang and no trap was found in ")?;
-    push_runs(out, total)?;
+    push_those(out, counts.total, counts.more)?;
     push_in_mode(out, mode)?;
     Ok(())
 }
@@ -120,7 +163,7 @@ fn push_well(
     if sees_all(counts) {
         push_never(out, mode, counts.total, states)
     } else {
-        push_none_found(out, mode, counts.total)
+        push_none_found(out, mode, counts)
     }
 }
 
@@ -168,7 +211,7 @@ fn push_left(out: &mut String, counts: WayCounts) -> Result<(), AllocError>
         out,
         "it can end with calls left over: ",
         counts.leftovers,
-        counts.total,
+        counts,
         "",
     )
 }
@@ -187,7 +230,7 @@ fn push_untried(
         out,
         "not everything was tried: ",
         counts.cut,
-        counts.total,
+        counts,
         &after,
     )?;
     push_more(out, counts.more)?;
@@ -235,7 +278,7 @@ fn push_hang(out: &mut String, mode: Mode, counts: WayCounts) -> Result<(), Allo
     if always_hangs(counts) {
         push_always(out, "it always hangs", mode, counts.total)
     } else {
-        push_line_if(out, "it can hang: ", counts.deadlock, counts.total, "")
+        push_line_if(out, "it can hang: ", counts.deadlock, counts, "")
     }
 }
 
@@ -246,7 +289,7 @@ fn push_trap(out: &mut String, mode: Mode, counts: WayCounts) -> Result<(), Allo
     if always_traps(counts) {
         push_always(out, "it always traps", mode, counts.total)
     } else {
-        push_line_if(out, "it can trap: ", counts.trap, counts.total, "")
+        push_line_if(out, "it can trap: ", counts.trap, counts, "")
     }
 }
 
@@ -273,9 +316,9 @@ fn push_both(out: &mut String, mode: Mode, counts: WayCounts) -> Result<(), Allo
     out.push_str("it always fails")?;
     push_in_mode(out, mode)?;
     out.push_str(": it hangs in ")?;
-    push_share(out, counts.deadlock, counts.total)?;
+    push_share(out, counts.deadlock, counts.total, counts.more)?;
     out.push_str(" and traps in ")?;
-    push_count(out, counts.trap)?;
+    push_number(out, counts.trap)?;
     out.push_str("\n")?;
     Ok(())
 }
@@ -327,14 +370,15 @@ fn group_said(
     heading: &str,
     count: Count,
     total: Count,
+    more: bool,
     details: &str,
 ) -> Result<String, AllocError>
-    ensures { IfOk result (λ t. string_bytes t ≡ spec.group_said heading.now count total details.now) }
+    ensures { IfOk result (λ t. string_bytes t ≡ spec.group_said heading.now count total more details.now) }
 {
     let mut out = String::new(alloc);
     out.push_str(heading)?;
     out.push_str(": ")?;
-    push_share(&mut out, count, total)?;
+    push_share(&mut out, count, total, more)?;
     push_of_one(&mut out, count)?;
     out.push('\n')?;
     out.push_str(details)?;
@@ -348,13 +392,6 @@ fn is_drawn(steps: usize) -> bool
     steps <= PICTURED_STEPS
 }
 
-/// The picture of a run: its file, and whether it is drawn.
-#[derive(Drop)]
-struct Picture {
-    file: String,
-    is_drawn: bool,
-}
-
 /// The picture of a run of so many steps, by its number among those of a kind.
 fn picture_of(
     alloc: Global,
@@ -365,11 +402,13 @@ fn picture_of(
 ) -> Result<Picture, AllocError>
     ensures file { IfOk result (λ p. string_bytes p.file ≡ command.picture_file kind.now several number) }
     ensures drawn { IfOk result (λ p. p.is_drawn ≡ spec.is_drawn steps) }
+    ensures steps { IfOk result (λ p. p.steps ≡ steps) }
 {
     let file = picture_file(alloc, kind, several, number)?;
     Ok(Picture {
         file,
         is_drawn: is_drawn(steps),
+        steps,
     })
 }
 
@@ -382,11 +421,11 @@ fn push_group(
     choices: &[usize],
     picture: &Picture,
 ) -> Result<(), AllocError>
-    ensures { OnOk result (out.new.items ≡ out.old.items ++ spec.group_text named.entry.file.now named.entry.ranks named.entry.mode said.now choices.now picture.now.is_drawn (string_bytes picture.now.file)) }
+    ensures { OnOk result (out.new.items ≡ out.old.items ++ spec.group_text named.entry.file.now named.entry.ranks named.entry.mode said.now choices.now picture.now.is_drawn picture.now.steps (string_bytes picture.now.file)) }
 {
     out.push(b'\n')?;
     push_folded(out, said.as_bytes())?;
-    push_run(alloc, out, named, choices, picture.is_drawn, &picture.file)?;
+    push_run(alloc, out, named, choices, picture)?;
     Ok(())
 }
 
@@ -427,14 +466,15 @@ pub(crate) fn push_groups(
     told: &ToldEnds,
     kind: &str,
 ) -> Result<(), AllocError>
-    ensures { OnOk result (out.new.items ≡ out.old.items ++ spec.all_groups_text named.entry.file.now named.entry.ranks named.entry.mode kind.now outcomes.now.total (map string_bytes told.now.headings.items) outcomes.now.firsts.leaves.items told.now.groups.items (map string_bytes told.now.details.items)) }
+    ensures { OnOk result (out.new.items ≡ out.old.items ++ spec.all_groups_text named.entry.file.now named.entry.ranks named.entry.mode kind.now outcomes.now.total outcomes.now.firsts.more (map string_bytes told.now.headings.items) outcomes.now.firsts.leaves.items told.now.groups.items (map string_bytes told.now.details.items)) }
 {
     let leaves = &outcomes.firsts.leaves;
+    let more = outcomes.firsts.more;
     let several = told.groups.len() > 1;
     let mut number = 0;
     for (group, details) in told.groups.iter().zip(told.details.iter()) {
         let heading = text_at(&told.headings, group.first);
-        let said = group_said(alloc, heading, group.count, outcomes.total, details)?;
+        let said = group_said(alloc, heading, group.count, outcomes.total, more, details)?;
         number += 1;
         let picture = picture_of(alloc, kind, several, number, group.steps)?;
         let choices = choices_at(leaves, group.shown);
@@ -493,9 +533,8 @@ pub(crate) fn push_opening(
 fn push_drawn_bad(out: &mut String, counts: WayCounts) -> Result<(), AllocError>
     ensures { OnOk result (string_bytes out.new ≡ string_bytes out.old ++ spec.drawn_bad counts) }
 {
-    let total = counts.total;
-    push_line_if(out, "drawn at random: ", counts.deadlock, total, " hang")?;
-    push_line_if(out, "drawn at random: ", counts.trap, total, " trap")?;
+    push_line_if(out, "drawn at random: ", counts.deadlock, counts, " hang")?;
+    push_line_if(out, "drawn at random: ", counts.trap, counts, " trap")?;
     Ok(())
 }
 
@@ -530,7 +569,7 @@ fn push_drawn_left(out: &mut String, counts: WayCounts) -> Result<(), AllocError
         out,
         "drawn at random: ",
         left,
-        counts.total,
+        counts,
         " end with calls left over",
     )
 }

@@ -8,11 +8,35 @@ use crate::told::ends_well;
 use mpd_lines::Verdict;
 use mpd_runs::{WayCounts, is_count, sees_all};
 
+/// Whether a run ends with calls left over.
+fn leaves_some(counts: WayCounts) -> bool
+    ensures { result ≡ spec.leaves_some counts }
+{
+    !is_count(counts.leftovers, 0)
+}
+
+/// The same of runs that were drawn, where some were.
+fn leaves_if(drawn: Option<WayCounts>) -> bool
+    ensures { result ≡ spec.leaves_if drawn }
+{
+    match drawn {
+        None => false,
+        Some(counts) => leaves_some(counts),
+    }
+}
+
+/// Whether a run ends with calls left over, one that was drawn among them.
+pub(crate) fn leaves(diagnosis: &Diagnosis) -> bool
+    ensures { result ≡ spec.leaves diagnosis.now.counts diagnosis.now.drawn }
+{
+    leaves_some(diagnosis.counts) || leaves_if(diagnosis.drawn)
+}
+
 /// Whether a run ends with calls left over, where that is asked for.
 fn is_untidy(counts: WayCounts, strict: bool) -> bool
     ensures { result ≡ spec.is_untidy strict counts }
 {
-    strict && !is_count(counts.leftovers, 0)
+    strict && leaves_some(counts)
 }
 
 /// Whether a run hangs or traps, or ends with calls left over where that is asked for.

@@ -8,8 +8,8 @@ use crate::tell::Fault;
 use mpd_code::{Code, Subject};
 use mpd_device::Sink;
 use mpd_diagnose::{
-    DiagnosisPlan, closing_of, diagnose, diagnose_mode, full_command, modes_up_to, ranks_line,
-    verdict_of, worst_of,
+    DiagnosisPlan, ScriptInModes, closing_of, diagnose, diagnose_mode, full_command, modes_up_to,
+    ranks_line, verdict_of, worst_of,
 };
 use mpd_lines::{EngineFault, Verdict, write_all};
 use mpd_model::Mode;
@@ -104,6 +104,12 @@ fn add(verdicts: &mut Vec<Verdict>, verdict: Verdict) -> Result<(), AllocError> 
     Ok(())
 }
 
+/// Adds whether calls can be left over in a mode.
+fn add_flag(flags: &mut Vec<bool>, flag: bool) -> Result<(), AllocError> {
+    flags.push(flag)?;
+    Ok(())
+}
+
 /// Says by a line each what the runs of a script come to for several numbers of ranks, and then how to see more of the first that is bad.
 /// Answers what the verdicts come to. Each line is written as soon as it is known.
 pub(crate) fn diagnose_each<'a, W: Sink>(
@@ -132,15 +138,6 @@ pub(crate) fn diagnose_each<'a, W: Sink>(
     Ok(worst_of(&verdicts))
 }
 
-/// A script that is diagnosed in several modes: how it is named, and for how many ranks where that was asked for.
-#[derive(Clone, Copy)]
-pub(crate) struct ScriptInModes<'s> {
-    pub(crate) file: &'s str,
-    pub(crate) ranks: Option<usize>,
-    /// Whether calls that can be left over count.
-    pub(crate) strict: bool,
-}
-
 /// Says by a line each what the runs of a script come to in rendezvous, with 1 slot and more up to `most`, and in buffered, and then how to
 /// see more of the worst mode. Answers what the verdicts come to. Each line is written as soon as it is known.
 pub(crate) fn diagnose_modes<'a, W: Sink>(
@@ -150,20 +147,22 @@ pub(crate) fn diagnose_modes<'a, W: Sink>(
     most: usize,
     sink: &mut W,
 ) -> Result<Verdict, Fault<'a>> {
-    let ScriptInModes {
-        file,
-        ranks,
-        strict,
-    } = script;
     let modes = modes_up_to(alloc, most)?;
     let mut verdicts = Vec::new(alloc);
+    let mut left = Vec::new(alloc);
     for mode in &modes {
         let subject = Subject { code, mode: *mode };
-        let told = diagnose_mode(alloc, subject, plan_of(file, ranks), strict)?;
+        let told = diagnose_mode(
+            alloc,
+            subject,
+            plan_of(script.file, script.ranks),
+            script.strict,
+        )?;
         write_told(sink, &told.line)?;
         add(&mut verdicts, told.verdict)?;
+        add_flag(&mut left, told.leaves)?;
     }
-    let more = closing_of(alloc, file, ranks, strict, &modes, &verdicts)?;
+    let more = closing_of(alloc, script, &modes, &verdicts, &left)?;
     write_told(sink, &more)?;
     Ok(worst_of(&verdicts))
 }

@@ -4,7 +4,7 @@ use Rattle.mpd_trail.specs.Views.{standing_of}
 use Rattle.std.specs.List.{AllByRecursion}
 use Rattle.mpd_policy.specs.Wide.{wide_decision}
 use Rattle.mpd_explore.specs.Witness.{HasWitness}
-use Rattle.mpd_diagnose.specs.Headings.{heading_of, steps_to}
+use Rattle.mpd_diagnose.specs.Headings.{heading_of, lines_of, steps_to}
 use Rattle.mpd_diagnose.proofs.along.ends_of.Given as goal
 
 abbrev pub invariant-loop-leaf : goal.invariant-loop-leaf
@@ -13,6 +13,7 @@ invariant-loop-leaf l = record {
   world : l.debugger.world ≡ l.fn.debugger.world;
   reached : IsReached (standing_of l.debugger);
   headings : map string_bytes l.ends.headings.items ++ map (heading_of l.fn.debugger.trail.program l.fuel l.fn.debugger.world) (drop l.leaf-index l.leaves) ≡ map (heading_of l.fn.debugger.trail.program l.fuel l.fn.debugger.world) l.leaves;
+  lines : l.ends.lines.items ++ map (lines_of l.fn.debugger.trail.program l.fuel l.fn.debugger.world) (drop l.leaf-index l.leaves) ≡ map (lines_of l.fn.debugger.trail.program l.fuel l.fn.debugger.world) l.leaves;
   steps : l.ends.steps.items ++ map (steps_to l.fuel l.fn.debugger.world) (drop l.leaf-index l.leaves) ≡ map (steps_to l.fuel l.fn.debugger.world) l.leaves;
   listed : AllByRecursion (HasWitness wide_decision l.fn.debugger.trail.program l.fn.debugger.trail.mode (done_steps l.fn.debugger.trail) l.fuel l.fn.debugger.world) (drop l.leaf-index l.leaves);
 }

@@ -8,4 +8,4 @@ unfolding drawn_bad
 returns c =
     let n = c.args.counts in
     let before = codes "drawn at random: " in
-    grown (string_bytes c.args.out.now) _ (line_if before n.deadlock n.total (codes " hang")) (line_if before n.trap n.total (codes " trap")) _ c.in_ok-push_line_if.ensures c.in_ok-push_line_if-2.ensures
+    grown (string_bytes c.args.out.now) _ (line_if before n.deadlock n (codes " hang")) (line_if before n.trap n (codes " trap")) _ c.in_ok-push_line_if.ensures c.in_ok-push_line_if-2.ensures

@@ -10,4 +10,4 @@ returns c =
     let old = string_bytes c.args.out.now in
     let before = codes "not everything was tried: " in
     let after : c.deref.result.now ≡ cut_after n.cut c.args.fuel = c.deref.ensures ∙ c.in_ok-after.ensures in
-    grown old _ (line_if before n.cut n.total (cut_after n.cut c.args.fuel)) (more_line n.more) _ (c.in_ok-push_line_if.ensures ∙ ap (λ (t : List ℕ). old ++ line_if before n.cut n.total t) after) c.in_ok-push_more.ensures
+    grown old _ (line_if before n.cut n (cut_after n.cut c.args.fuel)) (more_line n.more) _ (c.in_ok-push_line_if.ensures ∙ ap (λ (t : List ℕ). old ++ line_if before n.cut n t) after) c.in_ok-push_more.ensures
