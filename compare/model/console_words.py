@@ -12,7 +12,7 @@ COLUMNS = 36
 # What stands below that list.
 MORE_HELP = 'help WORD tells more of a word, and its short forms', 'an empty line does the last word once more'
 # The words that one needs first, and what stands below the list of these.
-FIRST = 'next', 'run', 'back', 'undo-choice', 'list', 'print', 'why', 'deadlock', 'blame', 'quit'
+FIRST = 'next', 'run', 'back', 'undo-choice', 'restart', 'break', 'list', 'print', 'why', 'deadlock', 'blame', 'quit'
 MORE_FIRST = ('help all lists all words; help WORD tells more of one, and its short forms', 'help choice tells what a choice is',
               'an empty line does the last word once more')
 CHOICE = ('choice: a state in which one of several steps is to be taken next, as which message a receive of any source gets; next lists them, '
@@ -67,7 +67,7 @@ TABLE = (
     Row(('deadlock',), (), "lays the first deadlock's steps ahead; the first from here, so that run and redo go there; at a deadlock ranks wait, "
         'and no step can be taken'),
     Row(('trap',), (), "lays the first trap's steps ahead; a trap ends a rank at an error, as a failed assert or a division by 0"),
-    Row(('blame',), (), 'goes to the step that decided how it ends; from there on every run ends badly'),
+    Row(('blame',), (), 'goes to the step that decided how it ends; after that step every run ends badly'),
     Row(('words',), (), 'lists the steps taken as trace words; to be kept in a file'),
     Row(('enabled',), (), 'lists the steps that are enabled'),
     Row(('show',), (), 'shows the whole state, as a trace does; docs/FORMATS.md, "Text of show"'),

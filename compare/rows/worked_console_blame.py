@@ -173,7 +173,7 @@ unknown word 'blam': perhaps blame
 > bl
 unknown word 'bl': perhaps blame
 > help blame
-blame: goes to the step that decided how it ends; from there on every run ends
+blame: goes to the step that decided how it ends; after that step every run ends
         badly
 '''),
     Dialogue('what decided the deadlock of a witness', 'stolen_message.mpd', f'''

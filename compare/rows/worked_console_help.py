@@ -77,6 +77,8 @@ next [N]                            takes the step that comes next
 run [N]                             goes on to a breakpoint, a choice or an end
 back [N]                            takes a step back, or so many
 undo-choice                         goes back to the last choice
+restart                             goes back to the start
+break LINE, break match LINE, break change P NAME sets a breakpoint
 list [P]                            shows the script, and where ranks stand
 print NAME [P]                      shows a variable or a request
 why [P], why CALL                   says why ranks wait

@@ -152,11 +152,13 @@ pub const TOPICS: [Topic; 33] = [
 ];
 
 /// The words of `help`, which one needs first.
-pub const FIRST: [Topic; 10] = [
+pub const FIRST: [Topic; 12] = [
     Topic::Next,
     Topic::Run,
     Topic::Back,
     Topic::UndoChoice,
+    Topic::Restart,
+    Topic::Break,
     Topic::List,
     Topic::Print,
     Topic::Why,
@@ -423,7 +425,7 @@ pub const TRAP: Told = (
 pub const BLAME: Told = (
     "blame",
     "goes to the step that decided how it ends",
-    "; from there on every run ends badly",
+    "; after that step every run ends badly",
     "",
 );
 
