@@ -34,6 +34,8 @@ def place_of(session, rank):
     return f'rank {rank} {doing}: {call}'
 
 
+if len(sys.argv) != 2:
+    sys.exit('usage: python3 examples/client.py FILE')
 session = Session(sys.argv[1])
 first = session.ask('run', max=1000000)
 print(f'behind {first["depth"]} steps: {first["stop"]}')
