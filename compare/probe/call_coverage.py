@@ -24,7 +24,7 @@ LEFT_OUT = {
     'mpd_witness': dict.fromkeys(('written_witness_is_read', 'written_witness_of_a_leaf_is_read'), 'a law'),
     'mpd_c': {'text_ends_its_last_line': 'a law'},
     'mpd_walk': {'ending_of': 'called by explore', 'is_untaken': 'called by steps_by_choices'},
-    'mpd_explore': {'push_choices': 'called by check', 'witness_here': 'called by explore', 'ends_with': 'called by explore', 'ends_with_report': 'called by check', 'same_trap': 'takes no memory'},
+    'mpd_explore': {'push_choices': 'called by check', 'witness_here': 'called by explore', 'ends_with': 'called by explore', 'ends_with_report': 'called by check', **dict.fromkeys(('same_trap', 'same_ending'), 'takes no memory')},
     'mpd_blame': {'blame_lines': 'called by check_outcomes', 'line_of_leaf': 'called by blame_lines', **dict.fromkeys(('blame_run', 'push_blame'), BY_WORDS)},
     'mpd_outcomes': {'push_count': 'called by check', 'is_met': 'called by explore_outcomes'},
     'mpd_explain': {
