@@ -212,7 +212,7 @@ def verifications_of(random, case, report):
 def verifications_of_groups(random, case, report):
     """What `verify` is asked of the report whose leaves are grouped by how they end: each by the number of its first leaf, and others."""
     told = read_report(report)
-    text = samples.grouped(told, case.asked)
+    text = samples.grouped_as_told(told, case.asked.witnesses)
     whole = Verification(case.script, text, case.asked.mode)
     firsts = list({str(leaf.outcome): number for number, leaf in reversed([*enumerate(told.leaves)])}.values())
     stuck = [number for number in firsts if told.leaves[number].steps]

@@ -168,11 +168,17 @@ def until_wrong(asked, base, said):
     return None if leaves_of(told) == leaves_of(wanted) and told.more == wanted.more else 'it does not end with the first deadlock that is drawn'
 
 
+def grouped_as_told(told, witnesses):
+    """The text of a report whose leaves are grouped by how it tells that they end: what is read of a report has no statements."""
+    leaves = tuple(Leaf(leaf.choices, leaf.steps or (), leaf.outcome) for leaf in told.leaves)
+    return explorer.group_text(Report(leaves, told.more), witnesses).encode()
+
+
 def grouped(told, asked):
-    """The text of a report whose leaves are grouped by how they end, which their runs tell: what is read of a report has no statements."""
+    """The text of a report whose leaves are grouped by how they end, which their runs tell."""
     begun = asked.begun()
-    leaves = tuple(Leaf(leaf.choices, leaf.steps or (), run_by(begun, leaf.choices, ends=True).outcome) for leaf in told.leaves)
-    return explorer.group_text(Report(leaves, told.more), asked.witnesses).encode()
+    leaves = tuple(leaf._replace(outcome=run_by(begun, leaf.choices, ends=True).outcome) for leaf in told.leaves)
+    return grouped_as_told(told._replace(leaves=leaves), asked.witnesses)
 
 
 def beside_wrong(asked, base, said):
