@@ -7,49 +7,59 @@ import re
 from probe.calls_program import SOURCES, TOP
 
 # Crates without code of their own, and programs and tests.
-NO_CALLS = ('mpd_laws', 'mpd_meaning', 'mpd_complete', 'mpd_rows', 'mpd_states', 'mpdbg')
+NO_CALLS = ('mpd_laws', 'mpd_meaning', 'mpd_complete', 'mpd_rows', 'mpdbg')
 BY_WORDS = 'called by the words of the console'
 LEFT_OUT = {
-    'mpd_lines': {'run_behind': 'called by trace, plain and serve', 'push_all': 'of room that is kept, called by them'},
-    'mpd_trace': {'finish': 'called by plain'},
-    'mpd_options': {'clash': 'called by check', 'word': 'called by check'},
-    'mpd_rank': {'anew': 'of a record, called by a step that is taken again'},
-    'mpd_counter': {'tick': 'a counter without bytes'}, 'mpd_device': {'into_inner': 'of a device that fails'},
+    'mpd_counter': {'tick': 'a counter without bytes'},
+    'mpd_model': {'lines_lose_nothing': 'a law', 'ids': 'called by verify and witness_of'},
     'mpd_queue': {'disjoint': 'a law'},
-    'mpd_core': {'all_ranks_are_there': 'a law'},
+    'mpd_rank': {'anew': 'of a record, called by a step that is taken again'},
+    'mpd_core': dict.fromkeys(('all_ranks_are_there', 'state_is_reached'), 'a law'),
     'mpd_policy': {
         **dict.fromkeys(('decisions_can_be_followed', 'wide_decisions_can_be_followed'), 'a law'), 'run_on': 'called by the request run-on',
-        **dict.fromkeys(('only_step', 'sole', 'last_hit'), BY_WORDS)},
-    'mpd_trail': {'state_is_reached': 'a law'}, 'mpd_model': {'lines_lose_nothing': 'a law', 'ids': 'called by verify and witness_of'},
+        'ending_of': 'called by explore', 'is_untaken': 'called by steps_by_choices', **dict.fromkeys(('only_step', 'sole', 'last_hit'), BY_WORDS)},
+    'mpd_lines': {
+        'run_behind': 'called by trace, plain and serve', 'push_all': 'of room that is kept, called by them',
+        'into_inner': 'of a device that fails', 'push_folded': BY_WORDS,
+        **dict.fromkeys(('long_lines_keep_their_words', 'long_lines_can_nowhere_be_cut'), 'a law')},
+    'mpd_trace': {
+        'finish': 'called by plain', **dict.fromkeys(('with_ranks', 'span_of'), 'takes no memory'),
+        **dict.fromkeys(('read_script_for', 'read_code_for', 'code_of_text', 'text_with_ranks'), 'called by the program with --ranks')},
+    'mpd_options': {'clash': 'called by check', 'word': 'called by check'},
     'mpd_witness': dict.fromkeys(('written_witness_is_read', 'written_witness_of_a_leaf_is_read'), 'a law'),
     'mpd_c': {'text_ends_its_last_line': 'a law'},
-    'mpd_walk': {'ending_of': 'called by explore', 'is_untaken': 'called by steps_by_choices'},
-    'mpd_explore': {'push_choices': 'called by check', 'witness_here': 'called by explore', 'ends_with': 'called by explore', 'ends_with_report': 'called by check', **dict.fromkeys(('same_trap', 'same_ending'), 'takes no memory')},
-    'mpd_blame': {'blame_lines': 'called by check_outcomes', 'line_of_leaf': 'called by blame_lines', **dict.fromkeys(('blame_run', 'push_blame'), BY_WORDS)},
-    'mpd_outcomes': {'push_count': 'called by check', 'is_met': 'called by explore_outcomes'},
+    'mpd_explore': {
+        **dict.fromkeys(('push_choices', 'ends_with_report'), 'called by check'), **dict.fromkeys(('witness_here', 'ends_with'), 'called by explore'),
+        **dict.fromkeys(('same_trap', 'same_ending'), 'takes no memory'),
+        **dict.fromkeys(('pieces_join_to_the_walk', 'each_piece_is_reached', 'no_choice_is_the_whole', 'no_more_is_the_whole'), 'a law')},
+    'mpd_blame': {
+        'blame_lines': 'called by check_outcomes', 'line_of_leaf': 'called by blame_lines', **dict.fromkeys(('blame_run', 'push_blame'), BY_WORDS)},
+    'mpd_outcomes': {
+        'push_count': 'called by check', 'is_met': 'called by explore_outcomes',
+        **dict.fromkeys(('enough_fuel_is_enough', 'same_futures_go_on_alike', 'same_futures_have_one_walk'), 'a law')},
+    'mpd_runs': {
+        'a_run_or_a_bad_choice': 'a law', 'counts_told': 'called by check_outcomes', **dict.fromkeys(('is_count', 'sees_all'), 'takes no memory'),
+        **dict.fromkeys(('seek', 'numbered_run', 'last_choice', 'name', 'push_runs', 'push_none', 'push_ahead', 'push_count', 'push_no_run',
+                         'push_no_choice'), BY_WORDS)},
     'mpd_explain': {
-        'text_at': 'called by check_outcomes', 'firsts': 'called by print_grouped', 'explanation_at': 'called by print_grouped',
+        'text_at': 'called by check_outcomes', **dict.fromkeys(('firsts', 'explanation_at'), 'called by print_grouped'),
         'calls_name_their_statements': 'a law',
-        **dict.fromkeys(('push_wish', 'push_helps', 'push_all_absent', 'push_told', 'requests'), BY_WORDS)},
+        **dict.fromkeys(('push_wish', 'push_helps', 'push_all_absent', 'push_told', 'requests', 'push_calls', 'push_enabled', 'push_history',
+                         'push_queues', 'push_ranks', 'push_standing', 'push_step', 'push_step_line', 'push_why', 'push_why_rank', 'push_why_ranks',
+                         'push_words', 'push_lost', 'push_all_lost', 'push_lost_told', 'lost_calls'), BY_WORDS)},
     'mpd_session': dict.fromkeys(('debugger', 'breaks', 'last_hit', 'lay'), BY_WORDS),
-    'mpd_view': dict.fromkeys(('push_calls', 'push_enabled', 'push_history', 'push_queues', 'push_ranks', 'push_standing', 'push_step', 'push_step_line',
-                               'push_why', 'push_why_rank', 'push_why_ranks', 'push_words', 'push_lost', 'push_all_lost', 'push_lost_told',
-                               'lost_calls'), BY_WORDS),
-    'mpd_moves': dict.fromkeys(('doing_of', 'goto_command', 'known_for', 'lead_of', 'lead_text', 'push_break_line', 'push_reply'), BY_WORDS),
-    'mpd_diagnose': {**dict.fromkeys(('full_command', 'ranks_line'), 'called by the program with --ranks'),
-                     **dict.fromkeys(('closing_of', 'diagnose_mode', 'first_of', 'modes_up_to', 'worst_of'), 'called by the program with --modes')},
-    'mpd_ranks': {'with_ranks': 'takes no memory', 'span_of': 'takes no memory', **dict.fromkeys(
-        ('read_script_for', 'read_code_for', 'code_of_text', 'text_with_ranks'), 'called by the program with --ranks')},
-    'mpd_fold': {'push_folded': BY_WORDS, **dict.fromkeys(('long_lines_keep_their_words', 'long_lines_can_nowhere_be_cut'), 'a law')},
-    'mpd_runs': {'a_run_or_a_bad_choice': 'a law', 'counts_told': 'called by check_outcomes', **dict.fromkeys(('is_count', 'sees_all'), 'takes no memory'), **dict.fromkeys((
-        'seek', 'numbered_run', 'last_choice', 'name', 'push_runs', 'push_none', 'push_ahead', 'push_count', 'push_no_run', 'push_no_choice'), BY_WORDS)},
-    'mpd_picture': {'arrows_are_pairs': 'a law'}, 'mpd_console': {'has_quit': 'called by the program behind a console'},
+    'mpd_diagnose': {
+        **dict.fromkeys(('full_command', 'ranks_line'), 'called by the program with --ranks'),
+        **dict.fromkeys(('closing_of', 'diagnose_mode', 'first_of', 'modes_up_to', 'worst_of'), 'called by the program with --modes')},
+    'mpd_picture': {'arrows_are_pairs': 'a law'},
     'mpd_vocabulary': dict.fromkeys(('line_of', 'push_fault', 'push_help'), BY_WORDS),
+    'mpd_console': {
+        'has_quit': 'called by the program behind a console',
+        **dict.fromkeys(('doing_of', 'goto_command', 'known_for', 'lead_of', 'lead_text', 'push_break_line', 'push_reply'), BY_WORDS)},
     'mpd_names': {
         'push_read': 'called by explain',
         **dict.fromkeys(('find_named', 'issue_line', 'rank_line', 'push_issuer', 'push_placed', 'push_spaced', 'push_break', 'push_cell_name', 'push_list',
-                         'push_list_about', 'push_named', 'push_source', 'push_variables'), BY_WORDS)},
-    'mpd_pieces': dict.fromkeys(('pieces_join_to_the_walk', 'each_piece_is_reached', 'no_choice_is_the_whole', 'no_more_is_the_whole'), 'a law')}
+                         'push_list_about', 'push_named', 'push_source', 'push_variables'), BY_WORDS)}}
 
 
 def text_of(path):

@@ -210,7 +210,7 @@ def trails():
         yield Row('Debugger looks, forget_undone, put_steps', MESSAGE, lines, spares=True)
     for steps, script in ((ENDED, MESSAGE), (STUCK, RACE), (('local 0', 'local 1', 'release'), MEETING)):
         for count, step in enumerate(steps):
-            for call in ('Debugger::apply', 'mpd_trail::answer', 'Debugger::forward'):
+            for call in ('Debugger::apply', 'mpd_core::answer', 'Debugger::forward'):
                 yield Row(call, script, steps[:count], step)
             yield Row('Debugger::undo', script, steps[:count], spares=True)
             yield Row('Debugger::undo_to', script, steps[:count], str(count // 2), spares=True)
@@ -219,10 +219,10 @@ def trails():
     yield Row('Debugger::apply', MESSAGE, (*SENT, 'goto 0'), 'local 1')
     yield Row('Debugger::apply', MESSAGE, (*SENT, 'goto 0'), 'local 0')
     yield Row('Debugger::apply', MESSAGE, SENT, 'wake 0', steady=True)
-    yield Row('mpd_trail::answer', MESSAGE, SENT, 'wake 0', steady=True)
+    yield Row('mpd_core::answer', MESSAGE, SENT, 'wake 0', steady=True)
     yield Row('Debugger::redo', MESSAGE, SENT, spares=True)
     yield Row('Debugger::undo_to', MESSAGE, SENT, '5', spares=True)
-    for call in ('mpd_trail::follow', 'mpd_trail::replay'):
+    for call in ('mpd_core::follow', 'mpd_core::replay'):
         yield Row(call, MESSAGE, (*ENDED, 'local 0', 'back', 'redo', 'redo', 'goto 9', 'goto 2', 'local 1', 'back', 'goto 0', 'back'))
     yield from runs()
 
@@ -255,7 +255,7 @@ def reports():
             yield Row('sample', script, (), limits, mode)
         yield Row('print_report', script, (), '10 100 witnesses', mode)
         yield Row('push_leaves, push_total', script, (), '10 100 witnesses', mode)
-        yield Row('mpd_pool::print_report', script, (), '2 10 100 witnesses', mode)
+        yield Row('mpd_check::print_report', script, (), '2 10 100 witnesses', mode)
         yield Row('push_leaf_text', script, (), '10 100', mode)
         yield Row('Report looks', script, (), '10 100', mode, spares=True)
     yield Row('explore', RACE, (*CHOICE, 'match 1.0 0.0'), '10 100 witnesses')
@@ -313,11 +313,11 @@ def checks():
     yield Row('explore_by_pieces', RACE, (), '1 10 100 until')
     for workers in (1, 2, 16):
         for split_by in (0, 1):
-            yield Row('mpd_pool::check', RACE, (), f'{workers} {split_by} 10 100 witnesses')
+            yield Row('mpd_check::check_by_workers', RACE, (), f'{workers} {split_by} 10 100 witnesses')
         yield Row('mpd_check::check', RACE, (), f'{workers} 1 10 100 witnesses')
-    yield Row('mpd_pool::check', RACE, CHOICE, '2 1 10 100')
+    yield Row('mpd_check::check_by_workers', RACE, CHOICE, '2 1 10 100')
     for workers in (0, 17):
-        yield Row('mpd_pool::check', RACE, (), f'{workers} 1 10 100', spares=True)
+        yield Row('mpd_check::check_by_workers', RACE, (), f'{workers} 1 10 100', spares=True)
         yield Row('mpd_check::check', RACE, (), f'{workers} 1 10 100', spares=True)
     for piece in (0, 1, 2):
         yield Row('check_piece', RACE, (), f'{piece} 1 10 100 witnesses')
@@ -340,7 +340,7 @@ def checks_of_ends():
         for choices in ('-', '0', '1'):
             yield Row('explore_at', script, (), f'{choices} 10 100 ends witnesses', mode)
         for workers in (1, 2):
-            yield Row('mpd_pool::check', script, (), f'{workers} 1 10 100 ends witnesses', mode)
+            yield Row('mpd_check::check_by_workers', script, (), f'{workers} 1 10 100 ends witnesses', mode)
             yield Row('mpd_check::check', script, (), f'{workers} 1 10 100 ends witnesses', mode)
         for piece in (0, 1, 2):
             yield Row('check_piece', script, (), f'{piece} 1 10 100 ends witnesses', mode)
@@ -353,7 +353,7 @@ def checks_of_ends():
     for choices in ('0,0', '1,0', '1,1', '2,0', '2,1'):
         yield Row('explore_at', TWO_RACES, (), f'{choices} 10 200 ends', most=40)
     yield Row('explore_by_pieces', TWO_RACES, (), '2 10 200 ends', most=40)
-    yield Row('mpd_pool::check', TWO_RACES, (), '2 2 10 200 ends', most=40)
+    yield Row('mpd_check::check_by_workers', TWO_RACES, (), '2 2 10 200 ends', most=40)
 
 
 # Requests that lead to places of a session: at the choice of a race, with breakpoints, and with steps undone.

@@ -47,9 +47,9 @@ SECONDS = 60
 # Before a program that is to have a stack of 512 KiB (docs/LANGUAGE.md, "Limits").
 SMALL_STACK = ('sh', '-c', 'ulimit -S -s 512 && exec "$0" "$@"')
 # Of these, which go on behind a refusal, each line is judged by itself.
-BY_LINES = ('mpd_trail::follow', 'trace', 'plain', 'plain_keeping', 'serve', 'run_script', *call_consoles.TALKS)
+BY_LINES = ('mpd_core::follow', 'trace', 'plain', 'plain_keeping', 'serve', 'run_script', *call_consoles.TALKS)
 # What threads ask for isn't the same each time, and what a worker is refused its caller does.
-BY_WORKERS = ('mpd_pool::check', 'mpd_check::check', 'check_listing')
+BY_WORKERS = ('mpd_check::check_by_workers', 'mpd_check::check', 'check_listing')
 # Of the reports that the shim writes, each run has its own.
 NUMBERS = itertools.count()
 SECTION = re.compile(r'^= (state|answer|memory|end)\n', re.M)
@@ -131,7 +131,7 @@ def problem_of_replies(row, seen):
 
 def problem_by_lines(row, seen, sound):
     """What is wrong with the lines that were written, of which some may be refused memory."""
-    if row.call == 'mpd_trail::follow':
+    if row.call == 'mpd_core::follow':
         return problem_of_replies(row, seen)
     if seen.names != ['state', 'answer', 'state', 'end'] or seen.texts('answer') != [sound.answer]:
         return difference(seen.sections, told(sound))

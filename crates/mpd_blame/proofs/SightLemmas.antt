@@ -8,7 +8,7 @@ use Rattle.std.proofs.lemmas.List.Folds.{list_any-append}
 use Rattle.mpd_model.specs.declared.step.Step.{Step}
 use Rattle.mpd_model.specs.steps.World.{World}
 use Rattle.mpd_policy.specs.Wide.{wide_decision}
-use Rattle.mpd_walk.specs.Walk.{Run, run_by, steps_by, wide_walk}
+use Rattle.mpd_policy.specs.Walk.{Run, run_by, steps_by, wide_walk}
 use Rattle.mpd_explore.specs.declared.report.Leaf.{Leaf}
 use Rattle.mpd_explore.specs.Report.{shown}
 use Rattle.mpd_outcomes.specs.declared.report.Outcomes.{Outcomes}

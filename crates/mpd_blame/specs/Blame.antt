@@ -9,7 +9,7 @@ use Rattle.mpd_model.specs.steps.World.{World}
 use Rattle.mpd_model.specs.steps.Next.{fold}
 use Rattle.mpd_model.specs.runs.Trail.{Standing, IsReached, forgotten, gone_back}
 use Rattle.mpd_policy.specs.Wide.{wide_decision}
-use Rattle.mpd_walk.specs.Walk.{Run, run_by}
+use Rattle.mpd_policy.specs.Walk.{Run, run_by}
 use Rattle.mpd_explore.specs.declared.report.Leaf.{Leaf}
 use Rattle.mpd_outcomes.specs.declared.report.Goal.TheVariants as goal_is
 use Rattle.mpd_outcomes.specs.Goals.{meets, states_along}

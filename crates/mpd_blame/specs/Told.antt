@@ -8,7 +8,7 @@ use Rattle.mpd_model.specs.steps.World.{World, start}
 use Rattle.mpd_model.specs.runs.Trail.{Standing}
 use Rattle.mpd_model.specs.texts.Texts.{line}
 use Rattle.mpd_policy.specs.Wide.{wide_decision}
-use Rattle.mpd_walk.specs.Walk.{run_by, steps_by}
+use Rattle.mpd_policy.specs.Walk.{run_by, steps_by}
 use Rattle.mpd_explore.specs.declared.report.Leaf.{Leaf}
 use Rattle.mpd_blame.specs.declared.back.Blame.{Blame}
 use Rattle.mpd_blame.specs.Blame.{ends_badly, IsBlame, IsThere}

@@ -4,10 +4,10 @@ ghost use Rattle.std.specs.Prelude.{◌≡◌, ◌-◌, ◌+◌, ◌≤◌, ◌<
 ghost use Rattle.std.specs.List.{AllByRecursion, find, list_all};
 ghost use Rattle.std.specs.Option.{option_map};
 ghost use Rattle.mpd_model.specs.runs.Trail.{done_steps};
-ghost use Rattle.mpd_trail.specs.Views.{AsFound, standing_of};
+ghost use Rattle.mpd_core.specs.DebuggerViews.{AsFound, standing_of};
 ghost use Rattle.mpd_policy.specs.Wide.{wide_decision};
-ghost use Rattle.mpd_walk.specs.Walk.{run_by, steps_by};
-ghost use Rattle.mpd_walk.specs.Walks.{Beyond};
+ghost use Rattle.mpd_policy.specs.Walk.{run_by, steps_by};
+ghost use Rattle.mpd_policy.specs.Walks.{Beyond};
 ghost use Rattle.mpd_explore.specs.Witness.{HasWitness};
 ghost use Rattle.mpd_outcomes.specs.declared.report.Goal.TheVariants as goal_is;
 ghost use Rattle.mpd_outcomes.specs.Outcomes.{leaves_from};
@@ -15,11 +15,11 @@ ghost use Rattle.mpd_outcomes.specs.Goals.{states_along, StopsFor, StopsRuns};
 ghost use Rattle.mpd_blame.specs.declared.sight.Sight.TheVariants as sight_is;
 ghost use Rattle.mpd_blame.specs.Blame.{ends_well, ends_badly, Sees};
 
+use mpd_core::Debugger;
 use mpd_explore::Leaf;
 use mpd_model::{STEPS_MAX, Step};
 use mpd_outcomes::{Goal, Outcomes, StateLimits, explore_outcomes};
-use mpd_trail::Debugger;
-use mpd_walk::{Wide, follow, put_back};
+use mpd_policy::{Wide, follow, put_back};
 use std::alloc::{AllocError, Global};
 
 /// What is known of the runs from a state.

@@ -3,22 +3,21 @@
 ghost use Rattle.std.specs.Prelude.{◌≡◌, ◌≤◌, ◌<◌, ◌++◌, true, IfOk, OnErr, IsSome, length, map, string_bytes};
 ghost use Rattle.std.specs.List.{AllByRecursion};
 ghost use Rattle.mpd_model.specs.runs.Trail.{done_steps};
-ghost use Rattle.mpd_trail.specs.Views.{AsFound, standing_of};
+ghost use Rattle.mpd_core.specs.DebuggerViews.{AsFound, standing_of};
 ghost use Rattle.mpd_policy.specs.Wide.{wide_decision};
-ghost use Rattle.mpd_walk.specs.Walk.{run_by, steps_by};
-ghost use Rattle.mpd_walk.specs.Walks.{Beyond};
+ghost use Rattle.mpd_policy.specs.Walk.{run_by, steps_by};
+ghost use Rattle.mpd_policy.specs.Walks.{Beyond};
 ghost use Rattle.mpd_explore.specs.Witness.{HasWitness};
 ghost use Rattle.mpd_blame.specs.Told.{blame_line, AreBlamed, IsBlamed, IsLine};
 ghost use Rattle.mpd_blame.specs.Blame.{ends_badly, IsBack};
 
 use crate::back::{Blame, blame_run};
 use crate::words::push_blame;
-use mpd_core::Core;
+use mpd_core::{Core, Debugger};
 use mpd_explore::Leaf;
 use mpd_model::STEPS_MAX;
 use mpd_outcomes::{Goal, StateLimits};
-use mpd_trail::Debugger;
-use mpd_walk::{Wide, follow, put_back};
+use mpd_policy::{Wide, follow, put_back};
 use std::alloc::{AllocError, Global};
 
 /// Where it was decided how a run ends, as a line that begins with two spaces. The core is in the state before the step that decided it.

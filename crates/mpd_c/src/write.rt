@@ -3,8 +3,7 @@
 ghost use Rattle.mpd_c.specs.Written.{WroteC};
 
 use crate::script::print_c;
-use mpd_device::Sink;
-use mpd_lines::{EngineFault, write_all};
+use mpd_lines::{EngineFault, Sink, write_all};
 use mpd_model::Script;
 use std::alloc::Global;
 

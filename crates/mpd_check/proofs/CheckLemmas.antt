@@ -7,20 +7,20 @@ use Rattle.mpd_model.specs.declared.call.Mode.{Mode}
 use Rattle.mpd_model.specs.script.Program.{Program}
 use Rattle.mpd_model.specs.steps.World.{start}
 use Rattle.mpd_model.specs.runs.Trail.{Standing, first_standing}
-use Rattle.mpd_device.specs.Seen.{SinkSeen}
+use Rattle.mpd_lines.specs.Seen.{SinkSeen}
 use Rattle.mpd_lines.specs.declared.engine.EngineFault.TheVariants.{ReadFailed, WriteFailed, TooManyTurns, Memory}
 use Rattle.mpd_explore.specs.Sleeping.{decides_by}
-use Rattle.mpd_pieces.specs.declared.splitter.TheConstants.{PIECES_MAX}
-use Rattle.mpd_pieces.specs.declared.splitter.Piece.{Piece}
-use Rattle.mpd_pieces.specs.declared.splitter.SplitFault.{SplitFault}
-use Rattle.mpd_pieces.specs.declared.splitter.SplitFault.TheVariants as split
-use Rattle.mpd_pieces.specs.Pieces.{numbered, Reaches}
-use Rattle.mpd_pieces.specs.Along.{choices_of}
-use Rattle.mpd_pieces.proofs.PieceLemmas.{numbered_choices}
-use Rattle.mpd_pieces.proofs.SplitLemmas.{reached_at, level_reached}
-use Rattle.mpd_pool.specs.declared.pool.CheckPlan.{CheckPlan}
-use Rattle.mpd_pool.specs.declared.pool.PoolFault.{PoolFault}
-use Rattle.mpd_pool.specs.declared.pool.PoolFault.TheVariants as pool
+use Rattle.mpd_explore.specs.declared.splitter.TheConstants.{PIECES_MAX}
+use Rattle.mpd_explore.specs.declared.splitter.Piece.{Piece}
+use Rattle.mpd_explore.specs.declared.splitter.SplitFault.{SplitFault}
+use Rattle.mpd_explore.specs.declared.splitter.SplitFault.TheVariants as split
+use Rattle.mpd_explore.specs.Pieces.{numbered, Reaches}
+use Rattle.mpd_explore.specs.Along.{choices_of}
+use Rattle.mpd_explore.proofs.PieceLemmas.{numbered_choices}
+use Rattle.mpd_explore.proofs.SplitLemmas.{reached_at, level_reached}
+use Rattle.mpd_check.specs.declared.pool.CheckPlan.{CheckPlan}
+use Rattle.mpd_check.specs.declared.pool.PoolFault.{PoolFault}
+use Rattle.mpd_check.specs.declared.pool.PoolFault.TheVariants as pool
 use Rattle.mpd_check.specs.declared.Told.{Told}
 use Rattle.mpd_check.specs.declared.fault.CheckFault.{CheckFault}
 use Rattle.mpd_check.specs.declared.fault.CheckFault.TheVariants.{BadWorkers, TooManyPieces, NoSuchPiece, Engine}

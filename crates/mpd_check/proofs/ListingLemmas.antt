@@ -2,7 +2,7 @@
 use Rattle.std.proofs.Common.{◌≡◌, ℕ, Bool, List, [], Result, Ok, Err, refl, ap, ap₂, ◌∙◌}
 use Rattle.mpd_model.specs.declared.call.Mode.{Mode}
 use Rattle.mpd_model.specs.script.Program.{Program}
-use Rattle.mpd_device.specs.Seen.{SinkSeen}
+use Rattle.mpd_lines.specs.Seen.{SinkSeen}
 use Rattle.mpd_explore.specs.declared.report.Limits.{Limits}
 use Rattle.mpd_model.specs.steps.World.{World, start}
 use Rattle.mpd_model.specs.runs.Trail.{Standing, first_standing}
@@ -14,8 +14,8 @@ use Rattle.mpd_explore.specs.WitnessTexts.{witness_texts}
 use Rattle.mpd_explore.proofs.PrintLemmas.{told_reports}
 use Rattle.mpd_explain.specs.Explanations.{explained_at}
 use Rattle.mpd_explain.proofs.PrintLemmas.{plain_told}
-use Rattle.mpd_pieces.specs.Pieces.{split_report, split_more}
-use Rattle.mpd_pool.specs.declared.pool.CheckPlan.{CheckPlan}
+use Rattle.mpd_explore.specs.Pieces.{split_report, split_more}
+use Rattle.mpd_check.specs.declared.pool.CheckPlan.{CheckPlan}
 use Rattle.mpd_lines.specs.declared.engine.EngineFault.{EngineFault}
 use Rattle.mpd_lines.specs.declared.engine.EngineFault.TheVariants.{ReadFailed, WriteFailed, TooManyTurns, Memory}
 use Rattle.mpd_check.specs.declared.counts.Tally.{Tally}

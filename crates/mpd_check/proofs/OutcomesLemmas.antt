@@ -5,8 +5,8 @@ use Rattle.mpd_model.specs.declared.call.Mode.{Mode}
 use Rattle.mpd_model.specs.script.Program.{Program}
 use Rattle.mpd_model.specs.steps.World.{World, start}
 use Rattle.mpd_model.specs.runs.Trail.{Trail, Standing}
-use Rattle.mpd_trail.specs.Views.{DebuggerView, standing_of}
-use Rattle.mpd_device.specs.Seen.{SinkSeen}
+use Rattle.mpd_core.specs.DebuggerViews.{DebuggerView, standing_of}
+use Rattle.mpd_lines.specs.Seen.{SinkSeen}
 use Rattle.mpd_explore.specs.declared.report.Leaf.{Leaf}
 use Rattle.mpd_outcomes.specs.declared.report.Count.{Count}
 use Rattle.mpd_outcomes.specs.declared.report.Outcomes.{Outcomes}

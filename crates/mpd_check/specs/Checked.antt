@@ -6,14 +6,14 @@ use Rattle.mpd_model.specs.declared.call.Mode.{Mode}
 use Rattle.mpd_model.specs.script.Program.{Program}
 use Rattle.mpd_model.specs.steps.World.{start}
 use Rattle.mpd_model.specs.texts.Texts.{line}
-use Rattle.mpd_device.specs.Seen.{SinkSeen}
+use Rattle.mpd_lines.specs.Seen.{SinkSeen}
 use Rattle.mpd_explore.specs.declared.report.Leaf.{Leaf}
 use Rattle.mpd_explore.specs.Sleeping.{decides_by}
 use Rattle.mpd_explore.specs.ReportText.{report_text}
-use Rattle.mpd_pieces.specs.declared.splitter.TheConstants.{PIECES_MAX}
-use Rattle.mpd_pieces.specs.Pieces.{pieces, part, part_left, split_report, split_more}
-use Rattle.mpd_pool.specs.declared.pool.TheConstants.{WORKERS_MAX}
-use Rattle.mpd_pool.specs.declared.pool.CheckPlan.{CheckPlan}
+use Rattle.mpd_explore.specs.declared.splitter.TheConstants.{PIECES_MAX}
+use Rattle.mpd_explore.specs.Pieces.{pieces, part, part_left, split_report, split_more}
+use Rattle.mpd_check.specs.declared.pool.TheConstants.{WORKERS_MAX}
+use Rattle.mpd_check.specs.declared.pool.CheckPlan.{CheckPlan}
 use Rattle.mpd_lines.specs.declared.engine.EngineFault.TheVariants.{ReadFailed, WriteFailed, TooManyTurns, Memory}
 use Rattle.mpd_lines.specs.Telling.{AppendsPart}
 use Rattle.mpd_check.specs.declared.fault.CheckFault.{CheckFault}

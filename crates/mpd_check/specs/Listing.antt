@@ -6,17 +6,17 @@ use Rattle.mpd_model.specs.declared.decision.Decision.{Decision}
 use Rattle.mpd_model.specs.steps.World.{World, start}
 use Rattle.mpd_model.specs.runs.Trail.{Standing, first_standing, done_steps}
 use Rattle.mpd_policy.specs.Wide.{wide_decision}
-use Rattle.mpd_device.specs.Seen.{SinkSeen}
+use Rattle.mpd_lines.specs.Seen.{SinkSeen}
 use Rattle.mpd_explore.specs.declared.report.Leaf.{Leaf}
 use Rattle.mpd_explore.specs.declared.report.Limits.{Limits}
-use Rattle.mpd_walk.specs.Walk.{wide_walk}
+use Rattle.mpd_policy.specs.Walk.{wide_walk}
 use Rattle.mpd_explore.specs.Sleeping.{decides_by}
 use Rattle.mpd_explore.specs.Report.{shown, ended_by}
 use Rattle.mpd_explore.specs.WitnessTexts.{witness_texts}
 use Rattle.mpd_explain.specs.Explanations.{explained_at}
 use Rattle.mpd_explain.specs.Told.{explained_text}
-use Rattle.mpd_sample.specs.Drawn.{seeded, draws, sampled}
-use Rattle.mpd_pool.specs.declared.pool.CheckPlan.{CheckPlan}
+use Rattle.mpd_runs.specs.Drawn.{seeded, draws, sampled}
+use Rattle.mpd_check.specs.declared.pool.CheckPlan.{CheckPlan}
 use Rattle.mpd_lines.specs.declared.engine.EngineFault.{EngineFault}
 use Rattle.mpd_lines.specs.declared.engine.EngineFault.TheVariants.{ReadFailed, WriteFailed, TooManyTurns, Memory}
 use Rattle.mpd_check.specs.declared.fault.CheckFault.{CheckFault}

@@ -5,9 +5,9 @@ use Rattle.mpd_model.specs.declared.outcome.Outcome.TheVariants as outcome
 use Rattle.mpd_model.specs.steps.World.{is_limited}
 use Rattle.mpd_model.specs.script.Tree.{block_of}
 use Rattle.mpd_model.specs.script.Program.{Program, IsBlockOf}
-use Rattle.mpd_walk.specs.declared.ending.Ending.{Ending}
-use Rattle.mpd_walk.specs.declared.ending.Ending.TheVariants.{Ended}
-use Rattle.mpd_walk.specs.declared.ending.Ending.TheVariants as ends
+use Rattle.mpd_policy.specs.declared.ending.Ending.{Ending}
+use Rattle.mpd_policy.specs.declared.ending.Ending.TheVariants.{Ended}
+use Rattle.mpd_policy.specs.declared.ending.Ending.TheVariants as ends
 use Rattle.mpd_explore.specs.declared.report.Leaf.{Leaf}
 use Rattle.mpd_lines.specs.declared.verdict.Verdict.{Verdict}
 use Rattle.mpd_lines.specs.declared.verdict.Verdict.TheVariants.{Good, Bad, NotWhole}

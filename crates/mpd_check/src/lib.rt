@@ -1,32 +1,42 @@
-//! Looks for deadlocks and traps: a script is explored from its start, or runs of it are drawn, and the report is written to a sink.
+//! Looks for deadlocks and traps: a script is explored from its start by workers, with the same report for every number of them, or runs
+//! of it are drawn, and the report is written to a sink.
 #![tactic(auto)]
 
 pub mod counts;
+pub mod deque;
 pub mod fault;
+pub mod gate;
+mod join;
 pub mod listing;
 pub mod modes;
 pub mod outcomes;
 pub mod part;
+pub mod pool;
+pub mod print;
+mod slots;
+mod work;
 
-ghost use Rattle.std.specs.Prelude.{◌≡◌, ◌↔◌, ◌≤◌, ◌<◌, ◌⊎◌, true, IfOk, OnOk, IsErrOf, length, string_bytes};
 ghost use Rattle.mpd_check.specs.Checked.{pieces_of, leaves_of, more_of, text_of, AreFew, IsCrew, Answered, Put};
 ghost use Rattle.mpd_check.specs.Refused.{refused_by};
 ghost use Rattle.mpd_check.specs.Tally.{tally_of};
+ghost use Rattle.std.specs.Prelude.{◌≡◌, ◌↔◌, ◌≤◌, ◌<◌, ◌⊎◌, true, IfOk, OnOk, IsErrOf, length, string_bytes};
 
 use crate::counts::tally_of;
 pub use counts::Tally;
+pub use deque::{EachOnce, Given, Hand, Owner, Pushed, Taken, Thief, WorkerPass, filled};
 pub use fault::CheckFault;
+pub use gate::{Gate, Ungated};
 pub use listing::{SamplePlan, Telling, Wanted, check_listing, check_sample};
 pub use modes::{Tried, check_mode, put_least};
 use mpd_code::Subject;
-use mpd_device::Sink;
-use mpd_lines::{EngineFault, write_all};
+use mpd_core::Debugger;
+use mpd_explore::PIECES_MAX;
+use mpd_lines::{EngineFault, Sink, write_all};
 use mpd_model::STEPS_MAX;
-use mpd_pieces::PIECES_MAX;
-use mpd_pool::{CheckPlan, Crew, Gate, PoolFault, WORKERS_MAX, print_report};
-use mpd_trail::Debugger;
 pub use outcomes::{OutcomesFound, OutcomesPlan, check_mode_outcomes, check_outcomes};
 pub use part::{check_piece, count_pieces};
+pub use pool::{CheckPlan, Crew, PoolFault, WORKERS_MAX, check_by_workers};
+pub use print::print_report;
 use std::alloc::Global;
 use std::marker::Sync;
 use std::thread::Threads;
@@ -84,7 +94,7 @@ fn tell<G: Gate, R: Threads + Sync>(
     let Ok(mut debugger) = Debugger::start(alloc, subject.code, subject.mode) else {
         return Err(PoolFault::Memory);
     };
-    let report = match mpd_pool::check(crew, alloc, &mut debugger, plan, gate) {
+    let report = match crate::check_by_workers(crew, alloc, &mut debugger, plan, gate) {
         Ok(report) => report,
         Err(fault) => {
             drop(debugger);

@@ -3,7 +3,7 @@
 ghost use Rattle.std.specs.Prelude.{◌≡◌, ◌≤◌, ◌<◌, ◌+◌, ◌⊎◌, ◌&&◌, false, not, IfOk, OnOk, IsErrOf, length, map, string_bytes};
 ghost use Rattle.std.specs.List.{AllByRecursion};
 ghost use Rattle.mpd_model.specs.runs.Trail.{done_steps, IsReached};
-ghost use Rattle.mpd_trail.specs.Views.{standing_of};
+ghost use Rattle.mpd_core.specs.DebuggerViews.{standing_of};
 ghost use Rattle.mpd_policy.specs.Wide.{wide_decision};
 ghost use Rattle.mpd_explore.specs.Sleeping.{decides_by};
 ghost use Rattle.mpd_explore.specs.Witness.{HasWitness};
@@ -15,18 +15,17 @@ ghost use Rattle.mpd_check.specs.Tally.{tally_of};
 
 use crate::counts::{Tally, tally_of};
 use crate::fault::CheckFault;
+use crate::gate::Gate;
+use crate::pool::{CheckPlan, Crew, PoolFault, WORKERS_MAX};
 use crate::{Told, is_crew, put, refused};
 use mpd_code::Subject;
-use mpd_device::Sink;
+use mpd_core::Debugger;
 use mpd_explain::{Beside, explain_all, print_explained, print_grouped};
-use mpd_explore::{Limits, Report, Watch};
-use mpd_lines::{EngineFault, write_all};
+use mpd_explore::{Limits, PIECES_MAX, Report, Watch};
+use mpd_lines::{EngineFault, Sink, write_all};
 use mpd_model::STEPS_MAX;
-use mpd_pieces::PIECES_MAX;
-use mpd_pool::{CheckPlan, Crew, Gate, PoolFault, WORKERS_MAX};
-use mpd_sample::sample;
-use mpd_trail::Debugger;
-use mpd_walk::{Plain, Schedule, Wide};
+use mpd_policy::{Plain, Schedule, Wide};
+use mpd_runs::sample;
 use std::alloc::{AllocError, Global};
 use std::marker::Sync;
 use std::thread::Threads;
@@ -182,7 +181,7 @@ fn tell_listing<G: Gate, R: Threads + Sync>(
         limits: limits_for(wanted.plan.limits, wanted.telling),
         ..wanted.plan
     };
-    let report = match mpd_pool::check(crew, alloc, &mut debugger, plan, gate) {
+    let report = match crate::check_by_workers(crew, alloc, &mut debugger, plan, gate) {
         Ok(report) => report,
         Err(fault) => {
             drop(debugger);

@@ -6,7 +6,7 @@ ghost use Rattle.std.specs.List.{AllByRecursion};
 ghost use Rattle.mpd_model.specs.runs.Trail.{done_steps, first_standing};
 ghost use Rattle.mpd_policy.specs.Wide.{wide_decision};
 ghost use Rattle.mpd_explore.specs.Witness.{HasWitness};
-ghost use Rattle.mpd_trail.specs.Views.{AsFound, standing_of};
+ghost use Rattle.mpd_core.specs.DebuggerViews.{AsFound, standing_of};
 ghost use Rattle.mpd_explain.specs.Told.{behind_leaf};
 ghost use Rattle.mpd_outcomes.specs.Goals.{AreTold};
 ghost use Rattle.mpd_check.specs.OutcomesText.{found_in, outcome_line, outcome_lines, outcomes_line, outcomes_text, AreDecided, IsModeLine, IsOutcomesText, IsTextOf, ModeOutcomesAnswered, OutcomesAnswered, PutOutcomes};
@@ -16,15 +16,14 @@ use crate::listing::explanations_of;
 use crate::modes::{Listed, line_of};
 use mpd_blame::blame_lines;
 use mpd_code::Subject;
-use mpd_device::Sink;
+use mpd_core::Debugger;
 use mpd_explain::{push_behind, text_at};
 use mpd_explore::{Leaf, push_leaf_text};
-use mpd_lines::{EngineFault, write_all};
+use mpd_lines::{EngineFault, Sink, write_all};
 use mpd_model::STEPS_MAX;
 use mpd_outcomes::{Count, Outcomes, StateLimits, explore_outcomes, push_count};
+use mpd_policy::Wide;
 use mpd_runs::{WayCounts, counts_told};
-use mpd_trail::Debugger;
-use mpd_walk::Wide;
 use std::alloc::{AllocError, Global};
 
 /// How the ways to end are looked for.

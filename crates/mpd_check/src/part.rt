@@ -2,9 +2,9 @@
 
 ghost use Rattle.std.specs.Prelude.{◌≡◌, ◌≤◌, ◌<◌, IfOk, OnOk, IsErrOf, length, string_bytes};
 ghost use Rattle.mpd_model.specs.runs.Trail.{first_standing};
-ghost use Rattle.mpd_trail.specs.Views.{standing_of};
+ghost use Rattle.mpd_core.specs.DebuggerViews.{standing_of};
 ghost use Rattle.mpd_explore.specs.Sleeping.{decides_by};
-ghost use Rattle.mpd_pieces.specs.Pieces.{numbered, Reaches};
+ghost use Rattle.mpd_explore.specs.Pieces.{numbered, Reaches};
 ghost use Rattle.mpd_check.specs.Checked.{pieces_of, leaves_at, more_at, count_text, AreFew, Counted, PartAnswered, PartTold};
 ghost use Rattle.mpd_check.specs.Listing.{part_text, plain_part, IsPlain};
 ghost use Rattle.mpd_check.specs.Refused.{split_refused};
@@ -14,15 +14,13 @@ use crate::counts::Tally;
 use crate::fault::CheckFault;
 use crate::listing::{Wanted, limits_for, told_by};
 use crate::modes::put_text;
+use crate::pool::CheckPlan;
 use crate::{Told, put};
 use mpd_code::Subject;
-use mpd_device::Sink;
-use mpd_explore::Watch;
-use mpd_lines::EngineFault;
+use mpd_core::Debugger;
+use mpd_explore::{PIECES_MAX, Piece, SplitFault, Watch, explore_at, split};
+use mpd_lines::{EngineFault, Sink};
 use mpd_model::STEPS_MAX;
-use mpd_pieces::{PIECES_MAX, Piece, SplitFault, explore_at, split};
-use mpd_pool::CheckPlan;
-use mpd_trail::Debugger;
 use std::alloc::{AllocError, Global};
 
 /// A debugger at the start of a script, and the pieces of its runs.

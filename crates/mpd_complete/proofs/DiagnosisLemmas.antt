@@ -6,7 +6,7 @@ use Rattle.mpd_model.specs.declared.call.Mode.{Mode}
 use Rattle.mpd_model.specs.script.Program.{Program}
 use Rattle.mpd_model.specs.steps.World.{World, start}
 use Rattle.mpd_model.specs.runs.Trail.{first_standing}
-use Rattle.mpd_walk.specs.Walk.{wide_walk}
+use Rattle.mpd_policy.specs.Walk.{wide_walk}
 use Rattle.mpd_explore.specs.declared.report.Leaf.{Leaf}
 use Rattle.mpd_explore.specs.Report.{shown}
 use Rattle.mpd_explore.proofs.ListedLemmas.{both_true, not_less}

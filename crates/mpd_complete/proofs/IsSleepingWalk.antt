@@ -14,11 +14,11 @@ use Rattle.mpd_model.specs.steps.World.{World, Board, start, id_eq, kind_at, par
 use Rattle.mpd_model.specs.steps.Next.{local_at, next, fold}
 use Rattle.mpd_model.specs.runs.Decisions.{is_open_match}
 use Rattle.mpd_model.specs.runs.Trail.{step_eq}
-use Rattle.mpd_trail.proofs.StepLemmas.{step_eq-same}
+use Rattle.mpd_core.proofs.TrailLemmas.{step_eq-same}
 use Rattle.mpd_policy.specs.Wide.{lacks_slot, issues_standard, is_full, conflict, is_asleep, sleeps_on, wide_decision}
 use Rattle.mpd_policy.proofs.QuietLemmas.{never_full}
-use Rattle.mpd_walk.specs.Asleep.{same_match}
-use Rattle.mpd_walk.specs.Walk.{stepped, chosen, runs_of, stopped}
+use Rattle.mpd_policy.specs.Asleep.{same_match}
+use Rattle.mpd_policy.specs.Walk.{stepped, chosen, runs_of, stopped}
 use Rattle.mpd_explore.specs.Sleeping.{awake_runs, awake_by, sleeping_wide_walk}
 use Rattle.mpd_laws.proofs.ordered.Eligible.{clash}
 use Rattle.mpd_laws.proofs.ordered.Orderly.{same_id}

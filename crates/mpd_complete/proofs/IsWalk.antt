@@ -14,7 +14,7 @@ use Rattle.mpd_model.specs.steps.Next.{next, fold, enabled}
 use Rattle.mpd_model.specs.runs.Decisions.{any_rank, names_source, takes_any, is_open_match, first_enabled, open_matches, is_of, any_choices, or_those, choices, chosen_from, decided, decision}
 use Rattle.mpd_policy.specs.Wide.{is_quiet, wide_decided, wide_decision}
 use Rattle.mpd_policy.proofs.QuietLemmas.{local_same, named_same, quiet_first}
-use Rattle.mpd_walk.specs.Walk.{stepped, chosen, runs_of, branches, followed, stopped, walk, wide_walk}
+use Rattle.mpd_policy.specs.Walk.{stepped, chosen, runs_of, branches, followed, stopped, walk, wide_walk}
 use Rattle.mpd_laws.proofs.ordered.Eligible.{agrees, fitting_recv}
 use Rattle.mpd_meaning.proofs.listed.Members.{In, in_filter}
 use Rattle.mpd_complete.specs.CompleteLaws.{HasNoWaitany, KeepsBuffers}

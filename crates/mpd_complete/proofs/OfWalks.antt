@@ -5,7 +5,7 @@ use Rattle.mpd_model.specs.declared.call.Mode.{Mode}
 use Rattle.mpd_model.specs.script.Program.{Program}
 use Rattle.mpd_model.specs.steps.World.{World, start}
 use Rattle.mpd_model.specs.steps.Next.{fold}
-use Rattle.mpd_walk.specs.Walk.{Run, walk}
+use Rattle.mpd_policy.specs.Walk.{Run, walk}
 use Rattle.mpd_complete.specs.CompleteLaws.{HasNoWaitany, KeepsBuffers, IsWhole, IsComplete}
 use Rattle.mpd_complete.specs.Sleeping.{sleeping_walk}
 use Rattle.mpd_complete.proofs.Complete.{complete, sleeping_complete}

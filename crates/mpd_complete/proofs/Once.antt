@@ -14,10 +14,10 @@ use Rattle.mpd_model.specs.script.Program.{Program}
 use Rattle.mpd_model.specs.steps.World.{World, start, partner}
 use Rattle.mpd_model.specs.steps.Next.{next, fold}
 use Rattle.mpd_model.specs.runs.Decisions.{takes_any, is_open_match, decision}
-use Rattle.mpd_walk.specs.declared.ending.Ending.{Ending}
-use Rattle.mpd_walk.specs.declared.ending.Ending.TheVariants.{Ended, Cut}
-use Rattle.mpd_walk.specs.Walk.{Run, here, stepped, chosen, runs_of, stopped}
-use Rattle.mpd_walk.specs.Asleep.{same_match, nothing_wakes}
+use Rattle.mpd_policy.specs.declared.ending.Ending.{Ending}
+use Rattle.mpd_policy.specs.declared.ending.Ending.TheVariants.{Ended, Cut}
+use Rattle.mpd_policy.specs.Walk.{Run, here, stepped, chosen, runs_of, stopped}
+use Rattle.mpd_policy.specs.Asleep.{same_match, nothing_wakes}
 use Rattle.mpd_explore.specs.Sleeping.{awake_runs, awake_by}
 use Rattle.mpd_complete.specs.CompleteLaws.{HasNoWaitany}
 use Rattle.mpd_complete.specs.Sleeping.{is_asleep, awake_branches, followed_awake, awake_walk, sleeping_walk, EndApart}

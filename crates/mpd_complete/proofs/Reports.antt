@@ -6,7 +6,7 @@ use Rattle.mpd_model.specs.declared.call.Mode.{Mode}
 use Rattle.mpd_model.specs.script.Program.{Program}
 use Rattle.mpd_model.specs.steps.World.{World, start}
 use Rattle.mpd_model.specs.steps.Next.{fold}
-use Rattle.mpd_walk.specs.Walk.{Run, wide_walk}
+use Rattle.mpd_policy.specs.Walk.{Run, wide_walk}
 use Rattle.mpd_explore.specs.declared.report.Leaf.{Leaf}
 use Rattle.mpd_explore.specs.declared.report.Limits.{Limits}
 use Rattle.mpd_explore.specs.Sleeping.{walk_by, walk_of}

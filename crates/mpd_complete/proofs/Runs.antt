@@ -13,9 +13,9 @@ use Rattle.mpd_model.specs.runs.Decisions.{decision, CanFollow}
 use Rattle.mpd_policy.specs.Wide.{wide_decision, sleeps_on}
 use Rattle.mpd_policy.proofs.Followed.{followed, leaf_where}
 use Rattle.mpd_policy.proofs.WideLemmas.{wide_followed, wide_leaf}
-use Rattle.mpd_walk.specs.declared.ending.Ending.TheVariants.{Ended, Cut}
-use Rattle.mpd_walk.specs.Asleep.{same_match, nothing_wakes}
-use Rattle.mpd_walk.specs.Walk.{Run, here, stepped, chosen, runs_of, stopped, walk, wide_walk}
+use Rattle.mpd_policy.specs.declared.ending.Ending.TheVariants.{Ended, Cut}
+use Rattle.mpd_policy.specs.Asleep.{same_match, nothing_wakes}
+use Rattle.mpd_policy.specs.Walk.{Run, here, stepped, chosen, runs_of, stopped, walk, wide_walk}
 use Rattle.mpd_explore.specs.Sleeping.{awake_runs, put_to_sleep, branches_by, followed_by, awake_by, sleeping_wide_walk}
 use Rattle.mpd_explore.proofs.AwakeLemmas as awake
 use Rattle.mpd_meaning.proofs.listed.Members.{In, in_contains, in_either, map_from}

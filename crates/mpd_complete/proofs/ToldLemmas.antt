@@ -11,20 +11,20 @@ use Rattle.mpd_model.specs.steps.World.{World, start}
 use Rattle.mpd_model.specs.runs.Trail.{Standing, IsReached, done_steps}
 use Rattle.mpd_model.specs.declared.limits.TheConstants.{RUNS_MAX}
 use Rattle.mpd_model.specs.declared.outcome.Outcome.TheVariants as outcome
-use Rattle.mpd_walk.specs.declared.ending.Ending.{Ending}
-use Rattle.mpd_walk.specs.declared.ending.Ending.TheVariants as ending
-use Rattle.mpd_walk.specs.Walk.{wide_walk}
+use Rattle.mpd_policy.specs.declared.ending.Ending.{Ending}
+use Rattle.mpd_policy.specs.declared.ending.Ending.TheVariants as ending
+use Rattle.mpd_policy.specs.Walk.{wide_walk}
 use Rattle.mpd_explore.specs.declared.report.Leaf.{Leaf}
 use Rattle.mpd_explore.specs.declared.report.Limits.{Limits}
 use Rattle.mpd_explore.specs.Sleeping.{walk_by, walk_of}
 use Rattle.mpd_explore.specs.Report.{shown}
 use Rattle.mpd_explore.proofs.ListedLemmas.{both_true, not_less}
-use Rattle.mpd_pieces.proofs.PieceLemmas.{no_more}
+use Rattle.mpd_explore.proofs.PieceLemmas.{no_more}
 use Rattle.mpd_outcomes.specs.declared.report.Count.TheVariants.{Exactly, More}
 use Rattle.mpd_outcomes.specs.Outcomes.{counted, leaves_from}
-use Rattle.mpd_pool.specs.declared.pool.CheckPlan.{CheckPlan}
-use Rattle.mpd_sample.specs.Drawn.{seeded, draws}
-use Rattle.mpd_sample.proofs.UntilLemmas.{ended_all}
+use Rattle.mpd_check.specs.declared.pool.CheckPlan.{CheckPlan}
+use Rattle.mpd_runs.specs.Drawn.{seeded, draws}
+use Rattle.mpd_runs.proofs.UntilLemmas.{ended_all}
 use Rattle.mpd_runs.specs.declared.way.Way.TheVariants as way
 use Rattle.mpd_runs.specs.Ways.{way_of, same_way, ends_in, count_in}
 use Rattle.mpd_runs.specs.declared.search.Scope.{Scope}

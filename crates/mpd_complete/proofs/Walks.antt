@@ -9,8 +9,8 @@ use Rattle.mpd_model.specs.script.Program.{Program}
 use Rattle.mpd_model.specs.steps.World.{World, start}
 use Rattle.mpd_model.specs.steps.Next.{next, fold, enabled}
 use Rattle.mpd_model.specs.steps.Outcomes.{ending}
-use Rattle.mpd_walk.specs.declared.ending.Ending.TheVariants.{Ended}
-use Rattle.mpd_walk.specs.Walk.{Run, here}
+use Rattle.mpd_policy.specs.declared.ending.Ending.TheVariants.{Ended}
+use Rattle.mpd_policy.specs.Walk.{Run, here}
 use Rattle.mpd_meaning.specs.Same.{Same}
 use Rattle.mpd_policy.specs.Wide.{conflict, is_quiet}
 use Rattle.mpd_complete.specs.CompleteLaws.{Joins, was_cut, IsWhole, IsListed, GoesOnToAnEnd}

@@ -7,8 +7,8 @@ use Rattle.mpd_model.specs.script.Program.{Program}
 use Rattle.mpd_model.specs.steps.World.{World, start}
 use Rattle.mpd_model.specs.steps.Next.{fold, enabled}
 use Rattle.mpd_model.specs.steps.Outcomes.{ending}
-use Rattle.mpd_walk.specs.declared.ending.Ending.TheVariants.{Ended}
-use Rattle.mpd_walk.specs.Walk.{wide_walk}
+use Rattle.mpd_policy.specs.declared.ending.Ending.TheVariants.{Ended}
+use Rattle.mpd_policy.specs.Walk.{wide_walk}
 use Rattle.mpd_explore.specs.declared.report.Leaf.{Leaf}
 use Rattle.mpd_explore.specs.declared.report.Limits.{Limits}
 use Rattle.mpd_explore.specs.Sleeping.{walk_of}

@@ -8,8 +8,8 @@ use Rattle.mpd_model.specs.script.Program.{Program}
 use Rattle.mpd_model.specs.steps.World.{World, start}
 use Rattle.mpd_model.specs.steps.Next.{fold}
 use Rattle.mpd_model.specs.runs.Decisions.{decision}
-use Rattle.mpd_walk.specs.Asleep.{same_match, nothing_wakes}
-use Rattle.mpd_walk.specs.Walk.{Run, walk}
+use Rattle.mpd_policy.specs.Asleep.{same_match, nothing_wakes}
+use Rattle.mpd_policy.specs.Walk.{Run, walk}
 use Rattle.mpd_explore.specs.Sleeping.{branches_by, followed_by, awake_by}
 use Rattle.mpd_meaning.specs.Same.{Same}
 use Rattle.mpd_complete.specs.CompleteLaws.{HasNoWaitany, KeepsBuffers, IsWhole, IsComplete, IsRun}

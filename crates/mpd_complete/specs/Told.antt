@@ -7,7 +7,7 @@ use Rattle.mpd_model.specs.runs.Trail.{Standing, IsReached, first_standing}
 use Rattle.mpd_model.specs.declared.step.Step.{Step}
 use Rattle.mpd_model.specs.steps.Next.{fold, enabled}
 use Rattle.mpd_model.specs.steps.Outcomes.{ending}
-use Rattle.mpd_walk.specs.declared.ending.Ending.TheVariants.{Ended}
+use Rattle.mpd_policy.specs.declared.ending.Ending.TheVariants.{Ended}
 use Rattle.mpd_lines.specs.declared.verdict.Verdict.TheVariants.{Good}
 use Rattle.mpd_runs.specs.declared.way.Way.TheVariants.{Deadlock, Trap}
 use Rattle.mpd_runs.specs.Ways.{way_of}
@@ -16,7 +16,7 @@ use Rattle.mpd_diagnose.specs.declared.diagnosis.Diagnosis.{Diagnosis}
 use Rattle.mpd_diagnose.specs.Diagnosed.{IsDiagnosis}
 use Rattle.mpd_diagnose.specs.Verdicts.{verdict_of}
 use Rattle.mpd_explore.specs.declared.report.Limits.{Limits}
-use Rattle.mpd_pool.specs.declared.pool.CheckPlan.{CheckPlan}
+use Rattle.mpd_check.specs.declared.pool.CheckPlan.{CheckPlan}
 use Rattle.mpd_runs.specs.declared.search.Scope.{Scope}
 use Rattle.mpd_runs.specs.Runs.{fuel_at, sees_all}
 use Rattle.mpd_runs.specs.Seek.{runs_in, counts_in}

@@ -19,9 +19,9 @@ use Rattle.mpd_model.specs.steps.World.{call_id, start}
 use Rattle.mpd_model.specs.steps.Next.{fold, enabled}
 use Rattle.mpd_model.specs.steps.Outcomes.{ending}
 use Rattle.mpd_model.specs.runs.Decisions.{decision}
-use Rattle.mpd_walk.specs.declared.ending.Ending.{Ending}
-use Rattle.mpd_walk.specs.declared.ending.Ending.TheVariants.{Ended}
-use Rattle.mpd_walk.specs.Walk.{Run, walk}
+use Rattle.mpd_policy.specs.declared.ending.Ending.{Ending}
+use Rattle.mpd_policy.specs.declared.ending.Ending.TheVariants.{Ended}
+use Rattle.mpd_policy.specs.Walk.{Run, walk}
 use Rattle.mpd_complete.specs.CompleteLaws.{HasNoWaitany}
 use Rattle.mpd_explore.specs.Sleeping.{awake_by}
 use Rattle.mpd_complete.specs.Sleeping.{sleeping_walk}

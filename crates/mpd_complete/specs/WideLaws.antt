@@ -8,7 +8,7 @@ use Rattle.mpd_model.specs.script.Program.{Program}
 use Rattle.mpd_model.specs.steps.World.{World, start}
 use Rattle.mpd_model.specs.steps.Next.{next, fold}
 use Rattle.mpd_policy.specs.Wide.{conflict, is_quiet}
-use Rattle.mpd_walk.specs.Walk.{Run, walk, wide_walk}
+use Rattle.mpd_policy.specs.Walk.{Run, walk, wide_walk}
 use Rattle.mpd_explore.specs.Sleeping.{sleeping_wide_walk}
 use Rattle.mpd_meaning.specs.Same.{Same}
 use Rattle.mpd_complete.specs.CompleteLaws.{HasNoWaitany, KeepsBuffers, IsWhole, IsComplete, IsRun}

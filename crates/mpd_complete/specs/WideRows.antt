@@ -11,9 +11,9 @@ use Rattle.mpd_model.specs.steps.World.{call_id, start}
 use Rattle.mpd_model.specs.steps.Outcomes.{issued_by}
 use Rattle.mpd_model.specs.runs.Decisions.{decision}
 use Rattle.mpd_policy.specs.Wide.{is_full, conflict, is_quiet, sleeps_on, wide_decision}
-use Rattle.mpd_walk.specs.declared.ending.Ending.{Ending}
-use Rattle.mpd_walk.specs.declared.ending.Ending.TheVariants.{Ended}
-use Rattle.mpd_walk.specs.Walk.{Run, walk, wide_walk}
+use Rattle.mpd_policy.specs.declared.ending.Ending.{Ending}
+use Rattle.mpd_policy.specs.declared.ending.Ending.TheVariants.{Ended}
+use Rattle.mpd_policy.specs.Walk.{Run, walk, wide_walk}
 use Rattle.mpd_explore.specs.declared.report.Leaf.{Leaf}
 use Rattle.mpd_explore.specs.declared.report.Limits.{Limits}
 use Rattle.mpd_explore.specs.Sleeping.{awake_by, sleeping_wide_walk}

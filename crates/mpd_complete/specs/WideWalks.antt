@@ -7,7 +7,7 @@ use Rattle.mpd_model.specs.declared.decision.Decision.{Decision}
 use Rattle.mpd_model.specs.steps.World.{World}
 use Rattle.mpd_model.specs.runs.Trail.{step_eq}
 use Rattle.mpd_policy.specs.Wide.{wide_decision, sleeps_on}
-use Rattle.mpd_walk.specs.Walk.{Run}
+use Rattle.mpd_policy.specs.Walk.{Run}
 use Rattle.mpd_explore.specs.Sleeping.{branches_by, followed_by, awake_by}
 
 -- the runs by each of some candidates

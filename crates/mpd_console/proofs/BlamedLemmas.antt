@@ -1,10 +1,10 @@
 -- What is told of the step that decided, put together from its parts.
 use Rattle.std.proofs.Common.{◌≡◌, ℕ, Bool, List, ◌++◌, refl, sym, ap, ◌∙◌, append_assoc, subst, inl, inr}
 use Rattle.mpd_session.specs.Held.{Held}
-use Rattle.mpd_request.specs.declared.request.Command.{Command}
+use Rattle.mpd_session.specs.declared.request.Command.{Command}
 use Rattle.mpd_vocabulary.specs.declared.word.Word.TheVariants as word
-use Rattle.mpd_fold.specs.Folding.{folded}
-use Rattle.mpd_moves.specs.Moves.{goto_command}
+use Rattle.mpd_lines.specs.Folding.{folded}
+use Rattle.mpd_console.specs.Moves.{goto_command}
 use Rattle.mpd_blame.specs.declared.back.Blame.{Blame}
 use Rattle.mpd_blame.specs.declared.back.Blame.TheVariants as blame_is
 use Rattle.mpd_blame.specs.declared.back.Decided.{Decided}

@@ -1,3 +1,5 @@
 pub mod SaidLemmas
 pub mod BlamedLemmas
 pub mod OpeningLemmas
+pub mod MoveLemmas
+pub mod NewsLemmas

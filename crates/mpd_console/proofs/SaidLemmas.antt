@@ -5,23 +5,23 @@ use Rattle.std.specs.Prelude.{option_and_then, IfSome}
 use Rattle.mpd_model.specs.declared.breakpoint.Break.{Break}
 use Rattle.mpd_model.specs.steps.World.{World}
 use Rattle.mpd_model.specs.runs.Trail.{Trail, IsReached, IsRun, done_steps, world_of}
-use Rattle.mpd_trail.specs.Views.{DebuggerView, standing_of}
-use Rattle.mpd_walk.specs.declared.ending.Ending.{Ending}
-use Rattle.mpd_request.specs.declared.request.Command.{Command}
-use Rattle.mpd_request.specs.declared.request.Command.TheVariants as command
-use Rattle.mpd_request.specs.declared.reply.Reply.{Reply}
-use Rattle.mpd_view.specs.Standing.{standing_text}
+use Rattle.mpd_core.specs.DebuggerViews.{DebuggerView, standing_of}
+use Rattle.mpd_policy.specs.declared.ending.Ending.{Ending}
+use Rattle.mpd_session.specs.declared.request.Command.{Command}
+use Rattle.mpd_session.specs.declared.request.Command.TheVariants as command
+use Rattle.mpd_session.specs.declared.reply.Reply.{Reply}
+use Rattle.mpd_explain.specs.Standing.{standing_text}
 use Rattle.mpd_session.specs.Held.{Held}
 use Rattle.mpd_session.specs.Respond.{respond, laid}
-use Rattle.mpd_moves.specs.declared.moves.Doing.{Doing}
-use Rattle.mpd_moves.specs.declared.moves.Doing.TheVariants.{Asks, Undoes, Seeks, Follows, Blames, Looks}
+use Rattle.mpd_console.specs.declared.moves.Doing.{Doing}
+use Rattle.mpd_console.specs.declared.moves.Doing.TheVariants.{Asks, Undoes, Seeks, Follows, Blames, Looks}
 use Rattle.mpd_vocabulary.specs.declared.word.Word.{Word}
 use Rattle.mpd_vocabulary.specs.declared.word.WordFault.{WordFault}
 use Rattle.mpd_vocabulary.specs.declared.read.Line.{Line}
 use Rattle.mpd_vocabulary.specs.declared.read.Line.TheVariants.{Blank, Comment, Says, Wrong}
-use Rattle.mpd_fold.specs.Folding.{folded}
-use Rattle.mpd_moves.specs.News.{Known, known_for}
-use Rattle.mpd_moves.specs.Moves.{doing_of, lead_text, reply_text}
+use Rattle.mpd_lines.specs.Folding.{folded}
+use Rattle.mpd_console.specs.News.{Known, known_for}
+use Rattle.mpd_console.specs.Moves.{doing_of, lead_text, reply_text}
 use Rattle.mpd_console.specs.Looks.{look_text}
 use Rattle.mpd_vocabulary.specs.Reading.{line_of}
 use Rattle.mpd_runs.specs.declared.counts.WayCounts.{WayCounts}

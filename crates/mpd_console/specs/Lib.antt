@@ -2,3 +2,5 @@ pub mod Looks
 pub mod Blamed
 pub mod Says
 pub mod Quitting
+pub mod News
+pub mod Moves

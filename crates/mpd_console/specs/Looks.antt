@@ -13,14 +13,14 @@ use Rattle.mpd_model.specs.runs.Breakpoints.{break_at}
 use Rattle.mpd_names.specs.declared.name.Named.{Named}
 use Rattle.mpd_names.specs.Held.{named_line, variables_text}
 use Rattle.mpd_names.specs.Listed.{list_text, about_text}
-use Rattle.mpd_view.specs.Shown as shown
-use Rattle.mpd_view.specs.Whys.{why_text, why_rank_text, why_ranks_text}
-use Rattle.mpd_view.specs.Past.{history_text, words_text}
-use Rattle.mpd_view.specs.Lost.{lost_text}
+use Rattle.mpd_explain.specs.Shown as shown
+use Rattle.mpd_explain.specs.Whys.{why_text, why_rank_text, why_ranks_text}
+use Rattle.mpd_explain.specs.Past.{history_text, words_text}
+use Rattle.mpd_explain.specs.Lost.{lost_text}
 use Rattle.mpd_picture.specs.Pictures.{picture_text}
 use Rattle.mpd_vocabulary.specs.declared.word.Word.{Word}
 use Rattle.mpd_vocabulary.specs.declared.word.Word.TheVariants as word
-use Rattle.mpd_moves.specs.Moves.{break_line_of}
+use Rattle.mpd_console.specs.Moves.{break_line_of}
 use Rattle.mpd_runs.specs.Runs.{check_text}
 use Rattle.mpd_vocabulary.specs.Faults.{help_text}
 

@@ -9,15 +9,15 @@ use Rattle.mpd_model.specs.script.Program.{Program}
 use Rattle.mpd_model.specs.steps.World.{World, start}
 use Rattle.mpd_model.specs.runs.Trail.{Trail, world_of}
 use Rattle.mpd_model.specs.texts.Texts.{line}
-use Rattle.mpd_walk.specs.declared.ending.Ending.{Ending}
+use Rattle.mpd_policy.specs.declared.ending.Ending.{Ending}
 use Rattle.mpd_explore.specs.declared.report.Witness.{Witness}
 use Rattle.mpd_explore.specs.Witness.{end_of}
-use Rattle.mpd_request.specs.declared.request.Command.{Command}
-use Rattle.mpd_request.specs.declared.request.Command.TheVariants as command
-use Rattle.mpd_request.specs.declared.request.Request.{Request}
-use Rattle.mpd_request.specs.declared.reply.Reply.{Reply}
+use Rattle.mpd_session.specs.declared.request.Command.{Command}
+use Rattle.mpd_session.specs.declared.request.Command.TheVariants as command
+use Rattle.mpd_session.specs.declared.request.Request.{Request}
+use Rattle.mpd_session.specs.declared.reply.Reply.{Reply}
 use Rattle.mpd_vocabulary.specs.contracts.word.Word as word_row
-use Rattle.mpd_view.specs.Standing.{standing_text}
+use Rattle.mpd_explain.specs.Standing.{standing_text}
 use Rattle.mpd_session.specs.Held.{Held, held_code, opened}
 use Rattle.mpd_session.specs.Respond.{respond, laid}
 use Rattle.mpd_vocabulary.specs.declared.word.Word.{Word}
@@ -26,10 +26,10 @@ use Rattle.mpd_vocabulary.specs.declared.word.WordFault.{WordFault}
 use Rattle.mpd_vocabulary.specs.declared.read.Line.{Line}
 use Rattle.mpd_vocabulary.specs.declared.read.Line.TheVariants.{Blank, Comment, Says, Wrong}
 use Rattle.mpd_vocabulary.specs.Reading.{line_of}
-use Rattle.mpd_moves.specs.declared.moves.Doing.{Doing}
-use Rattle.mpd_moves.specs.declared.moves.Doing.TheVariants.{Asks, Undoes, Seeks, Follows, Blames, Looks}
-use Rattle.mpd_moves.specs.News.{Known, told, known_for}
-use Rattle.mpd_moves.specs.Moves.{doing_of, goto_command, lead_text, reply_text}
+use Rattle.mpd_console.specs.declared.moves.Doing.{Doing}
+use Rattle.mpd_console.specs.declared.moves.Doing.TheVariants.{Asks, Undoes, Seeks, Follows, Blames, Looks}
+use Rattle.mpd_console.specs.News.{Known, told, known_for}
+use Rattle.mpd_console.specs.Moves.{doing_of, goto_command, lead_text, reply_text}
 use Rattle.mpd_blame.specs.declared.back.Blame.{Blame}
 use Rattle.mpd_blame.specs.declared.back.Blame.TheVariants as blame_is
 use Rattle.mpd_console.specs.Blamed.{TellsBlame}
@@ -45,7 +45,7 @@ use Rattle.mpd_runs.specs.Runs.{fuel_at, none_line}
 use Rattle.mpd_runs.specs.Seek.{found_run, numbered_run, nothing_line, LeadsTo, LiesAhead, TooMany, ahead_line, no_run_line}
 use Rattle.mpd_runs.specs.LastChoice.{last_choice, no_choice_line}
 use Rattle.mpd_vocabulary.specs.Faults.{fault_text}
-use Rattle.mpd_fold.specs.Folding.{folded}
+use Rattle.mpd_lines.specs.Folding.{folded}
 
 -- the lines that stand in the place of an answer: where memory is refused before anything was done, and behind that
 abbrev pub memory_line : List ℕ

@@ -3,25 +3,23 @@
 ghost use Rattle.std.specs.Prelude.{◌≡◌, ◌+◌, ◌<◌, ◌≤◌, ◌++◌, IfOk, IfSome, OnOk, OnErr, length, string_bytes, vec_len, vec_capacity};
 ghost use Rattle.std.specs.List.{position};
 ghost use Rattle.mpd_model.specs.runs.Trail.{step_eq};
-ghost use Rattle.mpd_fold.specs.Folding.{folded};
+ghost use Rattle.mpd_lines.specs.Folding.{folded};
 ghost use Rattle.mpd_console.specs.Blamed as way;
 ghost use Rattle.mpd_console.specs.Blamed.{kept_limit, IsWhole, TellsBlame};
 ghost use Rattle.mpd_console.specs.Says as spec;
 ghost use Rattle.mpd_console.specs.Says.{Adds, Looked, IsGone, BlamedBy};
 
 use crate::desk::{MEMORY, Screen, add, carry_out};
+use crate::moves::goto_command;
 use crate::prompts::said;
 use mpd_blame::{Blame, blame_run, push_blame};
-use mpd_core::Core;
-use mpd_fold::push_folded;
-use mpd_lines::{ROOM, push_all};
+use mpd_core::{Core, Debugger};
+use mpd_lines::{ROOM, push_all, push_folded};
 use mpd_model::{Decision, STEPS_MAX, Step};
-use mpd_moves::goto_command;
 use mpd_outcomes::StateLimits;
 use mpd_policy::decide;
 use mpd_runs::{FUEL, STATES_KEPT, STATES_VISITED};
 use mpd_session::Session;
-use mpd_trail::Debugger;
 use mpd_vocabulary::Word;
 use std::alloc::{AllocError, Global};
 

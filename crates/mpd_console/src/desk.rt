@@ -5,28 +5,28 @@ ghost use Rattle.mpd_session.specs.Respond.{laid};
 ghost use Rattle.mpd_runs.specs.Seek.{LiesAhead, FoundLies, no_run_line};
 ghost use Rattle.mpd_runs.specs.LastChoice.{last_choice as last_choice_of, no_choice_line};
 ghost use Rattle.mpd_vocabulary.specs.Reading.{line_of};
-ghost use Rattle.mpd_moves.specs.News.{told};
-ghost use Rattle.mpd_moves.specs.Moves.{told_hit};
+ghost use Rattle.mpd_console.specs.News.{told};
+ghost use Rattle.mpd_console.specs.Moves.{told_hit};
 ghost use Rattle.mpd_console.specs.Says as spec;
 ghost use Rattle.mpd_console.specs.Says.{Adds, OrElse, Told, Carried, UndoneBy, SoughtFrom, FollowedBy, Answered, Looked, RepeatSays};
 
 use crate::blamed::tell_blame;
 use crate::looks::push_look;
+use crate::moves::{Doing, doing_of, lead_of, push_reply};
+use crate::news::Lead;
 use crate::prompts::{idle_text, push_idle, said};
+use crate::standing::Scene;
 use itoa::Buffer;
+use mpd_explain::push_standing;
 use mpd_explore::Ending;
-use mpd_fold::push_folded;
-use mpd_lines::{LineDesk, ROOM, push_all};
+use mpd_lines::{LineDesk, ROOM, push_all, push_folded};
 use mpd_model::LINE_MAX;
-use mpd_moves::{Doing, Lead, Scene, doing_of, lead_of, push_reply};
 use mpd_policy::decide;
-use mpd_request::{Command, Reply, Request};
 use mpd_runs::{
     Search, Sought, Way, WayCounts, WholeRun, last_choice, numbered_run, push_ahead,
     push_no_choice, push_no_run, push_none, seek as seek_run,
 };
-use mpd_session::Session;
-use mpd_view::push_standing;
+use mpd_session::{Command, Reply, Request, Session};
 use mpd_vocabulary::{Line, Word, WordFault, line_of, push_fault};
 use std::alloc::{AllocError, Global};
 use std::marker::Model;

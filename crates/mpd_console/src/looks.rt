@@ -6,19 +6,18 @@ ghost use Rattle.mpd_model.specs.steps.World.{rank_numbers};
 ghost use Rattle.mpd_names.specs.Held.{named_line};
 ghost use Rattle.mpd_console.specs.Looks as spec;
 
-use mpd_core::Core;
+use crate::moves::push_break_line;
+use mpd_core::{Core, Debugger};
+use mpd_explain::{
+    push_calls, push_enabled, push_history, push_lost, push_queues, push_ranks, push_why,
+    push_why_rank, push_why_ranks, push_words,
+};
 use mpd_model::{BREAKS_MAX, CallId, Decl};
-use mpd_moves::push_break_line;
 use mpd_names::{Named, push_list, push_list_about, push_named, push_variables};
 use mpd_picture::push_picture;
 use mpd_policy::Breaks;
 use mpd_runs::push_runs;
 use mpd_trace::show;
-use mpd_trail::Debugger;
-use mpd_view::{
-    push_calls, push_enabled, push_history, push_lost, push_queues, push_ranks, push_why,
-    push_why_rank, push_why_ranks, push_words,
-};
 use mpd_vocabulary::{Word, push_help};
 use std::alloc::{AllocError, Global};
 

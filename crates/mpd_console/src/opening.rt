@@ -13,11 +13,11 @@ ghost use Rattle.mpd_console.specs.Says.{prompt, laid_said, AlongSaid, WitnessSa
 use crate::desk::{ConsoleDesk, RunAhead, Screen, laid_text};
 use crate::prompts::idle_bytes;
 use mpd_code::Subject;
+use mpd_core::Debugger;
 use mpd_explore::{Ending, Witness, WitnessFault, verify};
 use mpd_model::{STEPS_MAX, Step, StepList};
 use mpd_runs::{StepsFault, take_steps};
 use mpd_session::Session;
-use mpd_trail::Debugger;
 use std::alloc::{AllocError, Global};
 
 /// Why no console is opened.

@@ -3,7 +3,7 @@
 ghost use Rattle.std.specs.Prelude.{◌≡◌, ◌++◌, IfOk, OnOk, string_bytes};
 ghost use Rattle.mpd_console.specs.Says as spec;
 
-use mpd_fold::push_folded;
+use mpd_lines::push_folded;
 use mpd_session::Session;
 use std::alloc::{AllocError, Global};
 

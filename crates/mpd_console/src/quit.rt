@@ -5,7 +5,7 @@ ghost use Rattle.mpd_model.specs.texts.Words.{is_blank};
 ghost use Rattle.mpd_console.specs.Quitting as spec;
 
 use mpd_counter::Counter;
-use mpd_device::{DeviceFault, Source};
+use mpd_lines::{DeviceFault, Source};
 use mpd_model::LINE_MAX;
 
 /// What of a line was read so far, as far as it matters whether it is `quit`, `q` or `exit` alone.

@@ -7,8 +7,7 @@ ghost use Rattle.mpd_lines.specs.Telling.{waiting_below};
 ghost use Rattle.mpd_console.specs.Says.{ConsoleSays};
 
 use crate::desk::ConsoleDesk;
-use mpd_device::{Sink, Source};
-use mpd_lines::{EngineFault, run};
+use mpd_lines::{EngineFault, Sink, Source, run};
 use mpd_model::READS_MAX;
 use std::alloc::Global;
 

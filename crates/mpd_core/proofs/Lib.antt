@@ -7,3 +7,6 @@ pub mod TagLemmas
 pub mod EnabledLemmas
 pub mod ReleaseLemmas
 pub mod AnyLemmas
+pub mod TrailLemmas
+pub mod KeptLemmas
+pub mod RunLemmas

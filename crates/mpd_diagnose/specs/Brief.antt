@@ -7,7 +7,7 @@ use Rattle.mpd_model.specs.texts.Texts.{line}
 use Rattle.mpd_outcomes.specs.declared.report.Count.{Count}
 use Rattle.mpd_runs.specs.declared.counts.WayCounts.{WayCounts}
 use Rattle.mpd_runs.specs.Counts.{is_count}
-use Rattle.mpd_fold.specs.Folding.{folded}
+use Rattle.mpd_lines.specs.Folding.{folded}
 use Rattle.mpd_diagnose.specs.Told.{ends_well, in_mode, number_text, runs_text}
 
 -- `1 rank: `, `3 ranks: `

@@ -4,7 +4,7 @@ use Rattle.mpd_model.specs.runs.Trail.{Standing}
 use Rattle.mpd_model.specs.steps.World.{World}
 use Rattle.mpd_explore.specs.declared.report.Leaf.{Leaf}
 use Rattle.mpd_explore.specs.Report.{shown}
-use Rattle.mpd_sample.specs.Drawn.{draws, sampled, seeded}
+use Rattle.mpd_runs.specs.Drawn.{draws, sampled, seeded}
 use Rattle.mpd_outcomes.specs.declared.report.Count.{Count}
 use Rattle.mpd_outcomes.specs.declared.report.Count.TheVariants.{Exactly}
 use Rattle.mpd_outcomes.specs.declared.report.Outcomes.{Outcomes}

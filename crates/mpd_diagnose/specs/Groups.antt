@@ -2,8 +2,8 @@
 use Rattle.std.specs.Prelude.{ℕ, Bool, true, false, not, nat_lt, ◌&&◌, ◌==◌, if◌then◌else◌, List, [], ◌∷◌, ◌++◌, Option, Some, None, length, map, slice_get, slice_index_or}
 use Rattle.std.specs.List.{filter, list_any, list_all, range_with_len}
 use Rattle.mpd_model.specs.declared.outcome.Outcome.TheVariants.{Leftovers, Deadlock, Trap}
-use Rattle.mpd_walk.specs.declared.ending.Ending.{Ending}
-use Rattle.mpd_walk.specs.declared.ending.Ending.TheVariants.{Ended, Cut}
+use Rattle.mpd_policy.specs.declared.ending.Ending.{Ending}
+use Rattle.mpd_policy.specs.declared.ending.Ending.TheVariants.{Ended, Cut}
 use Rattle.mpd_explore.specs.declared.report.Leaf.{Leaf}
 use Rattle.mpd_explore.specs.Report.{is_bad}
 use Rattle.mpd_outcomes.specs.declared.report.Count.{Count}

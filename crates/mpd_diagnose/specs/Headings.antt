@@ -14,9 +14,9 @@ use Rattle.mpd_model.specs.steps.Next.{fold}
 use Rattle.mpd_names.specs.Placed.{issue_line, rank_line}
 use Rattle.mpd_names.specs.Stand.{line_at}
 use Rattle.mpd_policy.specs.Wide.{wide_decision}
-use Rattle.mpd_walk.specs.Walk.{run_by, steps_by}
-use Rattle.mpd_walk.specs.declared.ending.Ending.{Ending}
-use Rattle.mpd_walk.specs.declared.ending.Ending.TheVariants.{Ended, Cut}
+use Rattle.mpd_policy.specs.Walk.{run_by, steps_by}
+use Rattle.mpd_policy.specs.declared.ending.Ending.{Ending}
+use Rattle.mpd_policy.specs.declared.ending.Ending.TheVariants.{Ended, Cut}
 use Rattle.mpd_explore.specs.declared.report.Leaf.{Leaf}
 
 -- ---- lines

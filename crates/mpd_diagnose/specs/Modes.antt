@@ -6,7 +6,7 @@ use Rattle.mpd_model.specs.declared.call.Mode.TheVariants.{Rendezvous, Buffered,
 use Rattle.mpd_model.specs.texts.Modes.{mode_word}
 use Rattle.mpd_model.specs.texts.Texts.{line}
 use Rattle.mpd_model.specs.runs.Trail.{Standing}
-use Rattle.mpd_fold.specs.Folding.{folded}
+use Rattle.mpd_lines.specs.Folding.{folded}
 use Rattle.mpd_lines.specs.declared.verdict.Verdict.{Verdict}
 use Rattle.mpd_lines.specs.declared.verdict.Verdict.TheVariants.{Good, Bad, NotWhole}
 use Rattle.mpd_outcomes.specs.declared.report.StateLimits.{StateLimits}

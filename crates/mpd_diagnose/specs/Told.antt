@@ -11,7 +11,7 @@ use Rattle.mpd_runs.specs.declared.counts.WayCounts.{WayCounts}
 use Rattle.mpd_runs.specs.Counts.{is_count}
 use Rattle.mpd_runs.specs.Runs.{sees_all}
 use Rattle.mpd_explain.specs.Told.{text_at}
-use Rattle.mpd_fold.specs.Folding.{folded}
+use Rattle.mpd_lines.specs.Folding.{folded}
 use Rattle.mpd_diagnose.specs.declared.groups.Group.{Group}
 use Rattle.mpd_diagnose.specs.declared.told.TheConstants.{PICTURED_STEPS}
 use Rattle.mpd_diagnose.specs.Commands.{sample_command, modes_command, run_commands, picture_file}

@@ -3,19 +3,19 @@
 ghost use Rattle.std.specs.Prelude.{◌≡◌, ◌+◌, ◌≤◌, ◌++◌, ◌∷◌, [], IfOk, OnOk, IsSome, Some, length, map, string_bytes};
 ghost use Rattle.std.specs.List.{AllByRecursion};
 ghost use Rattle.mpd_model.specs.runs.Trail.{done_steps};
-ghost use Rattle.mpd_trail.specs.Views.{AsFound, standing_of};
+ghost use Rattle.mpd_core.specs.DebuggerViews.{AsFound, standing_of};
 ghost use Rattle.mpd_policy.specs.Wide.{wide_decision};
 ghost use Rattle.mpd_model.specs.steps.Next.{fold};
-ghost use Rattle.mpd_walk.specs.Walk.{run_by, steps_by};
-ghost use Rattle.mpd_walk.specs.Walks.{Beyond};
+ghost use Rattle.mpd_policy.specs.Walk.{run_by, steps_by};
+ghost use Rattle.mpd_policy.specs.Walks.{Beyond};
 ghost use Rattle.mpd_explore.specs.Witness.{HasWitness};
 ghost use Rattle.mpd_diagnose.specs.Headings as spec;
 
 use crate::heading::{LineList, heading_of, lines_of};
+use mpd_core::Debugger;
 use mpd_explore::Leaf;
 use mpd_model::STEPS_MAX;
-use mpd_trail::Debugger;
-use mpd_walk::{Wide, follow, put_back};
+use mpd_policy::{Wide, follow, put_back};
 use std::alloc::{AllocError, Global};
 
 /// How a run ends: what its end is called, at which lines it stands, and how many steps the run has.

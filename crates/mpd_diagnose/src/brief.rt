@@ -6,7 +6,7 @@ ghost use Rattle.mpd_diagnose.specs.Brief as spec;
 
 use crate::diagnosis::Diagnosis;
 use crate::told::{ends_well, push_in_mode, push_number, push_runs};
-use mpd_fold::push_folded;
+use mpd_lines::push_folded;
 use mpd_model::Mode;
 use mpd_outcomes::Count;
 use mpd_runs::{WayCounts, is_count};

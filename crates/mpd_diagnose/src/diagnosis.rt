@@ -3,7 +3,7 @@
 ghost use Rattle.std.specs.Prelude.{◌≡◌, ◌≤◌, IfOk, length, map, string_bytes};
 ghost use Rattle.std.specs.List.{AllByRecursion};
 ghost use Rattle.mpd_model.specs.runs.Trail.{done_steps, first_standing};
-ghost use Rattle.mpd_trail.specs.Views.{AsFound, standing_of};
+ghost use Rattle.mpd_core.specs.DebuggerViews.{AsFound, standing_of};
 ghost use Rattle.mpd_policy.specs.Wide.{wide_decision};
 ghost use Rattle.mpd_explore.specs.Witness.{HasWitness};
 ghost use Rattle.mpd_diagnose.specs.Details.{AreDetailed};
@@ -16,12 +16,11 @@ use crate::groups::{bad_first, groups_of};
 use crate::told::{ToldEnds, drawn_opening, draws, push_groups, push_opening};
 use crate::words::Named;
 use mpd_code::Subject;
+use mpd_core::Debugger;
 use mpd_explore::{Leaf, Limits, Unwatched};
 use mpd_model::{Mode, STEPS_MAX};
 use mpd_outcomes::{Count, Outcomes, StateLimits, explore_outcomes};
-use mpd_runs::{WayCounts, counts_told};
-use mpd_sample::sample;
-use mpd_trail::Debugger;
+use mpd_runs::{WayCounts, counts_told, sample};
 use std::alloc::{AllocError, Global};
 
 /// How a script is diagnosed.

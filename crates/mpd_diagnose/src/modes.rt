@@ -11,8 +11,7 @@ use crate::diagnosis::{DiagnosisPlan, diagnose};
 use crate::told::push_in_mode;
 use crate::verdict::{leaves, verdict_of};
 use mpd_code::Subject;
-use mpd_fold::push_folded;
-use mpd_lines::Verdict;
+use mpd_lines::{Verdict, push_folded};
 use mpd_model::{Mode, STEPS_MAX};
 use std::alloc::{AllocError, Global};
 

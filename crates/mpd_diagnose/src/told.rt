@@ -10,7 +10,7 @@ use crate::groups::Group;
 use crate::words::Named;
 use mpd_explain::text_at;
 use mpd_explore::Leaf;
-use mpd_fold::push_folded;
+use mpd_lines::push_folded;
 use mpd_model::Mode;
 use mpd_outcomes::{Count, Outcomes};
 use mpd_runs::{WayCounts, is_count, sees_all};

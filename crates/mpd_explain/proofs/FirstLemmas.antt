@@ -7,7 +7,7 @@ use Rattle.mpd_model.specs.declared.step.Step.{Step}
 use Rattle.mpd_model.specs.script.Program.{Program}
 use Rattle.mpd_model.specs.steps.World.{World}
 use Rattle.mpd_model.specs.runs.Trail.{Standing, done_steps}
-use Rattle.mpd_walk.specs.Walk.{run_by}
+use Rattle.mpd_policy.specs.Walk.{run_by}
 use Rattle.mpd_explore.specs.declared.report.Leaf.{Leaf}
 use Rattle.mpd_explore.specs.Witness.{HasWitness}
 use Rattle.mpd_explore.specs.WitnessTexts.{witness_text, witness_texts}

@@ -5,3 +5,7 @@ pub mod KindLemmas
 pub mod GroupLemmas
 pub mod CallLemmas
 pub mod FirstLemmas
+pub mod ShownLemmas
+pub mod PastLemmas
+pub mod LostLemmas
+pub mod StandingLemmas

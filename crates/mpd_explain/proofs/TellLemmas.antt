@@ -12,8 +12,8 @@ use Rattle.mpd_model.specs.declared.outcome.Outcome.TheVariants.{Done, Leftovers
 use Rattle.mpd_model.specs.script.Program.{Program}
 use Rattle.mpd_model.specs.steps.World.{RankWorld, World, start}
 use Rattle.mpd_model.specs.steps.Next.{next, fold, waits}
-use Rattle.mpd_walk.specs.declared.ending.Ending.{Ending}
-use Rattle.mpd_walk.specs.declared.ending.Ending.TheVariants.{Ended, Cut}
+use Rattle.mpd_policy.specs.declared.ending.Ending.{Ending}
+use Rattle.mpd_policy.specs.declared.ending.Ending.TheVariants.{Ended, Cut}
 use Rattle.mpd_explain.specs.Requests.{call_of, request_handles}
 use Rattle.mpd_explain.specs.Explained.{tells_of, told_at, explanation}
 

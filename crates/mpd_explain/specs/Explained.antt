@@ -20,8 +20,8 @@ use Rattle.mpd_model.specs.steps.Outcomes.{has_ended, ids_of}
 use Rattle.mpd_model.specs.texts.Texts.{line, id_text, trap_name}
 use Rattle.mpd_names.specs.Placed.{rank_line, placed}
 use Rattle.mpd_names.specs.Reads.{read_text}
-use Rattle.mpd_walk.specs.declared.ending.Ending.{Ending}
-use Rattle.mpd_walk.specs.declared.ending.Ending.TheVariants.{Ended, Cut}
+use Rattle.mpd_policy.specs.declared.ending.Ending.{Ending}
+use Rattle.mpd_policy.specs.declared.ending.Ending.TheVariants.{Ended, Cut}
 use Rattle.mpd_explain.specs.declared.near_miss.Miss.{Miss}
 use Rattle.mpd_explain.specs.Requests.{requests}
 use Rattle.mpd_explain.specs.Missed.{nearest, miss_text, taken}

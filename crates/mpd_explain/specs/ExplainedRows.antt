@@ -15,10 +15,10 @@ use Rattle.mpd_model.specs.steps.World.{call_id, start}
 use Rattle.mpd_model.specs.steps.Outcomes.{issued_by}
 use Rattle.mpd_model.specs.runs.Decisions.{decision}
 use Rattle.mpd_model.specs.texts.Texts.{line}
-use Rattle.mpd_walk.specs.declared.ending.Ending.{Ending}
-use Rattle.mpd_walk.specs.declared.ending.Ending.TheVariants.{Ended, Cut}
+use Rattle.mpd_policy.specs.declared.ending.Ending.{Ending}
+use Rattle.mpd_policy.specs.declared.ending.Ending.TheVariants.{Ended, Cut}
 use Rattle.mpd_explore.specs.declared.report.Leaf as leaf
-use Rattle.mpd_walk.specs.Walk.{Run, walk}
+use Rattle.mpd_policy.specs.Walk.{Run, walk}
 use Rattle.mpd_explain.specs.Explained.{explanation}
 use Rattle.mpd_explain.specs.Waits.{round, cycle_line}
 use Rattle.mpd_explain.specs.Told.{firsts, explained_text}

@@ -9,3 +9,10 @@ pub mod Grouped
 pub mod ExplainedRows
 pub mod KindRows
 pub mod CallLaws
+pub mod Steps
+pub mod Standing
+pub mod Shown
+pub mod Whys
+pub mod Past
+pub mod Lost
+pub mod LostRows

@@ -5,19 +5,19 @@ ghost use Rattle.std.specs.Prelude.{◌≡◌, ◌+◌, ◌≤◌, ◌<◌, ◌+
 ghost use Rattle.std.specs.List.{AllByRecursion};
 ghost use Rattle.mpd_model.specs.steps.Next.{fold};
 ghost use Rattle.mpd_model.specs.runs.Trail.{done_steps};
-ghost use Rattle.mpd_trail.specs.Views.{AsFound, standing_of};
-ghost use Rattle.mpd_walk.specs.Walk.{run_by, steps_by};
+ghost use Rattle.mpd_core.specs.DebuggerViews.{AsFound, standing_of};
+ghost use Rattle.mpd_policy.specs.Walk.{run_by, steps_by};
 ghost use Rattle.mpd_explore.specs.Witness.{HasWitness};
 ghost use Rattle.mpd_explain.specs.Explained.{tells_of, told_at};
 ghost use Rattle.mpd_explain.specs.Explanations.{explanation_of, explanations};
-ghost use Rattle.mpd_walk.specs.Walks.{Beyond};
+ghost use Rattle.mpd_policy.specs.Walks.{Beyond};
 
 use crate::list::push_text;
 use crate::sentences::{tells_of, told};
+use mpd_core::Debugger;
 use mpd_explore::{Leaf, Report};
 use mpd_model::STEPS_MAX;
-use mpd_trail::Debugger;
-use mpd_walk::{Schedule, follow, put_back};
+use mpd_policy::{Schedule, follow, put_back};
 use std::alloc::{AllocError, Global};
 
 /// Goes along the run of a leaf, and tells how it has ended. The debugger is left anywhere beyond where it stood.

@@ -4,9 +4,9 @@
 ghost use Rattle.std.specs.Prelude.{◌≡◌, ◌+◌, ◌≤◌, ◌++◌, true, IfOk, IsSome, length, map, slice_get, string_bytes};
 ghost use Rattle.std.specs.List.{AllByRecursion};
 ghost use Rattle.mpd_model.specs.runs.Trail.{done_steps};
-ghost use Rattle.mpd_trail.specs.Views.{AsFound, standing_of};
-ghost use Rattle.mpd_walk.specs.Walk.{run_by};
-ghost use Rattle.mpd_walk.specs.Walks.{Beyond};
+ghost use Rattle.mpd_core.specs.DebuggerViews.{AsFound, standing_of};
+ghost use Rattle.mpd_policy.specs.Walk.{run_by};
+ghost use Rattle.mpd_policy.specs.Walks.{Beyond};
 ghost use Rattle.mpd_explore.specs.Witness.{HasWitness};
 ghost use Rattle.mpd_explore.specs.WitnessTexts.{witness_text, witness_texts};
 ghost use Rattle.mpd_explain.specs.Explanations.{explained_at};
@@ -16,10 +16,10 @@ use crate::explanation::explain;
 use crate::groups::{first_numbers, print_groups};
 use crate::list::push_text;
 use crate::print::push_numbered;
+use mpd_core::Debugger;
 use mpd_explore::{Leaf, Report, witness_here};
 use mpd_model::STEPS_MAX;
-use mpd_trail::Debugger;
-use mpd_walk::{Schedule, follow, put_back};
+use mpd_policy::{Schedule, follow, put_back};
 use std::alloc::{AllocError, Global};
 
 /// What stands after the line of a leaf, and how it is made.

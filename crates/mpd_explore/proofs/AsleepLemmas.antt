@@ -5,7 +5,7 @@ use Rattle.std.proofs.lemmas.List.{reverse-append}
 use Rattle.mpd_model.specs.declared.step.Step.{Step}
 use Rattle.mpd_model.specs.steps.World.{World}
 use Rattle.mpd_model.specs.steps.Next.{next}
-use Rattle.mpd_walk.specs.Walk.{Run, chosen}
+use Rattle.mpd_policy.specs.Walk.{Run, chosen}
 use Rattle.mpd_explore.specs.Sleeping.{awake_runs, branches_by, put_to_sleep, put_off}
 use Rattle.mpd_explore.specs.Asleep.{Passes, Skips}
 use Rattle.mpd_explore.proofs.ListLemmas.{drop_at, or_false, or_other, or_front}

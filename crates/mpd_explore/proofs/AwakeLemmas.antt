@@ -11,7 +11,7 @@ use Rattle.mpd_model.specs.steps.Next.{next}
 use Rattle.mpd_model.specs.runs.Trail.{step_eq}
 use Rattle.mpd_model.specs.runs.Decisions.{decision, CanFollow}
 use Rattle.mpd_policy.specs.Wide.{wide_decision, sleeps_on}
-use Rattle.mpd_walk.specs.Walk.{Run, stepped, chosen, prefixed, runs_of, branches, followed, walk, wide_walk, steps_by}
+use Rattle.mpd_policy.specs.Walk.{Run, stepped, chosen, prefixed, runs_of, branches, followed, walk, wide_walk, steps_by}
 use Rattle.mpd_explore.specs.declared.report.Leaf as leaf
 use Rattle.mpd_explore.specs.declared.report.Limits.{Limits}
 use Rattle.mpd_explore.specs.Report.{shown, listed}

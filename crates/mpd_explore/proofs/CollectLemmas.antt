@@ -5,7 +5,7 @@ use Rattle.mpd_model.specs.declared.step.Step.{Step}
 use Rattle.mpd_model.specs.steps.World.{World}
 use Rattle.mpd_model.specs.runs.Trail.{Trail, Standing, IsReached, done_steps, world_of, gone_back, forgotten}
 use Rattle.mpd_explore.specs.declared.search.Open.{Open}
-use Rattle.mpd_walk.specs.Walk.{Run, prefixed}
+use Rattle.mpd_policy.specs.Walk.{Run, prefixed}
 use Rattle.mpd_explore.specs.Search.{Search, picked, runs_from, come}
 use Rattle.mpd_explore.specs.Report.{shown}
 

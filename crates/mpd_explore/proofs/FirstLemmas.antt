@@ -11,8 +11,8 @@ use Rattle.mpd_model.specs.declared.outcome.Outcome.TheVariants as outcome_is
 use Rattle.mpd_model.specs.declared.outcome.IssuedCall.{IssuedCall}
 use Rattle.mpd_model.specs.declared.outcome.TrappedRank.{TrappedRank}
 use Rattle.mpd_model.specs.steps.World.{id_eq}
-use Rattle.mpd_walk.specs.declared.ending.Ending.{Ending}
-use Rattle.mpd_walk.specs.declared.ending.Ending.TheVariants.{Ended, Cut}
+use Rattle.mpd_policy.specs.declared.ending.Ending.{Ending}
+use Rattle.mpd_policy.specs.declared.ending.Ending.TheVariants.{Ended, Cut}
 use Rattle.mpd_explore.specs.declared.report.Leaf.{Leaf}
 use Rattle.mpd_explore.specs.Traps.{trap_eq}
 use Rattle.mpd_explore.specs.Ends.{trapped_eq, issued_eq, outcome_eq, ending_eq, same_end, firsts, has_end, before}

@@ -10,7 +10,7 @@ use Rattle.mpd_model.specs.runs.Trail.{Standing, done_steps}
 use Rattle.mpd_explore.specs.declared.report.Leaf.{Leaf}
 use Rattle.mpd_explore.specs.declared.report.Limits.{Limits}
 use Rattle.mpd_explore.specs.declared.search.Open.{Open}
-use Rattle.mpd_walk.specs.Walk.{Run, prefixed, here}
+use Rattle.mpd_policy.specs.Walk.{Run, prefixed, here}
 use Rattle.mpd_explore.specs.Search.{Search, picked, runs_from, come, after, At, Advanced}
 use Rattle.mpd_explore.specs.Report.{shown, is_bad, any_bad, up_to_bad, ended_by, listed}
 use Rattle.mpd_explore.specs.Witness.{witness_by}

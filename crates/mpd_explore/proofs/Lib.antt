@@ -13,3 +13,9 @@ pub mod AwakeLemmas
 pub mod ListedLemmas
 pub mod GatherLemmas
 pub mod PrintLemmas
+pub mod AlongLemmas
+pub mod SleepLemmas
+pub mod BehindLemmas
+pub mod PieceLemmas
+pub mod SplitLemmas
+pub mod ReportLemmas

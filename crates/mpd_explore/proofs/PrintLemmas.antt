@@ -10,11 +10,11 @@ use Rattle.mpd_model.specs.declared.decision.Decision.{Decision}
 use Rattle.mpd_model.specs.steps.World.{World}
 use Rattle.mpd_model.specs.texts.Texts.{line, steps_text}
 use Rattle.mpd_model.specs.declared.outcome.Outcome.TheVariants.{Done, Leftovers, Deadlock, Trap}
-use Rattle.mpd_walk.specs.declared.ending.Ending.{Ending}
-use Rattle.mpd_walk.specs.declared.ending.Ending.TheVariants.{Ended, Cut}
+use Rattle.mpd_policy.specs.declared.ending.Ending.{Ending}
+use Rattle.mpd_policy.specs.declared.ending.Ending.TheVariants.{Ended, Cut}
 use Rattle.mpd_explore.specs.declared.report.Leaf.{Leaf}
 use Rattle.mpd_explore.specs.declared.report.Witness.{Witness}
-use Rattle.mpd_walk.specs.Walk.{steps_by, run_by}
+use Rattle.mpd_policy.specs.Walk.{steps_by, run_by}
 use Rattle.mpd_explore.specs.Report.{is_bad}
 use Rattle.mpd_explore.specs.Witness.{witness_by}
 use Rattle.mpd_explore.specs.ReportText.{leaf_line, witness_lines, witness_part, leaves_text, more_text, report_text}

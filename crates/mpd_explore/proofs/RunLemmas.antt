@@ -4,8 +4,8 @@ use Rattle.mpd_model.specs.declared.step.Step.{Step}
 use Rattle.mpd_model.specs.declared.decision.Decision.{Decision}
 use Rattle.mpd_model.specs.declared.decision.Decision.TheVariants.{Forced, Choice, Leaf}
 use Rattle.mpd_model.specs.steps.World.{World}
-use Rattle.mpd_walk.specs.declared.ending.Ending.{Ending}
-use Rattle.mpd_walk.specs.Walk.{Run, here, stepped, chosen, prefixed, runs_of, stopped}
+use Rattle.mpd_policy.specs.declared.ending.Ending.{Ending}
+use Rattle.mpd_policy.specs.Walk.{Run, here, stepped, chosen, prefixed, runs_of, stopped}
 
 -- ---- runs behind a step and a choice
 

@@ -9,17 +9,17 @@ use Rattle.mpd_model.specs.steps.World.{World, start}
 use Rattle.mpd_model.specs.steps.Next.{next, fold}
 use Rattle.mpd_model.specs.runs.Decisions.{CanFollow}
 use Rattle.mpd_model.specs.runs.Trail.{Trail, Standing, IsReached, done_steps}
-use Rattle.mpd_trail.specs.Run.{first_of}
-use Rattle.mpd_walk.specs.declared.ending.Ending.{Ending}
-use Rattle.mpd_walk.specs.declared.ending.Ending.TheVariants as ending_is
-use Rattle.mpd_walk.specs.declared.along.Stop.{Stop}
-use Rattle.mpd_walk.specs.declared.along.Stop.TheVariants.{Ended, Fuel, Untaken}
-use Rattle.mpd_walk.specs.Walk.{here as run_here, prefixed, stopped, ending_by}
-use Rattle.mpd_walk.specs.Walked.{Walked}
-use Rattle.mpd_walk.specs.Walked.Walked.{here, forced, chosen}
-use Rattle.mpd_walk.specs.Walks.{Beyond, Walks, ending_after}
-use Rattle.mpd_walk.proofs.WalkLemmas.{length-done_steps}
-use Rattle.mpd_walk.proofs.ChoiceLemmas.{within_limit}
+use Rattle.mpd_core.specs.Run.{first_of}
+use Rattle.mpd_policy.specs.declared.ending.Ending.{Ending}
+use Rattle.mpd_policy.specs.declared.ending.Ending.TheVariants as ending_is
+use Rattle.mpd_policy.specs.declared.along.Stop.{Stop}
+use Rattle.mpd_policy.specs.declared.along.Stop.TheVariants.{Ended, Fuel, Untaken}
+use Rattle.mpd_policy.specs.Walk.{here as run_here, prefixed, stopped, ending_by}
+use Rattle.mpd_policy.specs.Walked.{Walked}
+use Rattle.mpd_policy.specs.Walked.Walked.{here, forced, chosen}
+use Rattle.mpd_policy.specs.Walks.{Beyond, Walks, ending_after}
+use Rattle.mpd_policy.proofs.WalkLemmas.{length-done_steps}
+use Rattle.mpd_policy.proofs.ChoiceLemmas.{within_limit}
 use Rattle.mpd_explore.specs.declared.search.Open.{Open}
 use Rattle.mpd_explore.specs.declared.search.Frontier.{Frontier}
 use Rattle.mpd_explore.specs.Asleep.{Skips}

@@ -11,7 +11,7 @@ use Rattle.mpd_model.specs.steps.World.{World}
 use Rattle.mpd_model.specs.steps.Next.{next, fold}
 use Rattle.mpd_model.specs.steps.Outcomes.{outcome}
 use Rattle.mpd_core.specs.Listed.{listed}
-use Rattle.mpd_trail.proofs.KeptLemmas.{fold-append}
+use Rattle.mpd_core.proofs.KeptLemmas.{fold-append}
 use Rattle.mpd_explore.specs.declared.report.RankTrap.{RankTrap}
 use Rattle.mpd_explore.specs.declared.report.WitnessEnd.{WitnessEnd}
 use Rattle.mpd_explore.specs.declared.report.WitnessEnd.TheVariants.{Deadlock, Trap}

@@ -13,11 +13,11 @@ use Rattle.mpd_model.specs.steps.World.{World, start}
 use Rattle.mpd_model.specs.steps.Next.{next, fold}
 use Rattle.mpd_model.specs.steps.Outcomes.{outcome}
 use Rattle.mpd_model.specs.runs.Decisions.{decision, CanFollow}
-use Rattle.mpd_trail.proofs.KeptLemmas.{fold-append}
-use Rattle.mpd_walk.specs.declared.ending.Ending.{Ending}
-use Rattle.mpd_walk.specs.declared.ending.Ending.TheVariants.{Ended, Cut}
-use Rattle.mpd_walk.specs.Walk.{Run, stepped, chosen, runs_of, stopped, run_from, run_taken, run_stopped, run_by}
-use Rattle.mpd_walk.proofs.RunLemmas.{run_is}
+use Rattle.mpd_core.proofs.KeptLemmas.{fold-append}
+use Rattle.mpd_policy.specs.declared.ending.Ending.{Ending}
+use Rattle.mpd_policy.specs.declared.ending.Ending.TheVariants.{Ended, Cut}
+use Rattle.mpd_policy.specs.Walk.{Run, stepped, chosen, runs_of, stopped, run_from, run_taken, run_stopped, run_by}
+use Rattle.mpd_policy.proofs.WayLemmas.{run_is}
 use Rattle.mpd_explore.specs.declared.report.Leaf as leaf
 use Rattle.mpd_explore.specs.Report.{shown}
 use Rattle.mpd_explore.specs.Sleeping.{awake_runs, put_to_sleep, branches_by, followed_by, awake_by}

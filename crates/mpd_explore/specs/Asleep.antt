@@ -3,7 +3,7 @@ use Rattle.std.specs.Prelude.{◌≡◌, ◌<◌, ◌≤◌, ℕ, Bool, false, L
 use Rattle.std.specs.List.{list_any}
 use Rattle.mpd_model.specs.declared.step.Step.{Step}
 use Rattle.mpd_model.specs.steps.World.{World}
-use Rattle.mpd_walk.specs.Walk.{Run}
+use Rattle.mpd_policy.specs.Walk.{Run}
 use Rattle.mpd_explore.specs.Sleeping.{branches_by, put_off}
 
 -- The runs by the candidates from one on are those from a later one on, since those between are asleep.

@@ -4,7 +4,7 @@ use Rattle.mpd_model.specs.declared.step.Step.{Step}
 use Rattle.mpd_model.specs.runs.Trail.{Standing}
 use Rattle.mpd_explore.specs.declared.report.Leaf.{Leaf}
 use Rattle.mpd_explore.specs.declared.report.Limits.{Limits}
-use Rattle.mpd_walk.specs.Walk.{Run}
+use Rattle.mpd_policy.specs.Walk.{Run}
 use Rattle.mpd_explore.specs.declared.search.Open.{Open}
 use Rattle.mpd_explore.specs.Search.{Search, picked, Found}
 use Rattle.mpd_explore.specs.Report.{shown, listed, left_out}

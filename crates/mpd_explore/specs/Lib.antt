@@ -12,3 +12,10 @@ pub mod ReportText
 pub mod WitnessTexts
 pub mod Gathered
 pub mod Printed
+pub mod Pieces
+pub mod Along
+pub mod Slept
+pub mod PieceFaults
+pub mod PieceLaws
+pub mod PieceRows
+pub mod EndsRows

@@ -2,11 +2,11 @@
 use Rattle.std.specs.Prelude.{Bool, true, false, if◌then◌else◌, nat_lt, List, [], ◌∷◌, length, take}
 use Rattle.std.specs.List.{list_any}
 use Rattle.mpd_model.specs.declared.outcome.Outcome.TheVariants.{Done, Leftovers, Deadlock, Trap}
-use Rattle.mpd_walk.specs.declared.ending.Ending.{Ending}
-use Rattle.mpd_walk.specs.declared.ending.Ending.TheVariants.{Ended, Cut}
+use Rattle.mpd_policy.specs.declared.ending.Ending.{Ending}
+use Rattle.mpd_policy.specs.declared.ending.Ending.TheVariants.{Ended, Cut}
 use Rattle.mpd_explore.specs.declared.report.Leaf.{Leaf}
 use Rattle.mpd_explore.specs.declared.report.Limits.{Limits}
-use Rattle.mpd_walk.specs.Walk.{Run}
+use Rattle.mpd_policy.specs.Walk.{Run}
 
 -- a run as a leaf of a report, which has no steps: they follow from the choices
 abbrev pub shown : Run → Leaf

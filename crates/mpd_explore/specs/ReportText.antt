@@ -6,11 +6,11 @@ use Rattle.mpd_model.specs.declared.step.Step.{Step}
 use Rattle.mpd_model.specs.declared.decision.Decision.{Decision}
 use Rattle.mpd_model.specs.steps.World.{World}
 use Rattle.mpd_model.specs.texts.Texts.{line, steps_text, outcome_text}
-use Rattle.mpd_walk.specs.declared.ending.Ending.{Ending}
-use Rattle.mpd_walk.specs.declared.ending.Ending.TheVariants.{Ended, Cut}
+use Rattle.mpd_policy.specs.declared.ending.Ending.{Ending}
+use Rattle.mpd_policy.specs.declared.ending.Ending.TheVariants.{Ended, Cut}
 use Rattle.mpd_explore.specs.declared.report.Leaf.{Leaf}
 use Rattle.mpd_explore.specs.declared.report.Witness.{Witness}
-use Rattle.mpd_walk.specs.Walk.{run_by, steps_by}
+use Rattle.mpd_policy.specs.Walk.{run_by, steps_by}
 use Rattle.mpd_explore.specs.Witness.{witness_by}
 
 -- numbers of candidates, with one space between two

@@ -11,9 +11,9 @@ use Rattle.mpd_model.specs.steps.Next.{next}
 use Rattle.mpd_model.specs.runs.Trail.{step_eq}
 use Rattle.mpd_model.specs.runs.Decisions.{decision}
 use Rattle.mpd_policy.specs.Wide.{wide_decision, sleeps_on}
-use Rattle.mpd_walk.specs.declared.ending.Ending.TheVariants.{Ended}
-pub use Rattle.mpd_walk.specs.Asleep.{same_match, nothing_wakes}
-use Rattle.mpd_walk.specs.Walk.{Run, here, stepped, chosen, runs_of, stopped, walk}
+use Rattle.mpd_policy.specs.declared.ending.Ending.TheVariants.{Ended}
+pub use Rattle.mpd_policy.specs.Asleep.{same_match, nothing_wakes}
+use Rattle.mpd_policy.specs.Walk.{Run, here, stepped, chosen, runs_of, stopped, walk}
 use Rattle.mpd_explore.specs.declared.report.Limits.{Limits}
 
 -- ---- the walk

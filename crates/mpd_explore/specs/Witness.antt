@@ -10,14 +10,14 @@ use Rattle.mpd_model.specs.script.Program.{Program}
 use Rattle.mpd_model.specs.steps.World.{World, start}
 use Rattle.mpd_model.specs.steps.Next.{next, fold}
 use Rattle.mpd_model.specs.steps.Outcomes.{ids_of, outcome}
-use Rattle.mpd_walk.specs.declared.ending.Ending.{Ending}
-use Rattle.mpd_walk.specs.declared.ending.Ending.TheVariants.{Ended, Cut}
+use Rattle.mpd_policy.specs.declared.ending.Ending.{Ending}
+use Rattle.mpd_policy.specs.declared.ending.Ending.TheVariants.{Ended, Cut}
 use Rattle.mpd_explore.specs.declared.report.Leaf as leaf
 use Rattle.mpd_explore.specs.declared.report.RankTrap.{RankTrap}
 use Rattle.mpd_explore.specs.declared.report.WitnessEnd.{WitnessEnd}
 use Rattle.mpd_explore.specs.declared.report.WitnessEnd.TheVariants.{Deadlock, Trap}
 use Rattle.mpd_explore.specs.declared.report.Witness.{Witness}
-use Rattle.mpd_walk.specs.Walk.{Run, run_by}
+use Rattle.mpd_policy.specs.Walk.{Run, run_by}
 use Rattle.mpd_explore.specs.declared.verifier.WitnessFault.{WitnessFault}
 use Rattle.mpd_explore.specs.declared.verifier.WitnessFault.TheVariants.{NoSuchStep, NotStuck, WrongBlocked}
 

@@ -6,7 +6,7 @@ ghost use Rattle.mpd_explore.specs.Sleeping.{put_off};
 ghost use Rattle.mpd_explore.specs.Asleep.{Skips};
 
 use mpd_model::{Step, StepList};
-use mpd_walk::Schedule;
+use mpd_policy::Schedule;
 use std::alloc::{AllocError, Global};
 
 /// Whether a candidate is one of some steps that are asleep.

@@ -3,8 +3,8 @@
 ghost use Rattle.std.specs.Prelude.{◌≡◌, ◌+◌, ◌<◌, ◌≤◌, ◌⊎◌, true, false, [], ◌∷◌, ◌++◌, if◌then◌else◌, map, IfOk, OnOk, OnErr, IsTrue, length, reverse, string_bytes};
 ghost use Rattle.std.specs.List.{AllByRecursion};
 ghost use Rattle.mpd_model.specs.runs.Trail.{done_steps};
-ghost use Rattle.mpd_trail.specs.Run.{first_of};
-ghost use Rattle.mpd_trail.specs.Views.{AsFound, standing_of};
+ghost use Rattle.mpd_core.specs.Run.{first_of};
+ghost use Rattle.mpd_core.specs.DebuggerViews.{AsFound, standing_of};
 ghost use Rattle.mpd_explore.specs.Report.{shown, listed, left_out};
 ghost use Rattle.mpd_explore.specs.Gathered.{FoundLeaf, IsMore, Lists};
 ghost use Rattle.mpd_explore.specs.Witness.{HasWitness, witness_by};
@@ -16,9 +16,9 @@ use crate::print::witness_here;
 use crate::report::{ChoiceList, Ending, Leaf, Limits, Report};
 use crate::search::{Bounds, Frontier, Open, advance, seek};
 use crate::watch::Watch;
+use mpd_core::Debugger;
 use mpd_model::{STEPS_MAX, Step, StepList};
-use mpd_trail::Debugger;
-use mpd_walk::{Plain, Schedule, Wide, put_back};
+use mpd_policy::{Plain, Schedule, Wide, put_back};
 use std::alloc::{AllocError, Global};
 
 /// The candidates that are taken at the open choices.

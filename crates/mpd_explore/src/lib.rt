@@ -1,19 +1,31 @@
-//! The runs of a script, depth first along decisions, forward and by undo; and witnesses of deadlocks and traps.
+//! The runs of a script, depth first along decisions, forward and by undo, whole or in pieces that are cut by their first choices; and
+//! witnesses of deadlocks and traps.
 #![tactic(auto)]
 
 mod asleep;
+pub mod by_pieces;
 mod ends;
 pub mod explorer;
+mod follow;
+pub mod laws;
+pub mod piece_explorer;
 pub mod print;
 pub mod report;
 pub mod same;
 mod search;
+mod sleep;
+pub mod splitter;
 pub mod verifier;
 pub mod watch;
 pub mod witness;
 
 pub use asleep::{asleep_at, is_asleep};
+pub use by_pieces::{explore_by_pieces, is_left, is_more};
 pub use explorer::{explore, explore_with};
+pub use laws::{
+    each_piece_is_reached, no_choice_is_the_whole, no_more_is_the_whole, pieces_join_to_the_walk,
+};
+pub use piece_explorer::explore_at;
 pub use print::{
     print_report, push_choices, push_leaf_text, push_leaves, push_total, witness_here,
 };
@@ -21,6 +33,7 @@ pub use report::{
     ChoiceList, Ending, Leaf, Limits, RankTrap, RankTrapList, Report, Witness, WitnessEnd,
 };
 pub use same::same_ending;
+pub use splitter::{PIECES_MAX, Piece, SplitFault, split};
 pub use verifier::{WitnessFault, same_trap, verify, verify_from};
 pub use watch::{Unwatched, Watch};
 pub use witness::witness_of;

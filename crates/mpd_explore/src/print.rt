@@ -13,8 +13,8 @@ ghost use Rattle.mpd_explore.specs.WitnessTexts.{behind_number, witness_texts};
 ghost use Rattle.mpd_explore.specs.Printed.{numbered, numbered_at, lines_told, told_text, total_line};
 
 use crate::report::{Ending, Leaf, Report, is_bad};
+use mpd_core::Debugger;
 use mpd_model::{Step, print_outcome};
-use mpd_trail::Debugger;
 use std::alloc::{AllocError, Global};
 
 /// Adds a number. Most ranks and choices have one digit, which is added as it is.

@@ -4,7 +4,7 @@ ghost use Rattle.std.specs.Prelude.{◌≡◌, ◌&&◌};
 ghost use Rattle.mpd_explore.specs.Report.{is_bad, any_bad};
 
 use mpd_model::{CallList, Outcome, StepList, Trap};
-pub use mpd_walk::Ending;
+pub use mpd_policy::Ending;
 use std::marker::Model;
 
 /// How far an exploration goes, and what is listed.

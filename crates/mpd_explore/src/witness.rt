@@ -2,16 +2,16 @@
 
 ghost use Rattle.std.specs.Prelude.{◌≡◌, ◌+◌, ◌≤◌, ◌++◌, IfOk, OnErr, IsSome, length};
 ghost use Rattle.mpd_model.specs.runs.Trail.{done_steps};
-ghost use Rattle.mpd_trail.specs.Views.{AsFound, standing_of};
-ghost use Rattle.mpd_walk.specs.Walk.{run_by, steps_by};
-ghost use Rattle.mpd_walk.specs.Walks.{Beyond};
+ghost use Rattle.mpd_core.specs.DebuggerViews.{AsFound, standing_of};
+ghost use Rattle.mpd_policy.specs.Walk.{run_by, steps_by};
+ghost use Rattle.mpd_policy.specs.Walks.{Beyond};
 ghost use Rattle.mpd_explore.specs.Witness.{witness_by, end_of};
 
 use crate::ends::end_of;
 use crate::report::{Leaf, Witness};
+use mpd_core::Debugger;
 use mpd_model::{STEPS_MAX, StepList};
-use mpd_trail::Debugger;
-use mpd_walk::{Schedule, follow, put_back};
+use mpd_policy::{Schedule, follow, put_back};
 use std::alloc::{AllocError, Global};
 
 /// The steps that are not undone.

@@ -6,3 +6,8 @@ pub mod GatherLaws
 pub mod SpokenLaws
 pub mod TurnLaws
 pub mod UpToLaws
+pub mod FoldLemmas
+pub mod WordLemmas
+pub mod ShortLemmas
+pub mod CutLemmas
+pub mod KeepLaws

@@ -7,3 +7,8 @@ pub mod Turned
 pub mod Shown
 pub mod UpTo
 pub mod Verdicts
+pub mod Folding
+pub mod FoldRows
+pub mod Ends
+pub mod Limits
+pub mod Seen

@@ -1,9 +1,13 @@
-//! Lines over devices: what comes in pieces is cut into lines, a desk answers each, and the answers are written before the next read.
+//! Bytes and lines: devices that are counted, and devices that are made to fail; what comes in pieces is cut into lines, a desk answers
+//! each, and the answers are written before the next read; long lines of an answer go on in further lines (docs/CONSOLE.md).
 #![tactic(auto)]
 
 pub mod desk;
+pub mod device;
 pub mod engine;
+pub mod failing;
 mod feeder;
+pub mod fold;
 mod line_bytes;
 pub mod outbox;
 pub mod room;
@@ -11,7 +15,12 @@ pub mod up_to;
 pub mod verdict;
 
 pub use desk::{LineDesk, ROOM};
+pub use device::{DeviceFault, FromReader, Sink, Source, ToWriter};
 pub use engine::{EngineFault, READ_MAX, run, run_behind};
+pub use failing::{FailingSink, FailingSource, Limit};
+pub use fold::{
+    INDENT, WIDTH, long_lines_can_nowhere_be_cut, long_lines_keep_their_words, push_folded,
+};
 pub use outbox::write_all;
 pub use room::push_all;
 pub use up_to::read_up_to;

@@ -4,7 +4,7 @@ ghost use Rattle.mpd_lines.specs.Gathering.{Gathered, Relieved, Written};
 ghost use Rattle.mpd_lines.specs.Telling.{waiting_below};
 
 use crate::desk::{LineDesk, ROOM};
-use mpd_device::{DeviceFault, Sink};
+use crate::device::{DeviceFault, Sink};
 use mpd_model::LINE_MAX;
 use std::alloc::{AllocError, Global};
 use std::marker::Model;

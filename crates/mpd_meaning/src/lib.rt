@@ -1,4 +1,4 @@
-//! Laws that say what definitions mean without the way they are computed (docs/DEFINITIONS.md): they have no code, and nothing uses them.
+//! Laws that say what definitions mean without the way they are computed (docs/DEFINITIONS.md). They have no code.
 #![tactic(auto)]
 
 pub mod reading;

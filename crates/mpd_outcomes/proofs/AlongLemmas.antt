@@ -26,14 +26,14 @@ use Rattle.mpd_outcomes.proofs.WalkLemmas.{some_leaves}
 use Rattle.mpd_outcomes.proofs.StackLemmas.{left_over, opened_come}
 use Rattle.mpd_core.proofs.RangeLemmas.{if_ok}
 use Rattle.mpd_model.specs.runs.Trail.{Trail}
-use Rattle.mpd_walk.specs.Walks.{Beyond}
+use Rattle.mpd_policy.specs.Walks.{Beyond}
 use Rattle.mpd_outcomes.specs.declared.search.Arrived.{Arrived}
 use Rattle.mpd_outcomes.specs.declared.search.Bounds.{Bounds}
 use Rattle.mpd_outcomes.specs.Front.{search_of, BeforeIn, Down}
 use Rattle.mpd_outcomes.proofs.MoveLemmas.{gone_down, down_come, same_search}
 use Rattle.mpd_outcomes.proofs.GatherLemmas.{stopped_tells}
 use Rattle.mpd_outcomes.proofs.GoalLemmas.{grown_then}
-use Rattle.mpd_walk.specs.Walk.{wide_walk}
+use Rattle.mpd_policy.specs.Walk.{wide_walk}
 use Rattle.mpd_explore.specs.Report.{shown}
 
 -- ---- of leaves

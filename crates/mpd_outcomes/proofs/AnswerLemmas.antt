@@ -17,8 +17,8 @@ use Rattle.mpd_outcomes.specs.declared.sums.Sums.{Sums}
 use Rattle.mpd_outcomes.specs.declared.search.Open.{Open}
 use Rattle.std.specs.declared.alloc.Global.{Global}
 use Rattle.mpd_model.specs.script.Program.{Program}
-use Rattle.mpd_walk.specs.declared.ending.Ending.{Ending}
-use Rattle.mpd_states.specs.Height.{height}
+use Rattle.mpd_policy.specs.declared.ending.Ending.{Ending}
+use Rattle.mpd_outcomes.specs.Height.{height}
 use Rattle.mpd_outcomes.specs.declared.report.Count.TheVariants.{Exactly}
 use Rattle.mpd_outcomes.specs.declared.table.Found.{Found}
 use Rattle.mpd_outcomes.specs.declared.search.Front.{Front}

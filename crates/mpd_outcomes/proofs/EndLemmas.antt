@@ -5,8 +5,8 @@ use Rattle.mpd_model.specs.declared.outcome.Outcome.{Outcome}
 use Rattle.mpd_model.specs.declared.decision.Decision.TheVariants.{Forced, Choice, Leaf as Ends}
 use Rattle.mpd_model.specs.steps.World.{World}
 use Rattle.mpd_policy.specs.Wide.{wide_decision}
-use Rattle.mpd_walk.specs.declared.ending.Ending.TheVariants.{Ended, Cut}
-use Rattle.mpd_states.specs.Height.{height}
+use Rattle.mpd_policy.specs.declared.ending.Ending.TheVariants.{Ended, Cut}
+use Rattle.mpd_outcomes.specs.Height.{height}
 use Rattle.mpd_outcomes.specs.Outcomes.{leaves_from}
 use Rattle.mpd_outcomes.specs.Front.{only_leaf}
 use Rattle.mpd_outcomes.proofs.WalkLemmas.{leaves_ended, height_ended, forced_cut, choice_cut}

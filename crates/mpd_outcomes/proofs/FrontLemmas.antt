@@ -6,7 +6,7 @@ use Rattle.mpd_model.specs.steps.World.{World, start}
 use Rattle.mpd_model.specs.steps.Next.{next, fold}
 use Rattle.mpd_policy.specs.Wide.{wide_decision}
 use Rattle.mpd_explore.specs.declared.report.Leaf.{Leaf}
-use Rattle.mpd_states.specs.Height.{height, height_of, highest}
+use Rattle.mpd_outcomes.specs.Height.{height, height_of, highest}
 use Rattle.mpd_outcomes.specs.declared.report.Count.{Count}
 use Rattle.mpd_outcomes.specs.declared.table.Table.{Table}
 use Rattle.mpd_outcomes.specs.declared.sums.Sums.{Sums}

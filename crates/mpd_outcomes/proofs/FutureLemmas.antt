@@ -17,7 +17,7 @@ use Rattle.mpd_model.specs.script.Tree.{Tree}
 use Rattle.mpd_model.specs.steps.World.{RankWorld, World, Board, call_id, kind_at, partner, buffer, rank_numbers, call_numbers, calls_of, awaited, last_call}
 use Rattle.mpd_model.specs.steps.Next.{is_blocked, writes_of, status_writes}
 use Rattle.mpd_model.specs.steps.Outcomes.{first_number}
-use Rattle.mpd_states.specs.Future.{open_call, still_asked, Seen, seen, seen_held, BlockedOn, last_statement, seen_last, RankKey, key_by, quieted, rank_key, Key, key_of, SameFuture}
+use Rattle.mpd_outcomes.specs.Future.{open_call, still_asked, Seen, seen, seen_held, BlockedOn, last_statement, seen_last, RankKey, key_by, quieted, rank_key, Key, key_of, SameFuture}
 use Rattle.mpd_outcomes.specs.Words.{number_word, flag_word, sized, asked_words, received_words, writes_words, seen_words}
 use Rattle.mpd_outcomes.specs.Keys.{place_words, held_words, numbered_words, call_words, target_words, blocked_words, part_of, part_at, key_words, left_from, IsKey}
 

@@ -9,9 +9,9 @@ use Rattle.mpd_model.specs.steps.World.{World, start}
 use Rattle.mpd_model.specs.steps.Next.{fold}
 use Rattle.mpd_model.specs.runs.Decisions.{CanFollow}
 use Rattle.mpd_model.specs.runs.Trail.{Standing, IsReached, done_steps, gone_back, forgotten, step_eq}
-use Rattle.mpd_trail.specs.Views.{AsFound}
+use Rattle.mpd_core.specs.DebuggerViews.{AsFound}
 use Rattle.mpd_policy.specs.Wide.{wide_decision, sleeps_on}
-use Rattle.mpd_walk.specs.Walk.{wide_walk}
+use Rattle.mpd_policy.specs.Walk.{wide_walk}
 use Rattle.mpd_explore.specs.declared.report.Leaf.{Leaf}
 use Rattle.mpd_explore.specs.Report.{shown}
 use Rattle.mpd_explore.specs.Search.{Safe}
@@ -19,7 +19,7 @@ use Rattle.mpd_explore.specs.Witness.{HasWitness}
 use Rattle.mpd_explore.proofs.AwakeLemmas.{no_wide_sleeps}
 use Rattle.mpd_explore.proofs.CollectLemmas.{as_found, world_found}
 use Rattle.mpd_explore.proofs.WitnessLemmas.{awake_witnessed}
-use Rattle.mpd_walk.proofs.WalkLemmas.{length-done_steps}
+use Rattle.mpd_policy.proofs.WalkLemmas.{length-done_steps}
 use Rattle.mpd_outcomes.specs.declared.report.Count.{Count}
 use Rattle.mpd_outcomes.specs.declared.report.Count.TheVariants.{Exactly}
 use Rattle.mpd_outcomes.specs.declared.report.Outcomes.{Outcomes}

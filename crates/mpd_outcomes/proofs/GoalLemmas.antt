@@ -6,7 +6,7 @@ use Rattle.std.proofs.lemmas.Bool.{or_parts, or_from}
 use Rattle.std.proofs.lemmas.List.{length-append, take-append-drop}
 use Rattle.std.proofs.lemmas.List.Folds.{list_any-append}
 use Rattle.std.proofs.Math.Seq.{take-append_seam}
-use Rattle.mpd_walk.specs.declared.ending.Ending.{Ending}
+use Rattle.mpd_policy.specs.declared.ending.Ending.{Ending}
 use Rattle.mpd_explore.specs.declared.report.Leaf.{Leaf}
 use Rattle.mpd_outcomes.specs.declared.report.Goal.{Goal}
 use Rattle.mpd_outcomes.specs.declared.report.StateLimits.{StateLimits}

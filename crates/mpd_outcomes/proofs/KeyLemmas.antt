@@ -20,7 +20,7 @@ use Rattle.mpd_model.specs.script.Program.{Program}
 use Rattle.mpd_model.specs.steps.World.{RankWorld, World, Board, call_id, kind_at, partner, buffer, rank_numbers, call_numbers, calls_of, awaited, last_call}
 use Rattle.mpd_model.specs.steps.Next.{is_blocked, writes_of, status_writes}
 use Rattle.mpd_model.specs.steps.Outcomes.{first_number}
-use Rattle.mpd_states.specs.Future.{overwritten, live_vars, open_call, still_asked, seen, seen_held, last_statement, seen_last, RankKey, key_by, rank_key, SameFuture}
+use Rattle.mpd_outcomes.specs.Future.{overwritten, live_vars, open_call, still_asked, seen, seen_held, last_statement, seen_last, RankKey, key_by, rank_key, SameFuture}
 use Rattle.mpd_outcomes.specs.Words.{number_word, flag_word, sized, source_word, tag_word, kind_words, asked_words, received_words, writes_words, seen_words, activity_word}
 use Rattle.mpd_outcomes.specs.Keys.{place_words, held_words, handle_words, open_words, numbered_words, call_words, target_words, blocked_words, rank_words, part_of, part_at, left_from, IsKey}
 use Rattle.mpd_outcomes.proofs.SplitLemmas.{Splits, both, mapped, behind, apart, number_told, flag_told, option_told, sized_told}

@@ -9,14 +9,14 @@ use Rattle.mpd_model.specs.steps.World.{World, start}
 use Rattle.mpd_model.specs.steps.Next.{next, fold}
 use Rattle.mpd_model.specs.runs.Trail.{Trail, Standing, IsReached, done_steps}
 use Rattle.mpd_policy.specs.Wide.{wide_decision}
-use Rattle.mpd_walk.specs.declared.ending.Ending.{Ending}
-use Rattle.mpd_walk.specs.Walks.{Beyond}
-use Rattle.mpd_walk.proofs.WalkLemmas.{length-done_steps}
+use Rattle.mpd_policy.specs.declared.ending.Ending.{Ending}
+use Rattle.mpd_policy.specs.Walks.{Beyond}
+use Rattle.mpd_policy.proofs.WalkLemmas.{length-done_steps}
 use Rattle.mpd_explore.specs.declared.report.Leaf.{Leaf}
 use Rattle.mpd_explore.specs.Report.{shown}
-use Rattle.mpd_states.specs.Height.{height}
-use Rattle.mpd_states.specs.StateLaws.{IsRunTo}
-use Rattle.mpd_states.proofs.Heights.{enough_for}
+use Rattle.mpd_outcomes.specs.Height.{height}
+use Rattle.mpd_outcomes.specs.StateLaws.{IsRunTo}
+use Rattle.mpd_outcomes.proofs.Heights.{enough_for}
 use Rattle.mpd_outcomes.specs.declared.report.Count.{Count}
 use Rattle.mpd_outcomes.specs.declared.table.Found.{Found}
 use Rattle.mpd_outcomes.specs.declared.table.Table.{Table}

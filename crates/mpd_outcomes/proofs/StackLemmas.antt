@@ -14,11 +14,11 @@ use Rattle.mpd_policy.specs.Wide.{wide_decision}
 use Rattle.mpd_explore.specs.declared.report.Leaf.{Leaf}
 use Rattle.mpd_explore.specs.Search.{Safe}
 use Rattle.mpd_explore.proofs.SearchLemmas.{Went, Came}
-use Rattle.mpd_states.specs.Height.{height, highest}
-use Rattle.mpd_states.specs.StateLaws.{IsRunTo}
-use Rattle.mpd_states.proofs.Laws.{one_walk}
-use Rattle.mpd_walk.specs.Walks.{Beyond}
-use Rattle.mpd_walk.proofs.WalkLemmas.{length-done_steps}
+use Rattle.mpd_outcomes.specs.Height.{height, highest}
+use Rattle.mpd_outcomes.specs.StateLaws.{IsRunTo}
+use Rattle.mpd_outcomes.proofs.Laws.{one_walk}
+use Rattle.mpd_policy.specs.Walks.{Beyond}
+use Rattle.mpd_policy.proofs.WalkLemmas.{length-done_steps}
 use Rattle.mpd_explore.specs.Report.{shown}
 use Rattle.mpd_outcomes.specs.declared.report.Count.{Count}
 use Rattle.mpd_outcomes.specs.declared.report.Count.TheVariants.{Exactly}

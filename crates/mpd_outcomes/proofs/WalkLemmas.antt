@@ -10,12 +10,12 @@ use Rattle.mpd_model.specs.steps.Next.{next}
 use Rattle.mpd_model.specs.runs.Decisions.{CanFollow}
 use Rattle.mpd_model.specs.runs.Trail.{step_eq}
 use Rattle.mpd_policy.specs.Wide.{wide_decision, sleeps_on}
-use Rattle.mpd_walk.specs.Walk.{Run, stepped, chosen, runs_of, branches, followed, stopped, wide_walk}
-use Rattle.mpd_walk.specs.declared.ending.Ending.TheVariants.{Ended, Cut}
+use Rattle.mpd_policy.specs.Walk.{Run, stepped, chosen, runs_of, branches, followed, stopped, wide_walk}
+use Rattle.mpd_policy.specs.declared.ending.Ending.TheVariants.{Ended, Cut}
 use Rattle.mpd_explore.specs.declared.report.Leaf.{Leaf}
 use Rattle.mpd_explore.specs.Report.{shown}
 use Rattle.mpd_explore.proofs.AwakeLemmas.{awake_some, no_wide_sleeps}
-use Rattle.mpd_states.specs.Height.{height, height_of, highest, height_by, height_stopped}
+use Rattle.mpd_outcomes.specs.Height.{height, height_of, highest, height_by, height_stopped}
 use Rattle.mpd_outcomes.specs.Outcomes.{leaves_from}
 use Rattle.mpd_outcomes.specs.Front.{put, leaves_by, leaves_of, only_leaf}
 

@@ -9,13 +9,13 @@ use Rattle.mpd_model.specs.steps.World.{World, start}
 use Rattle.mpd_model.specs.steps.Next.{next, fold}
 use Rattle.mpd_model.specs.runs.Trail.{Trail, Standing, IsReached, done_steps}
 use Rattle.mpd_policy.specs.Wide.{wide_decision}
-use Rattle.mpd_walk.specs.Walk.{branches, wide_walk}
-use Rattle.mpd_walk.specs.declared.ending.Ending.{Ending}
-use Rattle.mpd_walk.specs.declared.ending.Ending.TheVariants.{Ended, Cut}
+use Rattle.mpd_policy.specs.Walk.{branches, wide_walk}
+use Rattle.mpd_policy.specs.declared.ending.Ending.{Ending}
+use Rattle.mpd_policy.specs.declared.ending.Ending.TheVariants.{Ended, Cut}
 use Rattle.mpd_explore.specs.declared.report.Leaf.{Leaf}
 use Rattle.mpd_explore.specs.Report.{shown}
-use Rattle.mpd_states.specs.Height.{height, highest}
-use Rattle.mpd_states.specs.StateLaws.{IsRunTo}
+use Rattle.mpd_outcomes.specs.Height.{height, highest}
+use Rattle.mpd_outcomes.specs.StateLaws.{IsRunTo}
 use Rattle.mpd_outcomes.specs.declared.report.Count.TheVariants.{Exactly}
 use Rattle.mpd_outcomes.specs.declared.table.Found.{Found}
 use Rattle.mpd_outcomes.specs.declared.table.Table.{Table}

@@ -10,7 +10,7 @@ use Rattle.mpd_model.specs.steps.World.{RankWorld, World, Board, call_id, kind_a
 use Rattle.mpd_model.specs.steps.Next.{is_blocked}
 use Rattle.mpd_model.specs.steps.Outcomes.{first_number}
 use Rattle.mpd_code.specs.Left.{left_at}
-use Rattle.mpd_states.specs.Future.{overwritten, live_vars, open_call, last_statement, SameFuture}
+use Rattle.mpd_outcomes.specs.Future.{overwritten, live_vars, open_call, last_statement, SameFuture}
 use Rattle.mpd_outcomes.specs.Words.{number_word, flag_word, number_or_zero, sized, kind_words, seen_words, activity_word}
 
 -- where a rank goes on, and what it is doing

@@ -10,3 +10,7 @@ pub mod Gathered
 pub mod Goals
 pub mod CountText
 pub mod GoalRows
+pub mod Future
+pub mod Height
+pub mod StateLaws
+pub mod StateRows

@@ -1,7 +1,7 @@
 -- What is told of the ways that runs end.
 use Rattle.std.specs.Prelude.{◌≡◌, ◌≤◌, ℕ, ◌^◌, ◌+◌, if◌then◌else◌, nat_lt, take, List, length, map}
 use Rattle.mpd_model.specs.steps.World.{World}
-use Rattle.mpd_walk.specs.Walk.{wide_walk}
+use Rattle.mpd_policy.specs.Walk.{wide_walk}
 use Rattle.mpd_explore.specs.declared.report.Leaf.{Leaf}
 use Rattle.mpd_explore.specs.Report.{shown}
 use Rattle.mpd_explore.specs.Ends.{firsts, times}

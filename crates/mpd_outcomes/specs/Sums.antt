@@ -1,7 +1,7 @@
 -- What is told of leaves, put together from parts: counts by the numbers of ways.
 use Rattle.std.specs.Prelude.{◌≡◌, ◌≤◌, ℕ, Bool, true, List, [], ◌∷◌, ◌++◌, length, replicate, slice_get, slice_index_or, Some}
 use Rattle.std.specs.List.{list_all}
-use Rattle.mpd_walk.specs.declared.ending.Ending.{Ending}
+use Rattle.mpd_policy.specs.declared.ending.Ending.{Ending}
 use Rattle.mpd_explore.specs.declared.report.Leaf.{Leaf}
 use Rattle.mpd_outcomes.specs.declared.report.Count.{Count}
 use Rattle.mpd_outcomes.specs.declared.report.Count.TheVariants.{Exactly}

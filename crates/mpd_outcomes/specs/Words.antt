@@ -11,7 +11,7 @@ use Rattle.mpd_model.specs.declared.call.Trap.TheVariants.{Overflow, ZeroDivisor
 use Rattle.mpd_model.specs.declared.call.Activity.{Activity}
 use Rattle.mpd_model.specs.declared.call.Activity.TheVariants.{Running, Blocked, Trapped}
 use Rattle.mpd_model.specs.steps.World.{Board, kind_at, partner, buffer}
-use Rattle.mpd_states.specs.Future.{still_asked}
+use Rattle.mpd_outcomes.specs.Future.{still_asked}
 
 -- a number of any size as one word: below 2^63 it is itself, and from there on it is counted down from -1
 unfoldable pub number_word : ℕ → ℤ

@@ -4,10 +4,10 @@ ghost use Rattle.std.specs.Prelude.{◌≡◌, ◌+◌, ◌-◌, ◌≤◌, ◌<
 ghost use Rattle.std.specs.List.{AllByRecursion, list_any};
 ghost use Rattle.mpd_model.specs.runs.Trail.{done_steps};
 ghost use Rattle.mpd_model.specs.steps.World.{World};
-ghost use Rattle.mpd_trail.specs.Views.{AsFound, standing_of};
+ghost use Rattle.mpd_core.specs.DebuggerViews.{AsFound, standing_of};
 ghost use Rattle.mpd_policy.specs.Wide.{wide_decision};
-ghost use Rattle.mpd_walk.specs.Walk.{run_by};
-ghost use Rattle.mpd_walk.specs.Walks.{Beyond};
+ghost use Rattle.mpd_policy.specs.Walk.{run_by};
+ghost use Rattle.mpd_policy.specs.Walks.{Beyond};
 ghost use Rattle.mpd_explore.specs.Search.{Safe};
 ghost use Rattle.mpd_explore.specs.Witness.{HasWitness};
 ghost use Rattle.mpd_explore.specs.WitnessTexts.{witness_text, witness_texts};
@@ -23,11 +23,10 @@ use crate::report::{Outcomes, StateLimits};
 use crate::search::{Bounds, Front, Open, Reach, search};
 use crate::sums::{Sums, Tally, pad};
 use crate::table::Table;
+use mpd_core::Debugger;
 use mpd_explore::{Leaf, Report, witness_here};
 use mpd_model::STEPS_MAX;
-use mpd_policy::wide_decisions_can_be_followed;
-use mpd_trail::Debugger;
-use mpd_walk::{Wide, follow, put_back};
+use mpd_policy::{Wide, follow, put_back, wide_decisions_can_be_followed};
 use std::alloc::{AllocError, Global};
 use std::mem;
 

@@ -8,7 +8,7 @@ ghost use Rattle.mpd_model.specs.steps.Outcomes.{first_number};
 ghost use Rattle.mpd_model.specs.steps.Next.{is_blocked};
 ghost use Rattle.mpd_code.specs.Left.{left_at};
 ghost use Rattle.mpd_rank.specs.Views.{rank_of};
-ghost use Rattle.mpd_states.specs.Future.{overwritten, blanked, live_vars, open_call as call_open, last_statement as statement_last};
+ghost use Rattle.mpd_outcomes.specs.Future.{overwritten, blanked, live_vars, open_call as call_open, last_statement as statement_last};
 ghost use Rattle.mpd_outcomes.specs.Words.{sized};
 ghost use Rattle.mpd_outcomes.specs.Keys as spec;
 

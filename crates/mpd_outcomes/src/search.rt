@@ -5,10 +5,10 @@ ghost use Rattle.std.specs.Prelude.{◌≡◌, ◌+◌, ◌≤◌, ◌<◌, ℕ,
 ghost use Rattle.mpd_model.specs.runs.Trail.{done_steps, gone_back, IsReached};
 ghost use Rattle.mpd_model.specs.steps.World.{World};
 ghost use Rattle.mpd_model.specs.declared.decision.Decision.TheVariants as decision_is;
-ghost use Rattle.mpd_trail.specs.Views.{standing_of};
+ghost use Rattle.mpd_core.specs.DebuggerViews.{standing_of};
 ghost use Rattle.mpd_outcomes.specs.declared.search.Arrived.TheVariants as arrived_is;
 ghost use Rattle.mpd_policy.specs.Wide.{wide_decision};
-ghost use Rattle.mpd_walk.specs.Walks.{Beyond};
+ghost use Rattle.mpd_policy.specs.Walks.{Beyond};
 ghost use Rattle.mpd_explore.specs.Search.{Safe};
 ghost use Rattle.mpd_outcomes.specs.Front.{search_of, picked, open_in, ways_with, beyond_end, IsArrived, Down, Noted, Opened, Closed, KeptBy, Recalled, BeforeIn, AfterIn, Met, Turned, come_to, come_now, states_now, states_met, Stopped, WentOn};
 ghost use Rattle.mpd_outcomes.specs.Sums.{IsWay};
@@ -21,10 +21,10 @@ use crate::report::StateLimits;
 use crate::sums::{Sums, Tally};
 use crate::table::{Found, Table};
 use crate::ways::{is_goal_met, way_of};
+use mpd_core::Debugger;
 use mpd_explore::{ChoiceList, Ending, Leaf};
 use mpd_model::{Decision, STEPS_MAX, Step, StepList};
 use mpd_policy::{wide_decide, wide_decisions_can_be_followed};
-use mpd_trail::Debugger;
 use std::alloc::{AllocError, Global};
 use std::mem;
 

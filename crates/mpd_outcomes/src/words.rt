@@ -2,7 +2,7 @@
 
 ghost use Rattle.std.specs.Prelude.{◌≡◌, ◌++◌, ◌∷◌, [], OnOk};
 ghost use Rattle.mpd_model.specs.declared.call.CallKind.{CallKind};
-ghost use Rattle.mpd_states.specs.Future.{still_asked as asked_still};
+ghost use Rattle.mpd_outcomes.specs.Future.{still_asked as asked_still};
 ghost use Rattle.mpd_outcomes.specs.Words as spec;
 
 use mpd_match::Board;

@@ -16,9 +16,8 @@ use crate::rows::push_rows;
 use crate::shapes::{places_of, shapes_of};
 use crate::style::{LEGEND, OPENED, STYLE};
 use crate::svg::push_shapes;
-use mpd_core::Core;
+use mpd_core::{Core, Debugger};
 use mpd_model::{Outcome, print_outcome};
-use mpd_trail::Debugger;
 use std::alloc::{AllocError, Global};
 
 /// How much of a run is drawn at most: so many calls that are issued, matches, releases, and ranks that go on.

@@ -8,9 +8,8 @@ ghost use Rattle.mpd_model.specs.runs.Trail.{done_steps, redone};
 ghost use Rattle.mpd_picture.specs.Glyphs as spec;
 
 use crate::glyph::{Event, Glyph};
-use mpd_core::Core;
+use mpd_core::{Core, Debugger};
 use mpd_model::{CallId, Step};
-use mpd_trail::Debugger;
 use std::alloc::{AllocError, Global};
 
 /// Adds what is shown.

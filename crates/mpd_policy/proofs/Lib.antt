@@ -10,3 +10,7 @@ pub mod WatchLemmas
 pub mod RunLemmas
 pub mod BackLemmas
 pub mod LastLemmas
+pub mod WalkLemmas
+pub mod WayLemmas
+pub mod ChoiceLemmas
+pub mod FewLemmas

@@ -4,3 +4,8 @@ pub mod Single
 pub mod Last
 pub mod Ahead
 pub mod Wide
+pub mod Asleep
+pub mod Walk
+pub mod Walked
+pub mod Choosers
+pub mod Walks

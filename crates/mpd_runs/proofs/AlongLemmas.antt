@@ -10,20 +10,20 @@ use Rattle.mpd_model.specs.declared.decision.Decision.TheVariants.{Forced, Choic
 use Rattle.mpd_model.specs.steps.World.{World}
 use Rattle.mpd_model.specs.steps.Next.{next}
 use Rattle.mpd_model.specs.runs.Trail.{Standing, IsReached, done_steps}
-use Rattle.mpd_walk.specs.Walk.{Run, stepped, chosen, prefixed, run_from, run_taken, run_followed, run_stopped, run_by}
+use Rattle.mpd_policy.specs.Walk.{Run, stepped, chosen, prefixed, run_from, run_taken, run_followed, run_stopped, run_by}
 use Rattle.mpd_runs.specs.declared.fault.WordsFault.{WordsFault}
 use Rattle.mpd_runs.specs.declared.fault.WordsFault.TheVariants.{BadChoices, Memory}
 use Rattle.mpd_runs.specs.Place.{left_over, bad_behind, bad_taken, bad_by, bad_place}
 use Rattle.mpd_runs.specs.Led.{Led, RunsOrIsBad}
 use Rattle.mpd_runs.specs.Along.{steps_at, behind, no_steps, IsOver, IsBad, Ends, GoesOn}
-use Rattle.mpd_walk.specs.declared.along.Stop.{Stop}
-use Rattle.mpd_walk.specs.declared.along.Stop.TheVariants.{Ended, Fuel, Untaken}
-use Rattle.mpd_walk.specs.declared.choosers.ByChoices.{ByChoices}
-use Rattle.mpd_walk.specs.Walked.{Walked}
-use Rattle.mpd_walk.specs.Walked.Walked.{here as way_here, forced as way_forced, chosen as way_chosen}
-use Rattle.mpd_walk.specs.Choosers.{takes_listed, leaves_listed, stays, NoSuch}
-use Rattle.mpd_walk.specs.Walks.{Gone, StopsBy, Walks}
-use Rattle.mpd_walk.proofs.ChoiceLemmas.{no_fuel, at_leaf, no_such, left_along, left_last, run_gone}
+use Rattle.mpd_policy.specs.declared.along.Stop.{Stop}
+use Rattle.mpd_policy.specs.declared.along.Stop.TheVariants.{Ended, Fuel, Untaken}
+use Rattle.mpd_policy.specs.declared.choosers.ByChoices.{ByChoices}
+use Rattle.mpd_policy.specs.Walked.{Walked}
+use Rattle.mpd_policy.specs.Walked.Walked.{here as way_here, forced as way_forced, chosen as way_chosen}
+use Rattle.mpd_policy.specs.Choosers.{takes_listed, leaves_listed, stays, NoSuch}
+use Rattle.mpd_policy.specs.Walks.{Gone, StopsBy, Walks}
+use Rattle.mpd_policy.proofs.ChoiceLemmas.{no_fuel, at_leaf, no_such, left_along, left_last, run_gone}
 
 -- ---- the steps of a run
 

@@ -9,10 +9,10 @@ use Rattle.mpd_model.specs.steps.World.{World}
 use Rattle.mpd_model.specs.steps.Next.{next, fold, is_enabled, steps_of, enabled}
 use Rattle.mpd_model.specs.steps.Outcomes.{ending, outcome}
 use Rattle.mpd_model.specs.runs.Decisions.{CanFollow}
-use Rattle.mpd_walk.specs.declared.ending.Ending.{Ending}
-use Rattle.mpd_walk.specs.declared.ending.Ending.TheVariants.{Ended, Cut}
-use Rattle.mpd_walk.specs.Walk.{Run, here, run_by, run_from, run_taken, run_followed, run_stopped, stepped, chosen}
-pub use Rattle.mpd_walk.proofs.FewLemmas.{few_steps}
+use Rattle.mpd_policy.specs.declared.ending.Ending.{Ending}
+use Rattle.mpd_policy.specs.declared.ending.Ending.TheVariants.{Ended, Cut}
+use Rattle.mpd_policy.specs.Walk.{Run, here, run_by, run_from, run_taken, run_followed, run_stopped, stepped, chosen}
+pub use Rattle.mpd_policy.proofs.FewLemmas.{few_steps}
 use Rattle.mpd_runs.specs.Seek.{EndsAs, LeadsTo}
 
 -- ---- where a step comes next, none has ended

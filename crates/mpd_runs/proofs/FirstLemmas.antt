@@ -9,13 +9,13 @@ use Rattle.mpd_model.specs.declared.decision.Decision.TheVariants.{Leaf}
 use Rattle.mpd_model.specs.steps.World.{World}
 use Rattle.mpd_model.specs.steps.Next.{next}
 use Rattle.mpd_model.specs.runs.Trail.{Standing, done_steps}
-use Rattle.mpd_walk.specs.declared.along.Stop.{Stop}
-use Rattle.mpd_walk.specs.declared.along.Stop.TheVariants.{Ended, Fuel, Untaken}
-use Rattle.mpd_walk.specs.declared.choosers.First.{First}
-use Rattle.mpd_walk.specs.Walked.{Walked}
-use Rattle.mpd_walk.specs.Walked.Walked.{here, forced, chosen}
-use Rattle.mpd_walk.specs.Choosers.{takes_first, never_leaves, stays}
-use Rattle.mpd_walk.specs.Walks.{Walks}
+use Rattle.mpd_policy.specs.declared.along.Stop.{Stop}
+use Rattle.mpd_policy.specs.declared.along.Stop.TheVariants.{Ended, Fuel, Untaken}
+use Rattle.mpd_policy.specs.declared.choosers.First.{First}
+use Rattle.mpd_policy.specs.Walked.{Walked}
+use Rattle.mpd_policy.specs.Walked.Walked.{here, forced, chosen}
+use Rattle.mpd_policy.specs.Choosers.{takes_first, never_leaves, stays}
+use Rattle.mpd_policy.specs.Walks.{Walks}
 use Rattle.mpd_runs.specs.First.{first_in, first_of, behind_step, from_first, first_steps}
 
 first_read : (candidates : List Step) (i : ℕ) (a : Step) → i ≡ 0 → slice_get candidates i ≡ Some a → first_in candidates ≡ Some a

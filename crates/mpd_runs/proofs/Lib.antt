@@ -10,3 +10,9 @@ pub mod LookLemmas
 pub mod SeekLemmas
 pub mod CountLemmas
 pub mod StateLemmas
+pub mod OrderLemmas
+pub mod HasLemmas
+pub mod KeepLemmas
+pub mod DrawLemmas
+pub mod SampleLemmas
+pub mod UntilLemmas

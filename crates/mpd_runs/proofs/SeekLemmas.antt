@@ -12,10 +12,10 @@ use Rattle.mpd_policy.specs.Wide.{wide_decision}
 use Rattle.mpd_policy.proofs.WideLemmas.{wide_leaf}
 use Rattle.mpd_model.specs.runs.Decisions.{CanFollow}
 use Rattle.mpd_model.specs.runs.Trail.{Trail, done_steps, forgotten, IsReached}
-use Rattle.mpd_trail.proofs.KeptLemmas.{fold-append}
-use Rattle.mpd_walk.specs.declared.ending.Ending.{Ending}
+use Rattle.mpd_core.proofs.KeptLemmas.{fold-append}
+use Rattle.mpd_policy.specs.declared.ending.Ending.{Ending}
 use Rattle.mpd_explore.specs.declared.report.Leaf as leaf
-use Rattle.mpd_walk.specs.Walk.{run_by, steps_by}
+use Rattle.mpd_policy.specs.Walk.{run_by, steps_by}
 use Rattle.mpd_explore.specs.Witness.{WitnessBy, HasWitness}
 use Rattle.mpd_runs.specs.declared.fault.WordsFault.{WordsFault}
 use Rattle.mpd_runs.specs.Led.{Led}

@@ -5,7 +5,7 @@ use Rattle.mpd_model.specs.declared.step.Step.{Step}
 use Rattle.mpd_model.specs.declared.decision.Decision.{Decision}
 use Rattle.mpd_model.specs.steps.World.{World}
 use Rattle.mpd_model.specs.runs.Trail.{Standing, done_steps}
-use Rattle.mpd_walk.specs.Walk.{Run, run_by}
+use Rattle.mpd_policy.specs.Walk.{Run, run_by}
 use Rattle.mpd_runs.specs.declared.fault.WordsFault.{WordsFault}
 use Rattle.mpd_runs.specs.declared.fault.WordsFault.TheVariants.{BadChoices, Memory}
 use Rattle.mpd_runs.specs.Place.{left_over, bad_place}

@@ -3,7 +3,7 @@ use Rattle.std.specs.Prelude.{◌≡◌, ℕ, List, Some, None, Result, Ok, Err}
 use Rattle.mpd_model.specs.declared.step.Step.{Step}
 use Rattle.mpd_model.specs.declared.decision.Decision.{Decision}
 use Rattle.mpd_model.specs.steps.World.{World}
-use Rattle.mpd_walk.specs.Walk.{Run, run_by}
+use Rattle.mpd_policy.specs.Walk.{Run, run_by}
 use Rattle.mpd_runs.specs.declared.fault.WordsFault.{WordsFault}
 use Rattle.mpd_runs.specs.declared.fault.WordsFault.TheVariants.{BadChoices, Memory}
 use Rattle.mpd_runs.specs.Place.{bad_place}

@@ -13,3 +13,7 @@ pub mod Runs
 pub mod Seek
 pub mod SeekRows
 pub mod LastChoice
+pub mod Order
+pub mod Drawn
+pub mod Drawing
+pub mod SampleRows

@@ -17,9 +17,9 @@ use Rattle.mpd_model.specs.steps.World.{World, call_id, start}
 use Rattle.mpd_model.specs.steps.Outcomes.{issued_by}
 use Rattle.mpd_model.specs.texts.Texts.{line}
 use Rattle.mpd_policy.specs.Wide.{wide_decision}
-use Rattle.mpd_walk.specs.declared.ending.Ending.TheVariants.{Ended}
+use Rattle.mpd_policy.specs.declared.ending.Ending.TheVariants.{Ended}
 use Rattle.mpd_outcomes.specs.declared.report.Count.TheVariants.{Exactly, More}
-use Rattle.mpd_walk.specs.Walk.{run_by}
+use Rattle.mpd_policy.specs.Walk.{run_by}
 use Rattle.mpd_explore.specs.Sleeping.{awake_by}
 use Rattle.mpd_runs.specs.declared.search.WholeRun.{WholeRun}
 use Rattle.mpd_runs.specs.declared.way.Way.{Way}

@@ -1,8 +1,8 @@
 -- How runs end, in a word.
 use Rattle.std.specs.Prelude.{ℕ, Bool, true, false, if◌then◌else◌, List, [], ◌∷◌, count_by, Option, Some, None, codes}
 use Rattle.mpd_model.specs.declared.outcome.Outcome.TheVariants as outcome
-use Rattle.mpd_walk.specs.declared.ending.Ending.{Ending}
-use Rattle.mpd_walk.specs.declared.ending.Ending.TheVariants as ending
+use Rattle.mpd_policy.specs.declared.ending.Ending.{Ending}
+use Rattle.mpd_policy.specs.declared.ending.Ending.TheVariants as ending
 use Rattle.mpd_explore.specs.declared.report.Leaf.{Leaf}
 use Rattle.mpd_runs.specs.declared.way.Way.{Way}
 use Rattle.mpd_runs.specs.declared.way.Way.TheVariants.{Done, Leftovers, Deadlock, Trap, Cut}

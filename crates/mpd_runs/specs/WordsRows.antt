@@ -14,7 +14,7 @@ use Rattle.mpd_model.specs.script.Tree.{Tree, simple, branch, no_more, then_more
 use Rattle.mpd_model.specs.script.Program.{Program}
 use Rattle.mpd_model.specs.steps.World.{World, call_id, start}
 use Rattle.mpd_model.specs.runs.Decisions.{decision}
-use Rattle.mpd_walk.specs.Walk.{run_by}
+use Rattle.mpd_policy.specs.Walk.{run_by}
 use Rattle.mpd_runs.specs.Place.{bad_place}
 use Rattle.mpd_runs.specs.Along.{steps_at}
 use Rattle.mpd_runs.specs.Choices.{choices_of}

@@ -4,10 +4,9 @@ ghost use Rattle.std.specs.Prelude.{◌≡◌, ◌++◌, ◌<◌, IfOk, OnOk, le
 ghost use Rattle.mpd_model.specs.runs.Decisions.{decision};
 ghost use Rattle.mpd_runs.specs.LastChoice as spec;
 
-use mpd_core::Core;
+use mpd_core::{Core, Debugger};
 use mpd_model::Decision;
 use mpd_policy::decide;
-use mpd_trail::Debugger;
 use std::alloc::{AllocError, Global};
 
 /// Whether a choice is open, of two candidates or more.

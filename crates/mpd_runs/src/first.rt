@@ -2,12 +2,12 @@
 
 ghost use Rattle.std.specs.Prelude.{◌≡◌, ◌++◌, OnOk, false};
 ghost use Rattle.mpd_model.specs.runs.Trail.{done_steps};
-ghost use Rattle.mpd_walk.specs.declared.along.Stop.TheVariants as stop_is;
+ghost use Rattle.mpd_policy.specs.declared.along.Stop.TheVariants as stop_is;
 ghost use Rattle.mpd_runs.specs.First.{first_steps};
 
+use mpd_core::Debugger;
 use mpd_model::STEPS_MAX;
-use mpd_trail::Debugger;
-use mpd_walk::{First, Schedule, Stop, walk};
+use mpd_policy::{First, Schedule, Stop, walk};
 use std::alloc::{AllocError, Global};
 
 /// A walk whose fuel was cut short must have stopped before it was used up.

@@ -1,17 +1,20 @@
-//! One run and its steps: the run that some choices tell, the run of the first candidates, steps or trace words that are given, the runs
-//! from where a debugger stands, the first of them that ends in one way, and the last choice that was made.
+//! Runs and their steps: the run that some choices tell, the run of the first candidates, steps or trace words that are given, the runs
+//! from where a debugger stands, the first of them that ends in one way, the last choice that was made, and a sample of all runs.
 #![tactic(auto)]
 
 pub mod by_choices;
 pub mod choice;
 pub mod choices;
 pub mod counts;
+mod draw;
 pub mod fault;
 pub mod first;
 pub mod given;
+mod keep;
 pub mod laws;
 pub mod listing;
 pub mod read;
+pub mod sampler;
 pub mod search;
 pub mod states;
 pub mod way;
@@ -27,6 +30,7 @@ pub use given::{StepsFault, take_steps};
 pub use laws::a_run_or_a_bad_choice;
 pub use listing::{FUEL, push_none, push_runs, sees_all};
 pub use read::{ReadFault, steps_of};
+pub use sampler::sample;
 pub use search::{
     Scope, Search, Sought, WholeRun, numbered_run, push_ahead, push_count, push_no_run, seek,
 };

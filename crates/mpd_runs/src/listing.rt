@@ -3,7 +3,7 @@
 ghost use Rattle.std.specs.Prelude.{◌≡◌, ◌≤◌, ◌<◌, ◌+◌, ◌++◌, true, false, IfOk, OnOk, length, string_bytes};
 ghost use Rattle.std.specs.List.{AllByRecursion};
 ghost use Rattle.mpd_model.specs.runs.Trail.{done_steps};
-ghost use Rattle.mpd_trail.specs.Views.{AsFound, standing_of};
+ghost use Rattle.mpd_core.specs.DebuggerViews.{AsFound, standing_of};
 ghost use Rattle.mpd_model.specs.texts.Texts.{spaced};
 ghost use Rattle.mpd_explore.specs.Report.{ended_by, left_out};
 ghost use Rattle.mpd_explore.specs.ReportText.{ending_text};
@@ -13,10 +13,10 @@ ghost use Rattle.mpd_runs.specs.Runs as spec;
 
 use crate::counts::{WayCounts, counts_of, is_count};
 use crate::way::{WAYS, Way};
+use mpd_core::Debugger;
 use mpd_explore::{Ending, Leaf, Limits, Report, Unwatched, explore};
 use mpd_model::{RUNS_MAX, STEPS_MAX, print_outcome};
 use mpd_outcomes::{Count, push_count};
-use mpd_trail::Debugger;
 use std::alloc::{AllocError, Global};
 
 /// How many steps a run has at most that is tried.

@@ -5,10 +5,10 @@ ghost use Rattle.std.specs.Prelude.{◌≡◌, ◌≤◌, ◌<◌, ◌+◌, ◌+
 ghost use Rattle.std.specs.List.{AllByRecursion};
 ghost use Rattle.std.specs.Option.{option_map};
 ghost use Rattle.mpd_model.specs.runs.Trail.{done_steps};
-ghost use Rattle.mpd_trail.specs.Views.{AsFound, standing_of};
+ghost use Rattle.mpd_core.specs.DebuggerViews.{AsFound, standing_of};
 ghost use Rattle.mpd_explore.specs.Witness.{HasWitness};
 ghost use Rattle.mpd_policy.specs.Wide.{wide_decision};
-ghost use Rattle.mpd_walk.specs.Walk.{run_by, steps_by};
+ghost use Rattle.mpd_policy.specs.Walk.{run_by, steps_by};
 ghost use Rattle.mpd_runs.specs.Ways as ways;
 ghost use Rattle.mpd_runs.specs.Seek as spec;
 ghost use Rattle.mpd_runs.specs.Seek.{LiesAhead, Looked, IsSoughtFrom, IsSearch, FoundLies, TooMany};
@@ -19,11 +19,10 @@ use crate::counts::{WayCounts, counts_of};
 use crate::listing::{first_runs, fuel_at, is_number, push_ending};
 use crate::states::{ByStates, STATES_VISITED, by_states};
 use crate::way::{Way, first_in};
+use mpd_core::Debugger;
 use mpd_explore::{Ending, Leaf, Report};
 use mpd_model::{IssuedList, Outcome, RUNS_MAX, STEPS_MAX, StepList, TrapList};
-use mpd_policy::wide_decisions_can_be_followed;
-use mpd_trail::Debugger;
-use mpd_walk::Wide;
+use mpd_policy::{Wide, wide_decisions_can_be_followed};
 use std::alloc::{AllocError, Global};
 
 /// A run from the start of the script: its steps, and how it ends.

@@ -2,16 +2,16 @@
 
 ghost use Rattle.std.specs.Prelude.{◌≡◌, ◌≤◌, ◌+◌, IfOk, IfSome, length};
 ghost use Rattle.mpd_model.specs.runs.Trail.{done_steps};
-ghost use Rattle.mpd_trail.specs.Views.{AsFound, standing_of};
+ghost use Rattle.mpd_core.specs.DebuggerViews.{AsFound, standing_of};
 ghost use Rattle.mpd_runs.specs.Seek as spec;
 ghost use Rattle.mpd_runs.specs.Seek.{LiesAhead, StatesTell};
 
 use crate::counts::{WayCounts, counts_told};
 use crate::search::{WholeRun, found_in};
 use crate::way::Way;
+use mpd_core::Debugger;
 use mpd_model::STEPS_MAX;
 use mpd_outcomes::{Goal, StateLimits, explore_outcomes};
-use mpd_trail::Debugger;
 use std::alloc::{AllocError, Global};
 
 /// How many states are kept at most.

@@ -2,18 +2,17 @@
 
 ghost use Rattle.std.specs.Prelude.{◌≡◌, ◌≤◌, ◌++◌, ℕ, Some, None, IfOk, OnOk, IsErrOf, string_bytes};
 ghost use Rattle.mpd_model.specs.steps.World.{start};
-ghost use Rattle.mpd_walk.specs.Walk.{Run, run_by};
+ghost use Rattle.mpd_policy.specs.Walk.{Run, run_by};
 ghost use Rattle.mpd_runs.specs.Place.{bad_place};
 ghost use Rattle.mpd_runs.specs.Written.{words_text, Put, WroteWords};
 
 use crate::by_choices::steps_by_choices;
 use crate::fault::{WordsFault, WriteFault};
 use mpd_code::Subject;
-use mpd_device::Sink;
-use mpd_lines::{EngineFault, write_all};
+use mpd_core::Debugger;
+use mpd_lines::{EngineFault, Sink, write_all};
 use mpd_model::{STEPS_MAX, Step};
-use mpd_trail::Debugger;
-use mpd_walk::Schedule;
+use mpd_policy::Schedule;
 use std::alloc::{AllocError, Global};
 
 /// Steps as trace words, a line for each.

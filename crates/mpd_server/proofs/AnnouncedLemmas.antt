@@ -1,8 +1,8 @@
 -- Lines that a server writes of itself, one after another.
 use Rattle.std.proofs.Common.{◌≡◌, ℕ, ◌+◌, ◌^◌, ◌<◌, ◌≤◌, List, [], ◌∷◌, ◌++◌, length, length-append, arith, Result, Ok, Err, refl, ap, sym, subst, ◌∙◌, append_assoc}
 use Rattle.mpd_model.specs.texts.Texts.{line}
-use Rattle.mpd_device.specs.Seen.{SinkSeen}
-use Rattle.mpd_device.specs.declared.device.DeviceFault.{DeviceFault}
+use Rattle.mpd_lines.specs.Seen.{SinkSeen}
+use Rattle.mpd_lines.specs.declared.device.DeviceFault.{DeviceFault}
 use Rattle.mpd_lines.specs.Gathering.{Written}
 use Rattle.mpd_lines.proofs.SentLaws.{appends_append}
 use Rattle.mpd_session.specs.declared.history.TheConstants.{HISTORY_MAX}

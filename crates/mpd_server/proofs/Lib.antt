@@ -1,1 +1,3 @@
 pub mod AnnouncedLemmas
+pub mod SeatLemmas
+pub mod Crossing

@@ -3,7 +3,7 @@
 use Rattle.std.specs.Prelude.{◌≡◌, ℕ, ◌+◌, ◌^◌, ◌<◌, ◌≤◌, List, ◌++◌, codes, decimal, Result, Ok, Err, ⊤}
 use Rattle.std.specs.Io.KnownBytes.{Appends}
 use Rattle.mpd_model.specs.texts.Texts.{line}
-use Rattle.mpd_device.specs.Seen.{SinkSeen}
+use Rattle.mpd_lines.specs.Seen.{SinkSeen}
 use Rattle.mpd_lines.specs.Telling.{AppendsPart}
 use Rattle.mpd_session.specs.declared.history.TheConstants.{HISTORY_MAX}
 use Rattle.mpd_server.specs.declared.fault.ServeFault.{ServeFault}

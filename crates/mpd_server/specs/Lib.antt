@@ -1,1 +1,3 @@
 pub mod Announced
+pub mod Receipts
+pub mod Settled

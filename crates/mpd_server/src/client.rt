@@ -1,10 +1,13 @@
 //! A client: it is accepted, and then served by its seat.
 
+use crate::desk::SeatDesk;
+use crate::opening::Opening;
 use crate::porter::Porter;
+use crate::seat::Seat;
 use crate::server::Arrivals;
-use mpd_device::{FromReader, ToWriter};
+use crate::shared::Shared;
+use mpd_lines::{FromReader, ToWriter};
 use mpd_session::{Log, Logged};
-use mpd_shared::{Opening, Seat, SeatDesk, Shared};
 use mpd_wire::serve;
 use std::alloc::Global;
 use std::io;

@@ -7,8 +7,7 @@ ghost use Rattle.mpd_server.specs.Announced.{Concluded, IsOutcome, Listened};
 
 use crate::fault::ServeFault;
 use itoa::Buffer;
-use mpd_device::{DeviceFault, Sink};
-use mpd_lines::write_all;
+use mpd_lines::{DeviceFault, Sink, write_all};
 use std::net::TcpListener;
 
 /// Writes a number, and ends its line. It takes no memory.

@@ -7,8 +7,7 @@ ghost use Rattle.mpd_session.specs.Held.{Held, opened};
 ghost use Rattle.mpd_session.specs.Respond.{Responds, KeepsNoHistory};
 
 use mpd_code::Code;
-use mpd_device::{Sink, Source};
-use mpd_lines::EngineFault;
+use mpd_lines::{EngineFault, Sink, Source};
 use mpd_model::{Mode, READS_MAX};
 use mpd_session::Session;
 use mpd_wire::{End, serve};

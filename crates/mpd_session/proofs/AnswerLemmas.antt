@@ -3,10 +3,10 @@ use Rattle.std.proofs.Common.{◌≡◌, ℕ, true, false, List, Option, Some, r
 use Rattle.mpd_model.specs.declared.breakpoint.Break.{Break}
 use Rattle.mpd_model.specs.steps.World.{World}
 use Rattle.mpd_model.specs.runs.Trail.{Trail, IsReached, world_of}
-use Rattle.mpd_request.specs.declared.request.Request.{Request}
-use Rattle.mpd_request.specs.declared.reply.Reply.{Reply}
-use Rattle.mpd_request.specs.declared.reply.Reply.TheVariants as reply
-use Rattle.mpd_request.specs.declared.reply.Refusal.TheVariants.{Stale}
+use Rattle.mpd_session.specs.declared.request.Request.{Request}
+use Rattle.mpd_session.specs.declared.reply.Reply.{Reply}
+use Rattle.mpd_session.specs.declared.reply.Reply.TheVariants as reply
+use Rattle.mpd_session.specs.declared.reply.Refusal.TheVariants.{Stale}
 use Rattle.mpd_session.specs.declared.effect.Effect.{Effect}
 use Rattle.mpd_session.specs.Held.{Held}
 use Rattle.mpd_session.specs.Respond.{Carried, carried, respond, respond_in, respond_at, reply_to, version_then, finished, is_current}

@@ -15,16 +15,16 @@ use Rattle.mpd_model.specs.runs.Trail.{Trail, applied, world_of}
 use Rattle.mpd_model.specs.runs.Breakpoints.{lowest_free, break_at}
 use Rattle.mpd_model.specs.runs.Running.{Ran, ran, all_applied}
 use Rattle.mpd_policy.specs.Single.{ran_on}
-use Rattle.mpd_request.specs.declared.request.Command.{Command}
-use Rattle.mpd_request.specs.declared.request.Command.TheVariants as command
-use Rattle.mpd_request.specs.declared.request.Request.{Request}
-use Rattle.mpd_request.specs.declared.reply.Answer.{Answer}
-use Rattle.mpd_request.specs.declared.reply.Answer.TheVariants as answer
-use Rattle.mpd_request.specs.declared.reply.Reply.{Reply}
-use Rattle.mpd_request.specs.declared.reply.Reply.TheVariants as reply
-use Rattle.mpd_request.specs.declared.reply.Refusal.{Refusal}
-use Rattle.mpd_request.specs.declared.reply.Refusal.TheVariants.{Stale, Full, BadNumber, AtStart, NoRedo, NotBefore, NoSuchBreak}
-use Rattle.mpd_request.specs.Copies.{holds_list, lists_in}
+use Rattle.mpd_session.specs.declared.request.Command.{Command}
+use Rattle.mpd_session.specs.declared.request.Command.TheVariants as command
+use Rattle.mpd_session.specs.declared.request.Request.{Request}
+use Rattle.mpd_session.specs.declared.reply.Answer.{Answer}
+use Rattle.mpd_session.specs.declared.reply.Answer.TheVariants as answer
+use Rattle.mpd_session.specs.declared.reply.Reply.{Reply}
+use Rattle.mpd_session.specs.declared.reply.Reply.TheVariants as reply
+use Rattle.mpd_session.specs.declared.reply.Refusal.{Refusal}
+use Rattle.mpd_session.specs.declared.reply.Refusal.TheVariants.{Stale, Full, BadNumber, AtStart, NoRedo, NotBefore, NoSuchBreak}
+use Rattle.mpd_session.specs.Copies.{holds_list, lists_in}
 use Rattle.mpd_session.specs.declared.effect.Effect.{Effect}
 use Rattle.mpd_session.specs.declared.effect.Effect.TheVariants.{Refused, Told, Changed}
 use Rattle.mpd_session.specs.declared.history.Entry.{Entry}

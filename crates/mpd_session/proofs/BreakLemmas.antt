@@ -3,8 +3,8 @@ use Rattle.std.proofs.Common.{◌≡◌, ℕ, true, List, Option, Some, None, ap
 use Rattle.mpd_model.specs.declared.breakpoint.Break.{Break}
 use Rattle.mpd_model.specs.steps.World.{World}
 use Rattle.mpd_model.specs.runs.Breakpoints.{lowest_free}
-use Rattle.mpd_request.specs.declared.reply.Answer.TheVariants as answer
-use Rattle.mpd_request.specs.declared.reply.Refusal.TheVariants.{BreaksFull}
+use Rattle.mpd_session.specs.declared.reply.Answer.TheVariants as answer
+use Rattle.mpd_session.specs.declared.reply.Refusal.TheVariants.{BreaksFull}
 use Rattle.mpd_session.specs.declared.effect.Effect.TheVariants.{Refused, Changed}
 use Rattle.mpd_session.specs.Effects.{OnBreaks, is_there, break_effect, added_effect}
 

@@ -7,11 +7,11 @@ use Rattle.mpd_model.specs.steps.World.{RankWorld, World}
 use Rattle.mpd_model.specs.runs.Breakpoints.{cell_at, held_at}
 use Rattle.mpd_model.specs.runs.Trail.{Trail}
 use Rattle.mpd_explore.specs.declared.report.Leaf.{Leaf}
-use Rattle.mpd_walk.specs.Walk.{walk}
+use Rattle.mpd_policy.specs.Walk.{walk}
 use Rattle.mpd_explore.specs.Report.{shown}
 use Rattle.mpd_explore.specs.ReportText.{leaf_text}
-use Rattle.mpd_request.specs.declared.reply.Answer.TheVariants as answer
-use Rattle.mpd_request.specs.declared.reply.Refusal.TheVariants.{BadNumber}
+use Rattle.mpd_session.specs.declared.reply.Answer.TheVariants as answer
+use Rattle.mpd_session.specs.declared.reply.Refusal.TheVariants.{BadNumber}
 use Rattle.mpd_session.specs.declared.effect.Effect.TheVariants.{Refused, Told}
 use Rattle.mpd_session.specs.Effects.{vars_of, vars_effect, has_handle, explore_effect, is_within}
 

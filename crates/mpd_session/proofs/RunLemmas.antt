@@ -6,7 +6,7 @@ use Rattle.mpd_model.specs.declared.breakpoint.Stop.{Stop}
 use Rattle.mpd_model.specs.steps.World.{World}
 use Rattle.mpd_model.specs.runs.Trail.{Trail, IsReached, applied, gone_back, forgotten}
 use Rattle.mpd_model.specs.runs.Running.{Ran, stop_of, all_applied, ran_back}
-use Rattle.mpd_request.specs.declared.reply.Answer.TheVariants as answer
+use Rattle.mpd_session.specs.declared.reply.Answer.TheVariants as answer
 use Rattle.mpd_session.specs.declared.effect.Effect.TheVariants.{Changed}
 use Rattle.mpd_session.specs.Effects.{OnTrail, is_within, going_effect, ran_effect, run_back_effect, run_back_by}
 

@@ -4,9 +4,9 @@ use Rattle.std.proofs.lemmas.Bool.Decides.{nat_tests}
 use Rattle.mpd_model.specs.declared.step.Step.{Step}
 use Rattle.mpd_model.specs.steps.World.{World}
 use Rattle.mpd_model.specs.runs.Trail.{Trail, applied, gone_back, redone}
-use Rattle.mpd_request.specs.declared.reply.Answer.{Answer}
-use Rattle.mpd_request.specs.declared.reply.Answer.TheVariants as answer
-use Rattle.mpd_request.specs.declared.reply.Refusal.TheVariants.{NotEnabled, Full, AtStart, NoRedo, NotBefore}
+use Rattle.mpd_session.specs.declared.reply.Answer.{Answer}
+use Rattle.mpd_session.specs.declared.reply.Answer.TheVariants as answer
+use Rattle.mpd_session.specs.declared.reply.Refusal.TheVariants.{NotEnabled, Full, AtStart, NoRedo, NotBefore}
 use Rattle.mpd_session.specs.declared.effect.Effect.TheVariants.{Refused, Changed}
 use Rattle.mpd_session.specs.Effects.{OnTrail, is_within, applied_effect, at_depth, back_effect, redo_effect, goto_effect}
 

@@ -20,12 +20,12 @@ use Rattle.mpd_model.specs.runs.Running.{Ran, ran, stop_of, all_applied, ran_bac
 use Rattle.mpd_model.specs.texts.Texts.{id_text, step_text, rank_text, set_text, call_text, outcome_text}
 use Rattle.mpd_policy.specs.Single.{ran_on}
 use Rattle.mpd_explore.specs.declared.report.Leaf.{Leaf as RunLeaf}
-use Rattle.mpd_walk.specs.Walk.{walk}
+use Rattle.mpd_policy.specs.Walk.{walk}
 use Rattle.mpd_explore.specs.Report.{shown}
 use Rattle.mpd_explore.specs.ReportText.{leaf_text}
-use Rattle.mpd_request.specs.declared.reply.Answer.{Answer}
-use Rattle.mpd_request.specs.declared.reply.Answer.TheVariants as answer
-use Rattle.mpd_request.specs.declared.reply.Refusal.TheVariants.{NotEnabled, Full, AtStart, NoRedo, NotBefore, NeedsChoice, NoSuchBreak, BreaksFull, BadNumber}
+use Rattle.mpd_session.specs.declared.reply.Answer.{Answer}
+use Rattle.mpd_session.specs.declared.reply.Answer.TheVariants as answer
+use Rattle.mpd_session.specs.declared.reply.Refusal.TheVariants.{NotEnabled, Full, AtStart, NoRedo, NotBefore, NeedsChoice, NoSuchBreak, BreaksFull, BadNumber}
 use Rattle.mpd_session.specs.declared.limits.TheConstants.{LINES_MAX}
 use Rattle.mpd_session.specs.declared.effect.Effect.{Effect}
 use Rattle.mpd_session.specs.declared.effect.Effect.TheVariants.{Refused, Told, Changed}

@@ -4,3 +4,5 @@ pub mod Respond
 pub mod History
 pub mod Audit
 pub mod FaultNumbers
+pub mod Copies
+pub mod RefusalNumbers

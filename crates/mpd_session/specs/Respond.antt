@@ -5,12 +5,12 @@ use Rattle.mpd_model.specs.steps.World.{World}
 use Rattle.mpd_model.specs.runs.Decisions.{decision}
 use Rattle.mpd_model.specs.declared.step.Step.{Step}
 use Rattle.mpd_model.specs.runs.Trail.{Trail, world_of, with_steps}
-use Rattle.mpd_request.specs.declared.request.Command.{Command}
-use Rattle.mpd_request.specs.declared.request.Command.TheVariants as command
-use Rattle.mpd_request.specs.declared.request.Request.{Request}
-use Rattle.mpd_request.specs.declared.reply.Reply.{Reply}
-use Rattle.mpd_request.specs.declared.reply.Reply.TheVariants as reply
-use Rattle.mpd_request.specs.declared.reply.Refusal.TheVariants.{Stale, NotEnabled}
+use Rattle.mpd_session.specs.declared.request.Command.{Command}
+use Rattle.mpd_session.specs.declared.request.Command.TheVariants as command
+use Rattle.mpd_session.specs.declared.request.Request.{Request}
+use Rattle.mpd_session.specs.declared.reply.Reply.{Reply}
+use Rattle.mpd_session.specs.declared.reply.Reply.TheVariants as reply
+use Rattle.mpd_session.specs.declared.reply.Refusal.TheVariants.{Stale, NotEnabled}
 use Rattle.mpd_session.specs.declared.limits.TheConstants.{VERSION_MAX}
 use Rattle.mpd_session.specs.declared.effect.Effect.{Effect}
 use Rattle.mpd_session.specs.declared.effect.Effect.TheVariants.{Refused, Told, Changed}

@@ -8,7 +8,7 @@ ghost use Rattle.mpd_session.specs.Audit.{IsOf, IsRising, IsApart, IsKept, Agree
 ghost use Rattle.mpd_session.specs.FaultNumbers.{audit_fault_number};
 
 use crate::history::{Entry, Log, Logged, Receipt};
-use mpd_request::{same_reply, same_request};
+use crate::same::{same_reply, same_request};
 
 /// Why the receipts of clients don't agree with a history (docs/DEFINITIONS.md, "Sessions"). The first of these that holds is told.
 #[derive(Clone, Copy)]

@@ -1,7 +1,7 @@
 //! A session with the history of its requests.
 
 ghost use Rattle.std.specs.Prelude.{ℕ, ◌≡◌, ◌≢◌, ◌↔◌, ◌<◌, ◌≤◌, [], ◌∷◌, ◌++◌, length, IfOk, OnOk, OnErr, IsOk, IsErrOf, true};
-ghost use Rattle.mpd_request.specs.Copies.{holds_list};
+ghost use Rattle.mpd_session.specs.Copies.{holds_list};
 ghost use Rattle.mpd_session.specs.Held.{opened};
 ghost use Rattle.mpd_session.specs.Respond.{respond};
 ghost use Rattle.mpd_session.specs.History.{IsReplay};
@@ -10,8 +10,9 @@ ghost use Rattle.mpd_session.specs.FaultNumbers.{take_fault_number};
 
 use crate::audit::{AuditFault, agrees, has_count};
 use crate::history::{Entry, HISTORY_MAX, Logged, Receipt};
+use crate::reply::Reply;
+use crate::request::Request;
 use crate::session::Session;
-use mpd_request::{Reply, Request};
 use std::alloc::{AllocError, Global};
 use std::marker::Model;
 

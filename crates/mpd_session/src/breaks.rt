@@ -9,10 +9,10 @@ ghost use Rattle.mpd_model.specs.runs.Breakpoints.{cell_at, break_at};
 use crate::effect::{Effect, is_within};
 use crate::limits::LINES_MAX;
 use crate::looks::push_text;
+use crate::reply::{Answer, Refusal, TextList};
 use mpd_core::Core;
 use mpd_model::{BREAKS_MAX, Break};
 use mpd_policy::Breaks;
-use mpd_request::{Answer, Refusal, TextList};
 use std::alloc::{AllocError, Global};
 
 /// Whether a rank has a cell.

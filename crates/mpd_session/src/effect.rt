@@ -3,7 +3,7 @@
 ghost use Rattle.std.specs.Prelude.{◌≡◌};
 ghost use Rattle.mpd_session.specs.Effects.{is_within};
 
-use mpd_request::{Answer, Refusal};
+use crate::reply::{Answer, Refusal};
 
 /// What a command comes to.
 #[derive(Drop)]

@@ -3,7 +3,8 @@
 ghost use Rattle.std.specs.Prelude.{◌≡◌};
 ghost use Rattle.mpd_session.specs.History.{Noted, noted};
 
-use mpd_request::{Reply, Request};
+use crate::reply::Reply;
+use crate::request::Request;
 
 /// How many entries a history has at most.
 pub const HISTORY_MAX: usize = 65_536;

@@ -1,19 +1,28 @@
-//! Sessions: a debugger with breakpoints and a version, which answers requests (docs/SESSIONS.md).
+//! Sessions (docs/SESSIONS.md): what a client asks and what it is told, and a debugger with breakpoints and a version that answers.
 #![tactic(auto)]
 
 pub mod audit;
 pub mod book;
-pub(crate) mod breaks;
-pub(crate) mod effect;
+pub mod desk;
 pub mod history;
-pub(crate) mod limits;
-pub(crate) mod looks;
-pub(crate) mod runs;
+pub mod reply;
+pub mod request;
+pub mod same;
 pub mod session;
 
 pub use audit::AuditFault;
 pub use book::{Book, TakeFault};
+pub use desk::{Desk, DeskFault};
 pub use history::{Entry, HISTORY_MAX, Log, Logged, Receipt};
+pub use reply::{Answer, HandleList, IntegerList, Refusal, Reply, Text, TextList};
+pub use request::{Command, Request};
+pub use same::{same_reply, same_request};
 pub use session::Session;
 
+pub(crate) mod breaks;
+pub(crate) mod copy;
+pub(crate) mod effect;
+pub(crate) mod limits;
+pub(crate) mod looks;
+pub(crate) mod runs;
 pub(crate) mod steps;

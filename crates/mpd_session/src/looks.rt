@@ -6,18 +6,17 @@ ghost use Rattle.mpd_model.specs.steps.Next.{enabled};
 ghost use Rattle.mpd_model.specs.steps.Outcomes.{outcome};
 ghost use Rattle.mpd_model.specs.texts.Texts.{step_text, rank_text, set_text, call_text, outcome_text};
 ghost use Rattle.mpd_model.specs.runs.Trail.{IsReached};
-ghost use Rattle.mpd_trail.specs.Views.{standing_of};
+ghost use Rattle.mpd_core.specs.DebuggerViews.{standing_of};
 ghost use Rattle.mpd_explore.specs.ReportText.{leaf_text};
 ghost use Rattle.mpd_session.specs.Effects.{enabled_effect, state_effect, vars_effect, calls_effect, why_effect, partner_text, leaves_effect, explore_effect};
 
 use crate::effect::{Effect, is_within};
+use crate::reply::{Answer, HandleList, IntegerList, Refusal, Text, TextList};
 use crate::runs::report;
 use crate::steps::is_below;
-use mpd_core::Core;
+use mpd_core::{Core, Debugger};
 use mpd_explore::{Leaf, push_leaf_text};
 use mpd_model::{CallId, MatchSet, RUNS_MAX, STEPS_MAX, Step, print_outcome, print_step};
-use mpd_request::{Answer, HandleList, IntegerList, Refusal, Text, TextList};
-use mpd_trail::Debugger;
 use std::alloc::{AllocError, Global};
 
 /// Adds a text. An `Err` is want of memory.

@@ -2,17 +2,17 @@
 
 ghost use Rattle.std.specs.Prelude.{◌≡◌, ◌+◌, ◌≤◌, IfOk, OnOk, OnErr, length, map, take, nat_lt};
 ghost use Rattle.mpd_model.specs.runs.Trail.{IsReached};
-ghost use Rattle.mpd_trail.specs.Views.{standing_of};
-ghost use Rattle.mpd_walk.specs.Walk.{walk};
+ghost use Rattle.mpd_core.specs.DebuggerViews.{standing_of};
+ghost use Rattle.mpd_policy.specs.Walk.{walk};
 ghost use Rattle.mpd_explore.specs.Report.{shown};
 ghost use Rattle.mpd_session.specs.Effects.{run_effect, run_on_effect, run_back_effect};
 
 use crate::effect::{Effect, is_within};
+use crate::reply::{Answer, Refusal};
+use mpd_core::Debugger;
 use mpd_explore::{Limits, Report, Unwatched, explore};
 use mpd_model::STEPS_MAX;
 use mpd_policy::{Breaks, runs as policy};
-use mpd_request::{Answer, Refusal};
-use mpd_trail::Debugger;
 use std::alloc::{AllocError, Global};
 
 /// Runs along decisions. An `Err` is want of memory, and then nothing has changed.

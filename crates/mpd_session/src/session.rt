@@ -2,19 +2,21 @@
 
 ghost use Rattle.std.specs.Prelude.{◌≡◌, ◌<◌, ℕ, IfOk, OnOk, OnErr, true, take};
 ghost use Rattle.mpd_model.specs.runs.Trail.{IsReached, IsRun, done_steps};
-ghost use Rattle.mpd_trail.specs.Views.{standing_of};
+ghost use Rattle.mpd_core.specs.DebuggerViews.{standing_of};
 ghost use Rattle.mpd_policy.specs.Last as last;
 ghost use Rattle.mpd_session.specs.Held.{opened};
 ghost use Rattle.mpd_session.specs.Respond.{carried, respond, reply_to, version_then, raised, is_current, may_want, laid};
 
+use crate::desk::{Desk, DeskFault};
 use crate::effect::Effect;
 use crate::limits::VERSION_MAX;
+use crate::reply::{Refusal, Reply};
+use crate::request::{Command, Request};
 use crate::{breaks, looks, runs, steps};
 use mpd_code::Code;
+use mpd_core::Debugger;
 use mpd_model::{Mode, Step};
 use mpd_policy::{Breaks, last_hit};
-use mpd_request::{Command, Desk, DeskFault, Refusal, Reply, Request};
-use mpd_trail::Debugger;
 use std::alloc::{AllocError, Global};
 use std::marker::Model;
 

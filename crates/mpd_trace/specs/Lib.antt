@@ -6,3 +6,8 @@ pub mod PlainFaults
 pub mod FileText
 pub mod Excerpts
 pub mod Allowed
+pub mod Ranks
+pub mod RanksRows
+pub mod Spans
+pub mod SpanRows
+pub mod ReadRows

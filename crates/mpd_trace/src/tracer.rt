@@ -9,8 +9,7 @@ ghost use Rattle.mpd_lines.specs.Telling.{waiting_below};
 
 use crate::desk::TraceDesk;
 use mpd_code::Subject;
-use mpd_device::{Sink, Source};
-use mpd_lines::{EngineFault, run_behind};
+use mpd_lines::{EngineFault, Sink, Source, run_behind};
 use mpd_model::READS_MAX;
 use std::alloc::Global;
 

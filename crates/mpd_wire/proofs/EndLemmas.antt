@@ -1,8 +1,8 @@
 -- What all lines of an input are answered, by what the desk of lines says of each.
 use Rattle.std.proofs.Common.{◌≡◌, ℕ, suc, ◌+◌, ◌*◌, ◌<◌, ◌≤◌, ◌==◌, Bool, true, false, cond, List, [], ◌∷◌, length, map, refl, ap, sym, ◌∙◌, arith, subst, inl, inr, Result, Ok, Err}
 use Rattle.std.proofs.lemmas.Bool.Decides.{nat_tests}
-use Rattle.mpd_request.specs.declared.request.Request.{Request}
-use Rattle.mpd_request.specs.declared.reply.Reply.{Reply}
+use Rattle.mpd_session.specs.declared.request.Request.{Request}
+use Rattle.mpd_session.specs.declared.reply.Reply.{Reply}
 use Rattle.mpd_wire.specs.declared.engine.End.{End}
 use Rattle.mpd_wire.specs.Says.{Says, answered, one_more, counted}
 use Rattle.mpd_wire.specs.Ended.{Ended}
@@ -11,7 +11,7 @@ use Rattle.mpd_lines.specs.Served.{Served}
 use Rattle.mpd_lines.specs.declared.engine.EngineFault.{EngineFault}
 use Rattle.mpd_lines.specs.declared.engine.EngineFault.TheVariants as engine
 use Rattle.mpd_model.specs.texts.Lines.{lines_of, ended_lines, raw_lines, grow, bare}
-use Rattle.mpd_device.specs.Seen.{SourceSeen, SinkSeen}
+use Rattle.mpd_lines.specs.Seen.{SourceSeen, SinkSeen}
 
 -- ---- how many lines there are
 

@@ -1,10 +1,10 @@
 -- What a line is answered.
 use Rattle.std.proofs.Common.{◌≡◌, ◌≢◌, ℕ, ◌<◌, ◌≤◌, List, [], ◌∷◌, ◌++◌, length, codes, refl, ap, sym, ◌∙◌, arith, subst, inl, inr, append-nil, Result, Ok, Err}
 use Rattle.serde_json.proofs.OnLiterals.{serde_json_on_literals}
-use Rattle.mpd_request.specs.declared.request.Request.{Request}
+use Rattle.mpd_session.specs.declared.request.Request.{Request}
 use Rattle.mpd_wire.specs.declared.fault.WireFault.{WireFault}
 use Rattle.mpd_wire.specs.declared.fault.WireFault.TheVariants.{LineTooLong, NotJson, BadField, UnknownCommand, Memory}
-use Rattle.mpd_request.specs.declared.reply.Reply.{Reply}
+use Rattle.mpd_session.specs.declared.reply.Reply.{Reply}
 use Rattle.mpd_wire.specs.Requests.{request_in}
 use Rattle.mpd_wire.specs.Replies.{reply_line, reply_data}
 use Rattle.mpd_wire.specs.Says.{memory_line, unprinted_line, full_line, fault_line, Asked, Took, Says, AddsTold, AddsAsked, AddsTook, one_more, counted}

@@ -3,12 +3,12 @@ use Rattle.std.specs.Prelude.{◌≡◌, ℕ, ◌+◌, ◌*◌, ◌≤◌, false
 use Rattle.std.specs.Io.KnownBytes.{Consumes, IsAtEnd}
 use Rattle.mpd_model.specs.declared.limits.TheConstants.{READS_MAX}
 use Rattle.mpd_model.specs.texts.Lines.{lines_of}
-use Rattle.mpd_device.specs.Seen.{SourceSeen, SinkSeen}
+use Rattle.mpd_lines.specs.Seen.{SourceSeen, SinkSeen}
 use Rattle.mpd_lines.specs.Served.{Served}
 use Rattle.mpd_lines.specs.Telling.{Tells, waiting_below}
 use Rattle.mpd_lines.specs.declared.engine.EngineFault.{EngineFault}
-use Rattle.mpd_request.specs.declared.request.Request.{Request}
-use Rattle.mpd_request.specs.declared.reply.Reply.{Reply}
+use Rattle.mpd_session.specs.declared.request.Request.{Request}
+use Rattle.mpd_session.specs.declared.reply.Reply.{Reply}
 use Rattle.mpd_wire.specs.declared.engine.End.{End}
 use Rattle.mpd_wire.specs.Says.{Says, answered}
 

@@ -1,7 +1,7 @@
 -- The numbers of why a line is no request; want of memory has none.
 use Rattle.std.specs.Prelude.{ℕ}
-use Rattle.mpd_request.specs.declared.reply.Refusal.TheVariants as refusal
-use Rattle.mpd_request.specs.FaultNumbers.{refusal_number}
+use Rattle.mpd_session.specs.declared.reply.Refusal.TheVariants as refusal
+use Rattle.mpd_session.specs.RefusalNumbers.{refusal_number}
 use Rattle.mpd_wire.specs.declared.fault.WireFault.{WireFault}
 use Rattle.mpd_wire.specs.declared.fault.WireFault.TheVariants as wire
 

@@ -4,9 +4,9 @@ use Rattle.std.specs.Str.{chars, is_utf8}
 use Rattle.serde_json.proofs.OnLiterals.{serde_json_on_literals}
 use Rattle.mpd_model.specs.declared.breakpoint.Break.TheVariants as on
 use Rattle.mpd_model.specs.steps.World.{call_id}
-use Rattle.mpd_request.specs.declared.request.Command.{Command}
-use Rattle.mpd_request.specs.declared.request.Command.TheVariants as command
-use Rattle.mpd_request.specs.declared.request.Request.{Request}
+use Rattle.mpd_session.specs.declared.request.Command.{Command}
+use Rattle.mpd_session.specs.declared.request.Command.TheVariants as command
+use Rattle.mpd_session.specs.declared.request.Request.{Request}
 use Rattle.mpd_wire.specs.declared.fault.WireFault.{WireFault}
 use Rattle.mpd_wire.specs.declared.fault.WireFault.TheVariants.{NotJson, BadField, UnknownCommand}
 use Rattle.mpd_wire.specs.Requests.{break_shape, shape_of, is_own, command_in, asked, json_of, request_in}

@@ -1,12 +1,12 @@
 -- What a line is answered, and where that leaves the desk.
 use Rattle.std.specs.Prelude.{◌≡◌, ℕ, suc, ◌+◌, ◌==◌, ◌<◌, ◌⊎◌, if◌then◌else◌, List, [], ◌∷◌, ◌++◌, length, codes, Result, Ok, Err}
 use Rattle.mpd_model.specs.declared.limits.TheConstants.{LINE_MAX}
-use Rattle.mpd_request.specs.declared.request.Request.{Request}
+use Rattle.mpd_session.specs.declared.request.Request.{Request}
 use Rattle.mpd_wire.specs.declared.fault.WireFault.{WireFault}
 use Rattle.mpd_wire.specs.declared.fault.WireFault.TheVariants as fault
-use Rattle.mpd_request.specs.declared.reply.Reply.{Reply}
-use Rattle.mpd_request.specs.declared.reply.Reply.TheVariants.{Refused}
-use Rattle.mpd_request.specs.declared.reply.Refusal.TheVariants as refusal
+use Rattle.mpd_session.specs.declared.reply.Reply.{Reply}
+use Rattle.mpd_session.specs.declared.reply.Reply.TheVariants.{Refused}
+use Rattle.mpd_session.specs.declared.reply.Refusal.TheVariants as refusal
 use Rattle.mpd_wire.specs.Requests.{request_in}
 use Rattle.mpd_wire.specs.Replies.{reply_line}
 

@@ -11,10 +11,9 @@ ghost use Rattle.mpd_wire.specs.Ended.{Ended};
 use crate::fault::WireFault;
 use crate::parser::parse;
 use crate::printer::print;
-use mpd_device::{Sink, Source};
-use mpd_lines::{EngineFault, LineDesk, ROOM, push_all, run};
+use mpd_lines::{EngineFault, LineDesk, ROOM, Sink, Source, push_all, run};
 use mpd_model::{LINE_MAX, READS_MAX};
-use mpd_request::{Desk, DeskFault, Reply, Request};
+use mpd_session::{Desk, DeskFault, Reply, Request};
 use std::alloc::{AllocError, Global};
 
 /// What stands in the place of a reply where memory is refused before the desk has taken the request.

@@ -8,7 +8,7 @@ ghost use Rattle.mpd_wire.specs.declared.fault.WireFault.TheVariants.{Memory};
 use crate::fault::WireFault;
 use crate::fields;
 use mpd_model::LINE_MAX;
-use mpd_request::Request;
+use mpd_session::Request;
 use serde_json::Value;
 use std::alloc::Global;
 

@@ -4,11 +4,11 @@ ghost use Rattle.std.specs.Prelude.{◌≡◌, IfOk, map, string_bytes, codes, t
 ghost use Rattle.serde_json.specs.View.{view, members_view};
 ghost use Rattle.serde_json.specs.Data.{Members, no_members, member, object, boolean, string, put};
 ghost use Rattle.mpd_wire.specs.Replies.{natural, integer, or_null, listed, members, maybe, is_ok, stop_name, stop_number, refused, refusal_fields, answer_fields, fields_of, reply_data, reply_text};
-ghost use Rattle.mpd_request.specs.declared.reply.Answer.TheVariants as answer;
-ghost use Rattle.mpd_request.specs.declared.reply.Refusal.TheVariants as refusal;
+ghost use Rattle.mpd_session.specs.declared.reply.Answer.TheVariants as answer;
+ghost use Rattle.mpd_session.specs.declared.reply.Refusal.TheVariants as refusal;
 
 use mpd_model::{Cause, Step, Stop, print_step};
-use mpd_request::{Answer, HandleList, IntegerList, Refusal, Reply, Text, TextList};
+use mpd_session::{Answer, HandleList, IntegerList, Refusal, Reply, Text, TextList};
 use serde_json::{Map, Value, put};
 use std::alloc::{AllocError, Global};
 

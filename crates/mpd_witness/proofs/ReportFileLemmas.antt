@@ -1,6 +1,6 @@
 -- A witness that is read from the file of a report.
 use Rattle.std.proofs.Common.{◌≡◌, ℕ, ◌<◌, ◌≤◌, inl, inr, List, length, Option, Result, Ok, Err, refl, ap, sym, ◌∙◌}
-use Rattle.mpd_device.specs.Seen.{SourceSeen}
+use Rattle.mpd_lines.specs.Seen.{SourceSeen}
 use Rattle.mpd_explore.specs.declared.report.Witness.{Witness}
 use Rattle.mpd_lines.specs.declared.engine.EngineFault.{EngineFault}
 use Rattle.mpd_lines.specs.declared.engine.EngineFault.TheVariants as engine

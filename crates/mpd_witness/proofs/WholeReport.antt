@@ -14,7 +14,7 @@ use Rattle.mpd_explore.specs.declared.report.Leaf.{Leaf}
 use Rattle.mpd_explore.specs.declared.report.WitnessEnd.{WitnessEnd}
 use Rattle.mpd_explore.specs.declared.report.Witness.{Witness}
 use Rattle.mpd_model.specs.declared.decision.Decision.{Decision}
-use Rattle.mpd_walk.specs.Walk.{run_by, steps_by}
+use Rattle.mpd_policy.specs.Walk.{run_by, steps_by}
 use Rattle.mpd_explore.specs.Witness.{end_of, witness_to, witness_by}
 use Rattle.mpd_explore.specs.ReportText.{choices_text, ending_text, leaf_text, leaf_line, witness_lines, leaves_text, more_text, report_text}
 use Rattle.mpd_witness.specs.declared.report_lines.LineKind.{LineKind}

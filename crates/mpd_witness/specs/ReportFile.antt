@@ -1,6 +1,6 @@
 -- What is read of a report's file.
 use Rattle.std.specs.Prelude.{◌≡◌, ℕ, ◌<◌, ◌≤◌, ◌⊎◌, List, length, Option, Result, Ok, Err}
-use Rattle.mpd_device.specs.Seen.{SourceSeen}
+use Rattle.mpd_lines.specs.Seen.{SourceSeen}
 use Rattle.mpd_explore.specs.declared.report.Witness.{Witness}
 use Rattle.mpd_lines.specs.declared.engine.EngineFault.TheVariants.{ReadFailed, WriteFailed, TooManyTurns, Memory}
 use Rattle.mpd_lines.specs.UpTo.{IsRead, IsUnread}

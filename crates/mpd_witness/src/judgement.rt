@@ -7,9 +7,8 @@ ghost use Rattle.mpd_witness.specs.Verdict.{accepted_line, place_part, refused_l
 use itoa::Buffer;
 use mpd_code::Code;
 use mpd_core::Core;
-use mpd_device::Sink;
 use mpd_explore::{Witness, WitnessFault, verify_from};
-use mpd_lines::{EngineFault, Verdict, push_all, write_all};
+use mpd_lines::{EngineFault, Sink, Verdict, push_all, write_all};
 use mpd_model::Mode;
 use std::alloc::{AllocError, Global};
 

@@ -3,9 +3,8 @@
 ghost use Rattle.mpd_witness.specs.ReportFile.{IsFromReport};
 
 use crate::report_text::{ReportFault, read_report};
-use mpd_device::Source;
 use mpd_explore::Witness;
-use mpd_lines::read_up_to;
+use mpd_lines::{Source, read_up_to};
 use std::alloc::Global;
 
 /// Bytes of a text with a witness: that of a run of 1,000,000 steps fits.

@@ -1,15 +1,13 @@
 //! `mpdbg c`: the script of a file as a C program with MPI calls.
 
-ghost use Rattle.mpd_ranks.specs.Ranks.{AreRanks};
+ghost use Rattle.mpd_trace.specs.Ranks.{AreRanks};
 
 use crate::notes::Noted;
 use crate::tell::Fault;
 use mpd_c::write_c;
-use mpd_device::{FromReader, Sink};
-use mpd_lines::EngineFault;
+use mpd_lines::{EngineFault, FromReader, Sink};
 use mpd_model::Script;
-use mpd_ranks::read_script_for;
-use mpd_trace::PlainFault;
+use mpd_trace::{PlainFault, read_script_for};
 use std::fs::{File, Files};
 
 /// The script of a file, for as many ranks as are asked for. Its text is left in `text`.

@@ -6,18 +6,16 @@ use crate::progress::{OfPiece, Progress};
 use crate::summary::{Limit, Made, say_counts, say_least, say_part, say_states, say_tally};
 use crate::tell::Fault;
 use mpd_check::{
-    CheckFault, OutcomesPlan, SamplePlan, Tally, Telling, Tried, Wanted, check, check_listing,
-    check_mode, check_mode_outcomes, check_outcomes, check_piece, check_sample, count_pieces,
-    is_crew, put_least,
+    CheckFault, CheckPlan, Crew, OutcomesPlan, SamplePlan, Tally, Telling, Tried, Wanted, check,
+    check_listing, check_mode, check_mode_outcomes, check_outcomes, check_piece, check_sample,
+    count_pieces, is_crew, put_least,
 };
 use mpd_code::{Code, Subject};
-use mpd_device::Sink;
 use mpd_explore::Limits;
-use mpd_lines::Verdict;
+use mpd_lines::{Sink, Verdict};
 use mpd_model::{Mode, RUNS_MAX, STEPS_MAX};
 use mpd_options::{CheckOptions, Clash};
 use mpd_outcomes::{Goal, StateLimits};
-use mpd_pool::{CheckPlan, Crew};
 use std::marker::Sync;
 use std::rt::Clock;
 use std::thread::Threads;

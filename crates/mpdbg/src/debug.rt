@@ -5,9 +5,8 @@ use crate::picture::{NamedChoices, steps_fault, steps_of_choices};
 use crate::tell::Fault;
 use mpd_code::Subject;
 use mpd_console::{OpenFault, Opened, Screen, UntilQuit, open, open_along, open_with, run_console};
-use mpd_device::{Sink, Source};
 use mpd_explore::Witness;
-use mpd_lines::{EngineFault, write_all};
+use mpd_lines::{EngineFault, Sink, Source, write_all};
 use mpd_runs::FUEL;
 use std::alloc::Global;
 

@@ -1,21 +1,20 @@
 //! `mpdbg diagnose`: whether the runs of a script can hang or trap, how, and where that was decided (docs/FORMATS.md, "Diagnosis").
 
 ghost use Rattle.std.specs.Prelude.{◌≡◌, Some};
-ghost use Rattle.mpd_ranks.specs.Ranks.{AreRanks};
-ghost use Rattle.mpd_ranks.specs.Spans.{IsSpan};
+ghost use Rattle.mpd_trace.specs.Ranks.{AreRanks};
+ghost use Rattle.mpd_trace.specs.Spans.{IsSpan};
 
 use crate::tell::Fault;
 use mpd_code::{Code, Subject};
-use mpd_device::Sink;
 use mpd_diagnose::{
     DiagnosisPlan, ScriptInModes, closing_of, diagnose, diagnose_mode, full_command, modes_up_to,
     ranks_line, verdict_of, worst_of,
 };
-use mpd_lines::{EngineFault, Verdict, write_all};
+use mpd_lines::{EngineFault, Sink, Verdict, write_all};
 use mpd_model::Mode;
 use mpd_outcomes::StateLimits;
-use mpd_ranks::{RankSpan, code_of_text};
 use mpd_runs::{FUEL, STATES_KEPT, STATES_VISITED};
+use mpd_trace::{RankSpan, code_of_text};
 use std::alloc::{AllocError, Global};
 
 /// How many states the search for the ways to end comes to at most, kept or not.

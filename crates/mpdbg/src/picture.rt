@@ -4,17 +4,16 @@ ghost use Rattle.std.specs.Prelude.{◌≤◌};
 
 use crate::tell::Fault;
 use mpd_code::Subject;
-use mpd_device::Sink;
+use mpd_core::Debugger;
 use mpd_explore::{Witness, WitnessFault, verify};
-use mpd_lines::{EngineFault, write_all};
+use mpd_lines::{EngineFault, Sink, write_all};
 use mpd_model::{STEPS_MAX, Step, StepList};
 use mpd_picture::{DrawFault, draw};
+use mpd_policy::{Plain, Wide};
 use mpd_runs::{
     ChoicesFault, ReadFault, StepsFault, WordsFault, choices_of, lead_first, steps_by_choices,
     steps_of, take_steps,
 };
-use mpd_trail::Debugger;
-use mpd_walk::{Plain, Wide};
 use std::alloc::Global;
 
 /// The choices of a run, as a word of the command line names them.

@@ -1,10 +1,10 @@
 //! Why the program ends before its input does, and what a person is told of it (docs/FORMATS.md, "Faults and statuses").
 
+use mpd_check::PoolFault;
 use mpd_explore::WitnessFault;
 use mpd_lines::EngineFault;
 use mpd_model::{FaultCode, RANKS_MAX, ReadFault, SLOTS_MAX};
 use mpd_options::UsageFault;
-use mpd_pool::PoolFault;
 use mpd_server::ServeFault;
 use mpd_trace::{PlainFault, allowed, excerpt};
 use mpd_witness::{ReportFault, WITNESS_MAX};

@@ -4,7 +4,7 @@ use Rattle.std.specs.Option.{option_map}
 use Rattle.std.specs.Prelude.{IsSome}
 use Rattle.mpd_model.specs.runs.Trail.{done_steps}
 use Rattle.mpd_policy.specs.Wide.{wide_decision}
-use Rattle.mpd_walk.specs.Walk.{Run}
+use Rattle.mpd_policy.specs.Walk.{Run}
 use Rattle.mpd_explore.specs.declared.report.Leaf.{Leaf}
 use Rattle.mpd_explore.specs.Witness.{HasWitness}
 use Rattle.mpd_blame.specs.Blame.{ends_well, ends_badly}

@@ -1,6 +1,6 @@
 use Rattle.std.proofs.Common.{ap, ◌∙◌, ◌&&◌, not}
 use Rattle.mpd_model.specs.runs.Trail.{Standing}
-use Rattle.mpd_trail.specs.Views.{standing_of}
+use Rattle.mpd_core.specs.DebuggerViews.{standing_of}
 use Rattle.mpd_check.proofs.ListingLemmas.{tally_same, listing_same}
 use Rattle.mpd_check.proofs.OutcomesLemmas.{same_standing}
 use Rattle.mpd_check.proofs.listing.tell_listing.Goals as goal

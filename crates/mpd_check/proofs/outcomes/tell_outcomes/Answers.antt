@@ -1,6 +1,6 @@
 use Rattle.std.proofs.Common.{List, map, string_bytes, ap, subst, ◌∙◌}
 use Rattle.mpd_model.specs.runs.Trail.{Standing}
-use Rattle.mpd_trail.specs.Views.{standing_of}
+use Rattle.mpd_core.specs.DebuggerViews.{standing_of}
 use Rattle.mpd_policy.specs.Wide.{wide_decision}
 use Rattle.mpd_explore.specs.declared.report.Leaf.{Leaf}
 use Rattle.mpd_explain.specs.Explanations.{explained_at}

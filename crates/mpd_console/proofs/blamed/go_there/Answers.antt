@@ -1,5 +1,5 @@
 use Rattle.std.proofs.Common.{ap, ◌∙◌}
-use Rattle.mpd_moves.specs.Moves.{goto_command}
+use Rattle.mpd_console.specs.Moves.{goto_command}
 use Rattle.mpd_console.proofs.BlamedLemmas.{gone_after}
 use Rattle.mpd_console.proofs.blamed.go_there.Goals as goal
 

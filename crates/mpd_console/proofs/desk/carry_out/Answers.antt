@@ -1,5 +1,5 @@
 use Rattle.std.proofs.Common.{string_bytes}
-use Rattle.mpd_moves.specs.News.{told}
+use Rattle.mpd_console.specs.News.{told}
 use Rattle.mpd_console.proofs.SaidLemmas.{carried}
 use Rattle.mpd_console.proofs.desk.carry_out.Goals as goal
 

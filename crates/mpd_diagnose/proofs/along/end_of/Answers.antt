@@ -1,6 +1,6 @@
 use Rattle.std.proofs.Common.{arith}
-use Rattle.mpd_trail.specs.Views.{standing_of}
-use Rattle.mpd_walk.proofs.WalkLemmas.{beyond_depth}
+use Rattle.mpd_core.specs.DebuggerViews.{standing_of}
+use Rattle.mpd_policy.proofs.WalkLemmas.{beyond_depth}
 use Rattle.mpd_diagnose.proofs.along.end_of.Goals as goal
 
 pub put_back-requires : goal.put_back-requires

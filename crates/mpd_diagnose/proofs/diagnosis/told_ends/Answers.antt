@@ -1,5 +1,5 @@
 use Rattle.std.proofs.Common.{◌≡◌, ℕ, List, map, string_bytes, ap, ◌∙◌}
-use Rattle.mpd_trail.specs.Views.{standing_of}
+use Rattle.mpd_core.specs.DebuggerViews.{standing_of}
 use Rattle.mpd_explore.specs.declared.report.Leaf.{Leaf}
 use Rattle.mpd_diagnose.specs.Headings.{heading_of, lines_of, steps_to}
 use Rattle.mpd_diagnose.specs.Groups.{bad_first, groups}

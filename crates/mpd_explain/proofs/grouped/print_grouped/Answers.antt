@@ -1,6 +1,6 @@
 use Rattle.std.proofs.Common.{map, string_bytes, sym, ap, ◌∙◌}
 use Rattle.mpd_model.specs.runs.Trail.{done_steps}
-use Rattle.mpd_trail.specs.Views.{standing_of}
+use Rattle.mpd_core.specs.DebuggerViews.{standing_of}
 use Rattle.mpd_explore.specs.Ends.{before, firsts}
 use Rattle.mpd_explore.specs.WitnessTexts.{witness_texts}
 use Rattle.mpd_explain.specs.Explanations.{explained_at}

@@ -1,8 +1,8 @@
 use Rattle.std.proofs.Common.{◌≡◌, ◌+◌, ◌-◌, [], length, map, ap, ◌∙◌, arith}
 use Rattle.mpd_model.specs.runs.Trail.{done_steps}
-use Rattle.mpd_trail.specs.Run.{first_of}
-use Rattle.mpd_trail.specs.Views.{standing_of}
-use Rattle.mpd_walk.proofs.WalkLemmas.{length-done_steps}
+use Rattle.mpd_core.specs.Run.{first_of}
+use Rattle.mpd_core.specs.DebuggerViews.{standing_of}
+use Rattle.mpd_policy.proofs.WalkLemmas.{length-done_steps}
 use Rattle.mpd_explore.specs.declared.report.Report as report
 use Rattle.mpd_explore.specs.declared.search.Bounds.{Bounds}
 use Rattle.mpd_explore.specs.Report.{shown, listed, left_out}

@@ -1,8 +1,8 @@
 use Rattle.std.proofs.Common.{◌≡◌, ◌+◌, ◌≤◌, [], length, map, reverse, string_bytes, List, refl, sym, ap, subst, arith}
 use Rattle.mpd_model.specs.steps.World.{World}
-use Rattle.mpd_trail.specs.Run.{first_of}
-use Rattle.mpd_trail.specs.Views.{standing_of}
-use Rattle.mpd_walk.specs.Walk.{Run}
+use Rattle.mpd_core.specs.Run.{first_of}
+use Rattle.mpd_core.specs.DebuggerViews.{standing_of}
+use Rattle.mpd_policy.specs.Walk.{Run}
 use Rattle.mpd_explore.specs.declared.report.Leaf.{Leaf}
 use Rattle.mpd_explore.specs.declared.search.Open.{Open}
 use Rattle.mpd_explore.specs.Report.{any_bad}

@@ -1,5 +1,5 @@
 use Rattle.std.proofs.Common.{◌≡◌, ◌≤◌, ◌+◌, ◌-◌, suc, List, ◌∷◌, length, reverse, slice_get, refl, sym, ap, subst, ◌∙◌, arith, add-one}
-use Rattle.mpd_trail.specs.Views.{standing_of}
+use Rattle.mpd_core.specs.DebuggerViews.{standing_of}
 use Rattle.mpd_model.specs.runs.Trail.{done_steps}
 use Rattle.mpd_explore.proofs.ListLemmas.{reverse_pushed}
 use Rattle.mpd_explore.proofs.SearchLemmas.{safe_same, safe_then}

@@ -1,6 +1,6 @@
 use Rattle.std.proofs.Common.{arith}
-use Rattle.mpd_trail.specs.Views.{standing_of}
-use Rattle.mpd_walk.proofs.WalkLemmas.{beyond_depth}
+use Rattle.mpd_core.specs.DebuggerViews.{standing_of}
+use Rattle.mpd_policy.proofs.WalkLemmas.{beyond_depth}
 use Rattle.mpd_runs.proofs.by_choices.steps_from.Goals as goal
 
 pub steps_behind-requires : goal.steps_behind-requires

@@ -1,6 +1,6 @@
 use Rattle.std.proofs.Common.{rules, ap, ◌∙◌}
 use Rattle.mpd_model.specs.runs.Decisions.{decision}
-use Rattle.mpd_trail.specs.Views.{standing_of}
+use Rattle.mpd_core.specs.DebuggerViews.{standing_of}
 use Rattle.mpd_runs.specs.LastChoice.{is_choice}
 use Rattle.mpd_runs.proofs.LastChoiceLemmas.{undoing_more, deep_enough}
 use Rattle.mpd_runs.proofs.choice.undo_to_choice.Goals as goal

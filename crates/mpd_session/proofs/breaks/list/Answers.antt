@@ -1,7 +1,7 @@
 use Rattle.std.proofs.Common.{ℕ, List, ◌++◌, ◌∙◌, refl, ap, map, string_bytes, Option}
 use Rattle.mpd_model.specs.declared.breakpoint.Break.{Break}
 use Rattle.mpd_model.specs.runs.Breakpoints.{break_at}
-use Rattle.mpd_request.specs.declared.reply.Answer.TheVariants as answer
+use Rattle.mpd_session.specs.declared.reply.Answer.TheVariants as answer
 use Rattle.mpd_session.specs.declared.effect.Effect.TheVariants.{Told}
 use Rattle.mpd_session.specs.Effects.{place_texts}
 use Rattle.mpd_session.proofs.LookLemmas.{joined_more, joined_all}

@@ -1,0 +1,278 @@
+//! The runs of a script explored by several workers.
+ghost use Rattle.std.specs.Prelude.{◌≡◌, ◌↔◌, ◌<◌, ◌≤◌, ◌+◌, ◌⊎◌, true, false, [], All, length, map, IfOk, OnOk, IsErrOf, string_bytes};
+ghost use Rattle.std.specs.List.{AllByRecursion};
+ghost use Rattle.crossbeam_deque.specs.Handles.{view, IsPassOf, worker_deque, worker_view, stealer_deque};
+ghost use Rattle.mpd_model.specs.runs.Trail.{done_steps};
+ghost use Rattle.mpd_core.specs.DebuggerViews.{AsFound, standing_of};
+ghost use Rattle.mpd_explore.specs.Sleeping.{decides_by};
+ghost use Rattle.mpd_explore.specs.Witness.{HasWitness};
+ghost use Rattle.mpd_explore.specs.WitnessTexts.{witness_texts};
+ghost use Rattle.mpd_explore.specs.Pieces.{pieces, numbered, split_report, split_more};
+ghost use Rattle.mpd_check.specs.Numbers.{hand};
+ghost use Rattle.mpd_check.specs.Parts.{CanBegin, CanExplore, Filled, IsReport};
+ghost use Rattle.mpd_check.specs.Brought.{AllRight, CanStart, IsJob, IsBatch};
+ghost use Rattle.mpd_check.specs.Faults.{pool_fault_number, pool_fault_name};
+
+use crate::deque::{Given, Owner, filled};
+use crate::gate::Gate;
+use crate::join::join_all;
+use crate::slots::{collect, no_reports};
+use crate::work::{Batch, Job, Task, work};
+use mpd_core::Debugger;
+use mpd_explore::{Limits, PIECES_MAX, Piece, Report, SplitFault, split};
+use mpd_model::STEPS_MAX;
+use std::alloc::{AllocError, Global};
+use std::error::Error;
+use std::marker::Sync;
+use std::thread::Threads;
+use std::{fmt, thread};
+
+/// How many workers there are at most.
+pub const WORKERS_MAX: usize = 16;
+
+/// Who works: what starts threads, and how many workers explore at the same time.
+#[derive_where(Clone, Copy)]
+pub struct Crew<'r, R> {
+    /// What starts their threads.
+    pub rt: &'r R,
+    /// How many they are: 1 to 16 are taken.
+    pub workers: usize,
+}
+
+/// By how many choices the runs of a script are cut into pieces, and the limits of each piece.
+#[derive(Clone, Copy)]
+pub struct CheckPlan {
+    pub split: usize,
+    pub limits: Limits,
+}
+
+/// Why there is no report.
+#[derive(Clone, Copy, PartialEq, Eq, Debug)]
+pub enum PoolFault {
+    /// There are to be no workers, or more than 16.
+    BadWorkers,
+    /// There are more than 1,024 pieces.
+    TooManyPieces,
+    /// A growth was refused.
+    Memory,
+}
+
+impl PoolFault {
+    /// Its number; 0 for want of memory, which has none here.
+    pub fn number(self) -> u8
+        ensures { result ≡ pool_fault_number self }
+    {
+        match self {
+            PoolFault::BadWorkers => 35,
+            PoolFault::TooManyPieces => 31,
+            PoolFault::Memory => 0,
+        }
+    }
+
+    /// Its name.
+    pub fn name(self) -> &'static str
+        ensures { result.now ≡ pool_fault_name self }
+    {
+        match self {
+            PoolFault::BadWorkers => "bad-workers",
+            PoolFault::TooManyPieces => "too-many-pieces",
+            PoolFault::Memory => "memory",
+        }
+    }
+}
+
+impl fmt::Display for PoolFault {
+    ghost use Rattle.std.specs.Prelude.{Some};
+
+    ghost output = { λ fault. Some (pool_fault_name fault) };
+
+    fn fmt<W: fmt::Write>(&self, f: &mut fmt::Formatter<W>) -> fmt::Result {
+        f.write_str(self.name())
+    }
+}
+
+impl Error for PoolFault {}
+
+/// Adds a worker, with a copy of the debugger and a pass.
+fn add_job<'c>(
+    debugger: &Debugger<'c>,
+    owner: &mut Owner,
+    jobs: &mut Vec<Job<'c>>,
+    limits: Limits,
+    pieces: &[Piece],
+) -> Result<(), AllocError>
+    requires owner { ((worker_view owner.old).live ≡ true) × ((worker_view owner.old).next ≡ length pieces.now) }
+    requires can { CanExplore (standing_of debugger.now) limits pieces.now }
+    requires jobs { All (IsJob (worker_deque owner.old) (standing_of debugger.now) limits pieces.now) jobs.old.items }
+    ensures jobs { All (IsJob (worker_deque owner.old) (standing_of debugger.now) limits pieces.now) jobs.new.items }
+    ensures owner { (worker_deque owner.new ≡ worker_deque owner.old) × ((worker_view owner.new).live ≡ true) × ((worker_view owner.new).next ≡ length pieces.now) }
+{
+    jobs.reserve(1)?;
+    let debugger = debugger.copy()?;
+    jobs.push_reserved(Job {
+        debugger,
+        pass: owner.another::<Given>(),
+    });
+    Ok(())
+}
+
+/// So many workers; one that memory is refused for is left out.
+fn jobs<'c>(
+    alloc: Global,
+    debugger: &Debugger<'c>,
+    owner: &mut Owner,
+    limits: Limits,
+    pieces: &[Piece],
+    workers: usize,
+) -> Vec<Job<'c>>
+    requires owner { ((worker_view owner.old).live ≡ true) × ((worker_view owner.old).next ≡ length pieces.now) }
+    requires can { CanExplore (standing_of debugger.now) limits pieces.now }
+    ensures jobs { All (IsJob (worker_deque owner.old) (standing_of debugger.now) limits pieces.now) result.items }
+    ensures owner { (worker_deque owner.new ≡ worker_deque owner.old) × ((worker_view owner.new).live ≡ true) × ((worker_view owner.new).next ≡ length pieces.now) }
+{
+    let mut jobs = Vec::new(alloc);
+    for _ in 0..workers {
+        let _refused = add_job(debugger, owner, &mut jobs, limits, pieces);
+    }
+    jobs
+}
+
+/// Has workers explore pieces, and puts what they bring in its places.
+fn explore_by_workers<G: Gate, R: Threads + Sync>(
+    crew: Crew<'_, R>,
+    alloc: Global,
+    debugger: &Debugger<'_>,
+    task: Task<'_, G>,
+    slots: &mut Vec<Option<Report>>,
+) -> Result<(), AllocError>
+    requires can { CanExplore (standing_of debugger.now) task.limits task.pieces.now }
+    requires filled { Filled (standing_of debugger.now) task.limits task.pieces.now slots.old.items }
+    ensures filled { OnOk result (Filled (standing_of debugger.now) task.entry.limits task.entry.pieces.now slots.new.items) }
+{
+    let Crew { rt, workers } = crew;
+    let Task {
+        pieces,
+        limits,
+        gate,
+    } = task;
+    let mut owner = filled(alloc, pieces.len())?;
+    let stealer = owner.stealer()?;
+    let thief = &stealer;
+    // a worker more than there are pieces would have nothing to do
+    let hands = workers.min(pieces.len());
+    let jobs = jobs(alloc, debugger, &mut owner, limits, pieces, hands);
+    let batches = thread::map_vec(
+        rt,
+        jobs,
+        &|job: Job<'_>| -> Batch
+            requires { CanStart (stealer_deque thief.now) limits pieces.now job }
+            ensures { IsBatch (stealer_deque thief.entry.now) (standing_of job.entry.debugger) limits pieces.entry.now result }
+        {
+            let task = Task {
+                pieces,
+                limits,
+                gate,
+            };
+            work(alloc, thief, task, job)
+        },
+    )?;
+    collect(&mut owner, batches, slots);
+    Ok(())
+}
+
+/// The same, unless there is one worker or one piece: then no thread is started.
+fn share_out<G: Gate, R: Threads + Sync>(
+    crew: Crew<'_, R>,
+    alloc: Global,
+    debugger: &Debugger<'_>,
+    task: Task<'_, G>,
+    slots: &mut Vec<Option<Report>>,
+) -> Result<(), AllocError>
+    requires can { CanExplore (standing_of debugger.now) task.limits task.pieces.now }
+    requires filled { Filled (standing_of debugger.now) task.limits task.pieces.now slots.old.items }
+    ensures filled { OnOk result (Filled (standing_of debugger.now) task.entry.limits task.entry.pieces.now slots.new.items) }
+{
+    if crew.workers < 2 || task.pieces.len() < 2 {
+        return Ok(());
+    }
+    explore_by_workers(crew, alloc, debugger, task, slots)
+}
+
+/// The report of all pieces, whatever the number of workers. The debugger is left as found.
+fn explore_pieces<G: Gate, R: Threads + Sync>(
+    crew: Crew<'_, R>,
+    alloc: Global,
+    debugger: &mut Debugger<'_>,
+    task: Task<'_, G>,
+) -> Result<Report, AllocError>
+    requires can { CanExplore (standing_of debugger.old) task.limits task.pieces.now }
+    ensures report { IfOk result (λ r. IsReport (standing_of debugger.old) task.entry.limits task.entry.pieces.now r) }
+    ensures same { standing_of debugger.new ≡ standing_of debugger.old }
+{
+    let mut slots = no_reports(alloc, task.pieces.len())?;
+    share_out(crew, alloc, debugger, task, &mut slots)?;
+    join_all(alloc, debugger, task, &mut slots)
+}
+
+/// The pieces of a plan. The debugger is left as found.
+fn cut(alloc: Global, debugger: &mut Debugger<'_>, plan: CheckPlan) -> Result<Vec<Piece>, PoolFault>
+    requires can { CanBegin (standing_of debugger.old) plan.limits }
+    ensures ok { IfOk result (λ v. v.items ≡ numbered 0 (pieces (decides_by plan.limits.ends) plan.split plan.limits.fuel debugger.old.world)) }
+    ensures few { OnOk result (length (pieces (decides_by plan.limits.ends) plan.split plan.limits.fuel debugger.old.world) ≤ PIECES_MAX) }
+    ensures many { IsErrOf result PoolFault.TooManyPieces → PIECES_MAX < length (pieces (decides_by plan.limits.ends) plan.split plan.limits.fuel debugger.old.world) }
+    ensures workers { IsErrOf result PoolFault.BadWorkers → ⊥ }
+    ensures same { standing_of debugger.new ≡ standing_of debugger.old }
+{
+    match split(alloc, debugger, plan.split, plan.limits) {
+        Ok(pieces) => Ok(pieces),
+        Err(SplitFault::TooManyPieces) => Err(PoolFault::TooManyPieces),
+        Err(SplitFault::Memory) => Err(PoolFault::Memory),
+    }
+}
+
+/// The first leaves of the runs from here, by so many workers: the runs are cut into pieces by their first choices, and the reports of
+/// these are joined in order (docs/DEFINITIONS.md, "Pieces"), whatever the number of workers and whoever comes first. Where each end is
+/// looked for once (`ends`), the runs are those of the wide walk. Fuel counts from here, and `runs` is for each piece; there is more where
+/// some piece has more. Where a list ends with the first deadlock or trap, the report does, and there is more where some run isn't listed;
+/// who has found one explores no piece after it. No undone step is kept, and the depth and the fuel are at most 1,000,000 steps together.
+/// Each leaf has a run, and each deadlock and each trap a witness, as those of `explore` do, with their texts where these are wanted. It is refused where
+/// there are to be no workers or more than 16 (35), where there are more than 1,024 pieces (31), or for want of memory. A worker that wants
+/// memory stops, and what it doesn't bring is computed here, as far as it is listed. The debugger is left as found, also where it is
+/// refused. `gate` is told how many pieces there are, and by whoever computes one of it before and after that, and of each leaf.
+pub fn check_by_workers<G: Gate, R: Threads + Sync>(
+    crew: Crew<'_, R>,
+    alloc: Global,
+    debugger: &mut Debugger<'_>,
+    plan: CheckPlan,
+    gate: &G,
+) -> Result<Report, PoolFault>
+    requires clean { length debugger.old.trail.steps ≡ debugger.old.trail.depth }
+    requires fits { debugger.old.trail.depth + plan.limits.fuel ≤ STEPS_MAX }
+    ensures leaves { IfOk result (λ r. r.leaves.items ≡ split_report plan.split plan.limits debugger.old.world) }
+    ensures more { IfOk result (λ r. r.more ≡ split_more plan.split plan.limits debugger.old.world) }
+    ensures witnesses { IfOk result (λ r. AllByRecursion (HasWitness (decides_by plan.limits.ends) debugger.old.trail.program debugger.old.trail.mode (done_steps debugger.old.trail) plan.limits.fuel debugger.old.world) r.leaves.items) }
+    ensures texts { IfOk result (λ r. map string_bytes r.witnesses.items ≡ witness_texts (decides_by plan.limits.ends) plan.limits.witnesses (done_steps debugger.old.trail) plan.limits.fuel debugger.old.world r.leaves.items) }
+    ensures workers { IsErrOf result PoolFault.BadWorkers ↔ ((crew.entry.workers ≡ 0) ⊎ (WORKERS_MAX < crew.entry.workers)) }
+    ensures few { OnOk result (length (pieces (decides_by plan.limits.ends) plan.split plan.limits.fuel debugger.old.world) ≤ PIECES_MAX) }
+    ensures many { IsErrOf result PoolFault.TooManyPieces → PIECES_MAX < length (pieces (decides_by plan.limits.ends) plan.split plan.limits.fuel debugger.old.world) }
+    ensures as_found { AsFound (standing_of debugger.old) (standing_of debugger.new) }
+{
+    debugger.state_is_reached();
+    if crew.workers == 0 || crew.workers > WORKERS_MAX {
+        return Err(PoolFault::BadWorkers);
+    }
+    let pieces = match cut(alloc, debugger, plan) {
+        Ok(pieces) => pieces,
+        Err(fault) => return Err(fault),
+    };
+    gate.cut(pieces.len());
+    let task = Task {
+        pieces: &pieces,
+        limits: plan.limits,
+        gate,
+    };
+    match explore_pieces(crew, alloc, debugger, task) {
+        Ok(report) => Ok(report),
+        Err(_) => Err(PoolFault::Memory),
+    }
+}

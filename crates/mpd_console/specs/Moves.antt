@@ -1,0 +1,309 @@
+-- Words that ask the session for something that changes it: what they ask, and what is told of the reply.
+use Rattle.std.specs.Prelude.{ℕ, ◌-◌, ◌==◌, Bool, true, false, ◌&&◌, ◌||◌, not, min, drop, nat_lt, nat_le, is_some, is_none, if◌then◌else◌, List, [], ◌∷◌, ◌++◌, length, slice_get, Option, Some, None, codes}
+use Rattle.std.specs.Fmt.{decimal}
+use Rattle.std.specs.List.{list_any}
+use Rattle.mpd_model.specs.declared.step.Step.{Step}
+use Rattle.mpd_model.specs.declared.decision.Decision.{Decision}
+use Rattle.mpd_model.specs.declared.decision.Decision.TheVariants.{Forced, Choice, Leaf}
+use Rattle.mpd_model.specs.declared.breakpoint.Break.{Break}
+use Rattle.mpd_model.specs.declared.breakpoint.Break.TheVariants as on
+use Rattle.mpd_model.specs.declared.breakpoint.Cause.{Cause}
+use Rattle.mpd_model.specs.declared.breakpoint.Cause.TheVariants as for
+use Rattle.mpd_model.specs.declared.breakpoint.Stop.{Stop}
+use Rattle.mpd_model.specs.script.Declaration.{Declared}
+use Rattle.mpd_model.specs.script.Program.{Program}
+use Rattle.mpd_model.specs.steps.World.{World}
+use Rattle.mpd_model.specs.runs.Decisions.{decision}
+use Rattle.mpd_model.specs.runs.Running.{all_applied}
+use Rattle.mpd_model.specs.runs.Trail.{Trail, step_eq, forgotten}
+use Rattle.mpd_model.specs.texts.Texts.{line}
+use Rattle.mpd_model.specs.runs.Breakpoints.{no_breaks, break_at}
+use Rattle.mpd_session.specs.declared.request.Command.{Command}
+use Rattle.mpd_session.specs.declared.request.Command.TheVariants as command
+use Rattle.mpd_session.specs.declared.reply.Answer.{Answer}
+use Rattle.mpd_session.specs.declared.reply.Answer.TheVariants as answer
+use Rattle.mpd_session.specs.declared.reply.Refusal.{Refusal}
+use Rattle.mpd_session.specs.declared.reply.Refusal.TheVariants as refusal
+use Rattle.mpd_session.specs.declared.reply.Reply.{Reply}
+use Rattle.mpd_session.specs.declared.reply.Reply.TheVariants as reply
+use Rattle.mpd_policy.specs.Single.{single, only_step, ran_on}
+use Rattle.mpd_policy.specs.Last.{last_hit}
+use Rattle.mpd_names.specs.Called.{break_text}
+use Rattle.mpd_explain.specs.Steps.{step_words}
+use Rattle.mpd_explain.specs.Standing.{standing_text}
+use Rattle.mpd_console.specs.declared.moves.TheConstants.{NO_CANDIDATE}
+use Rattle.mpd_console.specs.declared.moves.Doing.{Doing}
+use Rattle.mpd_console.specs.declared.moves.Doing.TheVariants.{Asks, Undoes, Seeks, Follows, Blames, Looks}
+use Rattle.mpd_runs.specs.declared.way.Way.TheVariants as way
+use Rattle.mpd_runs.specs.Seek.{count_words}
+use Rattle.mpd_console.specs.News.{Known, news_text}
+use Rattle.mpd_vocabulary.specs.declared.word.Word.{Word}
+use Rattle.mpd_vocabulary.specs.declared.word.Word.TheVariants as word
+
+-- ---- what a word asks for
+
+-- People count candidates from 1; there is none of number 0.
+abbrev pub from_one : ℕ → ℕ
+from_one n = if n == 0 then NO_CANDIDATE else n - 1
+
+-- whether `next` asks for the step that comes next, by what is decided: where there is one, a number asks for so many
+abbrev pub asks_by : Decision → Word → Bool
+asks_by d (word.Next None) = true
+asks_by d (word.Next (Some n)) = is_none (single d)
+asks_by d other = false
+
+abbrev pub asks_next : World → Word → Bool
+asks_next w x = asks_by (decision w) x
+
+-- how many steps are undone
+abbrev pub ahead_of : Trail → ℕ
+ahead_of t = length t.steps - t.depth
+
+-- A run would stop here, at a choice, though the step that is taken there lies ahead: where a step can be taken and none comes next, there is
+-- a choice to make.
+abbrev pub is_alone : Option Step → Option Step → Bool
+is_alone one other = is_some one && is_none other
+
+abbrev pub goes_along : Trail → World → Bool
+goes_along t w = is_alone (slice_get t.steps t.depth) (only_step w)
+
+-- Whether two lists of steps part: at some place both have a step, and not the same.
+abbrev pub part : List Step → List Step → Bool
+part [] others = false
+part (a ∷ steps) [] = false
+part (a ∷ steps) (b ∷ others) = not (step_eq a b) || part steps others
+
+-- the trail of a run on of at most so many steps, as many as lie ahead at most
+abbrev pub ran_ahead : Trail → World → ℕ → Trail
+ran_ahead t w n = all_applied (forgotten t) (ran_on t.program no_breaks (min n (ahead_of t)) t.depth w).steps
+
+-- A run on would leave the steps that lie ahead, and take others: so it may be where those were laid by a search, whose walk forces fewer steps.
+abbrev pub leaves_ahead : Trail → World → ℕ → Bool
+leaves_ahead t w n = part (drop t.depth t.steps) (drop t.depth (ran_ahead t w n).steps)
+
+-- a run on, or where that would leave the steps that lie ahead so many of these
+abbrev pub on_command : Trail → World → ℕ → Command
+on_command t w n = if leaves_ahead t w n then command.Redo (min n (ahead_of t)) else command.RunOn n
+
+-- a step that comes next is taken as the first candidate is, which is looked at where it is a candidate alone; `next` goes along, too
+abbrev pub next_alone : Bool → Bool → Command
+next_alone comes along = if comes then command.Next (Some 0) else (if along then command.Redo 1 else command.Next None)
+
+abbrev pub next_command : Trail → World → Option ℕ → Command
+next_command t w None = if leaves_ahead t w 1 then command.Redo 1 else next_alone (is_some (only_step w)) (is_some (slice_get t.steps t.depth))
+next_command t w (Some n) = if is_some (only_step w) then on_command t w n else command.Next (Some (from_one n))
+
+-- `run` goes along: at a choice it takes the step that lies ahead, and where a run on would leave those that do, it takes these
+abbrev pub run_command : Trail → World → ℕ → Command
+run_command t w n = if nat_lt 0 n && goes_along t w then command.Redo 1 else on_command t w n
+
+-- `redo` takes no more steps than lie ahead, where one does
+abbrev pub redo_command : Trail → ℕ → Command
+redo_command t n = if nat_lt 0 (ahead_of t) && nat_lt (ahead_of t) n then command.Redo (ahead_of t) else command.Redo n
+
+-- `goto` goes back, or along the steps that lie ahead
+abbrev pub goto_command : Trail → ℕ → Command
+goto_command t n = if nat_lt t.depth n && nat_le (n - t.depth) (ahead_of t) then command.Redo (n - t.depth) else command.Goto n
+
+-- what a word does with a session: it asks for something that changes it, goes back to the last choice, lays a run ahead, the first that
+-- ends so or that of a number, goes to the step that decided, or changes nothing
+abbrev pub doing_of : Trail → World → Word → Doing
+doing_of t w (word.Next n) = Asks (next_command t w n)
+doing_of t w (word.Run n) = Asks (run_command t w n)
+doing_of t w (word.Back n) = Asks (command.Back n)
+doing_of t w word.RunBack = Asks command.RunBack
+doing_of t w word.UndoChoice = Undoes
+doing_of t w (word.Goto n) = Asks (goto_command t n)
+doing_of t w (word.Redo n) = Asks (redo_command t n)
+doing_of t w (word.Step a) = Asks (command.Step a)
+doing_of t w (word.Break b) = Asks (command.Break b)
+doing_of t w (word.Delete n) = Asks (command.Unbreak n)
+doing_of t w (word.Follow n) = Follows n
+doing_of t w word.Deadlock = Seeks way.Deadlock
+doing_of t w word.Trap = Seeks way.Trap
+doing_of t w word.Blame = Blames
+doing_of t w other = Looks
+
+-- ---- the step that a word takes, told before it is taken
+
+-- the candidate of this number, from 1, where there is a choice to make
+abbrev pub candidate : ℕ → Decision → Option Step
+candidate n (Forced a) = None
+candidate n (Choice steps) = slice_get steps (from_one n)
+candidate n (Leaf o) = None
+
+abbrev pub picked_at : ℕ → Decision → Option Step → Option Step
+picked_at n d None = candidate n d
+picked_at n d (Some a) = None
+
+-- the one step, or where there is none the other
+abbrev pub or_else : Option Step → Option Step → Option Step
+or_else None other = other
+or_else (Some a) other = Some a
+
+-- the step that `next` takes: the one that lies ahead, else the one that comes next, or the candidate of this number at a choice; where a step
+-- comes next, a number is one of steps
+abbrev pub picked : Option Step → Option ℕ → Decision → Option Step
+picked ahead None d = or_else ahead (single d)
+picked ahead (Some n) d = picked_at n d (single d)
+
+-- the step that is taken again by a request for one
+abbrev pub redone_step : Trail → Command → Option Step
+redone_step t (command.Redo n) = if n == 1 then slice_get t.steps t.depth else None
+redone_step t other = None
+
+-- of a step by hand, `next`, and where one step is taken again by `redo` or `run`
+abbrev pub step_for : Trail → World → Word → Option Step
+step_for t w (word.Next n) = picked (slice_get t.steps t.depth) n (decision w)
+step_for t w (word.Run n) = redone_step t (run_command t w n)
+step_for t w (word.Redo n) = redone_step t (redo_command t n)
+step_for t w (word.Step a) = Some a
+step_for t w other = None
+
+abbrev pub words_of : Program → World → Option Step → List ℕ
+words_of s w None = []
+words_of s w (Some a) = step_words s w a
+
+abbrev pub lead_text : Trail → World → Word → List ℕ
+lead_text t w x = words_of t.program w (step_for t w x)
+
+-- ---- what is told of a move
+
+-- the step that was taken, with the depth behind it; or the depth alone
+abbrev pub moved_line : ℕ → List ℕ → List ℕ
+moved_line depth [] = line (codes "depth " ++ decimal depth)
+moved_line depth (b ∷ lead) = line (decimal depth ++ 32 ∷ b ∷ lead)
+
+-- ---- the line of a breakpoint
+
+abbrev pub break_parts : List Declared → ℕ → Break → List ℕ
+break_parts ds n b = decimal n ++ codes ": " ++ line (break_text ds b)
+
+abbrev pub break_line : List Declared → ℕ → Break → List ℕ
+break_line ds n b = codes "breakpoint " ++ break_parts ds n b
+
+abbrev pub break_line_of : List Declared → ℕ → Option Break → List ℕ
+break_line_of ds n None = []
+break_line_of ds n (Some b) = break_line ds n b
+
+-- ---- what is told of a single step
+
+-- the lowest breakpoint that the last step hits, where a step was told
+abbrev pub told_hit : List (Option Break) → Trail → List ℕ → Option ℕ
+told_hit places t [] = None
+told_hit places t (b ∷ lead) = last_hit places t
+
+abbrev pub hit_line : List Declared → List (Option Break) → Option ℕ → List ℕ
+hit_line ds places None = []
+hit_line ds places (Some n) = break_line_of ds n (break_at places n)
+
+-- `run` takes a single step only at a choice, and says so where that hits no breakpoint
+abbrev pub along_line : Word → Option ℕ → List ℕ
+along_line (word.Run n) None = line (codes "stopped: behind the choice")
+along_line other hit = []
+
+abbrev pub hit_text : List Declared → List (Option Break) → Word → Option ℕ → List ℕ
+hit_text ds places x hit = hit_line ds places hit ++ along_line x hit
+
+-- behind a step that is told
+abbrev pub stepped_text : Trail → List (Option Break) → Word → List ℕ → List ℕ
+stepped_text t places x [] = []
+stepped_text t places x (b ∷ lead) = hit_text t.program.decls places x (last_hit places t)
+
+abbrev pub move_text : List ℕ → Trail → World → List (Option Break) → Word → ℕ → List ℕ → Known → List ℕ
+move_text text t w places x depth lead k = moved_line depth lead ++ news_text k t w ++ stepped_text t places x lead ++ standing_text text t w
+
+-- ---- what is told of a run
+
+abbrev pub back_words : Word → List ℕ
+back_words word.RunBack = codes " back"
+back_words other = []
+
+-- a run back stops before the step that hits a breakpoint, and a run behind it
+abbrev pub before_words : Word → List ℕ
+before_words word.RunBack = codes "before "
+before_words other = []
+
+abbrev pub break_cause : List Declared → Word → ℕ → Option Break → List ℕ
+break_cause ds x n None = []
+break_cause ds x n (Some b) = before_words x ++ break_line ds n b
+
+-- why a run stopped, where that isn't told by where it stands
+abbrev pub cause_line : List Declared → List (Option Break) → Word → Cause → List ℕ
+cause_line ds places x for.Leaf = []
+cause_line ds places x for.Choice = []
+cause_line ds places x for.Max = line (codes "stopped: as many steps as were asked for")
+cause_line ds places x for.Full = line (codes "stopped: no more than 1000000 steps are kept")
+cause_line ds places x for.Start = line (codes "at the start")
+cause_line ds places x (for.Break n) = break_cause ds x n (break_at places n)
+
+abbrev pub ran_line : Word → ℕ → ℕ → List ℕ
+ran_line x depth count = line (count_words count ++ back_words x ++ codes ", depth " ++ decimal depth)
+
+abbrev pub run_text : List ℕ → Trail → World → List (Option Break) → Word → ℕ → Stop → Known → List ℕ
+run_text text t w places x depth stop k = ran_line x depth stop.steps ++ news_text k t w ++ cause_line t.program.decls places x stop.cause ++ standing_text text t w
+
+-- ---- breakpoints
+
+-- `no statement begins at line 7`, where that is so
+abbrev pub statement_line : List ℕ → ℕ → List ℕ
+statement_line lines n = if list_any (λ l. l == n) lines then [] else line (codes "no statement begins at line " ++ decimal n)
+
+abbrev pub break_note : List ℕ → Break → List ℕ
+break_note lines (on.Line n) = statement_line lines n
+break_note lines (on.Match n) = statement_line lines n
+break_note lines other = []
+
+abbrev pub added_line : Program → Word → ℕ → List ℕ
+added_line s (word.Break b) n = break_line s.decls n b ++ break_note s.lines b
+added_line s other n = []
+
+abbrev pub removed_line : Word → List ℕ
+removed_line (word.Delete n) = line (codes "deleted " ++ decimal n)
+removed_line other = []
+
+-- ---- refusals
+
+-- which numbers there are, of a line or of a rank
+abbrev pub break_range : Break → List ℕ
+break_range (on.Line n) = line (codes "refused: lines are 1 to 65537")
+break_range (on.Match n) = line (codes "refused: lines are 1 to 65537")
+break_range other = line (codes "refused: there is no such rank")
+
+abbrev pub range_line : Word → List ℕ
+range_line (word.Break b) = break_range b
+range_line other = line (codes "refused: 1 to 1000000 steps can be asked for")
+
+-- `next` is answered with where it stands, and says why only where that doesn't tell
+abbrev pub refusal_line : Bool → Word → Refusal → List ℕ
+refusal_line next x refusal.NotEnabled = if next then [] else line (codes "refused: this step is not enabled")
+refusal_line next x refusal.Full = line (codes "refused: no more than 1000000 steps are kept")
+refusal_line next x refusal.AtStart = line (codes "refused: fewer steps are taken")
+refusal_line next x refusal.NotBefore = line (codes "refused: so many steps are neither taken nor ahead")
+refusal_line next x refusal.NoRedo = line (codes "refused: no step is ahead")
+refusal_line next x refusal.NoSuchBreak = line (codes "refused: no breakpoint has this number")
+refusal_line next x refusal.BreaksFull = line (codes "refused: 64 breakpoints are set")
+refusal_line next x refusal.BadNumber = if next then line (codes "refused: there is no such candidate") else range_line x
+refusal_line next x other = []
+
+-- where it stands follows, but where no more steps are kept
+abbrev pub stands_behind : Bool → Refusal → Bool
+stands_behind next refusal.Full = false
+stands_behind next other = next
+
+abbrev pub refused_text : List ℕ → Trail → World → Word → Refusal → List ℕ
+refused_text text t w x r = refusal_line (asks_next w x) x r ++ (if stands_behind (asks_next w x) r then standing_text text t w else [])
+
+-- ---- what is told of a reply, behind the request, given the text of the script
+
+abbrev pub answer_text : List ℕ → Trail → World → List (Option Break) → Word → List ℕ → Known → Answer → List ℕ
+answer_text text t w places x lead k (answer.Depth depth) = move_text text t w places x depth lead k
+answer_text text t w places x lead k (answer.Stepped depth a) = move_text text t w places x depth lead k
+answer_text text t w places x lead k (answer.Ran depth stop) = run_text text t w places x depth stop k
+answer_text text t w places x lead k (answer.Added n) = added_line t.program x n
+answer_text text t w places x lead k answer.Removed = removed_line x
+answer_text text t w places x lead k other = []
+
+abbrev pub reply_text : List ℕ → Trail → World → List (Option Break) → Word → List ℕ → Known → Reply → List ℕ
+reply_text text t w places x lead k (reply.Refused r) = refused_text text t w x r
+reply_text text t w places x lead k (reply.Done v a) = answer_text text t w places x lead k a

@@ -1,4 +1,0 @@
-pub mod FoldLemmas
-pub mod WordLemmas
-pub mod ShortLemmas
-pub mod CutLemmas

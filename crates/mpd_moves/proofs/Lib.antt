@@ -1,2 +1,0 @@
-pub mod MoveLemmas
-pub mod NewsLemmas

@@ -1,5 +1,0 @@
-use Rattle.mpd_pieces.proofs.PieceLemmas.{no_choice}
-use Rattle.mpd_pieces.proofs.laws.no_choice_is_the_whole.Goals as goal
-
-pub returns : goal.returns
-returns c = no_choice

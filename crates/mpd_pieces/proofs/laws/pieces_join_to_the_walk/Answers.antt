@@ -1,5 +1,0 @@
-use Rattle.mpd_pieces.proofs.PieceLemmas.{pieces_join}
-use Rattle.mpd_pieces.proofs.laws.pieces_join_to_the_walk.Goals as goal
-
-pub returns : goal.returns
-returns c = pieces_join

@@ -1,0 +1,163 @@
+//! A walk along decisions.
+
+ghost use Rattle.std.specs.Prelude.{◌≡◌, ◌<◌, ◌≤◌, ◌+◌, ◌++◌, IfOk, OnOk, OnErr, IsSome, Some, length, Decides};
+ghost use Rattle.mpd_policy.specs.declared.along.Stop.TheVariants as stop_is;
+ghost use Rattle.mpd_model.specs.steps.Next.{fold};
+ghost use Rattle.mpd_model.specs.runs.Trail.{Standing, done_steps, gone_back, forgotten, IsReached};
+ghost use Rattle.mpd_core.specs.DebuggerViews.{AsFound, standing_of};
+ghost use Rattle.mpd_policy.specs.Walk.{ending_by, run_by, steps_by};
+ghost use Rattle.mpd_policy.specs.Walks.{Beyond, Goes, Walks, ending_after};
+
+use crate::chooser::Chooser;
+use crate::choosers::ByChoices;
+use crate::ending::Ending;
+use crate::schedule::Schedule;
+use mpd_core::Debugger;
+use mpd_model::{Decision, Outcome, STEPS_MAX};
+use std::alloc::{AllocError, Global};
+
+/// Why a walk stops.
+#[derive(Drop)]
+pub enum Stop {
+    /// The run has ended.
+    Ended(Outcome),
+    /// The limit is reached.
+    Fuel,
+    /// None of the candidates of a choice is taken.
+    Untaken,
+}
+
+impl Stop {
+    /// Whether none of the candidates of a choice is taken.
+    pub fn is_untaken(&self) -> bool
+        ensures { Decides result (self.now ≡ stop_is.Untaken) }
+    {
+        matches!(self, Stop::Untaken)
+    }
+}
+
+/// Goes on by one step, or says why not. The chooser is told of a step that nobody has to choose before it is taken.
+fn go_on<S: Schedule, C: Chooser>(
+    alloc: Global,
+    schedule: &S,
+    debugger: &mut Debugger<'_>,
+    chooser: &mut C,
+) -> Result<Option<Stop>, AllocError>
+    requires few { debugger.old.trail.depth < STEPS_MAX }
+    ensures goes { IfOk result (λ o. Goes S.decides C.takes C.leaves C.passes (standing_of debugger.old) chooser.old o (standing_of debugger.new) chooser.new) }
+    ensures beyond { Beyond (standing_of debugger.old) (standing_of debugger.new) }
+{
+    debugger.state_is_reached();
+    schedule.can_be_followed();
+    match schedule.decide(alloc, debugger.core())? {
+        Decision::Leaf(outcome) => Ok(Some(Stop::Ended(outcome))),
+        Decision::Forced(step) => {
+            chooser.pass(debugger, step)?;
+            debugger.forward(step)?;
+            Ok(None)
+        }
+        Decision::Choice(candidates) => {
+            let Some(step) = chooser.choose(debugger, candidates)? else {
+                return Ok(Some(Stop::Untaken));
+            };
+            debugger.forward(step)?;
+            Ok(None)
+        }
+    }
+}
+
+/// Leads a debugger along decisions, up to a depth, and says why it stops: by each step that nobody has to choose, of which the chooser is
+/// told before it is taken, and at each choice by the candidate that is chosen. An `Err` is want of memory; the debugger then stands
+/// somewhere on that way.
+pub fn walk<S: Schedule, C: Chooser>(
+    alloc: Global,
+    schedule: &S,
+    debugger: &mut Debugger<'_>,
+    limit: usize,
+    chooser: &mut C,
+) -> Result<Stop, AllocError>
+    requires within { debugger.old.trail.depth ≤ limit }
+    requires few { limit ≤ STEPS_MAX }
+    ensures walks { IfOk result (λ s. Walks S.decides C.takes C.leaves C.passes limit (standing_of debugger.old) chooser.old s (standing_of debugger.new) chooser.new) }
+    ensures beyond { Beyond (standing_of debugger.old) (standing_of debugger.new) }
+{
+    debugger.state_is_reached();
+    let begun = debugger.depth();
+    for depth in begun..limit {
+        if let Some(stop) = go_on(alloc, schedule, debugger, chooser)? {
+            return Ok(stop);
+        }
+    }
+    Ok(Stop::Fuel)
+}
+
+/// Leads a debugger along the run that some choices tell from where it stands, to its end or to the fuel, which counts from here. An `Err` is
+/// want of memory; the debugger then stands somewhere on that run.
+pub fn follow<S: Schedule>(
+    alloc: Global,
+    schedule: &S,
+    debugger: &mut Debugger<'_>,
+    fuel: usize,
+    choices: &[usize],
+) -> Result<(), AllocError>
+    requires fits { debugger.old.trail.depth + fuel ≤ STEPS_MAX }
+    requires some { IsSome (run_by S.decides fuel choices.now debugger.old.world) }
+    ensures steps { OnOk result (done_steps debugger.new.trail ≡ done_steps debugger.old.trail ++ steps_by (run_by S.decides fuel choices.now debugger.old.world)) }
+    ensures leads { OnOk result (fold debugger.old.world (steps_by (run_by S.decides fuel choices.now debugger.old.world)) ≡ Some debugger.new.world) }
+    ensures beyond { Beyond (standing_of debugger.old) (standing_of debugger.new) }
+{
+    debugger.state_is_reached();
+    let base = debugger.depth();
+    let mut chooser = ByChoices { left: choices };
+    let stop = walk(alloc, schedule, debugger, base + fuel, &mut chooser)?;
+    drop(stop);
+    Ok(())
+}
+
+/// How a run ends where the fuel is used up.
+fn ending_here<S: Schedule>(
+    alloc: Global,
+    schedule: &S,
+    debugger: &Debugger<'_>,
+) -> Result<Ending, AllocError>
+    ensures { IfOk result (λ e. e ≡ ending_by (S.decides debugger.now.world)) }
+{
+    match schedule.decide(alloc, debugger.core())? {
+        Decision::Leaf(outcome) => Ok(Ending::Ended(outcome)),
+        Decision::Forced(_) => Ok(Ending::Cut),
+        Decision::Choice(_) => Ok(Ending::Cut),
+    }
+}
+
+/// How the run ends where a walk has stopped, and its debugger stands; none where it stopped at a choice. An `Err` is want of memory, and
+/// comes only at the limit, where the schedule is asked once more.
+pub fn ending_of<S: Schedule>(
+    alloc: Global,
+    schedule: &S,
+    debugger: &Debugger<'_>,
+    stop: Stop,
+) -> Result<Option<Ending>, AllocError>
+    ensures ending { IfOk result (λ o. o ≡ ending_after S.decides stop debugger.now.world) }
+    ensures memory { OnErr result (stop ≡ stop_is.Fuel) }
+{
+    match stop {
+        Stop::Ended(outcome) => Ok(Some(Ending::Ended(outcome))),
+        Stop::Fuel => {
+            let ending = ending_here(alloc, schedule, debugger)?;
+            Ok(Some(ending))
+        }
+        Stop::Untaken => Ok(None),
+    }
+}
+
+/// Takes steps back down to a depth, and keeps no undone step. A debugger that stood at this depth with no undone step, and has gone on
+/// from there, is then as it was.
+pub fn put_back(debugger: &mut Debugger<'_>, base: usize)
+    requires { base ≤ debugger.old.trail.depth }
+    ensures trail { debugger.new.trail ≡ forgotten (gone_back debugger.old.trail base) }
+    ensures reached { IsReached (standing_of debugger.new) }
+    ensures found { (d : Standing) → IsReached d → length d.trail.steps ≡ d.trail.depth → base ≡ d.trail.depth → Beyond d (standing_of debugger.old) → AsFound d (standing_of debugger.new) }
+{
+    let _ = debugger.undo_to(base);
+    debugger.forget_undone();
+}

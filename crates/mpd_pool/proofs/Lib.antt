@@ -1,6 +1,0 @@
-mod Keeps
-mod Places
-mod Workers
-mod Joined
-mod Crossing
-mod Lines

@@ -1,5 +1,0 @@
-pub mod Ranks
-pub mod RanksRows
-pub mod Spans
-pub mod SpanRows
-pub mod ReadRows

@@ -1,7 +1,0 @@
-use Rattle.std.proofs.Common.{string_bytes, ap, ◌∙◌}
-use Rattle.mpd_sample.specs.Drawing.{text_in}
-use Rattle.mpd_sample.proofs.KeepLemmas.{text_put}
-use Rattle.mpd_sample.proofs.keep.add_text.Goals as goal
-
-pub returns : goal.returns
-returns c = text_put text_in c.args.asked c.in_ok-new.field-0 c.args.texts.now.items c.insert.new.self.items c.args.place _ c.if-not-asked.false c.in_ok-insert.ensures.items (ap string_bytes c.in_ok-new.ensures.ok ∙ c.in_ok-text.ensures)

@@ -1,5 +1,0 @@
-use Rattle.mpd_sample.proofs.KeepLemmas.{texts_unboxed}
-use Rattle.mpd_sample.proofs.keep.report_of.Goals as goal
-
-pub returns-clause-texts : goal.returns-clause-texts
-returns-clause-texts c = texts_unboxed c.args.held.texts.items c.in_ok-witnesses.witnesses.items c.in_ok-witnesses.ensures.items

@@ -1,4 +1,0 @@
-pub mod Order
-pub mod Drawn
-pub mod Drawing
-pub mod SampleRows

@@ -1,0 +1,82 @@
+-- What threads may hand to one another.
+use denote.Param.Send.{IsSend, IsSync, sendable}
+use denote.RattleType.{RattleType}
+use denote.Ref.{NamedLft}
+use Rattle.std.proofs.Crossing.{crosses}
+use Rattle.std.proofs.sync.ledger.Book.TheSendSync as calls
+use Rattle.std.specs.declared.sync.ledger.Ledger as ledger
+use Rattle.mpd_server.specs.declared.opening.Opening as opening
+use Rattle.mpd_counter.specs.contracts.counter.Counter as Counter
+use Rattle.mpd_queue.specs.contracts.snapshot.Shown as Shown
+use Rattle.mpd_queue.specs.contracts.lists.Lists as Lists
+use Rattle.mpd_match.specs.contracts.side.Side as Side
+use Rattle.mpd_match.specs.contracts.board.Board as Board
+use Rattle.mpd_rank.specs.contracts.rank.RankState as RankState
+use Rattle.mpd_core.specs.contracts.state.Core as Core
+use Rattle.mpd_core.specs.contracts.debugger.Debugger as Debugger
+use Rattle.mpd_policy.specs.contracts.breaks.Breaks as Breaks
+use Rattle.mpd_model.specs.contracts.expr.Expr as Expr
+use Rattle.mpd_model.proofs.expr.Expr.TheLaws.TheKnot as expr_knot
+use Rattle.mpd_model.specs.contracts.place.Decl as Decl
+use Rattle.mpd_code.specs.contracts.node.Node as Node
+use Rattle.mpd_code.specs.contracts.code.Code as Code
+use Rattle.mpd_session.specs.contracts.history.Entry as Entry
+use Rattle.mpd_session.specs.contracts.session.Session as Session
+use Rattle.mpd_session.specs.contracts.book.Book as Book
+use Rattle.mpd_server.specs.contracts.shared.Shared as Shared
+use Rattle.mpd_server.specs.contracts.seat.Locked as Locked
+
+pub counter_send : IsSend Counter.the_row
+counter_send = search (sendable, crosses) depth 100 fits 20000
+
+pub shown_send : IsSend Shown.the_row
+shown_send = search (sendable, crosses) depth 100 fits 20000
+
+pub lists_send : IsSend Lists.the_row
+lists_send = search (shown_send, sendable, crosses) depth 100 fits 20000
+
+pub side_send : IsSend Side.the_row
+side_send = search (lists_send, counter_send, sendable, crosses) depth 100 fits 20000
+
+pub board_send : IsSend Board.the_row
+board_send = search (side_send, counter_send, sendable, crosses) depth 100 fits 20000
+
+pub rank_send : IsSend RankState.the_row
+rank_send = search (counter_send, sendable, crosses) depth 100 fits 20000
+
+pub expr_sync : IsSync Expr.the_row
+expr_sync = search (expr_knot.crosses, sendable, crosses) depth 100 fits 50000
+
+pub node_sync : IsSync Node.the_row
+node_sync = search (expr_sync, sendable, crosses) depth 100 fits 50000
+
+pub decl_sync : IsSync Decl.the_row
+decl_sync = search (sendable, crosses) depth 100 fits 50000
+
+pub code_sync : IsSync Code.the_row
+code_sync = search (node_sync, decl_sync, sendable, crosses) depth 100 fits 50000
+
+pub core_send : (κ : NamedLft) → IsSend (Core.the_row κ)
+core_send κ = search (board_send, rank_send, code_sync, sendable, crosses) depth 100 fits 20000
+
+pub debugger_send : (κ : NamedLft) → IsSend (Debugger.the_row κ)
+debugger_send κ = search (core_send, sendable, crosses) depth 100 fits 20000
+
+pub breaks_send : IsSend Breaks.the_row
+breaks_send = search (sendable, crosses) depth 100 fits 20000
+
+pub session_send : (κ : NamedLft) → IsSend (Session.the_row κ)
+session_send κ = search (debugger_send, breaks_send, sendable, crosses) depth 100 fits 20000
+
+pub entry_send : IsSend Entry.the_row
+entry_send = search (sendable, crosses) depth 100 fits 20000
+
+pub book_send : (κ : NamedLft) → IsSend (Book.the_row κ)
+book_send κ = search (entry_send, session_send, sendable, crosses) depth 100 fits 20000
+
+module _ (κ : NamedLft) (L : RattleType) (o : opening.Ghosts L.Denot) (l : ledger.Ghosts L.Denot) where
+  pub locked_send : IsSend (Locked.the_row κ L o l)
+  locked_send = search (book_send, calls.the_send, sendable, crosses) depth 100 fits 50000
+
+  pub shared_sync : IsSync (Shared.the_row κ L o l)
+  shared_sync = search (locked_send, code_sync, sendable, crosses) depth 100 fits 50000

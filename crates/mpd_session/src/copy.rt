@@ -1,0 +1,200 @@
+//! Copies of replies.
+
+ghost use Rattle.std.specs.Prelude.{◌≡◌, ◌++◌, ◌∷◌, [], IfOk, OnOk, OnErr, true, map, string_bytes};
+ghost use Rattle.mpd_session.specs.declared.reply.Answer.TheVariants as answer;
+ghost use Rattle.mpd_session.specs.Copies.{holds_list, lists_in};
+
+use crate::reply::{Answer, HandleList, IntegerList, Reply, Text, TextList};
+use std::alloc::{AllocError, Global};
+
+/// Adds a copy of a text.
+fn push_copy(alloc: Global, copies: &mut Vec<String>, text: &str) -> Result<(), AllocError>
+    ensures { OnOk result (map string_bytes copies.new.items ≡ map string_bytes copies.old.items ++ text.now ∷ []) }
+{
+    copies.push(String::from_str(alloc, text)?)?;
+    Ok(())
+}
+
+/// Texts of their own.
+fn copy_texts(alloc: Global, texts: &[String]) -> Result<TextList, AllocError>
+    ensures { IfOk result (λ copy. copy ≡ map string_bytes texts.now) }
+{
+    let mut items = Vec::new(alloc);
+    for text in texts {
+        push_copy(alloc, &mut items, text.as_str())?;
+    }
+    Ok(TextList { items })
+}
+
+/// A text of its own, where there is one.
+fn copy_text(alloc: Global, text: &Option<Text>) -> Result<Option<Text>, AllocError>
+    ensures { IfOk result (λ copy. copy ≡ text.now) }
+{
+    match text {
+        None => Ok(None),
+        Some(text) => Ok(Some(Text {
+            string: String::from_str(alloc, text.string.as_str())?,
+        })),
+    }
+}
+
+/// Numbers of their own.
+fn copy_integers(alloc: Global, numbers: &[i64]) -> Result<IntegerList, AllocError>
+    ensures { IfOk result (λ copy. copy ≡ numbers.now) }
+{
+    Ok(IntegerList {
+        items: Vec::from_slice(alloc, numbers)?,
+    })
+}
+
+/// Handles of their own.
+fn copy_handles(alloc: Global, handles: &[Option<usize>]) -> Result<HandleList, AllocError>
+    ensures { IfOk result (λ copy. copy ≡ handles.now) }
+{
+    Ok(HandleList {
+        items: Vec::from_slice(alloc, handles)?,
+    })
+}
+
+/// A state of its own, of lists that are already its own.
+fn with_outcome(
+    alloc: Global,
+    depth: usize,
+    ranks: TextList,
+    sets: TextList,
+    undone: usize,
+    outcome: &Option<Text>,
+) -> Result<Answer, AllocError>
+    ensures { IfOk result (λ copy. copy ≡ answer.State depth ranks sets undone outcome.now) }
+{
+    match copy_text(alloc, outcome) {
+        Ok(outcome) => Ok(Answer::State {
+            depth,
+            ranks,
+            sets,
+            undone,
+            outcome,
+        }),
+        Err(refused) => {
+            drop(ranks);
+            drop(sets);
+            Err(refused)
+        }
+    }
+}
+
+/// A state of its own.
+fn copy_state(
+    alloc: Global,
+    depth: usize,
+    ranks: &TextList,
+    sets: &TextList,
+    undone: usize,
+    outcome: &Option<Text>,
+) -> Result<Answer, AllocError>
+    ensures { IfOk result (λ copy. copy ≡ answer.State depth ranks.now sets.now undone outcome.now) }
+{
+    let ranks = copy_texts(alloc, &ranks.items)?;
+    match copy_texts(alloc, &sets.items) {
+        Ok(sets) => with_outcome(alloc, depth, ranks, sets, undone, outcome),
+        Err(refused) => {
+            drop(ranks);
+            Err(refused)
+        }
+    }
+}
+
+/// What a rank holds, of its own, of cells and handles that are already its own.
+fn with_output(
+    alloc: Global,
+    vars: IntegerList,
+    handles: HandleList,
+    out: &IntegerList,
+) -> Result<Answer, AllocError>
+    ensures { IfOk result (λ copy. copy ≡ answer.Vars vars handles out.now) }
+{
+    match copy_integers(alloc, &out.items) {
+        Ok(out) => Ok(Answer::Vars { vars, handles, out }),
+        Err(refused) => {
+            drop(vars);
+            drop(handles);
+            Err(refused)
+        }
+    }
+}
+
+/// What a rank holds, of its own.
+fn copy_vars(
+    alloc: Global,
+    vars: &IntegerList,
+    handles: &HandleList,
+    out: &IntegerList,
+) -> Result<Answer, AllocError>
+    ensures { IfOk result (λ copy. copy ≡ answer.Vars vars.now handles.now out.now) }
+{
+    let vars = copy_integers(alloc, &vars.items)?;
+    match copy_handles(alloc, &handles.items) {
+        Ok(handles) => with_output(alloc, vars, handles, out),
+        Err(refused) => {
+            drop(vars);
+            Err(refused)
+        }
+    }
+}
+
+/// Leaves of their own, and whether there are more.
+fn copy_leaves(alloc: Global, leaves: &TextList, more: bool) -> Result<Answer, AllocError>
+    ensures { IfOk result (λ copy. copy ≡ answer.Explored leaves.now more) }
+{
+    let leaves = copy_texts(alloc, &leaves.items)?;
+    Ok(Answer::Explored { leaves, more })
+}
+
+/// An answer of its own. An `Err` is want of memory, and comes only where the answer has a list.
+fn copy_answer(alloc: Global, answer: &Answer) -> Result<Answer, AllocError>
+    ensures same { IfOk result (λ copy. copy ≡ answer.now) }
+    ensures memory { OnErr result (lists_in answer.now ≡ true) }
+{
+    match answer {
+        Answer::Depth(depth) => Ok(Answer::Depth(*depth)),
+        Answer::Stepped { depth, step } => Ok(Answer::Stepped {
+            depth: *depth,
+            step: *step,
+        }),
+        Answer::Ran { depth, stop } => Ok(Answer::Ran {
+            depth: *depth,
+            stop: *stop,
+        }),
+        Answer::Enabled(steps) => copy_texts(alloc, &steps.items).map(Answer::Enabled),
+        Answer::State {
+            depth,
+            ranks,
+            sets,
+            undone,
+            outcome,
+        } => copy_state(alloc, *depth, ranks, sets, *undone, outcome),
+        Answer::Vars { vars, handles, out } => copy_vars(alloc, vars, handles, out),
+        Answer::Calls(calls) => copy_texts(alloc, &calls.items).map(Answer::Calls),
+        Answer::Partners(partners) => copy_texts(alloc, &partners.items).map(Answer::Partners),
+        Answer::Added(number) => Ok(Answer::Added(*number)),
+        Answer::Removed => Ok(Answer::Removed),
+        Answer::Breaks(breaks) => copy_texts(alloc, &breaks.items).map(Answer::Breaks),
+        Answer::Explored { leaves, more } => copy_leaves(alloc, leaves, *more),
+    }
+}
+
+impl Reply {
+    /// A reply of its own. An `Err` is want of memory, and comes only where the reply has a list.
+    pub fn copy(&self, alloc: Global) -> Result<Reply, AllocError>
+        ensures same { IfOk result (λ copy. copy ≡ self.now) }
+        ensures memory { OnErr result (holds_list self.now ≡ true) }
+    {
+        match self {
+            Reply::Refused(refusal) => Ok(Reply::Refused(*refusal)),
+            Reply::Done { version, answer } => Ok(Reply::Done {
+                version: *version,
+                answer: copy_answer(alloc, answer)?,
+            }),
+        }
+    }
+}

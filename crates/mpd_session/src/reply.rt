@@ -1,0 +1,205 @@
+//! What a client is told (docs/SESSIONS.md, "Replies").
+
+ghost use Rattle.std.specs.Prelude.{◌≡◌};
+ghost use Rattle.mpd_session.specs.RefusalNumbers.{refusal_number};
+
+use mpd_model::{Step, Stop};
+use std::marker::Model;
+
+/// A text; contracts see its bytes.
+#[derive(Drop)]
+pub struct Text {
+    pub string: String,
+}
+
+impl Model for Text {
+    ghost use Rattle.std.specs.Prelude.{List, ℕ, string_bytes};
+
+    ghost Value = { List ℕ };
+
+    ghost view = { λ t. string_bytes t.string };
+}
+
+/// Texts in their order; contracts see the list of their bytes.
+#[derive(Drop)]
+pub struct TextList {
+    pub items: Vec<String>,
+}
+
+impl Model for TextList {
+    ghost use Rattle.std.specs.Prelude.{List, ℕ, map, string_bytes};
+
+    ghost Value = { List (List ℕ) };
+
+    ghost view = { λ l. map string_bytes l.items.items };
+}
+
+/// Values of variables, or what was printed, in their order; contracts see a list.
+#[derive(Drop)]
+pub struct IntegerList {
+    pub items: Vec<i64>,
+}
+
+impl Model for IntegerList {
+    ghost use Rattle.std.specs.Prelude.{List, ℤ};
+
+    ghost Value = { List ℤ };
+
+    ghost view = { λ l. l.items.items };
+}
+
+/// For each handle the number of its request's call, where it has one; contracts see a list.
+#[derive(Drop)]
+pub struct HandleList {
+    pub items: Vec<Option<usize>>,
+}
+
+impl Model for HandleList {
+    ghost use Rattle.std.specs.Prelude.{List, Option, ℕ};
+
+    ghost Value = { List (Option ℕ) };
+
+    ghost view = { λ l. l.items.items };
+}
+
+/// What is told of a request that was carried out. A depth is how many steps are not undone behind it.
+#[derive(Drop)]
+pub enum Answer {
+    /// Of `step`, `back`, `redo` and `goto`: the depth.
+    Depth(usize),
+    /// Of `next`: the step that was taken.
+    Stepped {
+        /// The depth.
+        depth: usize,
+        /// The step.
+        step: Step,
+    },
+    /// Of `run` and `run-back`: how far it went, and why it stopped there.
+    Ran {
+        /// The depth.
+        depth: usize,
+        /// How many steps were made or undone, and why no more.
+        stop: Stop,
+    },
+    /// Of `enabled`: the texts of the enabled steps.
+    Enabled(TextList),
+    /// Of `state`.
+    State {
+        /// The depth.
+        depth: usize,
+        /// What each rank is doing.
+        ranks: TextList,
+        /// The match sets, in the order in which they were formed.
+        sets: TextList,
+        /// How many undone steps are kept.
+        undone: usize,
+        /// How the run has ended, where no step is enabled.
+        outcome: Option<Text>,
+    },
+    /// Of `vars`: what a rank holds.
+    Vars {
+        /// The cells of its variables.
+        vars: IntegerList,
+        /// Its handles.
+        handles: HandleList,
+        /// What it has printed.
+        out: IntegerList,
+    },
+    /// Of `calls`: the texts of a rank's calls.
+    Calls(TextList),
+    /// Of `why`: the texts of what a call could be matched with.
+    Partners(TextList),
+    /// Of `break`: the number of the breakpoint.
+    Added(usize),
+    /// Of `unbreak`.
+    Removed,
+    /// Of `breaks`: the texts of the breakpoints, by number.
+    Breaks(TextList),
+    /// Of `explore`.
+    Explored {
+        /// The texts of the leaves.
+        leaves: TextList,
+        /// Whether there are more.
+        more: bool,
+    },
+}
+
+/// Why a request was not carried out. The numbers are those of docs/SESSIONS.md, "Refusals".
+#[derive(Clone, Copy)]
+pub enum Refusal {
+    /// The step is not enabled (21).
+    NotEnabled,
+    /// 1,000,000 steps are not undone (22).
+    Full,
+    /// So many steps are not there to take back (24).
+    AtStart,
+    /// So many steps are not undone (25).
+    NoRedo,
+    /// The depth is above the present one (26).
+    NotBefore,
+    /// The line has more than 4,096 bytes (41).
+    LineTooLong,
+    /// The line is no JSON text (42).
+    NotJson,
+    /// A field is missing, or is none that the command can have (43).
+    BadField,
+    /// There is no such command (44).
+    UnknownCommand,
+    /// The session has another version than the request names (51).
+    Stale {
+        /// The version that it has.
+        now: u64,
+    },
+    /// There is a choice to make, and none was made (52).
+    NeedsChoice {
+        /// How many candidates there are.
+        count: usize,
+    },
+    /// No breakpoint has this number (53).
+    NoSuchBreak,
+    /// All 64 breakpoints are set (54).
+    BreaksFull,
+    /// A number is out of its range, or names what isn't there (55).
+    BadNumber,
+    /// The history has as many entries as it may have (56).
+    HistoryFull,
+}
+
+impl Refusal {
+    /// Its number, as docs/SESSIONS.md lists them.
+    pub fn number(self) -> u8
+        ensures { result ≡ refusal_number self }
+    {
+        match self {
+            Refusal::NotEnabled => 21,
+            Refusal::Full => 22,
+            Refusal::AtStart => 24,
+            Refusal::NoRedo => 25,
+            Refusal::NotBefore => 26,
+            Refusal::LineTooLong => 41,
+            Refusal::NotJson => 42,
+            Refusal::BadField => 43,
+            Refusal::UnknownCommand => 44,
+            Refusal::Stale { .. } => 51,
+            Refusal::NeedsChoice { .. } => 52,
+            Refusal::NoSuchBreak => 53,
+            Refusal::BreaksFull => 54,
+            Refusal::BadNumber => 55,
+            Refusal::HistoryFull => 56,
+        }
+    }
+}
+
+/// What a client is told.
+#[derive(Drop)]
+pub enum Reply {
+    /// It was carried out.
+    Done {
+        /// The version of the session behind it.
+        version: u64,
+        /// What is told of it.
+        answer: Answer,
+    },
+    /// It was not carried out, and nothing has changed.
+    Refused(Refusal),
+}

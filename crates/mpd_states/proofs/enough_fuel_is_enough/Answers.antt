@@ -1,5 +1,0 @@
-use Rattle.mpd_states.proofs.Heights.{enough_for}
-use Rattle.mpd_states.proofs.enough_fuel_is_enough.Goals as goal
-
-pub returns : goal.returns
-returns c = λ fuel more w low enough. enough_for fuel more w low enough

@@ -1,4 +1,0 @@
-pub mod Future
-pub mod Height
-pub mod StateLaws
-pub mod StateRows

@@ -1,4 +1,0 @@
-pub mod ShownLemmas
-pub mod PastLemmas
-pub mod LostLemmas
-pub mod StandingLemmas

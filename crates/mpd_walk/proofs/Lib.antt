@@ -1,4 +1,0 @@
-pub mod WalkLemmas
-pub mod RunLemmas
-pub mod ChoiceLemmas
-pub mod FewLemmas

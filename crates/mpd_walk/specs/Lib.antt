@@ -1,5 +1,0 @@
-pub mod Asleep
-pub mod Walk
-pub mod Walked
-pub mod Choosers
-pub mod Walks
