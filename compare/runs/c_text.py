@@ -78,7 +78,7 @@ def asked(seed, number):
 
 
 def examples():
-    for path in sorted(glob.glob(f'{TOP}/examples/*.mpd')):
+    for path in sorted([*glob.glob(f'{TOP}/examples/*.mpd'), *glob.glob(f'{TOP}/examples/lab/*.mpd')]):
         with open(path, 'rb') as file:
             yield Asked(os.path.basename(path), file.read())
 

@@ -36,9 +36,9 @@ from started.console_terminal import read as read_terminal, wrong_end
 SECONDS = 60
 
 # What begins a command that is not run here, since it is none of the program.
-NOT_RUN = ('.ci/', 'GATE_', 'rt ', 'python3 compare/', 'python3 bench/', 'git ', 'mpicc ', 'mpiexec ', 'tools/record/', 'page/', './mpdbg --prove')
+NOT_RUN = ('.ci/', 'GATE_', 'rt ', 'python3 compare/', 'python3 bench/', 'git ', 'mpicc ', 'mpiexec ', 'tools/record/', './mpdbg --prove')
 # What begins a command that is run.
-RUN = ('./mpdbg', 'cat ', 'sed ', 'echo ', 'mkdir ', 'seq ', 'sbatch ', 'sh examples/', 'python3 examples/')
+RUN = ('./mpdbg', 'page/', 'cat ', 'sed ', 'echo ', 'mkdir ', 'seq ', 'sbatch ', 'sh examples/', 'python3 examples/')
 # How a block begins that shows neither commands nor what one of the commands answers: a line of another command, or a form.
 EXCERPTS = {
     'README.md': ('checked as it runs',),
@@ -201,7 +201,7 @@ class Page:
         includes; a state is one that its example answers; a function in Rattle stands in the program of direct calls (compare/probe/direct/)."""
         if block.lines[0].startswith('#'):
             self.compared += 1
-            if block.text not in [read(path) for ending in ('mpd', 'c', 'sh', 'slurm') for path in glob.glob(f'{TOP}/examples/*.{ending}')]:
+            if block.text not in [read(path) for name in ('*.mpd', '*.c', '*.sh', '*.slurm', 'lab/*.mpd') for path in glob.glob(f'{TOP}/examples/{name}')]:
                 self.wrong(block.number, f'no example is this script: {block.lines[0]}')
         elif block.lines[0].startswith('fn '):
             self.compared += 1
@@ -253,6 +253,19 @@ class Page:
             for command in re.findall(r'`([^`]+)`', line):
                 if command.startswith(('./mpdbg ', 'sed ')) and not command.startswith(NOT_RUN) and '..' not in command:
                     self.commands.append(Shown(f'{self.page}, line {number}', command))
+
+
+def not_handed_out():
+    """What is wrong with the scripts of the lab: each stands in its page whole, is short, and its first line tells nothing but its number."""
+    page = read(f'{TOP}/docs/COURSE.md')
+    for path in sorted(glob.glob(f'{TOP}/examples/lab/*.mpd')):
+        script, number = read(path), os.path.basename(path).removesuffix('.mpd').lstrip('0')
+        if f'\n```\n{script}```\n' not in page:
+            yield f'{path}: docs/COURSE.md does not show it'
+        if script.count('\n') > 25:
+            yield f'{path}: more than 25 lines'
+        if not script.startswith(f'# Lab {number}. Read it and answer the question before you run it.\nmpd '):
+            yield f'{path}: its first line'
 
 
 def help_commands(copy):
@@ -327,11 +340,12 @@ def answer_of_example(command):
 def problem_of(shown, result):
     """What is wrong with what a command gave; None where nothing is."""
     said = result.output.decode()
-    is_bad = IS_BAD.search(said)
+    is_verdict = shown.command.startswith('./mpdbg verify')
+    is_bad = IS_BAD.search(said) or is_verdict and said.startswith('refused ')
     status = 1 if is_bad and '|' not in shown.command else 0
     if not shown.command or result.errors or result.status != status:
         return f'status {result.status}, {result.errors.decode()!r}'
-    if shown.command.startswith('./mpdbg verify') and said != 'accepted\n':
+    if is_verdict and shown.answer is None and said != 'accepted\n':
         return f'a witness that is not accepted: {said}'
     wanted = answer_of_example(shown.command) if shown.answer is None else shown.answer
     return None if wanted is None or said == wanted else f'answered {said!r}, wanted {wanted!r}'
@@ -359,7 +373,8 @@ def wrong_talk(copy, shown):
 
 def make_copy(copy, program):
     """What a reader has before them, with the program built."""
-    shutil.copytree(f'{TOP}/examples', f'{copy}/examples')
+    for folder in ('examples', 'page'):
+        shutil.copytree(f'{TOP}/{folder}', f'{copy}/{folder}')
     shutil.copy(program, f'{copy}/mpdbg')
     os.mkdir(f'{copy}/bin')
     with open(f'{copy}/bin/sbatch', 'w', encoding='ascii') as file:
@@ -373,7 +388,7 @@ def main():
         sys.exit(__doc__)
     names = ['README.md', *sorted(f'docs/{os.path.basename(path)}' for path in glob.glob(f'{TOP}/docs/*.md'))]
     pages = [Page(name) for name in names]
-    problems = [problem for page in pages for problem in page.problems]
+    problems = [problem for page in pages for problem in page.problems] + [*not_handed_out()]
     with tempfile.TemporaryDirectory(prefix='shown-') as copy:
         make_copy(copy, os.path.abspath(sys.argv[1]))
         commands = [shown for page in pages for shown in page.commands] + [*help_commands(copy)]

@@ -85,7 +85,7 @@ def example_rows(program):
 
 
 def lesson_rows(program):
-    """Status 0 for each lesson of docs/COURSE.md, in each mode that it shows, traced and at the console, and the status of each check."""
+    """Status 0 for each lesson of docs/EXAMPLES.md, in each mode that it shows, traced and at the console, and the status of each check."""
     for lesson in lessons():
         mode = () if lesson.mode == RENDEZVOUS else ('--mode', lesson.mode)
         result = Files(file_of(open_example(f'{lesson.name}.words'))).run(program, 'trace', lesson.script, *mode)

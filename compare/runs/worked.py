@@ -10,7 +10,7 @@ and runs by their choices, in compare/rows/worked_ends.py, those that tell how t
 compare/rows/worked_outcomes.py and compare/rows/worked_decided.py, those that say whether one can hang, and how, in
 compare/rows/worked_diagnosed.py, explanations in compare/rows/worked_explained.py, dialogues of a session in
 compare/rows/worked_sessions.py, rows of all these kinds for version 2 in compare/rows/worked_waitany.py, and for the modes `slots:K` in
-compare/rows/worked_slots.py, and wide walks in compare/rows/worked_wide.py. Dialogues of the console stand in compare/rows/console_worked.py. The lessons of docs/COURSE.md are rows too,
+compare/rows/worked_slots.py, and wide walks in compare/rows/worked_wide.py. Dialogues of the console stand in compare/rows/console_worked.py. The lessons of docs/EXAMPLES.md are rows too,
 with their answers in files. The status is 0 where the model answers all of them so.
 """
 

@@ -227,7 +227,7 @@ fn is_same(a: Step, b: Step) -> bool
 
 /// Has a step as the one at a depth: what stands there already stays, with all after it. Where the depth is the end, the room
 /// that was kept is taken.
-#[tactic(auto, using(crate::proofs::StepLemmas::noting))]
+#[tactic(auto, using(crate::proofs::TrailLemmas::noting))]
 fn note(steps: &mut Vec<Step>, depth: usize, step: Step)
     requires within { depth ≤ vec_len steps.old }
     requires room { depth ≡ vec_len steps.old → vec_len steps.old < vec_capacity steps.old }
