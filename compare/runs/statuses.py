@@ -386,16 +386,46 @@ FOUND_FIRST = (
 FOUND_LONG = ((HEADER + 'print 1' + ' ' * 65536)[:65536] + '^', ENDS)
 
 
+# What is mostly meant, in a line more: of a word of another language, of a word of this one where only a name can stand, and of a block that
+# isn't closed. A fault without one has None.
+UNKNOWN, EXPECTED = '5 unknown-name', '4 expected'
+OPEN = "the block that line %d opens isn't closed"
+MEANT = (
+    ('^for (i = 0; i < 4; i++) { }', UNKNOWN, "'for' is no word here: write 'while TEST { .. }'"),
+    ('^break;', UNKNOWN, "'break' is no word here: a loop ends by its test"),
+    ('^return 0;', UNKNOWN, "'return' is no word here: a rank ends after its last statement"), ('^fort = 1;', UNKNOWN, None),
+    ('^MPI_Send(&x, 1);', UNKNOWN, "'MPI_Send' is no word here: write 'send VALUE to RANK tag TAG;'"),
+    ('recv x from ^MPI_ANY_SOURCE tag 1;', UNKNOWN, "'MPI_ANY_SOURCE' is no word here: write 'any'"),
+    ('^int y;', UNKNOWN, "'int' is no word here: a variable is declared by 'var NAME;'"),
+    ('isend ^send 1 to 0 tag 0;', EXPECTED, "'send' is a word of the language, so no name"),
+    ('recv ^rank from 0 tag 0;', EXPECTED, "'rank' is a word of the language, so no name"),
+    ('print ^tag;', EXPECTED, None), ('^else { }', EXPECTED, None), ('barrier^', EXPECTED, None),
+    ('while 1 {\n if x {\n x = 0;\n} # }\n^', EXPECTED, OPEN % 1), ('while 1 {\n if x {\n x = 0; # {\n^', EXPECTED, OPEN % 2))
+
+
 def found_rows(program):
     """At a terminal what stands where the grammar doesn't allow it, and what could stand there where that is little."""
     for marked, told in [*((HEADER + text, told) for text, told in FOUND), *FOUND_FIRST, FOUND_LONG]:
         front, _, rest = marked.partition('^')
         result = at_terminal(program, data=(front + rest).encode())
         lines = result.errors.decode().splitlines()
-        wanted = (f'mpdbg: script refused 4 expected at {len(front)} line 1', f'  found {told}', 4, 2)
-        yield f'a terminal, {marked[:200]}', (lines[0], lines[-1], len(lines), result.status), wanted
+        hinted = [f'  {OPEN % 1}'] if '{ print 1; ^' in marked else []
+        wanted = (f'mpdbg: script refused 4 expected at {len(front)} line 1', f'  found {told}', hinted, 2)
+        yield f'a terminal, {marked[:200]}', (lines[0], lines[3], lines[4:], result.status), wanted
         one_line = Files(file_of((front + rest).encode())).run(program)
         yield f'no terminal, {marked[:200]}', one_line, refused(wanted[0].removeprefix('mpdbg: script refused ').encode())
+
+
+def hinted_rows(program):
+    """At a terminal what is mostly meant by what is refused, where that is told."""
+    for text, name, told in MEANT:
+        front, _, rest = (HEADER + text).partition('^')
+        result = at_terminal(program, data=(front + rest).encode())
+        lines = result.errors.decode().splitlines()
+        first = f'mpdbg: script refused {name} at {len(front)} line {front.count(chr(10)) + 1}'
+        # the lines of the place and the caret; what is expected has a line more
+        behind = lines[4 if name == EXPECTED else 3:]
+        yield f'a hint, {text}', (lines[0], behind, result.status), (first, [f'  {told}'] if told else [], 2)
 
 
 def why_rows(program):
@@ -715,7 +745,7 @@ def much_rows(program):
     yield f'much to show with {MUCH_MIB} MiB', result, wanted
 
 
-ROWS = (ended_rows, example_rows, refused_rows, device_rows, usage_rows, trace_rows, terminal_rows, found_rows, why_rows, progress_rows, summed_rows, most_rows,
+ROWS = (ended_rows, example_rows, refused_rows, device_rows, usage_rows, trace_rows, terminal_rows, found_rows, hinted_rows, why_rows, progress_rows, summed_rows, most_rows,
         hint_rows, interrupted_rows, talk_rows, stack_rows, much_rows, full_rows, turns_rows, lesson_rows, *WORKED_ROWS, *PART_ROWS, *SESSION_ROWS,
         *CONSOLE_ROWS, *DEVICE_ROWS, *CONNECTION_ROWS)
 

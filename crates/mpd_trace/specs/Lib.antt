@@ -11,3 +11,5 @@ pub mod RanksRows
 pub mod Spans
 pub mod SpanRows
 pub mod ReadRows
+pub mod Hints
+pub mod HintRows

@@ -57,7 +57,7 @@ const COMPARISONS: [&[u8]; 6] = [b"==", b"!=", b"<", b"<=", b">", b">="];
 const OTHERS: [&[u8]; 7] = [b"+", b"-", b"*", b"/", b"%", b"&&", b"||"];
 
 /// Whether the grammar allows a token behind the front of a text: the text that ends with it isn't refused there as `Expected`.
-fn is_allowed(alloc: Global, front: &[u8], token: &[u8]) -> Result<bool, AllocError>
+pub(crate) fn is_allowed(alloc: Global, front: &[u8], token: &[u8]) -> Result<bool, AllocError>
     ensures { IfOk result (λ found. found ≡ allows front.now token.now) }
 {
     let mut text = Vec::new(alloc);
@@ -153,7 +153,7 @@ fn is_in(class: Class, byte: u8) -> bool
 }
 
 /// How many bytes at the front are of the class.
-fn run_len(class: Class, text: &[u8]) -> usize
+pub(crate) fn run_len(class: Class, text: &[u8]) -> usize
     ensures value { result ≡ spec.run_len class text.now }
     ensures within { result ≤ length text.now }
 {

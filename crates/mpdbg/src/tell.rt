@@ -6,7 +6,7 @@ use mpd_lines::EngineFault;
 use mpd_model::{FaultCode, RANKS_MAX, ReadFault, SLOTS_MAX};
 use mpd_options::UsageFault;
 use mpd_server::ServeFault;
-use mpd_trace::{PlainFault, allowed, excerpt};
+use mpd_trace::{PlainFault, allowed, excerpt, hint};
 use mpd_witness::{ReportFault, WITNESS_MAX};
 use std::alloc::AllocError;
 use std::io;
@@ -156,7 +156,7 @@ fn say_stream<R: Eprint>(rt: &R, stream: &str, error: Option<Error>) -> io::Resu
     say_why(rt, error)
 }
 
-/// Shows the line of a script that is refused, and what could stand at its place where the grammar allows little.
+/// Shows the line of a script that is refused, what could stand at its place if the grammar allows little, and what is mostly meant.
 fn say_refused<R: Eprint + AllocGlobal>(rt: &R, fault: ReadFault, text: &[u8]) -> io::Result<()> {
     if let Ok(lines) = excerpt(rt.alloc(), text, fault.place) {
         eprint!(rt; "{lines}")?;
@@ -165,6 +165,9 @@ fn say_refused<R: Eprint + AllocGlobal>(rt: &R, fault: ReadFault, text: &[u8]) -
         if let Ok(line) = allowed(rt.alloc(), text, fault.place) {
             eprint!(rt; "{line}")?;
         }
+    }
+    if let Ok(line) = hint(rt.alloc(), text, fault) {
+        eprint!(rt; "{line}")?;
     }
     Ok(())
 }

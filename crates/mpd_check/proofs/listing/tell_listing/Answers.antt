@@ -9,13 +9,13 @@ pub returns-in-Ok-told-clause-text : goal.returns-in-Ok-told-clause-text
 returns-in-Ok-told-clause-text g c =
     let plan = c.args.wanted.plan in
     let telling = c.args.wanted.telling in
-    let stands = same_standing c.check.new.debugger c.in-Ok.debugger c.check.ensures.as_found.trail c.check.ensures.as_found.world ∙ c.in-Ok.ensures.standing in
+    let stands = same_standing c.check_by_workers.new.debugger c.in-Ok.debugger c.check_by_workers.ensures.as_found.trail c.check_by_workers.ensures.as_found.world ∙ c.in-Ok.ensures.standing in
     listing_same c.args.subject.code.now.program c.args.subject.mode plan c.limits_for.result (plan.limits.witnesses && not telling.group) c.in-Ok.debugger.world c.limits_for.ensures (ap (λ (d : Standing). d.world) c.in-Ok.ensures.standing)
-    telling (standing_of c.check.new.debugger) c.in-Ok-check.report.leaves.items c.in-Ok-check.report.more _ stands c.in-Ok-check.ensures.leaves c.in-Ok-check.ensures.more c.in-Ok-told.ensures.text
+    telling (standing_of c.check_by_workers.new.debugger) c.in-Ok-check_by_workers.report.leaves.items c.in-Ok-check_by_workers.report.more _ stands c.in-Ok-check_by_workers.ensures.leaves c.in-Ok-check_by_workers.ensures.more c.in-Ok-told.ensures.text
 
 pub returns-in-Ok-told-clause-tally : goal.returns-in-Ok-told-clause-tally
 returns-in-Ok-told-clause-tally g c =
     let plan = c.args.wanted.plan in
     let telling = c.args.wanted.telling in
     tally_same c.args.subject.code.now.program c.args.subject.mode plan c.limits_for.result (plan.limits.witnesses && not telling.group) c.in-Ok.debugger.world c.limits_for.ensures (ap (λ (d : Standing). d.world) c.in-Ok.ensures.standing)
-    c.in-Ok-check.report.leaves.items c.in-Ok-check.report.more _ c.in-Ok-check.ensures.leaves c.in-Ok-check.ensures.more c.in-Ok-told.ensures.tally
+    c.in-Ok-check_by_workers.report.leaves.items c.in-Ok-check_by_workers.report.more _ c.in-Ok-check_by_workers.ensures.leaves c.in-Ok-check_by_workers.ensures.more c.in-Ok-told.ensures.tally
