@@ -220,9 +220,9 @@ def several(count, what):
 
 
 def those_runs(found):
-    """All runs that were found, which are the first ones where there are more."""
+    """All runs that were found, which are the first ones where there are more; of one run that isn't told."""
     runs = outcomes.total(found)
-    return f'{"the first " * (found.more and can_be_counted(runs))}{several(runs, "run")}'
+    return f'{"the first " * (found.more and can_be_counted(runs) and runs > 1)}{several(runs, "run")}'
 
 
 def of_runs(count, found):
@@ -279,7 +279,7 @@ def bad_lines(asked, found):
         if always(found, kind):
             yield f'it always {word}s in {mode_of(asked)} ({runs})'
         elif count := runs_of(found, kind):
-            yield f'it can {word}: {of_runs(count, found)}'
+            yield f'it can {word} in {mode_of(asked)}: {of_runs(count, found)}'
 
 
 def well_line(asked, search, found):

@@ -22,8 +22,8 @@ RUNS = f'{COUNT} (runs?)'
 RENDEZVOUS = 'rendezvous'
 # What becomes of the runs in a mode, in the order of the lines.
 VERDICT = (
-    ('both', f'it always fails in MODE: it hangs in {COUNT} of {RUNS} and traps in {COUNT}'), ('hang', f'it can hang: {COUNT} of {RUNS}'), ('always hangs', rf'it always hangs in MODE \({RUNS}\)'),
-    ('trap', f'it can trap: {COUNT} of {RUNS}'), ('always traps', rf'it always traps in MODE \({RUNS}\)'),
+    ('both', f'it always fails in MODE: it hangs in {COUNT} of {RUNS} and traps in {COUNT}'), ('hang', f'it can hang in MODE: {COUNT} of {RUNS}'), ('always hangs', rf'it always hangs in MODE \({RUNS}\)'),
+    ('trap', f'it can trap in MODE: {COUNT} of {RUNS}'), ('always traps', rf'it always traps in MODE \({RUNS}\)'),
     ('never', rf'it never hangs or traps in MODE, whatever is taken first \({RUNS}, ([0-9]+) (states?)\)'),
     ('none found', f'no hang and no trap was found in {RUNS} in MODE'), ('left', f'it can end with calls left over: {COUNT} of {RUNS}'),
     ('cut', f'not everything was tried: {COUNT} of {RUNS} (?:was|were) cut after 100000 steps'),
@@ -100,11 +100,11 @@ def with_numbers(line):
 
 
 def with_all_runs(lines, more):
-    """Lines with numbers, without what tells that these are the first runs, which is told where there are more, unless they can't be counted."""
+    """Lines with numbers, without what tells that these are the first runs, which is told where there are more, unless it is one or they can't be counted."""
     found = [with_numbers(line) for line in lines]
     for line in found:
         if not line.startswith(' ') and (told := TELLS_RUNS.search(line)) is not None:
-            is_first = more and str(MOST_COUNTED + 1) not in told[0]
+            is_first = more and str(MOST_COUNTED + 1) not in told[0] and not re.search(r' [01] run', told[0])
             must_be((OF_FIRST.search(line) is not None) == is_first, f'{line!r}, where there are {"" if more else "no "}more')
     return [line if line.startswith(' ') else line.replace(' the first ', ' ') for line in found]
 

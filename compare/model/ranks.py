@@ -52,8 +52,8 @@ def heading(ranks):
 # How a diagnosis tells how many runs do something, and how many there are in all; those of drawn runs begin otherwise.
 COUNT = r'(\d+)'
 OPENING = {
-    'hang': (rf'it always hangs in \S+ \({COUNT} runs?\)', rf'it can hang: {COUNT} of {COUNT} runs?'),
-    'trap': (rf'it always traps in \S+ \({COUNT} runs?\)', rf'it can trap: {COUNT} of {COUNT} runs?'),
+    'hang': (rf'it always hangs in \S+ \({COUNT} runs?\)', rf'it can hang in \S+: {COUNT} of {COUNT} runs?'),
+    'trap': (rf'it always traps in \S+ \({COUNT} runs?\)', rf'it can trap in \S+: {COUNT} of {COUNT} runs?'),
     'none': (rf'it never hangs or traps in \S+, whatever is taken first \({COUNT} runs?, \d+ states?\)', rf'no hang and no trap was found in {COUNT} runs? in \S+'),
     'left': (rf'it can end with calls left over: {COUNT} of {COUNT} runs?',),
     'cut': (rf'not everything was tried: {COUNT} of {COUNT} runs? (?:was|were) cut after \d+ steps',)}

@@ -14,7 +14,7 @@ if rank == 1 {
 }
 if rank > 1 { isend r rank to 1 tag 1; isend r rank to 0 tag 0; }'''
 OF_BOTH_STUCK = '''\
-it can hang: 3 of 4 runs
+it can hang in rendezvous: 3 of 4 runs
 it can end with calls left over: 1 of 4 runs
 
 deadlock at line 8: 1 of 4 runs

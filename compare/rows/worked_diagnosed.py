@@ -6,6 +6,7 @@ limits than a program has, so they are of the model alone. Which numbers the see
 compare/runs/sampled.py compares with a program; what becomes of the runs with these choices was worked out by hand.
 """
 
+import re
 from typing import NamedTuple, Optional
 
 from model.debugger import BUFFERED, RENDEZVOUS, Result
@@ -39,8 +40,11 @@ def asked(**options):
 
 
 def row(script, status, *lines, **options):
-    """A row of a script that is one, by its lines, some of which may be one text."""
-    return DiagnosedRow(script, asked(**options), ''.join(f'{line}\n' for line in lines), status)
+    """A row of a script that is one, by its lines, some of which may be one text. What it can do in rendezvous is told of the row's mode."""
+    told = ''.join(f'{line}\n' for line in lines)
+    if options.get('mode') is not None:
+        told = re.sub(r'(it can (?:hang|trap)) in rendezvous: ', rf'\1 in {options["mode"]}: ', told)
+    return DiagnosedRow(script, asked(**options), told, status)
 
 
 def refused(script, errors, status, **options):
@@ -68,6 +72,11 @@ def others(file='script.mpd'):
 def in_turn(file='script.mpd'):
     """The command that diagnoses the modes in turn."""
     return f'  ./mpdbg diagnose {file} --modes 4'
+
+
+def first_of(runs):
+    """So many runs, where there are more."""
+    return runs if runs in ('0 runs', '1 run') else f'the first {runs}'
 
 
 def several(count):
@@ -141,7 +150,7 @@ deadlock at lines 7, 10: 1 of 1 run
   a cycle, where each waits for the next: rank 0, rank 1, rank 0'''
 # Four ends of one bug: two messages of one rank come first. Three candidates are left of the others then, and each of these waits.
 OF_TWO_EACH = '''\
-it can hang: 4 of 2164 runs
+it can hang in rendezvous: 4 of 2164 runs
 
 deadlock at lines 11, 15: 4 of 2164 runs, one of them:
   rank 0 waits at line 11, 0.2 recv from 1 tag 0: for a send of rank 1 with tag
@@ -290,7 +299,7 @@ LONG_NAME = 'a name of a file by which each command is longer than eighty bytes,
 WORDS = (('a b.mpd', "'a b.mpd'"), ("it's.mpd", r"'it'\''s.mpd'"), ('$(x);', "'$(x);'"), ('-x.mpd', './-x.mpd'), ('-x y', "'./-x y'"),
          ("'", r"''\'''"), ("'a'b'", r"''\''a'\''b'\'''"), ('-', './-'), ('~/x', "'~/x'"), ('a=b', "'a=b'"), ('é.mpd', "'é.mpd'"),
          ('A-Z_az.09/+,:@%', 'A-Z_az.09/+,:@%'))
-STUCK_ONCE = 'it can hang: 1 of 2 runs\n', 'deadlock at lines 9, 13: 1 of 2 runs', OF_STOLEN, BY_MESSAGE
+STUCK_ONCE = 'it can hang in rendezvous: 1 of 2 runs\n', 'deadlock at lines 9, 13: 1 of 2 runs', OF_STOLEN, BY_MESSAGE
 HANGS = (
     row(STOLEN, 1, *STUCK_ONCE, runs_of(0)), row(STOLEN, 1, *STUCK_ONCE, runs_of(0), mode=RENDEZVOUS, strict=True),
     row(STOLEN, 1, *STUCK_ONCE, runs_of(0, f"'{LONG_NAME}'"), file=LONG_NAME),
@@ -366,7 +375,7 @@ BY_LAST = '''\
   at the prompt of `debug`, `blame` goes to this step and `redo all` to the end'''
 APART = 'mpd 1; ranks 3; var x;\nif rank == 0 { recv x from any tag 0; if x == 1 {\nassert x == 3; } else {\nassert x == 4; } } else { send rank to 0 tag 0; }'
 TRAPPED = (
-    *(row(WAITED_TWICE, 1, 'it can trap: 1 of 2 runs\n', 'trap at line 12: 1 of 2 runs', '  rank 0, line 12: trap assert, with answers = [0, 20]', BY_REQUEST,
+    *(row(WAITED_TWICE, 1, 'it can trap in rendezvous: 1 of 2 runs\n', 'trap at line 12: 1 of 2 runs', '  rank 0, line 12: trap assert, with answers = [0, 20]', BY_REQUEST,
           runs_of(1, file),
           mode=mode) for mode, file in ((None, 'script.mpd'), (BUFFERED, WITH_BUFFERS))),
     row(THREE_TRAPS, 1, *always('traps', '1 run'), *OF_THREE_TRAPS, FROM_START, runs_of('')),
@@ -423,7 +432,7 @@ OF_SAME_LEFT = (never('2 runs, 5\n        states'), f'{LEAVES} 2 of 2 runs', f'{
                 '  left over: line 5, 0.2 isend to 1 tag 9 value 7', runs_of('1 0', picture='run-2'))
 # In slots:1 it hangs where the second send comes before the match that frees the slot, and else a message is left over.
 OF_FREED_SLOT = '''\
-it can hang: 1 of 2 runs
+it can hang in rendezvous: 1 of 2 runs
 it can end with calls left over: 1 of 2 runs
 
 deadlock at line 9: 1 of 2 runs
@@ -470,7 +479,7 @@ CUT = (row(ON_AND_ON, 4, *CUT_ONCE, '\ncut at line 1: 1 of 1 run', "  ./mpdbg de
 # Those of many states, or of many lines: they take the model longer than all others.
 LARGE = (
     row(taken(2, 'i < 64'), 0, MANY_RUNS, in_turn(), mode=BUFFERED),
-    row(taken(2, 'i < 64', LAST_OF_ALL), 1, f'it can trap: {2 ** 63} of more runs than can be counted\n', f'trap at line 3: {2 ** 63} of more runs than can be counted, one of\n        them:',
+    row(taken(2, 'i < 64', LAST_OF_ALL), 1, f'it can trap in rendezvous: {2 ** 63} of more runs than can be counted\n', f'trap at line 3: {2 ** 63} of more runs than can be counted, one of\n        them:',
         '  rank 0, line 3: trap assert, with x = 1', BY_LAST, runs_of(' '.join('0' * 63 + '1'), WITH_BUFFERS), mode=BUFFERED),
     row(ALONE, 1, *OF_ALONE), row(TWO_EACH, 1, OF_TWO_EACH, runs_of('0 0', 'two_each.mpd'), file='two_each.mpd'),
     row(open_example('four_races.mpd').decode(), 0, RACES, in_turn()))
@@ -492,7 +501,7 @@ TREE = ('mpd 2; ranks 1; var i; var w; var x; req r[2];\n'
 
 def none_found(runs, mode=RENDEZVOUS):
     """What is told of so many runs in a mode, where there are more."""
-    return f'no hang and no trap was found in the first {runs} in {mode}', MORE
+    return f'no hang and no trap was found in {first_of(runs)} in {mode}', MORE
 
 
 def none_drawn(runs, file='script.mpd'):
@@ -511,7 +520,7 @@ def few(drawn=8, **limits):
 
 # The run that is done has 13 steps, and the one that hangs 10, of which the seventh is chosen.
 CUT_AND_HANG = '''\
-it can hang: 1 of 2 runs
+it can hang in rendezvous: 1 of 2 runs
 not everything was tried: 1 of 2 runs was cut after 12 steps
 
 deadlock at line 2: 1 of 2 runs
@@ -531,7 +540,7 @@ deadlock at line 2: 1 of 2 runs
 OR_EARLIER = '  decided at depth {} or earlier: not all runs from there were counted'
 # Of STOLEN the choice and both ends are come to. The first run has 11 steps: from its end one state is come to, from the state before it the end
 # again, and from the state of the choice three: five in all.
-OF_THE_FIRST = 'it can hang: 1 of the first 1 run', MORE, others(), '\ndeadlock at lines 9, 13: 1 of the first 1 run', OF_STOLEN, BY_MESSAGE, runs_of(0)
+OF_THE_FIRST = 'it can hang in rendezvous: 1 of 1 run', MORE, others(), '\ndeadlock at lines 9, 13: 1 of 1 run', OF_STOLEN, BY_MESSAGE, runs_of(0)
 # Of THREE_SENDERS, in the order of the walk: all three, 2 3, 3, none, 2, none; 1 3, 3 again, 1, none; 1 2, 2 again, 1 again. At the 4th, 6th, 8th,
 # 10th, 12th and 13th state a run ends. Drawn are 2 0 0, 2 1 0, 1 1 0, 0 0 0, 0 0 0, 0 1 0, 0 0 0 and 1 0 0, numbers below 3, 2 and 1 in turn.
 SENDERS_FOUND = ((3, '0 runs', 1, '1 run'), (4, '1 run', 2, '2 runs'), (5, '1 run', 4, '4 runs'), (7, '2 runs', 5, '4 runs'),
@@ -570,8 +579,8 @@ def hang_and_trap(runs, decided):
 
 LIMITED = (
     # some runs hang and the others that were come to trap, and there are more, or one is cut
-    row(THREE_WAYS, 1, 'it can hang: 1 of the first 2 runs\nit can trap: 1 of the first 2 runs', MORE, others(), *hang_and_trap('the first 2 runs', [by_third(1), by_third(2)]), limits=few(come_to=3)),
-    row(THREE_WAYS, 1, 'it can hang: 1 of 3 runs\nit can trap: 1 of 3 runs', 'not everything was tried: 1 of 3 runs was cut after 13 steps',
+    row(THREE_WAYS, 1, 'it can hang in rendezvous: 1 of the first 2 runs\nit can trap in rendezvous: 1 of the first 2 runs', MORE, others(), *hang_and_trap('the first 2 runs', [by_third(1), by_third(2)]), limits=few(come_to=3)),
+    row(THREE_WAYS, 1, 'it can hang in rendezvous: 1 of 3 runs\nit can trap in rendezvous: 1 of 3 runs', 'not everything was tried: 1 of 3 runs was cut after 13 steps',
         *hang_and_trap('3 runs', [OR_EARLIER.format(8)] * 2), '\ncut at line 6: 1 of 3 runs', runs_of(2, picture='run-3'), limits=few(fuel=13)),
     *(row(ON_AND_ON, 4, 'no hang and no trap was found in 1 run in rendezvous', f'not everything was tried: 1 of 1 run was cut after {fuel} steps',
           '\ncut at line 1: 1 of 1 run', runs_of(''), limits=few(fuel=fuel), strict=strict) for fuel in (1, 5) for strict in (False, True)),
@@ -609,7 +618,7 @@ CUT_THEN_HANG = CUT_AND_HANG.partition('\n\n')[2]
 SECOND_TRAPS = ('\ndrawn at random: 1 of 2 runs trap', '\ntrap at line 12: 1 of 2 runs', '  rank 0, line 12: trap assert, with answers = [0, 20]', BY_REQUEST,
                 runs_of(1, picture='drawn'))
 # Numbers below 3: 2, 0, 0, 2, 2, 0, 1. Each run of ONE_OF_THREE leaves the two others over, which are one bug by three ends.
-FIRST_LEFT = (f'{LEAVES} 1 of the first 1 run', MORE, '\nleft over from line 2: 1 of the first 1 run', *TWO_LEFT)
+FIRST_LEFT = (f'{LEAVES} 1 of 1 run', MORE, '\nleft over from line 2: 1 of 1 run', *TWO_LEFT)
 
 
 def left_of_drawn(runs, others_left, choices):
@@ -636,7 +645,7 @@ def left_of_four(choice, runs, picture='drawn'):
     return f'\nleft over from line 6: {several(runs)}', *there, runs_of(choice, picture=picture)
 
 
-FOUR_FOUND = (none_found('1 run')[0], f'{LEAVES} 1 of the first 1 run', MORE, *left_of_four(0, '1 of the first 1 run', 'run'))
+FOUR_FOUND = (none_found('1 run')[0], f'{LEAVES} 1 of 1 run', MORE, *left_of_four(0, '1 of 1 run', 'run'))
 
 
 BY_MESSAGE_OF = '''\
@@ -678,7 +687,7 @@ def at_a_line(line, rank, count, picture='drawn-1'):
             still_sent(6, *(other for other in (1, 2, 3) if other != rank)), AT_A_LINE.format(rank), runs_of(rank - 1, picture=picture))
 
 
-TWO_LINES_FOUND = (none_found('1 run')[0], f'{LEAVES} 1 of the first 1 run', MORE, *left_at_six('1 of the first 1 run', 'run'))
+TWO_LINES_FOUND = (none_found('1 run')[0], f'{LEAVES} 1 of 1 run', MORE, *left_at_six('1 of 1 run', 'run'))
 # Nothing is left over where rank 1 comes first, and a message of rank 0 to itself where rank 2 does.
 LEFT_BY_SECOND = '''mpd 1; ranks 3; var x; req r;
 if rank == 0 {
@@ -710,15 +719,15 @@ DRAWN = (
         '\ntrap at line 12: 1 of 1 run', '  rank 0, line 12: trap assert, with answers = [0, 20]',
         BY_REQUEST, runs_of(1, WITH_BUFFERS, 'drawn'), mode=BUFFERED, limits=few(1, come_to=2)),
     # a trap is found, and nothing is drawn
-    row(TRAPS, 1, 'it can trap: 1 of the first 1 run', MORE, others(WITH_BUFFERS), '\ntrap at line 3: 1 of the first 1 run', '  rank 0, line 3: trap bad-tag, with i = 0',
+    row(TRAPS, 1, 'it can trap in rendezvous: 1 of 1 run', MORE, others(WITH_BUFFERS), '\ntrap at line 3: 1 of 1 run', '  rank 0, line 3: trap bad-tag, with i = 0',
         FROM_START, runs_of(0, WITH_BUFFERS), mode=BUFFERED, limits=few(come_to=2)),
-    row(HIGH_WANTED, 1, 'it can trap: 1 of the first 1 run', MORE, others(), '\ntrap at line 2: 1 of the first 1 run', '  rank 0, line 2: trap assert, with x = 1',
+    row(HIGH_WANTED, 1, 'it can trap in rendezvous: 1 of 1 run', MORE, others(), '\ntrap at line 2: 1 of 1 run', '  rank 0, line 2: trap assert, with x = 1',
         FROM_START, runs_of(0), limits=few(come_to=2)),
     # by 10 to 12 steps the first run is cut, and the other hangs; by 9 steps both are cut
-    *(row(THREE, 1, none_found('1 run')[0], f'not everything was tried: 1 of the first 1 run was cut after {fuel} steps', MORE,
-          '\ncut at line 2: 1 of the first 1 run', runs_of(0), '\ndrawn at random: 1 of 2 runs hang\n', CUT_THEN_HANG, runs_of(1, picture='drawn-1'),
+    *(row(THREE, 1, none_found('1 run')[0], f'not everything was tried: 1 of 1 run was cut after {fuel} steps', MORE,
+          '\ncut at line 2: 1 of 1 run', runs_of(0), '\ndrawn at random: 1 of 2 runs hang\n', CUT_THEN_HANG, runs_of(1, picture='drawn-1'),
           '\ncut at line 2: 1 of 2 runs', runs_of(0, picture='drawn-2'), limits=few(come_to=2, fuel=fuel)) for fuel in (10, 12)),
-    row(THREE, 4, none_found('1 run')[0], 'not everything was tried: 1 of the first 1 run was cut after 9 steps', MORE, '\ncut at line 2: 1 of the first 1 run', runs_of(0),
+    row(THREE, 4, none_found('1 run')[0], 'not everything was tried: 1 of 1 run was cut after 9 steps', MORE, '\ncut at line 2: 1 of 1 run', runs_of(0),
         *none_drawn('2 runs'), '\ncut at line 2: 2 of 2 runs, one of them:', runs_of(0, picture='drawn'), limits=few(come_to=2, fuel=9)),
     # messages that are left over, by what was found and what was drawn
     *(row(ONE_OF_THREE, status, none_found('1 run')[0], *FIRST_LEFT, *left_of_drawn(runs, others_left, choice), strict=strict,
@@ -728,11 +737,11 @@ DRAWN = (
     *(row(LEFT_BY_SECOND, status, *none_found('1 run'), *DRAWN_LEFT, strict=strict, limits=few(come_to=3))
       for strict, status in ((False, 4), (True, 1))),
     # they are left over by the first run that was found, and not by that which was drawn
-    row(LEFT_BY_SECOND.replace('x == 2', 'x == 1'), 1, none_found('1 run')[0], f'{LEAVES} 1 of the first 1 run', MORE,
-        '\nleft over from line 4: 1 of the first 1 run', '  left over: line 4, 0.1 isend to 0 tag 5 value 7', runs_of('0 0'), *none_drawn('1 run'), strict=True,
+    row(LEFT_BY_SECOND.replace('x == 2', 'x == 1'), 1, none_found('1 run')[0], f'{LEAVES} 1 of 1 run', MORE,
+        '\nleft over from line 4: 1 of 1 run', '  left over: line 4, 0.1 isend to 0 tag 5 value 7', runs_of('0 0'), *none_drawn('1 run'), strict=True,
         limits=few(1, come_to=3)),
     # both runs end alike: one is found, and the other drawn
-    row(TWO_REQUESTS, 4, none_found('1 run', BUFFERED)[0], f'{LEAVES} 1 of the first 1 run', MORE, '\nleft over from line 2: 1 of the first 1 run', *BOTH_LEFT,
+    row(TWO_REQUESTS, 4, none_found('1 run', BUFFERED)[0], f'{LEAVES} 1 of 1 run', MORE, '\nleft over from line 2: 1 of 1 run', *BOTH_LEFT,
         runs_of('0 0', WITH_BUFFERS), *none_drawn('1 run')[:1], 'drawn at random: 1 of 1 run end with calls left over', others(WITH_BUFFERS),
         '\nleft over from line 2: 1 of 1 run', *BOTH_LEFT, runs_of('1 0', WITH_BUFFERS, 'drawn'), mode=BUFFERED, limits=few(1, come_to=3)),
     # beside a trap, and beside a deadlock and a trap

@@ -21,10 +21,10 @@ WORDS = (('1', (1, 1)), ('16', (16, 16)), ('2-5', (2, 5)), ('1-16', (1, 16)), ('
 # What is answered of some numbers, each with its status, and what is said of all.
 WELL = b'it never hangs or traps in rendezvous, whatever is taken first (1 run, 1 state)\n  ./mpdbg diagnose FILE --modes 4\n'
 FOUR = b'it never hangs or traps in rendezvous, whatever is taken first (4 runs, 13\n        states)\n  ./mpdbg diagnose FILE --modes 4\n'
-BOTH = b'it can hang: 4 of 24 runs\nit can trap: 20 of 24 runs\n\ndeadlock at line 3: 4 of 24 runs, one of them:\n\ntrap at line 4: 20 of 24 runs, one of them:\n'
+BOTH = b'it can hang in rendezvous: 4 of 24 runs\nit can trap in rendezvous: 20 of 24 runs\n\ndeadlock at line 3: 4 of 24 runs, one of them:\n\ntrap at line 4: 20 of 24 runs, one of them:\n'
 CUT = b'no hang and no trap was found in 2 runs in rendezvous\nnot everything was tried: 1 of 2 runs was cut after 100000 steps\n'
 FAILS = b'it always fails in buffered: it hangs in 4 of 24 runs and traps in 20\n  ./mpdbg diagnose FILE --modes 4\n\ndeadlock at line 3: 4 of 24 runs, one of them:\n'
-MANY_HANG = (b'it can hang: 5 of more runs than can be counted\nit can trap: more runs than can be counted\n'
+MANY_HANG = (b'it can hang in rendezvous: 5 of more runs than can be counted\nit can trap in rendezvous: more runs than can be counted\n'
              b'it can end with calls left over: 7 of more runs than can be counted\n\ndeadlock at line 5: 5 of more runs than can be counted, one of them:\n')
 LEFT = b'it never hangs or traps in rendezvous, whatever is taken first (3 runs, 5\n        states)\nit can end with calls left over: 2 of 3 runs\n\nleft over from line 3: 2 of 3 runs, one of them:\n'
 DRAWN = (b'no hang and no trap was found in the first 7 runs in rendezvous\nit can end with calls left over: 2 of the first 7 runs\n'

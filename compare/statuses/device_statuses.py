@@ -49,7 +49,7 @@ STEPS = 'witness 0: local 0, local 0, local 1, local 1, local 2, local 2, match 
 REPORT = f'{LEAF}{STEPS}leaf 1 [1] done\nleaves 2 more no\n'.encode()
 WITNESS = (LEAF + STEPS).encode()
 # What is said of it where it is diagnosed.
-DIAGNOSED = f'''it can hang: 1 of 2 runs
+DIAGNOSED = f'''it can hang in rendezvous: 1 of 2 runs
 
 deadlock at line 7: 1 of 2 runs
   rank 0 waits at line 7, 0.1 recv from 1 tag any: for a send of rank 1 with any

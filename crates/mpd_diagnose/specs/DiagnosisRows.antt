@@ -56,8 +56,8 @@ row_order = refl
 pub row_kinds : map (λ (g : Group). g.first) (bad_first (ends_so (Ended (Deadlock [])) ∷ ends_so (Ended (Trap [])) ∷ []) ((4 ∷ 8 ∷ []) ∷ (8 ∷ []) ∷ []) (alone 0 ∷ alone 1 ∷ [])) ≡ 0 ∷ 1 ∷ []
 row_kinds = refl
 
-pub row_share : share (Exactly 1) (Exactly 1) false ++ share (Exactly 1) (Exactly 24) true ++ share (Exactly 5) More false ++ share (Exactly 5) More true ++ share More More false
-    ≡ codes "1 of 1 run" ++ codes "1 of the first 24 runs" ++ codes "5 of more runs than can be counted" ++ codes "5 of more runs than can be counted" ++ codes "more runs than can be counted"
+pub row_share : share (Exactly 1) (Exactly 1) false ++ share (Exactly 1) (Exactly 1) true ++ share (Exactly 1) (Exactly 24) true ++ share (Exactly 5) More false ++ share (Exactly 5) More true ++ share More More false
+    ≡ codes "1 of 1 run" ++ codes "1 of 1 run" ++ codes "1 of the first 24 runs" ++ codes "5 of more runs than can be counted" ++ codes "5 of more runs than can be counted" ++ codes "more runs than can be counted"
 unfolding digits
 row_share = refl
 

@@ -31,9 +31,9 @@ runs_text More = codes "more runs than can be counted"
 abbrev pub first_if : Bool → List ℕ
 first_if more = if more then codes "the first " else []
 
--- `the first 24 runs` where there are more, but of more than can be counted
+-- `the first 24 runs` where there are more, but of one run and of more than can be counted
 abbrev pub those_runs : Count → Bool → List ℕ
-those_runs (Exactly n) more = first_if more ++ runs_text (Exactly n)
+those_runs (Exactly n) more = first_if (more && nat_lt 1 n) ++ runs_text (Exactly n)
 those_runs More more = runs_text More
 
 -- `6 of 24 runs`, `6 of the first 24 runs`; where they can't be counted all that there are can't be either
@@ -89,11 +89,19 @@ always_traps c = always_fails c && is_count 0 c.deadlock && not (is_count 0 c.tr
 abbrev pub always_line : List ℕ → Mode → Count → List ℕ
 always_line does m total = line (does ++ in_mode m ++ codes " (" ++ runs_text total ++ codes ")")
 
+-- `it can hang in rendezvous: `
+abbrev pub does_in : List ℕ → Mode → List ℕ
+does_in does m = does ++ in_mode m ++ codes ": "
+
+-- `it can hang in rendezvous: 6 of 24 runs`, nothing where no run does
+abbrev pub can_line : List ℕ → Mode → Count → WayCounts → List ℕ
+can_line does m n c = if is_count 0 n then [] else line (does_in does m ++ share n c.total c.more)
+
 unfoldable pub hang_line : Mode → WayCounts → List ℕ
-hang_line m c = if always_hangs c then always_line (codes "it always hangs") m c.total else line_if (codes "it can hang: ") c.deadlock c []
+hang_line m c = if always_hangs c then always_line (codes "it always hangs") m c.total else can_line (codes "it can hang") m c.deadlock c
 
 unfoldable pub trap_line : Mode → WayCounts → List ℕ
-trap_line m c = if always_traps c then always_line (codes "it always traps") m c.total else line_if (codes "it can trap: ") c.trap c []
+trap_line m c = if always_traps c then always_line (codes "it always traps") m c.total else can_line (codes "it can trap") m c.trap c
 
 -- every run fails, and some hang and some trap
 abbrev pub fails_both : WayCounts → Bool

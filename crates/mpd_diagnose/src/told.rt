@@ -53,13 +53,13 @@ fn push_first_if(out: &mut String, more: bool) -> Result<(), AllocError>
     }
 }
 
-/// Adds how many runs were looked at, and that they are the first where there are more.
+/// Adds how many runs were looked at, and that they are the first if there are more. Of one run that isn't said.
 fn push_those(out: &mut String, total: Count, more: bool) -> Result<(), AllocError>
     ensures { OnOk result (string_bytes out.new ≡ string_bytes out.old ++ spec.those_runs total more) }
 {
     match total {
-        Count::Exactly(_) => {
-            push_first_if(out, more)?;
+        Count::Exactly(number) => {
+            push_first_if(out, more && number > 1)?;
             push_runs(out, total)
         }
         Count::More => push_runs(out, total),
@@ -271,6 +271,33 @@ fn push_always(out: &mut String, does: &str, mode: Mode, total: Count) -> Result
     Ok(())
 }
 
+/// Adds what some runs do in this mode.
+fn push_does(out: &mut String, does: &str, mode: Mode) -> Result<(), AllocError>
+    ensures { OnOk result (string_bytes out.new ≡ string_bytes out.old ++ spec.does_in does.now mode) }
+{
+    out.push_str(does)?;
+    push_in_mode(out, mode)?;
+    out.push_str(": ")
+}
+
+/// Adds the line of what some runs do in this mode, if some do.
+fn push_can(
+    out: &mut String,
+    does: &str,
+    mode: Mode,
+    count: Count,
+    counts: WayCounts,
+) -> Result<(), AllocError>
+    ensures { OnOk result (string_bytes out.new ≡ string_bytes out.old ++ spec.can_line does.now mode count counts) }
+{
+    if is_count(count, 0) {
+        return Ok(());
+    }
+    push_does(out, does, mode)?;
+    push_share(out, count, counts.total, counts.more)?;
+    out.push('\n')
+}
+
 /// Adds how many runs hang.
 fn push_hang(out: &mut String, mode: Mode, counts: WayCounts) -> Result<(), AllocError>
     ensures { OnOk result (string_bytes out.new ≡ string_bytes out.old ++ spec.hang_line mode counts) }
@@ -278,7 +305,7 @@ fn push_hang(out: &mut String, mode: Mode, counts: WayCounts) -> Result<(), Allo
     if always_hangs(counts) {
         push_always(out, "it always hangs", mode, counts.total)
     } else {
-        push_line_if(out, "it can hang: ", counts.deadlock, counts, "")
+        push_can(out, "it can hang", mode, counts.deadlock, counts)
     }
 }
 
@@ -289,7 +316,7 @@ fn push_trap(out: &mut String, mode: Mode, counts: WayCounts) -> Result<(), Allo
     if always_traps(counts) {
         push_always(out, "it always traps", mode, counts.total)
     } else {
-        push_line_if(out, "it can trap: ", counts.trap, counts, "")
+        push_can(out, "it can trap", mode, counts.trap, counts)
     }
 }
 

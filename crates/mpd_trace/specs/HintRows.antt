@@ -2,7 +2,7 @@
 use Rattle.std.specs.Prelude.{◌≡◌, ℕ, true, false, List, [], ◌∷◌, ◌++◌, map, Option, Some, None, codes, refl}
 use Rattle.mpd_model.specs.declared.read_fault.FaultCode.TheVariants as code
 use Rattle.mpd_model.specs.texts.Texts.{line}
-use Rattle.mpd_trace.specs.Hints.{foreign, hint_line, innermost, instead_in, is_reserved, still_open, word_at}
+use Rattle.mpd_trace.specs.Hints.{hint_line, innermost, is_reserved, still_open, word_at}
 
 pub words_at : map (word_at (codes "x for2 {")) (0 ∷ 2 ∷ 6 ∷ 7 ∷ 9 ∷ []) ≡ codes "x" ∷ codes "for2" ∷ [] ∷ [] ∷ [] ∷ []
 words_at = refl
@@ -22,9 +22,3 @@ for_a_word = refl
 
 pub a_name_of_its_own : hint_line (codes "y = 1;") code.UnknownName 0 ≡ []
 a_name_of_its_own = refl
-
-pub at_the_end : hint_line (codes "mpd 1;ranks 1;\nif 1 {\n") code.Expected 23 ≡ line (codes "  the block that line 2 opens isn't closed")
-at_the_end = refl
-
-pub nothing_open : hint_line (codes "mpd 1;ranks 1") code.Expected 13 ≡ []
-nothing_open = refl
