@@ -3,13 +3,15 @@
 from faults.policy_faults import Breakage
 from model import picture_model, run_words
 from model.debugger import enabled_steps
-from model.picture_model import ISSUED, PAIRED, RELEASED, WENT_ON, Drawing, Picture
+from model.picture_model import ISSUED, PAIRED, RELEASED, WENT_ON, Drawing, Picture, beside_of
 
 SOUND_GLYPHS = picture_model.glyphs_of_step
 SOUND_MARKS = picture_model.marks_of
+SOUND_OPEN = picture_model.is_open
+SOUND_ROW = picture_model.row_after
 SOUND_PATH = picture_model.path_between
-SOUND_RANKS = picture_model.ranks_of
-SOUND = {name: getattr(Drawing, name) for name in ('pair', 'end', 'free', 'issued_call')}
+SOUND_LANES = picture_model.lanes_of
+SOUND = {name: getattr(Drawing, name) for name in ('pair', 'end', 'free', 'issued_call', 'posted', 'request', 'wanted', 'whom')}
 
 
 def without(kind):
@@ -32,14 +34,29 @@ def listed_by_rows(glyphs, count):
     return [mark._replace(place=mark.row) for mark in SOUND_MARKS(glyphs, count)]
 
 
-def below_send(glyph, count):
-    """The ranks of a step, of a match that of the send alone."""
-    return SOUND_RANKS(glyph, count)[:1] if glyph.kind == PAIRED else SOUND_RANKS(glyph, count)
+def at_send(glyph, count):
+    """The lanes of a step, of a match that of the send."""
+    return [glyph.call.rank] if glyph.kind == PAIRED else SOUND_LANES(glyph, count)
 
 
-def below_own(glyph, count):
-    """The ranks of a step, of a release the first alone."""
-    return SOUND_RANKS(glyph, count)[:1]
+def at_both(glyph, count):
+    """The lanes of a step, of a match those of both ranks."""
+    return [glyph.call.rank, glyph.other.rank] if glyph.kind == PAIRED else SOUND_LANES(glyph, count)
+
+
+def at_own(glyph, count):
+    """The lanes of a step, of a release the first alone."""
+    return SOUND_LANES(glyph, count)[:1]
+
+
+def unsent(rows, glyph, lanes):
+    """The row of what a step shows, where a rank goes on whenever its sends are matched."""
+    return SOUND_ROW(rows._replace(sent={}), glyph, lanes)
+
+
+def beside_send(rows, glyph, lanes):
+    """The row of what a step shows, of a match beside its send."""
+    return SOUND_ROW(rows._replace(issued={call: row - 1 for call, row in rows.issued.items()}), glyph, lanes)
 
 
 def turned(step, before, behind, row):
@@ -71,6 +88,30 @@ def no_candidates(world):
     return []
 
 
+def all_first(self, number, step):
+    """A request that is numbered as the first."""
+    return SOUND['request'](self, 1, step)
+
+
+def always_wanted(self, number, x, y):
+    """Whom a rank waits for, as where no step is enabled."""
+    self.__class__.is_stuck = True
+    try:
+        return SOUND['wanted'](self, number, x, y)
+    finally:
+        del self.__class__.is_stuck
+
+
+def whom_of_waits(self, call, number):
+    """Whom a call waits for, of a wait nobody."""
+    return ('a request', None) if call.kind == 'wait' else SOUND['whom'](self, call, number)
+
+
+def whom_at_barriers(self, call, number):
+    """Whom a call waits for, of a barrier all."""
+    return ('all ranks', None) if call.kind == 'barrier' else SOUND['whom'](self, call, number)
+
+
 def all_end(rank, is_stuck):
     return 'ended', 'ended'
 
@@ -81,6 +122,11 @@ SOUND_END = picture_model.end_of
 def all_stop(rank, is_stuck):
     """How a rank is at the end, where each that is blocked has stopped."""
     return SOUND_END(rank, True)
+
+
+def on_one_line(self, call_id, row):
+    """A receive that is posted where the first of its rank is."""
+    return SOUND['posted'](self, call_id, row).replace(f'H{beside_of(call_id)}V', f'H{beside_of(call_id._replace(number=0))}V')
 
 
 def straight(sender, receiver, rank):
@@ -99,19 +145,33 @@ def breakages():
         Breakage('ranks go on a row later', model, 'marks_of', wakes_below),
         Breakage('each step has a row of its own', model, 'marks_of', a_row_each),
         Breakage('the list stands beside the rows', model, 'marks_of', listed_by_rows),
-        Breakage('a match is below its send alone', model, 'ranks_of', below_send),
-        Breakage('a release is below the first rank alone', model, 'ranks_of', below_own),
+        Breakage('a match stands in the lane of its send', model, 'lanes_of', at_send),
+        Breakage('a match stands in both lanes', model, 'lanes_of', at_both),
+        Breakage('a release is below the first rank alone', model, 'lanes_of', at_own),
+        Breakage('a rank goes on before its send is matched', model, 'row_after', unsent),
+        Breakage('a match stands beside its send', model, 'row_after', beside_send),
         Breakage('arrows are from the receive', model, 'glyphs_of_step', turned),
         Breakage('the value of another send', Drawing, 'pair', value_of_first),
         Breakage('arrows pass through the lanes between', model, 'path_between', through_lanes),
         Breakage('no call is free', Picture, 'is_free', never_free),
         Breakage('no candidate is drawn', model, 'candidates_of', no_candidates),
         Breakage('candidates where nobody chooses', model, 'candidates_of', any_open),
-        Breakage('matches of receives that name their source are candidates', model, 'is_open', lambda world, step: step.kind == 'match'),
+        Breakage('matches of receives that name their source are candidates', model, 'is_open', lambda world, step: step.kind in ('match', 'wakeany')),
+        Breakage('requests of a waitany are no candidates', model, 'is_open', lambda world, step: step.kind == 'match' and SOUND_OPEN(world, step)),
+        Breakage('each request is the first', Drawing, 'request', all_first),
+        Breakage('nobody is waited for', Drawing, 'wanted', lambda self, number, x, y: ''),
+        Breakage('a rank that waits for a moment has an arrow', Drawing, 'wanted', always_wanted),
+        Breakage('a wait is for a request', Drawing, 'whom', whom_of_waits),
+        Breakage('a barrier is for all', Drawing, 'whom', whom_at_barriers),
         Breakage('all ranks end', model, 'end_of', all_end),
         Breakage('all that are blocked have stopped', model, 'end_of', all_stop),
-        Breakage('lanes are too near', model, 'lane_x', lambda rank: 96 + 80 * rank),
+        Breakage('lanes are too near', model, 'lane_x', lambda rank: 132 + 80 * rank),
         Breakage('rows are too near', model, 'row_y', lambda row: 80 + 18 * row),
+        Breakage('a plain drawing has a legend', Drawing, 'plain_end', Drawing.full_end),
+        Breakage('no drawing has a list', Drawing, 'listed', lambda self, glyph: ''),
+        Breakage('labels of any length', model, 'MOST_LABEL', 64),
+        Breakage('labels that are shorter than they can be', model, 'MOST_LABEL', 15),
+        Breakage('receives are posted on one line', Drawing, 'posted', on_one_line),
         Breakage('every match is to the right', model, 'sign_of_pair', straight),
         Breakage('--ends is not looked at', model, 'follower', lambda ends: run_words.follower(False)),
         Breakage('first candidates along the wide walk without --ends', model, 'follower', lambda ends: run_words.follower(True)),

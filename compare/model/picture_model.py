@@ -15,6 +15,7 @@ from model.walks import Run, ending, listed, taken
 from model.worlds import CallId
 
 MOST_GLYPHS = 20000
+MOST_LABEL = 16
 TOO_LONG = 'refused: this run has too many calls to be drawn\n'
 ISSUED, PAIRED, RELEASED, WENT_ON = 'issued', 'paired', 'released', 'went on'
 
@@ -64,35 +65,50 @@ class Mark(NamedTuple):
     other: Optional[CallId] = None
 
 
-def ranks_of(glyph, count):
-    """The ranks whose rows go on by what a step shows."""
+def lanes_of(glyph, count):
+    """The ranks in whose lanes stands what a step shows."""
     if glyph.kind == RELEASED:
         return range(count)
-    return [call.rank for call in (glyph.call, glyph.other) if call is not None]
+    return [(glyph.other if glyph.kind == PAIRED else glyph.call).rank]
+
+
+class TakenRows(NamedTuple):
+    """The rows that are taken: the next of each lane, that of each call, and that of the last match of each rank's sends."""
+    nexts: dict
+    issued: dict
+    sent: dict
+
+
+def row_after(rows, glyph, lanes):
+    """The row of what a step shows: below all in its lanes, and below what it waits for elsewhere."""
+    row = max((rows.nexts.get(lane, 0) for lane in lanes), default=0)
+    if glyph.kind == PAIRED:
+        return max(row, rows.issued.get(glyph.call, -1) + 1)
+    return max(row - 1, rows.sent.get(glyph.call.rank, 0)) if glyph.kind == WENT_ON else row
 
 
 def marks_of(glyphs, count):
-    """The same by rows: a row is below each that a rank of it has already."""
-    nexts, marks = [0] * count, []
+    """The same by rows."""
+    rows, marks = TakenRows({}, {}, {}), []
     for glyph in glyphs:
-        ranks = ranks_of(glyph, count)
-        row = max((nexts[rank] for rank in ranks), default=0)
-        if takes_row(glyph):
-            for rank in ranks:
-                nexts[rank] = row + 1
-        else:
-            row -= 1
+        lanes = lanes_of(glyph, count)
+        row = row_after(rows, glyph, lanes)
+        rows.nexts.update((lane, row + 1) for lane in lanes)
+        if glyph.kind == ISSUED:
+            rows.issued[glyph.call] = row
+        if glyph.kind == PAIRED:
+            rows.sent[glyph.call.rank] = max(row, rows.sent.get(glyph.call.rank, 0))
         marks.append(Mark(glyph.kind, row, glyph.row, glyph.call, glyph.other))
     return marks
 
 
 def is_open(world, step):
-    """Whether a step is a match of a receive of any source."""
-    return step.kind == 'match' and find_call(world, step.second).other is None
+    """Whether somebody has to choose a step: a match of a receive of any source, or a request of a waitany."""
+    return step.kind == 'wakeany' or step.kind == 'match' and find_call(world, step.second).other is None
 
 
 def candidates_of(world):
-    """The candidates of a choice among matches; none where another step is enabled."""
+    """The candidates of a choice; none where another step is enabled."""
     steps = enabled_steps(world)
     return steps if all(is_open(world, step) for step in steps) else []
 
@@ -134,9 +150,10 @@ STYLE = '''<style type="text/css">
 .mpd-paper{fill:#fff}
 .mpd-lane{stroke:#999;stroke-width:1}
 .mpd-waiting{stroke:#b45f06;stroke-width:5}
-.mpd-posted{stroke:#38761d;stroke-width:2;stroke-dasharray:5 3}
+.mpd-posted{stroke:#38761d;stroke-width:1.5;stroke-dasharray:4 2;fill:none}
 .mpd-arrow{stroke:#0b5394;stroke-width:1.5;fill:none;marker-end:url(#mpd-tip)}
 .mpd-candidate{stroke:#0b5394;stroke-width:1.5;stroke-dasharray:6 4;fill:none;marker-end:url(#mpd-tip)}
+.mpd-want{stroke:#c00;stroke-width:1.5;stroke-dasharray:2 3;fill:none;marker-end:url(#mpd-wanted)}
 .mpd-number{font-size:13px;font-weight:bold;text-anchor:middle}
 .mpd-bar{stroke:#000;stroke-width:4}
 .mpd-stub{stroke:#000;stroke-width:1.5;fill:#fff}
@@ -151,22 +168,22 @@ STYLE = '''<style type="text/css">
 .mpd-blocked{fill:#c00;stroke:#000}
 .mpd-trapped{fill:none;stroke:#c00;stroke-width:3}
 </style>
-<defs><marker id="mpd-tip" viewBox="0 0 10 10" refX="10" refY="5" markerWidth="9" markerHeight="9" markerUnits="userSpaceOnUse" orient="auto"><path d="M0 1L10 5L0 9z" fill="#0b5394"/></marker></defs>
+<defs><marker id="mpd-tip" viewBox="0 0 10 10" refX="10" refY="5" markerWidth="9" markerHeight="9" markerUnits="userSpaceOnUse" orient="auto"><path d="M0 1L10 5L0 9z" fill="#0b5394"/></marker><marker id="mpd-wanted" viewBox="0 0 10 10" refX="10" refY="5" markerWidth="9" markerHeight="9" markerUnits="userSpaceOnUse" orient="auto"><path d="M0 1L10 5L0 9z" fill="#c00"/></marker></defs>
 '''
 DISC, SQUARE, FLAT = 'm-5 0a5 5 0 1 0 10 0a5 5 0 1 0 -10 0z', 'm-5 -5h10v10h-10z', 'm-8 -3h16v6h-16z'
 PATHS = {'send': DISC, 'recv': DISC, 'wait': SQUARE, 'waitany': SQUARE, 'barrier': FLAT}
 KNOB = 'm-3 0a3 3 0 1 0 6 0a3 3 0 1 0 -6 0'
-TO_RIGHT, TO_LEFT, FROM_LEFT = 'l12 16' + KNOB, 'l-12 16' + KNOB, 'l-18 0' + KNOB
+TO_RIGHT, TO_LEFT, FROM_LEFT, FROM_FAR = 'l12 16' + KNOB, 'l-12 16' + KNOB, 'l-18 0' + KNOB, 'l-26 0' + KNOB
 ENDS = {'ended': 'm-9 0h18', 'running': 'm-6 -5h12l-6 10z', 'held': 'm-6 -7h12l-12 14h12z',
         'blocked': 'm-3 -7h6l5 5v5l-5 5h-6l-5 -5v-5z', 'trapped': 'm-6 -6l12 12m0 -12l-12 12'}
 
 
 def lane_x(rank):
-    return 96 + 130 * rank
+    return 132 + 160 * rank
 
 
 def row_y(row):
-    return 80 + 28 * row
+    return 80 + 36 * row
 
 
 def told_y(place):
@@ -202,7 +219,7 @@ def in_columns(columns):
 
 
 COLUMNS = ((None, (((20, 0), 'send', DISC, 'a send'), ((20, 0), 'recv', DISC, 'a receive'), ((20, 0), 'wait', SQUARE, 'a wait'),
-                   ((20, 0), 'waitany', SQUARE, 'a wait for any'), ((20, 0), 'barrier', FLAT, 'a barrier'))),
+                   ((20, 0), 'waitany', SQUARE, 'a wait for any'), ((20, 0), 'barrier', FLAT, 'a barrier'), ((10, 0), 'want', 'L30 100', 'waits for a rank'))),
            (200, (((200, -5), 'arrow', 'L220 5', 'a message, up to its match'), ((204, -6), 'stub', TO_RIGHT, 'a send that is not matched'),
                   ((218, 0), 'stub', FROM_LEFT, 'a receive that is not'), ('line', 'posted', '', 'a receive is posted'),
                   ('line', 'waiting', '', 'a rank waits'), ((200, -5), 'candidate', 'L220 105', 'a candidate of a choice'))),
@@ -218,9 +235,25 @@ def path_between(sender, x1, y1, receiver, x2, y2):
     """The path from a place of a sender to one of a receiver."""
     if sender == receiver:
         return f'C{x1 - 40} {y1} {x2 - 40} {y2} {x2} {y2}'
-    side, tip = (65, x2 - 7) if sender < receiver else (-65, x2 + 4)
-    turns = '' if abs(sender - receiver) == 1 else f'L{x1 + side} {y2 - 20}L{x2 - side} {y2 - 9}'
+    side, tip = (80, x2 - 7) if sender < receiver else (-80, x2 + 4)
+    turns = '' if abs(sender - receiver) == 1 else f'L{x1 + side} {y2 - 28}L{x2 - side} {y2 - 9}'
     return f'{turns}L{tip} {y2}'
+
+
+def beside_of(receive):
+    """Where a receive is posted, at the left of its lane."""
+    return lane_x(receive.rank) - 8 - 4 * (receive.number % 4)
+
+
+def beside(is_left, x, y, label):
+    """A label beside a lane."""
+    return text('left', x - 24, y + 4, label) if is_left else text('right', x + 12, y + 4, label)
+
+
+def label_of(send):
+    """What stands beside a match, of so many characters at most."""
+    labels = f'{send.value} tag {send.tag}', f'{send.value}', '..'
+    return next(label for label in labels if len(label) <= MOST_LABEL)
 
 
 class Drawing(Picture):
@@ -230,10 +263,16 @@ class Drawing(Picture):
     def column(self):
         return max(lane_x(len(self.ranks)), 620)
 
-    def row_parts(self, is_left, x, y, label, place, told):
-        """The label beside the lane, and what is told of the row."""
-        beside = text('left', x - 12, y + 4, label) if is_left else text('right', x + 12, y + 4, label)
-        return beside + text('row', self.column, told_y(place), told)
+    def listed(self, glyph):
+        """What is told of a glyph, in the list."""
+        if glyph.kind == WENT_ON:
+            return ''
+        told = {ISSUED: lambda: whole_text(self.at, glyph.call), PAIRED: lambda: self.told_of_pair(glyph.call, glyph.other), RELEASED: lambda: 'release'}
+        return text('row', self.column, told_y(glyph.place), told[glyph.kind]())
+
+    def told_of_pair(self, send, receive):
+        call = find_call(self.world, send)
+        return f'{send} to {receive}: value {call.value} tag {call.tag}'
 
     def lane(self, rank):
         return line('lane', lane_x(rank), 60, lane_x(rank), row_y(self.rows)) + text('name', lane_x(rank), 52, f'rank {rank}')
@@ -243,38 +282,45 @@ class Drawing(Picture):
         return line('waiting', x, row_y(self.issued[call_id]) + 5, x, row_y(row) + 5)
 
     def posted(self, call_id, row):
-        x = lane_x(call_id.rank) - 5
-        return line('posted', x, row_y(self.issued[call_id]), x, row_y(row))
+        x = lane_x(call_id.rank)
+        return path('posted', x - 5, row_y(self.issued[call_id]), f'H{beside_of(call_id)}V{row_y(row)}H{x - 5}')
 
     def free(self, call_id, call, row):
         """What is drawn of a send or a receive that stays free."""
         x, y = lane_x(call_id.rank), row_y(row)
         if call.kind == 'recv':
-            return self.posted(call_id, self.rows) + path('stub', x, y, FROM_LEFT)
+            return self.posted(call_id, self.rows) + path('stub', x, y, FROM_FAR)
         return path('stub', x, y, TO_LEFT if call.other < call_id.rank else TO_RIGHT)
 
     def issued_call(self, glyph):
         call_id, x, y = glyph.call, lane_x(glyph.call.rank), row_y(glyph.row)
         call, told = find_call(self.world, call_id), whole_text(self.at, call_id)
         is_left = call.kind == 'send' and call.other > call_id.rank
-        parts = path(call.kind, x, y, PATHS[call.kind]), self.row_parts(is_left, x, y, f'{self.at.lines[call_id]} {word_of(call)}', glyph.place, told)
+        parts = path(call.kind, x, y, PATHS[call.kind]), beside(is_left, x, y, f'{self.at.lines[call_id]} {word_of(call)}')
         return (self.free(call_id, call, glyph.row) if self.is_free(call_id) else '') + group(told, *parts)
 
     def pair(self, glyph):
         send, receive = glyph.call, glyph.other
         x1, y1, x2, y2 = lane_x(send.rank), row_y(self.issued[send]), lane_x(receive.rank), row_y(glyph.row)
         rest = path_between(send.rank, x1, y1, receive.rank, x2, y2)
-        call = find_call(self.world, send)
-        label = f'{call.value} tag {call.tag}'
-        told = f'{send} to {receive}: value {label}'
-        return self.posted(receive, glyph.row) + group(told, path('arrow', x1, y1, rest), self.row_parts(receive.rank < send.rank, x2, y2, label, glyph.place, told))
+        label = beside(receive.rank < send.rank, x2, y2, label_of(find_call(self.world, send)))
+        return self.posted(receive, glyph.row) + group(self.told_of_pair(send, receive), path('arrow', x1, y1, rest), label)
+
+    def request(self, number, step):
+        """A request that a waitany can go on by."""
+        wait = last_call(self.world, step.first)
+        call_id = CallId(step.first, self.world.ranks[step.first].handles[find_call(self.world, wait).first + step.second])
+        x, y = lane_x(step.first), row_y(self.issued[call_id])
+        rest = path_between(step.first, x, y, step.first, x, row_y(self.issued[wait]))
+        return group(f'{number}: {whole_text(self.at, call_id)}', path('candidate', x, y, rest), text('number', x, y - 9, number))
 
     def candidate(self, number, step):
         """A candidate of the choice at the end."""
+        if step.kind == 'wakeany':
+            return self.request(number, step)
         send, receive = step.first, step.second
         x1, y1, x2, y2 = lane_x(send.rank), row_y(self.issued[send]), lane_x(receive.rank), row_y(self.issued[receive])
-        call = find_call(self.world, send)
-        told = f'{number}: {send} to {receive}: value {call.value} tag {call.tag}'
+        told = f'{number}: {self.told_of_pair(send, receive)}'
         hanging = f'C{x1} {y1 + 18} {x2} {y2 + 18} {x2} {y2}'
         rest = path_between(send.rank, x1, y1, receive.rank, x2, y2) if send.rank == receive.rank else hanging
         return group(told, path('candidate', x1, y1, rest), text('number', x1, y1 - 9, number))
@@ -282,7 +328,7 @@ class Drawing(Picture):
     def release(self, glyph):
         y = row_y(glyph.row)
         bar = line('bar', lane_x(0) - 14, y, lane_x(self.ranks[-1]) + 14, y)
-        return group('release: all ranks leave the barrier', bar, text('row', self.column, told_y(glyph.place), 'release'))
+        return group('release: all ranks leave the barrier', bar)
 
     def glyph(self, glyph):
         if glyph.kind == WENT_ON:
@@ -296,17 +342,47 @@ class Drawing(Picture):
         waited = self.waiting(last_call(self.world, number), self.rows) if rank.mode == 'blocked' else ''
         line = self.at.lines[last_call(self.world, number)] if rank.mode == 'blocked' else None if kind == 'ended' else next_line(rank)
         place = '' if line is None else text('name', x, y + 52, f'line {line}')
-        return waited + group(f'{name}: {told}', path(kind, x, y, ENDS[kind]), text('name', x, y + 24, name), text('name', x, y + 38, told), place)
+        return waited + group(f'{name}: {told}', path(kind, x, y, ENDS[kind]), text('name', x, y + 24, name), text('name', x, y + 38, told), place, self.wanted(number, x, y))
 
-    def svg(self):
+    def wanted(self, number, x, y):
+        """Whom a blocked rank waits for."""
+        if self.world.ranks[number].mode != 'blocked':
+            return ''
+        words, rank = self.whom(find_call(self.world, last_call(self.world, number)), number)
+        told = text('name', x, y + 66, f'for {words}')
+        if not self.is_stuck or rank is None:
+            return told
+        low = y + (124 if rank < number else 108)
+        return told + path('want', x + 12, y + 72, f'C{x + 12} {low} {lane_x(rank) - 12} {low} {lane_x(rank) - 12} {y + 74}')
+
+    def whom(self, call, number):
+        """Whom a call of a rank waits for, and the rank, if it is one."""
+        if call.kind == 'wait' and call.target is not None:
+            return self.whom(find_call(self.world, CallId(number, call.target)), number)
+        if call.kind == 'barrier':
+            absent = [rank for rank, there in enumerate(self.world.ranks) if there.mode != 'blocked' or there.calls[-1].kind != 'barrier']
+            return (f'rank {absent[0]}', absent[0]) if len(absent) == 1 else ('all ranks', None)
+        if call.kind in ('send', 'recv') and call.other is not None:
+            return f'rank {call.other}', call.other
+        return 'any rank' if call.kind == 'recv' else 'a request', None
+
+    def svg(self, is_plain):
         """The whole, as text."""
-        width, height, title = self.column + 460, max(row_y(self.rows) + 224, told_y(self.places) + 12), title_of(self)
+        width, height, title = self.column + 560, max(row_y(self.rows) + 274, told_y(self.places) + 12), title_of(self)
+        if is_plain:
+            width, height = self.column, row_y(self.rows) + 134
         size = f'width="{width}" height="{height}"'
         shapes = [*map(self.lane, self.ranks), *map(self.glyph, self.glyphs),
                   *starmap(self.candidate, enumerate(candidates_of(self.world), 1)), *map(self.end, self.ranks)]
         return (f'<svg xmlns="http://www.w3.org/2000/svg" class="mpd" version="1.1" {size} viewBox="0 0 {width} {height}">\n<title>{title}</title>\n{STYLE}'
-                f'<rect class="mpd-paper" {size}/>\n{text("head", 12, 24, title)}{"".join(shapes)}'
-                f'<g transform="translate(12 {row_y(self.rows) + 90})">\n{LEGEND}')
+                f'<rect class="mpd-paper" {size}/>\n{text("head", 12, 24, title)}{"".join(shapes)}{self.plain_end() if is_plain else self.full_end()}')
+
+    def plain_end(self):
+        return '</svg>\n'
+
+    def full_end(self):
+        """The list, and the legend."""
+        return f'{"".join(map(self.listed, self.glyphs))}<g transform="translate(12 {row_y(self.rows) + 140})">\n{LEGEND}'
 
 
 def end_of(rank, is_stuck):
@@ -374,10 +450,10 @@ def sign_of_pair(sender, receiver, rank):
     return '--' if min(sender, receiver) < rank < max(sender, receiver) else '| '
 
 
-def svg_of(walked):
+def svg_of(walked, is_plain=False):
     """The drawing of a walk; None where it shows too much."""
     drawing = Drawing(walked)
-    return None if drawing.is_too_long else drawing.svg()
+    return None if drawing.is_too_long else drawing.svg(is_plain)
 
 
 def text_of(walked):

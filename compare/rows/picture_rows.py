@@ -8,7 +8,8 @@ from rows.examples import open_example
 
 class PictureRow(NamedTuple):
     """A script, the choices of its run, or None for the first candidates, lines that its drawing has, each once or more, its text, where that
-    was worked out, the mode, whether the run is one along the wide walk, and how many steps it takes at most."""
+    was worked out, the mode, whether the run is one along the wide walk, how many steps it takes at most, whether the drawing is plain, and what
+    no line of it has."""
     script: bytes
     choices: Optional[str]
     lines: tuple
@@ -16,6 +17,8 @@ class PictureRow(NamedTuple):
     mode: str = RENDEZVOUS
     ends: bool = False
     fuel: int = 400
+    plain: bool = False
+    without: tuple = ()
 
 
 RACE = b'''mpd 1;
@@ -24,36 +27,48 @@ var x;
 if rank == 0 { recv x from any tag any; recv x from 1 tag any; }
 else { send rank to 0 tag 0; }
 '''
-# Ranks 0, 1, 2 stand at x 96, 226, 356, and the list at 620. The three first calls have row 0 (y 80), the match row 1 (y 108), the second
-# receive row 2 (y 136), and row 3, the end, is at 164. In the list the match has place 3 (y 100), behind three calls.
+# Ranks 0, 1, 2 stand at x 132, 292, 452, and the list at 620. The three first calls have row 0 (y 80), the match row 1 (y 116), the second
+# receive row 2 (y 152), and row 3, the end, is at 188. In the list the match has place 3 (y 100), after three calls. The brackets of the two
+# receives of rank 0 are 8 and 12 at the left of its lane.
 RACE_LINES = (
-    '<svg xmlns="http://www.w3.org/2000/svg" class="mpd" version="1.1" width="1080" height="388" viewBox="0 0 1080 388">',
+    '<svg xmlns="http://www.w3.org/2000/svg" class="mpd" version="1.1" width="1180" height="462" viewBox="0 0 1180 462">',
     '<title>3 ranks, rendezvous, 10 steps: deadlock 0.1 2.0</title>',
     '<text class="mpd-head" x="12" y="24">3 ranks, rendezvous, 10 steps: deadlock 0.1 2.0</text>',
-    '<line class="mpd-lane" x1="356" y1="60" x2="356" y2="164"/>',
-    '<text class="mpd-name" x="356" y="52">rank 2</text>',
+    '<line class="mpd-lane" x1="452" y1="60" x2="452" y2="188"/>',
+    '<text class="mpd-name" x="452" y="52">rank 2</text>',
     '<g><title>line 4, 0.0 recv from any tag any with 1.0 value 1</title>',
-    '<path class="mpd-recv" d="M96 80m-5 0a5 5 0 1 0 10 0a5 5 0 1 0 -10 0z"/>',
-    '<text class="mpd-right" x="108" y="84">4 recv</text>',
+    '<path class="mpd-recv" d="M132 80m-5 0a5 5 0 1 0 10 0a5 5 0 1 0 -10 0z"/>',
+    '<text class="mpd-right" x="144" y="84">4 recv</text>',
     '<text class="mpd-row" x="620" y="52">line 4, 0.0 recv from any tag any with 1.0 value 1</text>',
-    '<path class="mpd-send" d="M226 80m-5 0a5 5 0 1 0 10 0a5 5 0 1 0 -10 0z"/>',
-    '<path class="mpd-stub" d="M356 80l-12 16m-3 0a3 3 0 1 0 6 0a3 3 0 1 0 -6 0"/>',
-    '<line class="mpd-posted" x1="91" y1="80" x2="91" y2="108"/>',
+    '<path class="mpd-send" d="M292 80m-5 0a5 5 0 1 0 10 0a5 5 0 1 0 -10 0z"/>',
+    '<path class="mpd-stub" d="M452 80l-12 16m-3 0a3 3 0 1 0 6 0a3 3 0 1 0 -6 0"/>',
+    '<path class="mpd-posted" d="M127 80H124V116H127"/>',
     '<g><title>1.0 to 0.0: value 1 tag 0</title>',
-    '<path class="mpd-arrow" d="M226 80L100 108"/>',
-    '<text class="mpd-left" x="84" y="112">1 tag 0</text>',
+    '<path class="mpd-arrow" d="M292 80L136 116"/>',
+    '<text class="mpd-left" x="108" y="120">1 tag 0</text>',
     '<text class="mpd-row" x="620" y="100">1.0 to 0.0: value 1 tag 0</text>',
-    '<line class="mpd-waiting" x1="96" y1="85" x2="96" y2="113"/>',
-    '<line class="mpd-posted" x1="91" y1="136" x2="91" y2="164"/>',
-    '<path class="mpd-stub" d="M96 136l-18 0m-3 0a3 3 0 1 0 6 0a3 3 0 1 0 -6 0"/>',
-    '<line class="mpd-waiting" x1="356" y1="85" x2="356" y2="169"/>',
+    '<line class="mpd-waiting" x1="132" y1="85" x2="132" y2="121"/>',
+    '<path class="mpd-posted" d="M127 152H120V188H127"/>',
+    '<path class="mpd-stub" d="M132 152l-26 0m-3 0a3 3 0 1 0 6 0a3 3 0 1 0 -6 0"/>',
+    '<line class="mpd-waiting" x1="452" y1="85" x2="452" y2="193"/>',
     '<g><title>rank 0: blocked</title>',
-    '<path class="mpd-blocked" d="M96 164m-3 -7h6l5 5v5l-5 5h-6l-5 -5v-5z"/>',
+    '<path class="mpd-blocked" d="M132 188m-3 -7h6l5 5v5l-5 5h-6l-5 -5v-5z"/>',
     '<g><title>rank 1: ended</title>',
-    '<path class="mpd-ended" d="M226 164m-9 0h18"/>',
-    '<text class="mpd-name" x="356" y="202">blocked</text>',
-    '<text class="mpd-name" x="356" y="216">line 5</text>',
-    '<g transform="translate(12 254)">')
+    '<path class="mpd-ended" d="M292 188m-9 0h18"/>',
+    '<text class="mpd-name" x="452" y="226">blocked</text>',
+    '<text class="mpd-name" x="452" y="240">line 5</text>',
+    '<text class="mpd-name" x="132" y="254">for rank 1</text>',
+    '<path class="mpd-want" d="M144 260C144 296 280 296 280 262"/>',
+    '<text class="mpd-name" x="452" y="254">for rank 0</text>',
+    '<path class="mpd-want" d="M464 260C464 312 120 312 120 262"/>',
+    '<g transform="translate(12 328)">')
+# A plain drawing ends at the column, and 134 below row 3.
+PLAIN_LINES = (
+    '<svg xmlns="http://www.w3.org/2000/svg" class="mpd" version="1.1" width="620" height="322" viewBox="0 0 620 322">',
+    '<rect class="mpd-paper" width="620" height="322"/>',
+    '<text class="mpd-left" x="108" y="120">1 tag 0</text>',
+    '<text class="mpd-name" x="452" y="254">for rank 0</text>')
+NO_PLAIN = ('mpd-row" x', 'translate', 'a message, up to its match')
 RACE_TEXT = '''0 1 2  line: call
 R | |  4: 0.0 recv from any tag any
 | S |  5: 1.0 send to 0 tag 0
@@ -71,19 +86,19 @@ isend r rank to rank tag 3;
 barrier;
 if rank == 1 { print 1 / (x - x); }
 '''
-# Of each rank the three calls have rows 0 to 2, and the match row 4 (y 192); the release has row 3 (y 164), place 6 in the list (y 148), and
-# the end is at y 220. Steps: 3 of each rank, the release, `if` of each, the trap, and two matches.
+# Of each rank the three calls have rows 0 to 2; the release has row 3 (y 188), and place 6 in the list (y 148); below it the matches have row
+# 4 (y 224), and the end is at y 260. Steps: 3 of each rank, the release, `if` of each, the trap, and two matches.
 MEET_LINES = (
     '<title>2 ranks, rendezvous, 12 steps: trap 1 zero-divisor</title>',
-    '<path class="mpd-trapped" d="M226 220m-6 -6l12 12m0 -12l-12 12"/>',
-    '<path class="mpd-arrow" d="M226 108C186 108 186 192 226 192"/>',
-    '<path class="mpd-arrow" d="M96 108C56 108 56 192 96 192"/>',
+    '<path class="mpd-trapped" d="M292 260m-6 -6l12 12m0 -12l-12 12"/>',
+    '<path class="mpd-arrow" d="M292 116C252 116 252 224 292 224"/>',
+    '<path class="mpd-arrow" d="M132 116C92 116 92 224 132 224"/>',
     '<g><title>release: all ranks leave the barrier</title>',
     '<text class="mpd-row" x="620" y="148">release</text>',
-    '<line class="mpd-bar" x1="82" y1="164" x2="240" y2="164"/>',
-    '<text class="mpd-name" x="226" y="258">zero-divisor</text>',
-    '<text class="mpd-name" x="226" y="272">line 5</text>')
-# Over the lane of rank 1 an arrow goes down beside its own lane (x 161 or 291), and between the rows (y 88 to 99); its tip is beside the lane.
+    '<line class="mpd-bar" x1="118" y1="188" x2="306" y2="188"/>',
+    '<text class="mpd-name" x="292" y="298">zero-divisor</text>',
+    '<text class="mpd-name" x="292" y="312">line 5</text>')
+# Over the lane of rank 1 an arrow goes down beside its own lane (x 212 or 372), and between the rows (y 88 to 107); its tip is beside the lane.
 FAR_LEFT = b'''mpd 1; ranks 3; var x;
 if rank == 2 { send 4 to 0 tag 1; }
 if rank == 0 { recv x from 2 tag 1; }
@@ -92,34 +107,59 @@ FAR_RIGHT = b'''mpd 1; ranks 3; var x;
 if rank == 0 { send 4 to 2 tag 1; }
 if rank == 2 { recv x from 0 tag 1; }
 '''
-# Two pairs stand side by side: four calls in row 0 (y 80), two matches in row 1 (y 108), at places 4 and 5 of the list, and the end at 136.
+# Two pairs stand side by side: four calls in row 0 (y 80), two matches in row 1 (y 116), at places 4 and 5 of the list, and the end at 152.
 PAIRS = b'''mpd 1; ranks 4; var x;
 if rank % 2 == 0 { send rank to rank + 1 tag 0; }
 else { recv x from rank - 1 tag 0; }
 '''
 PAIRS_LINES = (
-    '<path class="mpd-arrow" d="M96 80L219 108"/>',
-    '<path class="mpd-arrow" d="M356 80L479 108"/>',
-    '<text class="mpd-left" x="344" y="84">2 send</text>',
-    '<text class="mpd-row" x="620" y="132">2.0 to 3.0: value 2 tag 0</text>',
-    '<path class="mpd-ended" d="M486 136m-9 0h18"/>')
+    '<path class="mpd-arrow" d="M132 80L285 116"/>',
+    '<path class="mpd-arrow" d="M452 80L605 116"/>',
+    '<text class="mpd-left" x="428" y="84">2 send</text>',
+    '<text class="mpd-row" x="772" y="132">2.0 to 3.0: value 2 tag 0</text>',
+    '<path class="mpd-ended" d="M612 152m-9 0h18"/>')
+# Buffered sends wait for nothing: both calls of each rank have rows 0 and 1, and both messages are taken in row 2 (y 152), side by side. Steps:
+# four calls, two matches, and each rank goes on from both of its calls.
+EXCHANGE = open_example('exchange.mpd')
+EXCHANGE_LINES = (
+    '<title>2 ranks, buffered, 10 steps: done</title>',
+    '<path class="mpd-arrow" d="M132 80L285 152"/>',
+    '<path class="mpd-arrow" d="M292 80L136 152"/>',
+    '<text class="mpd-right" x="304" y="156">0 tag 5</text>',
+    '<text class="mpd-left" x="108" y="156">1 tag 5</text>',
+    '<path class="mpd-ended" d="M132 188m-9 0h18"/>')
+# Rank 0 waits for each of its sends: the match is in row 1, the next send of it in row 2 (y 152), and the last match in row 5 (y 260). Of the
+# labels of the matches one has 21 characters with its tag, one 16, and one has a value of 17.
+VALUES = b'''mpd 1; ranks 2; var x;
+if rank == 0 { send -2147483648 to 1 tag 32767; send 1234567890 to 1 tag 7; send 12345678901234567 to 1 tag 0; }
+else { recv x from 0 tag any; recv x from 0 tag any; recv x from 0 tag any; }
+'''
+VALUES_LINES = (
+    '<path class="mpd-arrow" d="M132 80L285 116"/>',
+    '<text class="mpd-right" x="304" y="120">-2147483648</text>',
+    '<text class="mpd-row" x="620" y="84">0.0 to 1.0: value -2147483648 tag 32767</text>',
+    '<path class="mpd-arrow" d="M132 152L285 188"/>',
+    '<text class="mpd-right" x="304" y="192">1234567890 tag 7</text>',
+    '<path class="mpd-arrow" d="M132 224L285 260"/>',
+    '<text class="mpd-right" x="304" y="264">..</text>')
 # At the choice of rank 0 all ranks are blocked, and none has stopped: rank 0 has calls in rows 0 and 1, the others in row 0, and row 2, the
-# end, is at y 136. Rank 0 waits in the receive of line 9.
+# end, is at y 152. Rank 0 waits in the receive of line 9.
 STOLEN = open_example('stolen_message.mpd')
 CHOICE_LINES = (
     '<title>3 ranks, rendezvous, 9 steps: can go on</title>',
     '<g><title>rank 0: waits</title>',
-    '<path class="mpd-held" d="M96 136m-6 -7h12l-12 14h12z"/>',
-    '<text class="mpd-name" x="96" y="174">waits</text>',
-    '<text class="mpd-name" x="96" y="188">line 9</text>',
-    '<text class="mpd-name" x="226" y="188">line 13</text>',
+    '<path class="mpd-held" d="M132 152m-6 -7h12l-12 14h12z"/>',
+    '<text class="mpd-name" x="132" y="190">waits</text>',
+    '<text class="mpd-name" x="132" y="204">line 9</text>',
+    '<text class="mpd-name" x="292" y="204">line 13</text>',
+    '<text class="mpd-name" x="132" y="218">for rank 1</text>',
     '<g><title>1: 1.0 to 0.0: value 42 tag 7</title>',
-    '<path class="mpd-candidate" d="M226 80C226 98 96 98 96 80"/>',
-    '<text class="mpd-number" x="226" y="71">1</text>',
-    '<path class="mpd-candidate" d="M356 80C356 98 96 98 96 80"/>',
-    '<text class="mpd-number" x="356" y="71">2</text>')
+    '<path class="mpd-candidate" d="M292 80C292 98 132 98 132 80"/>',
+    '<text class="mpd-number" x="292" y="71">1</text>',
+    '<path class="mpd-candidate" d="M452 80C452 98 132 98 132 80"/>',
+    '<text class="mpd-number" x="452" y="71">2</text>')
 # A step before rank 2 can go on, and before the pairs are matched nobody has to choose: there is no candidate.
-BEFORE_LINES = ('<title>3 ranks, rendezvous, 8 steps: can go on</title>', '<g><title>rank 2: can go on</title>', '<text class="mpd-name" x="356" y="188">line 13</text>')
+BEFORE_LINES = ('<title>3 ranks, rendezvous, 8 steps: can go on</title>', '<g><title>rank 2: can go on</title>', '<text class="mpd-name" x="452" y="204">line 13</text>')
 UNMATCHED_LINES = ('<title>4 ranks, rendezvous, 8 steps: can go on</title>', '<g><title>rank 1: waits</title>')
 CHOICE_TEXT = '''0 1 2  line: call
 R | |  8: 0.0 irecv from any tag any free
@@ -131,7 +171,32 @@ S send, R receive, W wait, A wait for any, B barrier, o-> match, == release
 at the end: E ended, V can go on, ~ waits, ! blocked, X trapped
 '''
 # After one step rank 0 is at its receive, and the others at the `if`; no row is taken yet.
-START_LINES = ('<g><title>rank 0: can go on</title>', '<path class="mpd-running" d="M96 80m-6 -5h12l-6 10z"/>', '<text class="mpd-name" x="96" y="132">line 4</text>')
+START_LINES = ('<g><title>rank 0: can go on</title>', '<path class="mpd-running" d="M132 80m-6 -5h12l-6 10z"/>', '<text class="mpd-name" x="132" y="132">line 4</text>')
+
+# Rank 0 has calls in rows 0 to 2, its two messages are taken in rows 3 and 4, and the end is at y 260. Four steps of rank 0 and two of each
+# other rank lead to the calls; then each message is taken, and its sender goes on: 12 steps. Both requests are complete.
+ANY = b'''mpd 2; ranks 3; var x; var y; var w; req r[2];
+if rank == 0 { irecv r[0] x from 1 tag 0; irecv r[1] y from 2 tag 0; waitany r to w; } else { send rank to 0 tag 0; }
+'''
+ANY_LINES = (
+    '<title>3 ranks, rendezvous, 12 steps: can go on</title>',
+    '<g><title>1: line 2, 0.0 irecv from 1 tag 0 with 1.0 value 1</title>',
+    '<path class="mpd-candidate" d="M132 80C92 80 92 152 132 152"/>',
+    '<text class="mpd-number" x="132" y="71">1</text>',
+    '<g><title>2: line 2, 0.1 irecv from 2 tag 0 with 2.0 value 2</title>',
+    '<path class="mpd-candidate" d="M132 116C92 116 92 152 132 152"/>',
+    '<text class="mpd-number" x="132" y="107">2</text>',
+    '<text class="mpd-name" x="132" y="326">for a request</text>')
+# Two ranks are at a second barrier in row 2, after the release in row 1, and the end is at y 188: rank 2 isn't there, and has ended.
+SKIPPED = open_example('skipped_barrier.mpd')
+SKIPPED_LINES = (
+    '<text class="mpd-name" x="132" y="254">for rank 2</text>',
+    '<path class="mpd-want" d="M144 260C144 296 440 296 440 262"/>',
+    '<text class="mpd-name" x="292" y="254">for rank 2</text>',
+    '<path class="mpd-want" d="M304 260C304 296 440 296 440 262"/>')
+# Of three ranks two aren't there; the end is at y 116.
+ALONE = b'mpd 1; ranks 3; if rank == 0 { barrier; }'
+ALONE_LINES = ('<title>3 ranks, rendezvous, 4 steps: deadlock 0.0</title>', '<text class="mpd-name" x="132" y="182">for all ranks</text>')
 
 # Rank 0 sends with a slot, and rank 1 receives; then the second send comes before the match, or behind it (worked_ends.py).
 FREED_SLOT = open_example('freed_slot.mpd')
@@ -154,7 +219,11 @@ S |  8: 0.1 isend to 1 tag 1 free
 W |  9: 0.2 wait 1
 E E  at the end
 {LETTERS}'''
-# Along decisions all calls of rank 0 come first.
+# Along decisions all calls of rank 0 come first: in rows 0 to 2, so the end is at y 188. It waits for its second send, to rank 1.
+ALL_FIRST_LINES = (
+    '<title>2 ranks, slots:1, 8 steps: deadlock 0.2</title>',
+    '<text class="mpd-name" x="132" y="254">for rank 1</text>',
+    '<path class="mpd-want" d="M144 260C144 296 280 296 280 262"/>')
 ALL_FIRST = f'''0 1  line: call
 S |  7: 0.0 isend to 1 tag 0
 S |  8: 0.1 isend to 1 tag 1 free
@@ -177,13 +246,17 @@ X E E  at the end
 {LETTERS}'''
 
 ROWS = (
+    PictureRow(RACE, None, PLAIN_LINES, plain=True, without=NO_PLAIN),
     PictureRow(RACE, None, RACE_LINES, RACE_TEXT), PictureRow(RACE, '0', RACE_LINES, RACE_TEXT), PictureRow(RACE, '0', RACE_LINES, RACE_TEXT, ends=True),
     PictureRow(STOLEN, None, CHOICE_LINES, CHOICE_TEXT, fuel=9), PictureRow(RACE, None, START_LINES, fuel=1), PictureRow(PAIRS, None, PAIRS_LINES),
-    PictureRow(FAR_LEFT, None, ('<path class="mpd-arrow" d="M356 80L291 88L161 99L100 108"/>',)),
-    PictureRow(FAR_RIGHT, None, ('<path class="mpd-arrow" d="M96 80L161 88L291 99L349 108"/>',)),
+    PictureRow(EXCHANGE, None, EXCHANGE_LINES, mode='buffered'), PictureRow(VALUES, None, VALUES_LINES),
+    PictureRow(FAR_LEFT, None, ('<path class="mpd-arrow" d="M452 80L372 88L212 107L136 116"/>',)),
+    PictureRow(FAR_RIGHT, None, ('<path class="mpd-arrow" d="M132 80L212 88L372 107L445 116"/>',)),
     PictureRow(STOLEN, None, BEFORE_LINES, fuel=8), PictureRow(PAIRS, None, UNMATCHED_LINES, fuel=8),
     PictureRow(MEET, None, MEET_LINES), PictureRow(MEET, None, MEET_LINES, ends=True),
-    *(PictureRow(FREED_SLOT, choices, ('<title>2 ranks, slots:1, 8 steps: deadlock 0.2</title>',), ALL_FIRST, 'slots:1') for choices in (None, '')),
+    *(PictureRow(FREED_SLOT, choices, ALL_FIRST_LINES, ALL_FIRST, 'slots:1') for choices in (None, '')),
+    PictureRow(ANY, None, ANY_LINES, fuel=12), PictureRow(SKIPPED, None, SKIPPED_LINES),
+    PictureRow(ALONE, None, ALONE_LINES, without=('class="mpd-want" d="M144',)),
     *(PictureRow(FREED_SLOT, choices, ('<title>2 ranks, slots:1, 8 steps: deadlock 0.2</title>',), SEND_FIRST, 'slots:1', True) for choices in (None, '0 0')),
     PictureRow(FREED_SLOT, '1', ('<title>2 ranks, slots:1, 9 steps: leftovers 0.1</title>',), MATCH_FIRST, 'slots:1', True),
     PictureRow(ORDER_DECIDES, '1 1', ('<title>3 ranks, rendezvous, 14 steps: trap 0 assert</title>',), OTHER_FIRST, ends=True))

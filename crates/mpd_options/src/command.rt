@@ -12,7 +12,7 @@ ghost use Rattle.mpd_options.specs.Table.{a_file, a_flag, an_option, any_word, c
 use crate::help::{Topic, about, example};
 use crate::names::{
     CHECK, CHOICES, CLIENTS, COMPLETE, DEBUG, DIAGNOSE, ENDS, EXPLAIN, FILE, FUEL, GROUP,
-    LAID_WITNESS, LEAF, MODE, MODES, OUTCOMES, PICTURE, PIECE, PIECES, PORT, RANK_SPAN, RANKS, RUN,
+    LAID_WITNESS, LEAF, MODE, MODES, OUTCOMES, PICTURE, PIECE, PIECES, PLAIN, PORT, RANK_SPAN, RANKS, RUN,
     RUNS, SAMPLE, SEED, SERVE, SPLIT, STATES, STRICT, TRACE, TRANSLATE, UNTIL, VERIFY, WITNESS,
     WITNESS_FILE, WORDS, WORDS_FILE, WORKERS,
 };
@@ -303,6 +303,11 @@ fn chosen_ends_flag<'a>(alloc: Global) -> Arg<'a>
 {
     let help = "The choices are those of a leaf of `check --ends` or `check --sample`";
     flag(alloc, ENDS, help)
+}
+
+/// `--plain` of `picture`.
+fn plain_flag<'a>(alloc: Global) -> Arg<'a> {
+    flag(alloc, PLAIN, "Leave out the list of calls and the legend")
 }
 
 /// `--strict`.
@@ -596,6 +601,7 @@ fn picture_command<'a>(alloc: Global) -> Made<'a>
     let command = with_arg(command, word_option(alloc, WORDS_FILE, "WORDS", words));
     let command = with_arg(command, fuel_option(alloc));
     let command = with_arg(command, chosen_ends_flag(alloc));
+    let command = with_arg(command, plain_flag(alloc));
     with_help(command, Topic::Picture)
 }
 

@@ -35,6 +35,7 @@ pub(crate) const WORKERS: &str = "workers";
 
 /// The flag that asks for each end once, and that says of choices whose they are, without its hyphens.
 pub(crate) const ENDS: &str = "ends";
+pub(crate) const PLAIN: &str = "plain";
 
 /// The flag that asks for the ways that runs end, without its hyphens.
 pub(crate) const OUTCOMES: &str = "outcomes";

@@ -9,7 +9,7 @@ ghost use Rattle.mpd_options.specs.Table.{checker, debugger, diagnoser, painter,
 use crate::command::{USUAL_RUNS, USUAL_SPLIT, only_deadlock, program};
 use crate::names::{
     CHECK, CHOICES, CLIENTS, COMPLETE, DEBUG, DIAGNOSE, ENDS, EXPLAIN, FILE, FUEL, GROUP,
-    LAID_WITNESS, LEAF, MODE, MODES, OUTCOMES, PICTURE, PIECE, PIECES, PORT, RANK_SPAN, RANKS, RUN,
+    LAID_WITNESS, LEAF, MODE, MODES, OUTCOMES, PICTURE, PIECE, PIECES, PLAIN, PORT, RANK_SPAN, RANKS, RUN,
     RUNS, SAMPLE, SEED, SERVE, SPLIT, STATES, STRICT, TRACE, TRANSLATE, UNTIL, VERIFY, WITNESS,
     WITNESS_FILE, WORDS, WORDS_FILE, WORKERS,
 };
@@ -177,6 +177,8 @@ pub enum Options<'a> {
         fuel: usize,
         /// Whether the choices are those of a report of `--ends` or `--sample`.
         ends: bool,
+        /// Whether the drawing has neither list nor legend.
+        plain: bool,
     },
 }
 
@@ -492,6 +494,7 @@ fn picture_in<'a>(picture: &ArgMatches<'a>) -> Options<'a>
     let words_file = given_word_in(picture, WORDS_FILE);
     let fuel = number_of(picture, FUEL);
     let ends = flag_of(picture, ENDS);
+    let plain = flag_of(picture, PLAIN);
     Options::Picture {
         file,
         mode,
@@ -500,6 +503,7 @@ fn picture_in<'a>(picture: &ArgMatches<'a>) -> Options<'a>
         words: words_file,
         fuel,
         ends,
+        plain,
     }
 }
 

@@ -14,7 +14,7 @@ use Rattle.mpd_model.specs.declared.call.MatchSet.{MatchSet}
 use Rattle.mpd_model.specs.declared.call.MatchSet.TheVariants.{Pair, Woke}
 use Rattle.mpd_model.specs.declared.call.MatchSet.TheVariants as set
 use Rattle.mpd_model.specs.steps.World.{World, Board, call_id, rank_numbers, start, last_call, eligible, is_free, kind_at}
-use Rattle.mpd_model.specs.steps.Next.{Ran, next, fold, local_at, stepped, with_issued, with_set, can_wake, can_wake_any, can_release, woken, woken_any, released, waits}
+use Rattle.mpd_model.specs.steps.Next.{Ran, next, fold, local_at, stepped, with_issued, with_set, can_wake, can_wake_any, can_release, woken, woken_any, released, waits, any_call}
 use Rattle.mpd_picture.specs.declared.glyph.Glyph.{Glyph}
 use Rattle.mpd_picture.specs.declared.glyph.Mark.{Mark}
 use Rattle.mpd_picture.specs.declared.glyph.Event.{Event}
@@ -22,7 +22,7 @@ use Rattle.mpd_picture.specs.declared.glyph.Event.TheVariants.{Issued, Paired, W
 use Rattle.mpd_picture.specs.declared.shape.Shape.{Shape}
 use Rattle.mpd_picture.specs.Glyphs.{glyph, issues, calls_before, step_glyphs, row_behind, led, glyphs_behind, glyphs_of, went_on}
 use Rattle.mpd_picture.specs.Marks.{rows_of, mark_after, marks_from, marks_of}
-use Rattle.mpd_picture.specs.Shapes.{candidate_shapes, candidates_from, candidates, free_shapes, event_shapes, mark_shapes, lane_shapes, end_shapes, shapes_of}
+use Rattle.mpd_picture.specs.Shapes.{request_shapes, candidate_shapes, candidates_from, candidates, free_shapes, event_shapes, mark_shapes, lane_shapes, end_shapes, shapes_of}
 use Rattle.mpd_picture.specs.PictureLaws.{set_of_shape, is_drawn, ArrowsArePairs}
 
 -- ---- lists whose parts give nothing
@@ -127,18 +127,22 @@ event_drawn b marks rows row place Released = refl
 end_drawn : (w : World) (marks : List Mark) (rows p : ℕ) → flat_map set_of_shape (end_shapes w marks rows p) ≡ []
 end_drawn w marks rows p = front_drawn (waits (slice_get w.ranks p)) _ _ refl refl
 
-candidate_drawn : (marks : List Mark) (number : ℕ) (a : Step) → flat_map set_of_shape (candidate_shapes marks number a) ≡ []
-candidate_drawn marks number (Local p) = refl
-candidate_drawn marks number (Match s r) = refl
-candidate_drawn marks number (Wake p) = refl
-candidate_drawn marks number (WakeAny p i) = refl
-candidate_drawn marks number Release = refl
+request_drawn : (marks : List Mark) (number : ℕ) (wait : CallId) (o : Option CallId) → flat_map set_of_shape (request_shapes marks number wait o) ≡ []
+request_drawn marks number wait None = refl
+request_drawn marks number wait (Some c) = refl
 
-candidates_drawn : (marks : List Mark) (number : ℕ) (steps : List Step) → flat_map set_of_shape (candidates_from marks number steps) ≡ []
-candidates_drawn marks number [] = refl
-candidates_drawn marks number (a ∷ steps) =
-    flat_map-append set_of_shape (candidate_shapes marks number a) (candidates_from marks (number + 1) steps)
-    ∙ ap (λ ys. ys ++ flat_map set_of_shape (candidates_from marks (number + 1) steps)) (candidate_drawn marks number a) ∙ candidates_drawn marks (number + 1) steps
+candidate_drawn : (w : World) (marks : List Mark) (number : ℕ) (a : Step) → flat_map set_of_shape (candidate_shapes w marks number a) ≡ []
+candidate_drawn w marks number (Local p) = refl
+candidate_drawn w marks number (Match s r) = refl
+candidate_drawn w marks number (Wake p) = refl
+candidate_drawn w marks number (WakeAny p i) = request_drawn marks number (last_call w.board p) (any_call w p i)
+candidate_drawn w marks number Release = refl
+
+candidates_drawn : (w : World) (marks : List Mark) (number : ℕ) (steps : List Step) → flat_map set_of_shape (candidates_from w marks number steps) ≡ []
+candidates_drawn w marks number [] = refl
+candidates_drawn w marks number (a ∷ steps) =
+    flat_map-append set_of_shape (candidate_shapes w marks number a) (candidates_from w marks (number + 1) steps)
+    ∙ ap (λ ys. ys ++ flat_map set_of_shape (candidates_from w marks (number + 1) steps)) (candidate_drawn w marks number a) ∙ candidates_drawn w marks (number + 1) steps
 
 abbrev set_of_mark : Mark → List MatchSet
 set_of_mark m = set_of_event m.event
@@ -149,12 +153,12 @@ shapes_drawn w marks =
     let ranks : List ℕ = rank_numbers w.board in
     let lanes : List Shape = flat_map (lane_shapes rows) ranks in
     let middle : List Shape = flat_map (mark_shapes w.board marks rows) marks in
-    let listed : List Shape = candidates_from marks 1 (candidates w) in
+    let listed : List Shape = candidates_from w marks 1 (candidates w) in
     let ends : List Shape = flat_map (end_shapes w marks rows) ranks in
     let given : List Shape → List MatchSet = flat_map set_of_shape in
     flat_map-append set_of_shape (lanes ++ middle ++ listed) ends
     ∙ ap (λ ys. ys ++ given ends) (flat_map-append set_of_shape (lanes ++ middle) listed
-    ∙ ap (λ ys. given (lanes ++ middle) ++ ys) (candidates_drawn marks 1 (candidates w)) ∙ append-nil (given (lanes ++ middle)))
+    ∙ ap (λ ys. given (lanes ++ middle) ++ ys) (candidates_drawn w marks 1 (candidates w)) ∙ append-nil (given (lanes ++ middle)))
     ∙ ap (λ ys. ys ++ flat_map set_of_shape ends) (flat_map-append set_of_shape lanes middle)
     ∙ ap (λ ys. ys ++ flat_map set_of_shape middle ++ flat_map set_of_shape ends) (none_given set_of_shape (lane_shapes rows) ranks (λ p. refl))
     ∙ ap (λ ys. flat_map set_of_shape middle ++ ys) (none_given set_of_shape (end_shapes w marks rows) ranks (end_drawn w marks rows))

@@ -1,13 +1,14 @@
 -- Rows by logical time, mark by mark.
-use Rattle.std.proofs.Common.{◌≡◌, ℕ, zero, suc, ◌+◌, ◌<◌, max, Bool, if◌then◌else◌, List, [], ◌∷◌, ◌++◌, length, drop, get_or, refl, sym, ap, ◌∙◌, append_assoc}
+use Rattle.std.proofs.Common.{◌≡◌, ℕ, zero, suc, ◌+◌, ◌<◌, max, if◌then◌else◌, List, [], ◌∷◌, ◌++◌, length, drop, get_or, sym, ap, ◌∙◌, append_assoc}
 use Rattle.std.proofs.Math.Nat.{max-zero, zero-max, suc-max-suc}
 use Rattle.std.proofs.lemmas.List.{drop_more}
 use Rattle.mpd_model.specs.declared.step.Step.{Step}
+use Rattle.mpd_model.specs.steps.World.{World}
 use Rattle.mpd_picture.specs.declared.glyph.Glyph.{Glyph}
 use Rattle.mpd_picture.specs.declared.glyph.Mark.{Mark}
 use Rattle.mpd_picture.specs.declared.shape.Shape.{Shape}
 use Rattle.mpd_picture.specs.Shapes.{candidate_shapes, candidates_from}
-use Rattle.mpd_picture.specs.Marks.{is_row, stands_in, below, rows_of, next_row, mark_after, marks_from}
+use Rattle.mpd_picture.specs.Marks.{is_row, stands_in, sends_in, below, rows_of, next_row, sent_row, mark_after, marks_from}
 
 max_joined : (a b c : ℕ) → max (max a b) c ≡ max a (max b c)
 max_joined zero b c = ap (λ k. max k c) (zero-max b) ∙ sym (zero-max (max b c))
@@ -37,16 +38,24 @@ next_more marks i p d before one now whole within is e h =
     max_more before one now (next_row (drop (i + 1) marks) p) whole e
     (ap (λ k. max before (max k (next_row (drop (i + 1) marks) p))) is ∙ ap (λ xs. max before (next_row xs p)) (sym (drop_more marks i d within)) ∙ h)
 
+-- one mark more of the last match of a rank's sends
+pub sent_more : (marks : List Mark) (i p : ℕ) (d : Mark) (before one now whole : ℕ) → i < length marks
+    → one ≡ (if sends_in p (get_or marks i d).event then (get_or marks i d).row else 0) → now ≡ max before one
+    → max before (sent_row (drop i marks) p) ≡ whole → max now (sent_row (drop (i + 1) marks) p) ≡ whole
+sent_more marks i p d before one now whole within is e h =
+    max_more before one now (sent_row (drop (i + 1) marks) p) whole e
+    (ap (λ k. max before (max k (sent_row (drop (i + 1) marks) p))) is ∙ ap (λ xs. max before (sent_row xs p)) (sym (drop_more marks i d within)) ∙ h)
+
 -- the mark of one glyph more
 pub marks_more : (glyphs : List Glyph) (i : ℕ) (d : Glyph) (so_far now total : List Mark) → i < length glyphs
     → marks_from so_far (drop i glyphs) ≡ total → now ≡ so_far ++ mark_after so_far (get_or glyphs i d) ∷ [] → marks_from now (drop (i + 1) glyphs) ≡ total
 marks_more glyphs i d so_far now total within h e = ap (λ xs. marks_from xs (drop (i + 1) glyphs)) e ∙ ap (marks_from so_far) (sym (drop_more glyphs i d within)) ∙ h
 
 -- one candidate more
-pub candidates_more : (marks : List Mark) (steps : List Step) (i : ℕ) (d : Step) (number : ℕ) (so_far now total : List Shape) → i < length steps
-    → so_far ++ candidates_from marks number (drop i steps) ≡ total → now ≡ so_far ++ candidate_shapes marks number (get_or steps i d)
-    → now ++ candidates_from marks (number + 1) (drop (i + 1) steps) ≡ total
-candidates_more marks steps i d number so_far now total within h e =
-    let rest : List Shape = candidates_from marks (number + 1) (drop (i + 1) steps) in
-    ap (λ xs. xs ++ rest) e ∙ append_assoc so_far (candidate_shapes marks number (get_or steps i d)) rest
-    ∙ ap (λ xs. so_far ++ candidates_from marks number xs) (sym (drop_more steps i d within)) ∙ h
+pub candidates_more : (w : World) (marks : List Mark) (steps : List Step) (i : ℕ) (d : Step) (number : ℕ) (so_far now total : List Shape) → i < length steps
+    → so_far ++ candidates_from w marks number (drop i steps) ≡ total → now ≡ so_far ++ candidate_shapes w marks number (get_or steps i d)
+    → now ++ candidates_from w marks (number + 1) (drop (i + 1) steps) ≡ total
+candidates_more w marks steps i d number so_far now total within h e =
+    let rest : List Shape = candidates_from w marks (number + 1) (drop (i + 1) steps) in
+    ap (λ xs. xs ++ rest) e ∙ append_assoc so_far (candidate_shapes w marks number (get_or steps i d)) rest
+    ∙ ap (λ xs. so_far ++ candidates_from w marks number xs) (sym (drop_more steps i d within)) ∙ h

@@ -19,7 +19,7 @@ abbrev pub calls_before : World → Step → ℕ
 calls_before w (Local p) = length (calls_of w.board p)
 calls_before w a = 0
 
--- Whether a step issues a call: its rank has another number of calls behind it.
+-- Whether a step issues a call: its rank has another number of calls after it.
 abbrev pub issues : ℕ → Board → ℕ → Bool
 issues before b p = not (before == length (calls_of b p))
 
@@ -34,11 +34,11 @@ takes_row before b Release = true
 abbrev pub row_behind : ℕ → Board → ℕ → Step → ℕ
 row_behind before b row a = if takes_row before b a then row + 1 else row
 
--- A rank goes on behind its last call.
+-- A rank goes on after its last call.
 abbrev pub went_on : Board → ℕ → ℕ → List Glyph
 went_on b row p = glyph row (WentOn (last_call b p)) ∷ []
 
--- What a step shows, on the board behind it, where the next row is this one. A rank that goes on is shown at the row before.
+-- What a step shows, on the board after it, where the next row is this one. A rank that goes on is shown at the row before.
 abbrev pub step_glyphs : ℕ → Board → ℕ → Step → List Glyph
 step_glyphs before b row (Local p) = if issues before b p then glyph row (Issued (call_id p before)) ∷ [] else []
 step_glyphs before b row (Match s r) = glyph row (Paired s r) ∷ []

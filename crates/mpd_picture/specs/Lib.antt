@@ -5,3 +5,4 @@ pub mod Svg
 pub mod Rows
 pub mod Pictures
 pub mod PictureLaws
+pub mod PictureRows

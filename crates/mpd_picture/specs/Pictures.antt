@@ -13,10 +13,12 @@ use Rattle.mpd_picture.specs.declared.glyph.Glyph.{Glyph}
 use Rattle.mpd_picture.specs.declared.shape.Shape.{Shape}
 use Rattle.mpd_picture.specs.declared.style.TheConstants.{OPENED, STYLE, LEGEND}
 use Rattle.mpd_picture.specs.declared.drawing.TheConstants.{GLYPHS_MAX}
+use Rattle.mpd_picture.specs.declared.drawing.Look.{Look}
+use Rattle.mpd_picture.specs.declared.drawing.Look.TheVariants as look
 use Rattle.mpd_picture.specs.Glyphs.{glyphs_of}
 use Rattle.mpd_picture.specs.Marks.{rows_of, marks_of}
 use Rattle.mpd_picture.specs.Shapes.{places_of, shapes_of}
-use Rattle.mpd_picture.specs.Svg.{column_x, row_y, told_y, attribute, text_element, opened, shape_elements}
+use Rattle.mpd_picture.specs.Svg.{column_x, row_y, told_y, attribute, text_element, opened, shape_elements, listed_elements}
 use Rattle.mpd_picture.specs.Rows.{rows_text}
 
 -- ---- the title
@@ -61,17 +63,36 @@ head_elements width height title = opened_text ++ size_attributes width height +
 
 -- Below the rows stands the legend, and beside both the list of what is told.
 abbrev pub height_of : ℕ → ℕ → ℕ
-height_of rows places = max (row_y rows + 224) (told_y places + 12)
+height_of rows places = max (row_y rows + 274) (told_y places + 12)
 
 unfoldable pub legend_elements : ℕ → List ℕ
 legend_elements y = codes "<g transform=\"translate(12 " ++ decimal y ++ codes ")\">\n" ++ legend_text
 
-unfoldable pub svg_by : Program → World → ℕ → ℕ → ℕ → List Shape → List ℕ
-svg_by s w rows places depth shapes =
-    head_elements (column_x w.board + 460) (height_of rows places) (title_of w.board depth (outcome w)) ++ flat_map (shape_elements s w) shapes ++ legend_elements (row_y rows + 90)
+unfoldable pub ended_text : List ℕ
+ended_text = codes "</svg>\n"
 
-abbrev pub svg_of : Program → World → ℕ → List Glyph → List ℕ
-svg_of s w depth glyphs = svg_by s w (rows_of (marks_of glyphs)) (places_of glyphs) depth (shapes_of w (marks_of glyphs))
+-- A plain drawing has neither list nor legend, nor room for them.
+abbrev pub width_by : Look → Board → ℕ
+width_by look.Full b = column_x b + 560
+width_by look.Plain b = column_x b
+
+abbrev pub height_by : Look → ℕ → ℕ → ℕ
+height_by look.Full rows places = height_of rows places
+height_by look.Plain rows places = row_y rows + 134
+
+unfoldable pub list_and_legend : Program → Board → ℕ → List Shape → List ℕ
+list_and_legend s b rows shapes = flat_map (listed_elements s b) shapes ++ legend_elements (row_y rows + 140)
+
+abbrev pub tail_by : Look → Program → Board → ℕ → List Shape → List ℕ
+tail_by look.Full s b rows shapes = list_and_legend s b rows shapes
+tail_by look.Plain s b rows shapes = ended_text
+
+unfoldable pub svg_by : Look → Program → World → ℕ → ℕ → ℕ → List Shape → List ℕ
+svg_by l s w rows places depth shapes =
+    head_elements (width_by l w.board) (height_by l rows places) (title_of w.board depth (outcome w)) ++ flat_map (shape_elements s w) shapes ++ tail_by l s w.board rows shapes
+
+abbrev pub svg_of : Look → Program → World → ℕ → List Glyph → List ℕ
+svg_of l s w depth glyphs = svg_by l s w (rows_of (marks_of glyphs)) (places_of glyphs) depth (shapes_of w (marks_of glyphs))
 
 abbrev pub few : List Glyph → Bool
 few glyphs = nat_le (length glyphs) GLYPHS_MAX
@@ -80,8 +101,8 @@ abbrev pub trail_glyphs : Trail → List Glyph
 trail_glyphs t = glyphs_of t.program t.mode (done_steps t)
 
 -- The picture of the steps of a trail that are not undone, which lead to this world; none where they show too much.
-abbrev pub picture_svg : Trail → World → Option (List ℕ)
-picture_svg t w = if few (trail_glyphs t) then Some (svg_of t.program w t.depth (trail_glyphs t)) else None
+abbrev pub picture_svg : Look → Trail → World → Option (List ℕ)
+picture_svg l t w = if few (trail_glyphs t) then Some (svg_of l t.program w t.depth (trail_glyphs t)) else None
 
 -- the same as text
 abbrev pub picture_text : Trail → World → List ℕ

@@ -1,6 +1,6 @@
 -- A picture in text: a line for each row, with a letter or a sign in the lane of each rank (docs/PICTURES.md, "As text").
 use Rattle.std.specs.Prelude.{ℕ, ◌%◌, Bool, ◌&&◌, ◌||◌, ◌==◌, nat_lt, if◌then◌else◌, List, [], ◌++◌, slice_get, Option, Some, None, codes}
-use Rattle.std.specs.Fmt.{decimal, signed_decimal}
+use Rattle.std.specs.Fmt.{decimal}
 use Rattle.std.specs.List.{flat_map}
 use Rattle.mpd_model.specs.declared.step.CallId.{CallId}
 use Rattle.mpd_model.specs.declared.call.CallKind.{CallKind}
@@ -16,7 +16,7 @@ use Rattle.mpd_picture.specs.declared.shape.Shape.TheVariants as shape
 use Rattle.mpd_picture.specs.declared.svg.Finish.{Finish}
 use Rattle.mpd_picture.specs.declared.svg.Finish.TheVariants as finish
 use Rattle.mpd_picture.specs.declared.style.TheConstants.{LETTERS}
-use Rattle.mpd_picture.specs.Svg.{word_of, finish_of}
+use Rattle.mpd_picture.specs.Svg.{word_of, value_text, finish_of}
 
 -- ---- the sign in each lane, two columns wide
 
@@ -66,7 +66,7 @@ head_sign q = decimal (q % 10) ++ codes " "
 unfoldable pub told_text : List ℕ → List ℕ
 told_text told = codes " " ++ line told
 
--- what is told of a row, behind the lanes
+-- what is told of a row, after the lanes
 unfoldable pub told_behind : (ℕ → List ℕ) → Board → List ℕ → List ℕ
 told_behind sign b told = flat_map sign (rank_numbers b) ++ told_text told
 
@@ -82,10 +82,6 @@ free_text free = if free then codes " free" else []
 -- `4: 0.0 send to 1 tag 7`
 unfoldable pub call_words : Program → Board → CallId → List ℕ
 call_words s b c = decimal (issue_line s.lines (call_at b c)) ++ codes ": " ++ id_text c ++ codes " " ++ short_text (kind_at b c) ++ free_text (is_free b c)
-
-abbrev pub value_text : Option CallKind → List ℕ
-value_text (Some (Send s)) = signed_decimal s.value
-value_text kind = []
 
 -- `0.0 to 1.0: 5`
 unfoldable pub arrow_words : Board → CallId → CallId → List ℕ

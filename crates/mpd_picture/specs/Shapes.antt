@@ -1,22 +1,22 @@
 -- The shapes of a picture, by ranks and rows (docs/PICTURES.md, "Shapes").
-use Rattle.std.specs.Prelude.{ℕ, ◌+◌, Bool, true, false, if◌then◌else◌, List, [], ◌∷◌, ◌++◌, count_by, slice_get, Option, Some}
+use Rattle.std.specs.Prelude.{ℕ, ◌+◌, Bool, true, false, if◌then◌else◌, List, [], ◌∷◌, ◌++◌, count_by, slice_get, Option, Some, None}
 use Rattle.std.specs.List.{flat_map, list_all}
 use Rattle.mpd_model.specs.declared.step.CallId.{CallId}
 use Rattle.mpd_model.specs.declared.step.Step.{Step}
-use Rattle.mpd_model.specs.declared.step.Step.TheVariants.{Match}
+use Rattle.mpd_model.specs.declared.step.Step.TheVariants.{Match, WakeAny}
 use Rattle.mpd_model.specs.declared.call.CallKind.{CallKind}
 use Rattle.mpd_model.specs.declared.call.CallKind.TheVariants.{Send, Recv}
-use Rattle.mpd_model.specs.steps.World.{World, Board, id_eq, kind_at, is_free, last_call, rank_numbers}
-use Rattle.mpd_model.specs.steps.Next.{waits, enabled}
-use Rattle.mpd_model.specs.runs.Decisions.{is_open_match}
+use Rattle.mpd_model.specs.steps.World.{World, Board, kind_at, is_free, last_call, rank_numbers}
+use Rattle.mpd_model.specs.steps.Next.{waits, enabled, any_call}
+use Rattle.mpd_model.specs.runs.Decisions.{takes_any}
 use Rattle.mpd_picture.specs.declared.glyph.Glyph.{Glyph}
 use Rattle.mpd_picture.specs.declared.glyph.Mark.{Mark}
 use Rattle.mpd_picture.specs.declared.glyph.Event.{Event}
 use Rattle.mpd_picture.specs.declared.glyph.Event.TheVariants.{Issued, Paired, WentOn, Released}
 use Rattle.mpd_picture.specs.declared.shape.Shape.{Shape}
-use Rattle.mpd_picture.specs.declared.shape.Shape.TheVariants.{Lane, Waiting, Posted, Arrow, Bar, Stub, Candidate, End}
+use Rattle.mpd_picture.specs.declared.shape.Shape.TheVariants.{Lane, Waiting, Posted, Arrow, Bar, Stub, Candidate, Request, End}
 use Rattle.mpd_picture.specs.declared.shape.Shape.TheVariants as shape
-use Rattle.mpd_picture.specs.Marks.{is_row, rows_of}
+use Rattle.mpd_picture.specs.Marks.{is_row, rows_of, row_of}
 
 -- ---- rows
 
@@ -27,28 +27,19 @@ has_row m = is_row m.event
 abbrev pub places_of : List Glyph → ℕ
 places_of glyphs = count_by has_row glyphs
 
-abbrev pub is_issue : Event → CallId → Bool
-is_issue (Issued d) c = id_eq d c
-is_issue e c = false
-
--- the row in which a call is issued, 0 where it isn't
-abbrev pub row_of : List Mark → CallId → ℕ
-row_of [] c = 0
-row_of (m ∷ ms) c = if is_issue m.event c then m.row else row_of ms c
-
 -- ---- shapes
 
 -- what is shown of a call that stays free: a receive is posted to the end
 abbrev pub free_shapes : CallId → ℕ → ℕ → Option CallKind → List Shape
 free_shapes c row rows (Some (Send s)) = Stub c row ∷ []
-free_shapes c row rows (Some (Recv r)) = Posted c.rank row rows ∷ Stub c row ∷ []
+free_shapes c row rows (Some (Recv r)) = Posted c row rows ∷ Stub c row ∷ []
 free_shapes c row rows kind = []
 
 abbrev pub call_shapes : Board → ℕ → CallId → ℕ → ℕ → List Shape
 call_shapes b rows c row place = (if is_free b c then free_shapes c row rows (kind_at b c) else []) ++ shape.Call c row place ∷ []
 
 abbrev pub pair_shapes : List Mark → CallId → CallId → ℕ → ℕ → List Shape
-pair_shapes marks s r row place = Posted r.rank (row_of marks r) row ∷ Arrow s (row_of marks s) r row place ∷ []
+pair_shapes marks s r row place = Posted r (row_of marks r) row ∷ Arrow s (row_of marks s) r row place ∷ []
 
 abbrev pub event_shapes : Board → List Mark → ℕ → ℕ → ℕ → Event → List Shape
 event_shapes b marks rows row place (Issued c) = call_shapes b rows c row place
@@ -61,22 +52,34 @@ mark_shapes b marks rows m = event_shapes b marks rows m.row m.place m.event
 
 -- ---- candidates
 
--- The candidates of a choice among matches: the enabled steps, where each is a match of a receive of any source.
-abbrev pub open_only : Board → List Step → List Step
-open_only b steps = if list_all (is_open_match b) steps then steps else []
+-- what somebody has to choose: a match of a receive of any source, and by which request a waitany goes on
+abbrev pub is_choice : Board → Step → Bool
+is_choice b (Match s r) = takes_any (kind_at b r)
+is_choice b (WakeAny p i) = true
+is_choice b a = false
+
+-- The candidates of a choice: the enabled steps, where each has to be chosen.
+abbrev pub choices_only : Board → List Step → List Step
+choices_only b steps = if list_all (is_choice b) steps then steps else []
 
 unfoldable pub candidates : World → List Step
-candidates w = open_only w.board (enabled w)
+candidates w = choices_only w.board (enabled w)
+
+-- a request with its number, from its row to that of the waitany
+abbrev pub request_shapes : List Mark → ℕ → CallId → Option CallId → List Shape
+request_shapes marks number wait None = []
+request_shapes marks number wait (Some c) = Request c (row_of marks c) (row_of marks wait) number ∷ []
 
 -- a candidate with its number, from the row of its send to that of its receive
-abbrev pub candidate_shapes : List Mark → ℕ → Step → List Shape
-candidate_shapes marks number (Match s r) = Candidate s (row_of marks s) r (row_of marks r) number ∷ []
-candidate_shapes marks number a = []
+abbrev pub candidate_shapes : World → List Mark → ℕ → Step → List Shape
+candidate_shapes w marks number (Match s r) = Candidate s (row_of marks s) r (row_of marks r) number ∷ []
+candidate_shapes w marks number (WakeAny p i) = request_shapes marks number (last_call w.board p) (any_call w p i)
+candidate_shapes w marks number a = []
 
 -- candidates are counted as the console counts them
-abbrev pub candidates_from : List Mark → ℕ → List Step → List Shape
-candidates_from marks number [] = []
-candidates_from marks number (a ∷ steps) = candidate_shapes marks number a ++ candidates_from marks (number + 1) steps
+abbrev pub candidates_from : World → List Mark → ℕ → List Step → List Shape
+candidates_from w marks number [] = []
+candidates_from w marks number (a ∷ steps) = candidate_shapes w marks number a ++ candidates_from w marks (number + 1) steps
 
 -- ---- lanes and ends
 
@@ -88,7 +91,7 @@ abbrev pub end_shapes : World → List Mark → ℕ → ℕ → List Shape
 end_shapes w marks rows p = (if waits (slice_get w.ranks p) then Waiting p (row_of marks (last_call w.board p)) rows ∷ [] else []) ++ End p rows ∷ []
 
 abbrev pub shapes_in : World → List Mark → ℕ → List Shape
-shapes_in w marks rows = flat_map (lane_shapes rows) (rank_numbers w.board) ++ flat_map (mark_shapes w.board marks rows) marks ++ candidates_from marks 1 (candidates w) ++ flat_map (end_shapes w marks rows) (rank_numbers w.board)
+shapes_in w marks rows = flat_map (lane_shapes rows) (rank_numbers w.board) ++ flat_map (mark_shapes w.board marks rows) marks ++ candidates_from w marks 1 (candidates w) ++ flat_map (end_shapes w marks rows) (rank_numbers w.board)
 
 -- the shapes of a run with these marks, which leads to this world
 abbrev pub shapes_of : World → List Mark → List Shape

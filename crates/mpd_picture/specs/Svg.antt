@@ -1,19 +1,21 @@
 -- The text of a drawing: its elements, and those of each shape (docs/PICTURES.md, "Elements"). All that is written is numbers and the words
 -- of these definitions, so there is no `<` or `&` but those of the elements here, each of which is closed where it is opened.
-use Rattle.std.specs.Prelude.{ℕ, ◌+◌, ◌-◌, ◌*◌, min, max, Bool, false, ◌==◌, nat_lt, if◌then◌else◌, List, [], ◌++◌, length, slice_get, Option, Some, None, codes}
+use Rattle.std.specs.Prelude.{ℕ, ◌+◌, ◌-◌, ◌*◌, min, max, Bool, false, ◌%◌, ◌==◌, nat_lt, nat_le, if◌then◌else◌, List, [], ◌∷◌, ◌++◌, length, slice_get, Option, Some, None, codes}
 use Rattle.std.specs.Fmt.{decimal, signed_decimal}
+use Rattle.std.specs.List.{flat_map}
 use Rattle.mpd_model.specs.declared.step.CallId.{CallId}
 use Rattle.mpd_model.specs.declared.call.CallKind.{CallKind}
 use Rattle.mpd_model.specs.declared.call.CallKind.TheVariants.{Send, Recv, Wait, Waitany, Barrier}
 use Rattle.mpd_model.specs.declared.call.Activity.{Activity}
 use Rattle.mpd_model.specs.declared.call.Activity.TheVariants.{Running, Blocked, Trapped}
 use Rattle.mpd_model.specs.script.Program.{Program}
-use Rattle.mpd_model.specs.steps.World.{RankWorld, World, Board, call_at, kind_at, last_call}
+use Rattle.mpd_model.specs.steps.World.{RankWorld, World, Board, call_id, call_at, kind_at, last_call, rank_numbers}
+use Rattle.mpd_model.specs.steps.Next.{is_at_barrier}
 use Rattle.mpd_model.specs.steps.Outcomes.{has_ended, is_stuck}
 use Rattle.mpd_model.specs.texts.Texts.{id_text, send_word, recv_word, call_text, trap_name}
 use Rattle.mpd_names.specs.Placed.{issue_line, rank_line}
 use Rattle.mpd_picture.specs.declared.shape.Shape.{Shape}
-use Rattle.mpd_picture.specs.declared.shape.Shape.TheVariants.{Lane, Waiting, Posted, Arrow, Bar, Stub, Candidate, End}
+use Rattle.mpd_picture.specs.declared.shape.Shape.TheVariants.{Lane, Waiting, Posted, Arrow, Bar, Stub, Candidate, Request, End}
 use Rattle.mpd_picture.specs.declared.shape.Shape.TheVariants as shape
 use Rattle.mpd_picture.specs.declared.svg.Finish.{Finish}
 use Rattle.mpd_picture.specs.declared.svg.Finish.TheVariants as finish
@@ -22,10 +24,10 @@ use Rattle.mpd_picture.specs.declared.svg.Finish.TheVariants as finish
 
 -- the lane of a rank, and the middle of a row: no run has more ranks or rows
 abbrev pub lane_x : ℕ → ℕ
-lane_x p = 96 + 130 * min p 16
+lane_x p = 132 + 160 * min p 16
 
 abbrev pub row_y : ℕ → ℕ
-row_y row = 80 + 28 * min row 1000000
+row_y row = 80 + 36 * min row 1000000
 
 -- where the texts of the list begin: beside the lanes and the legend
 abbrev pub column_x : Board → ℕ
@@ -104,7 +106,7 @@ path_of (Some Barrier) = codes "m-8 -3h16v6h-16z"
 
 -- A free send has a stub towards its receiver, to the right where that is its own rank, and a free receive one at its left.
 abbrev pub stub_path : CallId → Option CallKind → List ℕ
-stub_path c (Some (Recv r)) = codes "l-18 0m-3 0a3 3 0 1 0 6 0a3 3 0 1 0 -6 0"
+stub_path c (Some (Recv r)) = codes "l-26 0m-3 0a3 3 0 1 0 6 0a3 3 0 1 0 -6 0"
 stub_path c (Some (Send s)) = if nat_lt s.to c.rank then codes "l-12 16m-3 0a3 3 0 1 0 6 0a3 3 0 1 0 -6 0" else codes "l12 16m-3 0a3 3 0 1 0 6 0a3 3 0 1 0 -6 0"
 stub_path c kind = codes "l12 16m-3 0a3 3 0 1 0 6 0a3 3 0 1 0 -6 0"
 
@@ -126,10 +128,22 @@ call_told s b c = codes "line " ++ decimal (issue_line s.lines (call_at b c)) ++
 unfoldable pub call_label : Program → Board → CallId → List ℕ
 call_label s b c = decimal (issue_line s.lines (call_at b c)) ++ codes " " ++ word_of (kind_at b c)
 
+-- `5`: the value of a send
+abbrev pub value_text : Option CallKind → List ℕ
+value_text (Some (Send s)) = signed_decimal s.value
+value_text kind = []
+
 -- `5 tag 7`
 unfoldable pub message_label : Option CallKind → List ℕ
 message_label (Some (Send s)) = signed_decimal s.value ++ codes " tag " ++ decimal s.tag
 message_label kind = []
+
+-- what stands beside a match has 16 characters at most: a longer one has no tag, and of a longer value it is left to the list
+abbrev pub short_by : List ℕ → List ℕ → List ℕ
+short_by whole value = if nat_le (length whole) 16 then whole else (if nat_le (length value) 16 then value else codes "..")
+
+abbrev pub short_label : Option CallKind → List ℕ
+short_label kind = short_by (message_label kind) (value_text kind)
 
 -- `0.0 to 1.0: value 5 tag 7`
 unfoldable pub arrow_told : Board → CallId → CallId → List ℕ
@@ -137,12 +151,9 @@ arrow_told b s r = id_text s ++ codes " to " ++ id_text r ++ codes ": value " ++
 
 -- ---- shapes
 
--- what stands beside the lane, and what is told of it in the list
+-- what stands beside the lane
 unfoldable pub side_element : Bool → ℕ → ℕ → List ℕ → List ℕ
-side_element is_left x y label = if is_left then text_element (codes "left") (x - 12) (y + 4) label else text_element (codes "right") (x + 12) (y + 4) label
-
-unfoldable pub row_elements : Board → Bool → ℕ → ℕ → ℕ → List ℕ → List ℕ → List ℕ
-row_elements b is_left x y place label told = side_element is_left x y label ++ text_element (codes "row") (column_x b) (told_y place) told
+side_element is_left x y label = if is_left then text_element (codes "left") (x - 24) (y + 4) label else text_element (codes "right") (x + 12) (y + 4) label
 
 unfoldable pub lane_elements : ℕ → ℕ → List ℕ
 lane_elements p row = line_element (codes "lane") (lane_x p) 60 (lane_x p) (row_y row) ++ text_element (codes "name") (lane_x p) 52 (rank_name p)
@@ -150,16 +161,24 @@ lane_elements p row = line_element (codes "lane") (lane_x p) 60 (lane_x p) (row_
 unfoldable pub waiting_element : ℕ → ℕ → ℕ → List ℕ
 waiting_element p from to = line_element (codes "waiting") (lane_x p) (row_y from + 5) (lane_x p) (row_y to + 5)
 
-unfoldable pub posted_element : ℕ → ℕ → ℕ → List ℕ
-posted_element p from to = line_element (codes "posted") (lane_x p - 5) (row_y from) (lane_x p - 5) (row_y to)
+-- how far beside its lane a receive is posted: receives after one another at other places
+abbrev pub posted_depth : CallId → ℕ
+posted_depth c = 8 + 4 * (c.index % 4)
+
+-- a bracket from a receive to its match
+unfoldable pub bracket : ℕ → ℕ → ℕ → List ℕ
+bracket far near y = codes "H" ++ decimal far ++ codes "V" ++ decimal y ++ codes "H" ++ decimal near
+
+unfoldable pub posted_element : CallId → ℕ → ℕ → List ℕ
+posted_element c from to = path_element (codes "posted") (lane_x c.rank - 5) (row_y from) (bracket (lane_x c.rank - posted_depth c) (lane_x c.rank - 5) (row_y to))
 
 unfoldable pub stub_element : Board → CallId → ℕ → List ℕ
 stub_element b c row = path_element (codes "stub") (lane_x c.rank) (row_y row) (stub_path c (kind_at b c))
 
-unfoldable pub call_elements : Program → Board → CallId → ℕ → ℕ → List ℕ
-call_elements s b c row place =
+unfoldable pub call_elements : Program → Board → CallId → ℕ → List ℕ
+call_elements s b c row =
     group_begun (call_told s b c) ++ path_element (class_of (kind_at b c)) (lane_x c.rank) (row_y row) (path_of (kind_at b c))
-    ++ row_elements b (goes_right c (kind_at b c)) (lane_x c.rank) (row_y row) place (call_label s b c) (call_told s b c) ++ group_ended
+    ++ side_element (goes_right c (kind_at b c)) (lane_x c.rank) (row_y row) (call_label s b c) ++ group_ended
 
 -- where a rank sends to itself, a bow at the left of its lane
 unfoldable pub bow : ℕ → ℕ → ℕ → List ℕ
@@ -170,14 +189,14 @@ straight x y = codes "L" ++ decimal x ++ codes " " ++ decimal y
 
 -- An arrow over other lanes goes down beside its own, up to the space between two rows, and through that: no shape of a lane stands there.
 unfoldable pub bent : ℕ → ℕ → ℕ → ℕ → List ℕ
-bent near far x y = straight near (y - 20) ++ straight far (y - 9) ++ straight x y
+bent near far x y = straight near (y - 28) ++ straight far (y - 9) ++ straight x y
 
 -- to a higher rank, and to a lower one: the tip stands beside the lane
 unfoldable pub to_higher : ℕ → ℕ → ℕ → List ℕ
-to_higher p q y = if q - p == 1 then straight (lane_x q - 7) y else bent (lane_x p + 65) (lane_x q - 65) (lane_x q - 7) y
+to_higher p q y = if q - p == 1 then straight (lane_x q - 7) y else bent (lane_x p + 80) (lane_x q - 80) (lane_x q - 7) y
 
 unfoldable pub to_lower : ℕ → ℕ → ℕ → List ℕ
-to_lower p q y = if p - q == 1 then straight (lane_x q + 4) y else bent (lane_x p - 65) (lane_x q + 65) (lane_x q + 4) y
+to_lower p q y = if p - q == 1 then straight (lane_x q + 4) y else bent (lane_x p - 80) (lane_x q + 80) (lane_x q + 4) y
 
 unfoldable pub to_other : ℕ → ℕ → ℕ → List ℕ
 to_other p q y = if nat_lt p q then to_higher p q y else to_lower p q y
@@ -185,22 +204,22 @@ to_other p q y = if nat_lt p q then to_higher p q y else to_lower p q y
 unfoldable pub arrow_path : ℕ → ℕ → ℕ → ℕ → List ℕ
 arrow_path p from q to = if p == q then bow (lane_x q) (row_y from) (row_y to) else to_other p q (row_y to)
 
-unfoldable pub arrow_elements : Board → CallId → ℕ → CallId → ℕ → ℕ → List ℕ
-arrow_elements b s from r to place =
+unfoldable pub arrow_elements : Board → CallId → ℕ → CallId → ℕ → List ℕ
+arrow_elements b s from r to =
     group_begun (arrow_told b s r) ++ path_element (codes "arrow") (lane_x s.rank) (row_y from) (arrow_path s.rank from r.rank to)
-    ++ row_elements b (nat_lt r.rank s.rank) (lane_x r.rank) (row_y to) place (message_label (kind_at b s)) (arrow_told b s r) ++ group_ended
+    ++ side_element (nat_lt r.rank s.rank) (lane_x r.rank) (row_y to) (short_label (kind_at b s)) ++ group_ended
 
-unfoldable pub bar_elements : Board → ℕ → ℕ → List ℕ
-bar_elements b row place =
+unfoldable pub bar_elements : Board → ℕ → List ℕ
+bar_elements b row =
     group_begun (codes "release: all ranks leave the barrier") ++ line_element (codes "bar") (lane_x 0 - 14) (row_y row) (lane_x (length b.calls - 1) + 14) (row_y row)
-    ++ text_element (codes "row") (column_x b) (told_y place) (codes "release") ++ group_ended
+    ++ group_ended
 
 -- A candidate hangs below the row of its send, so that it passes beside what stands in the lanes between.
-unfoldable pub hanging : ℕ → ℕ → ℕ → ℕ → List ℕ
-hanging x1 y1 x2 y2 = codes "C" ++ decimal x1 ++ codes " " ++ decimal (y1 + 18) ++ codes " " ++ decimal x2 ++ codes " " ++ decimal (y2 + 18) ++ codes " " ++ decimal x2 ++ codes " " ++ decimal y2
+unfoldable pub hanging : ℕ → ℕ → ℕ → ℕ → ℕ → List ℕ
+hanging x1 low1 x2 low2 y2 = codes "C" ++ decimal x1 ++ codes " " ++ decimal low1 ++ codes " " ++ decimal x2 ++ codes " " ++ decimal low2 ++ codes " " ++ decimal x2 ++ codes " " ++ decimal y2
 
 unfoldable pub candidate_path : ℕ → ℕ → ℕ → ℕ → List ℕ
-candidate_path p from q to = if p == q then bow (lane_x q) (row_y from) (row_y to) else hanging (lane_x p) (row_y from) (lane_x q) (row_y to)
+candidate_path p from q to = if p == q then bow (lane_x q) (row_y from) (row_y to) else hanging (lane_x p) (row_y from + 18) (lane_x q) (row_y to + 18) (row_y to)
 
 -- `1: 1.0 to 0.0: value 5 tag 7`
 unfoldable pub candidate_told : ℕ → List ℕ → List ℕ
@@ -213,6 +232,10 @@ candidate_by x y number path told =
 
 unfoldable pub candidate_elements : Board → CallId → ℕ → CallId → ℕ → ℕ → List ℕ
 candidate_elements b s from r to number = candidate_by (lane_x s.rank) (row_y from) number (candidate_path s.rank from r.rank to) (arrow_told b s r)
+
+-- a request of a waitany, which is told as the call is
+unfoldable pub request_elements : Program → Board → CallId → ℕ → ℕ → ℕ → List ℕ
+request_elements s b c from to number = candidate_by (lane_x c.rank) (row_y from) number (bow (lane_x c.rank) (row_y from) (row_y to)) (call_told s b c)
 
 -- ---- how a rank is at the end
 
@@ -254,7 +277,7 @@ finish_told finish.Held = codes "waits"
 finish_told finish.Blocked = codes "blocked"
 finish_told (finish.Trapped t) = trap_name t
 
--- the line of the statement where a rank stands: that of its last call where it is blocked, else of the one that it has not got past
+-- the line of the statement where a rank stands: that of its last call if it is blocked, else of the one that it has not got past
 abbrev pub end_line : Program → World → ℕ → Finish → ℕ
 end_line s w p finish.Held = issue_line s.lines (call_at w.board (last_call w.board p))
 end_line s w p finish.Blocked = issue_line s.lines (call_at w.board (last_call w.board p))
@@ -269,18 +292,86 @@ abbrev pub place_element : Finish → ℕ → ℕ → List ℕ → List ℕ
 place_element finish.Ended x y place = []
 place_element f x y place = text_element (codes "name") x (y + 52) place
 
+-- ---- whom a rank waits for
+
+abbrev pub target_kind : Board → ℕ → Option ℕ → Option CallKind
+target_kind b p None = None
+target_kind b p (Some i) = kind_at b (call_id p i)
+
+-- what a rank of that last call waits for: of a wait the call that it is for
+abbrev pub wanted_by : Board → ℕ → Option CallKind → Option CallKind
+wanted_by b p (Some (Wait t)) = target_kind b p t.target
+wanted_by b p kind = kind
+
+abbrev pub wanted_kind : Board → ℕ → Option CallKind
+wanted_kind b p = wanted_by b p (kind_at b (last_call b p))
+
+-- those that are not at a barrier
+abbrev pub absent_at : World → ℕ → List ℕ
+absent_at w q = if is_at_barrier w q then [] else q ∷ []
+
+abbrev pub absent : World → List ℕ
+absent w = flat_map (absent_at w) (rank_numbers w.board)
+
+abbrev pub only : List ℕ → Option ℕ
+only (q ∷ []) = Some q
+only qs = None
+
+-- the rank that a call is for, if it is for one: a barrier is for the one that isn't there
+abbrev pub wanted_rank : World → Option CallKind → Option ℕ
+wanted_rank w (Some (Send s)) = Some s.to
+wanted_rank w (Some (Recv r)) = r.from
+wanted_rank w (Some Barrier) = only (absent w)
+wanted_rank w kind = None
+
+abbrev pub several_text : Option CallKind → List ℕ
+several_text (Some (Recv r)) = codes "for any rank"
+several_text (Some Barrier) = codes "for all ranks"
+several_text kind = codes "for a request"
+
+-- `for rank 1`
+unfoldable pub for_rank : ℕ → List ℕ
+for_rank q = codes "for rank " ++ decimal q
+
+abbrev pub wanted_text : Option CallKind → Option ℕ → List ℕ
+wanted_text kind None = several_text kind
+wanted_text kind (Some q) = for_rank q
+
+-- an arrow below the words, from a rank to one that it waits for; one to the left hangs lower
+abbrev pub want_depth : ℕ → ℕ → ℕ
+want_depth p q = if nat_lt q p then 52 else 36
+
+unfoldable pub want_path : ℕ → ℕ → ℕ → List ℕ
+want_path p q y = hanging (lane_x p + 12) (y + want_depth p q) (lane_x q - 12) (y + want_depth p q) (y + 2)
+
+abbrev pub want_arrow : ℕ → ℕ → Option ℕ → List ℕ
+want_arrow p y None = []
+want_arrow p y (Some q) = path_element (codes "want") (lane_x p + 12) y (want_path p q y)
+
+-- Of a rank that is blocked it is told whom it waits for, and it has an arrow to that rank where no step is enabled.
+abbrev pub want_elements : Finish → ℕ → ℕ → Option CallKind → Option ℕ → List ℕ
+want_elements finish.Held p y kind wanted = text_element (codes "name") (lane_x p) (y + 66) (wanted_text kind wanted)
+want_elements finish.Blocked p y kind wanted = text_element (codes "name") (lane_x p) (y + 66) (wanted_text kind wanted) ++ want_arrow p (y + 72) wanted
+want_elements f p y kind wanted = []
+
+-- ---- the end of a lane
+
+-- where a rank stands, and whom it waits for
+unfoldable pub standing : Finish → ℕ → ℕ → List ℕ → Option CallKind → Option ℕ → List ℕ
+standing f p y place kind wanted = place_element f (lane_x p) y place ++ want_elements f p y kind wanted
+
 -- a finish at a lane, with its words
 unfoldable pub end_title : List ℕ → List ℕ → List ℕ
 end_title name told = name ++ codes ": " ++ told
 
-unfoldable pub end_told : ℕ → ℕ → Finish → List ℕ → List ℕ
-end_told p row f place =
+unfoldable pub end_told : ℕ → ℕ → Finish → List ℕ → Option CallKind → Option ℕ → List ℕ
+end_told p row f place kind wanted =
     group_begun (end_title (rank_name p) (finish_told f)) ++ path_element (finish_class f) (lane_x p) (row_y row) (finish_path f)
     ++ text_element (codes "name") (lane_x p) (row_y row + 24) (rank_name p) ++ text_element (codes "name") (lane_x p) (row_y row + 38) (finish_told f)
-    ++ place_element f (lane_x p) (row_y row) place ++ group_ended
+    ++ standing f p (row_y row) place kind wanted ++ group_ended
 
 unfoldable pub end_by : Program → World → ℕ → ℕ → Finish → List ℕ
-end_by s w p row f = end_told p row f (line_told (end_line s w p f))
+end_by s w p row f = end_told p row f (line_told (end_line s w p f)) (wanted_kind w.board p) (wanted_rank w (wanted_kind w.board p))
 
 unfoldable pub end_elements : Program → World → ℕ → ℕ → List ℕ
 end_elements s w p row = end_by s w p row (finish_of (is_stuck w) (slice_get w.ranks p))
@@ -290,10 +381,23 @@ end_elements s w p row = end_by s w p row (finish_of (is_stuck w) (slice_get w.r
 abbrev pub shape_elements : Program → World → Shape → List ℕ
 shape_elements s w (Lane p row) = lane_elements p row
 shape_elements s w (Waiting p from to) = waiting_element p from to
-shape_elements s w (Posted p from to) = posted_element p from to
-shape_elements s w (shape.Call c row place) = call_elements s w.board c row place
+shape_elements s w (Posted c from to) = posted_element c from to
+shape_elements s w (shape.Call c row place) = call_elements s w.board c row
 shape_elements s w (Stub c row) = stub_element w.board c row
-shape_elements s w (Arrow c from d to place) = arrow_elements w.board c from d to place
-shape_elements s w (Bar row place) = bar_elements w.board row place
+shape_elements s w (Arrow c from d to place) = arrow_elements w.board c from d to
+shape_elements s w (Bar row place) = bar_elements w.board row
 shape_elements s w (Candidate c from d to number) = candidate_elements w.board c from d to number
+shape_elements s w (Request c from to number) = request_elements s w.board c from to number
 shape_elements s w (End p row) = end_elements s w p row
+
+-- ---- the list beside the drawing
+
+unfoldable pub listed_at : Board → ℕ → List ℕ → List ℕ
+listed_at b place told = text_element (codes "row") (column_x b) (told_y place) told
+
+-- what is told of a call, of a match and of a release, each at its place
+abbrev pub listed_elements : Program → Board → Shape → List ℕ
+listed_elements s b (shape.Call c row place) = listed_at b place (call_told s b c)
+listed_elements s b (Arrow c from d to place) = listed_at b place (arrow_told b c d)
+listed_elements s b (Bar row place) = listed_at b place (codes "release")
+listed_elements s b shape = []

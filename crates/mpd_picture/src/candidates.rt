@@ -2,19 +2,19 @@
 
 ghost use Rattle.std.specs.Prelude.{◌≡◌, ◌++◌, ◌<◌, ◌+◌, ◌∷◌, [], length, IfOk, OnOk};
 ghost use Rattle.std.specs.List.{list_all};
-ghost use Rattle.mpd_model.specs.runs.Decisions.{is_open_match};
+ghost use Rattle.mpd_model.specs.steps.Next.{any_call};
 ghost use Rattle.mpd_picture.specs.Shapes as spec;
 
 use crate::glyph::Mark;
+use crate::marks::row_of;
 use crate::shape::Shape;
-use crate::shapes::row_of;
 use mpd_core::Core;
-use mpd_model::{CallKind, Step};
+use mpd_model::{CallId, CallKind, Step};
 use std::alloc::{AllocError, Global};
 
-/// Whether a step is a match of a receive of any source.
-fn is_open(core: &Core<'_>, step: Step) -> bool
-    ensures { result ≡ is_open_match core.now.world.board step }
+/// Whether somebody has to choose a step: a match of a receive of any source, or by which request a waitany goes on.
+fn is_choice(core: &Core<'_>, step: Step) -> bool
+    ensures { result ≡ spec.is_choice core.now.world.board step }
 {
     match step {
         Step::Match(_, receive) => match core.board().kind(receive) {
@@ -25,30 +25,64 @@ fn is_open(core: &Core<'_>, step: Step) -> bool
             | Some(CallKind::Waitany(_))
             | Some(CallKind::Barrier) => false,
         },
-        Step::Local(_) | Step::Wake(_) | Step::WakeAny { .. } | Step::Release => false,
+        Step::WakeAny { .. } => true,
+        Step::Local(_) | Step::Wake(_) | Step::Release => false,
     }
 }
 
 /// Whether all steps are.
-fn are_open(core: &Core<'_>, steps: &[Step]) -> bool
-    ensures { result ≡ list_all (is_open_match core.now.world.board) steps.now }
+fn are_choices(core: &Core<'_>, steps: &[Step]) -> bool
+    ensures { result ≡ list_all (spec.is_choice core.now.world.board) steps.now }
 {
     for step in steps {
-        if !is_open(core, *step) {
+        if !is_choice(core, *step) {
             return false;
         }
     }
     true
 }
 
+/// Adds a request of a waitany with its number, if it is a call.
+fn push_request(
+    marks: &[Mark],
+    shapes: &mut Vec<Shape>,
+    number: usize,
+    wait: CallId,
+    call: Option<CallId>,
+) -> Result<(), AllocError>
+    ensures { OnOk result (shapes.new.items ≡ shapes.old.items ++ spec.request_shapes marks.now number wait call) }
+{
+    let Some(call) = call else {
+        return Ok(());
+    };
+    shapes.push(Shape::Request {
+        call,
+        from: row_of(marks, call),
+        to: row_of(marks, wait),
+        number,
+    })?;
+    Ok(())
+}
+
+/// The call of the request of an index, of the waitany that a rank has issued last.
+fn request_call(core: &Core<'_>, rank: usize, index: usize) -> Option<CallId>
+    ensures { result ≡ any_call core.now.world rank index }
+{
+    match core.request(rank, index) {
+        None => None,
+        Some(request) => Some(request.call),
+    }
+}
+
 /// Adds a candidate with its number.
 fn push_candidate(
+    core: &Core<'_>,
     marks: &[Mark],
     shapes: &mut Vec<Shape>,
     number: usize,
     step: Step,
 ) -> Result<(), AllocError>
-    ensures { OnOk result (shapes.new.items ≡ shapes.old.items ++ spec.candidate_shapes marks.now number step) }
+    ensures { OnOk result (shapes.new.items ≡ shapes.old.items ++ spec.candidate_shapes core.now.world marks.now number step) }
 {
     match step {
         Step::Match(send, receive) => {
@@ -61,23 +95,32 @@ fn push_candidate(
             })?;
             Ok(())
         }
-        Step::Local(_) | Step::Wake(_) | Step::WakeAny { .. } | Step::Release => Ok(()),
+        Step::WakeAny { rank, index } => {
+            let wait = core.board().last_call(rank);
+            push_request(marks, shapes, number, wait, request_call(core, rank, index))
+        }
+        Step::Local(_) | Step::Wake(_) | Step::Release => Ok(()),
     }
 }
 
 /// Adds candidates, counted from 1.
-fn push_listed(marks: &[Mark], shapes: &mut Vec<Shape>, steps: &[Step]) -> Result<(), AllocError>
-    ensures { OnOk result (shapes.new.items ≡ shapes.old.items ++ spec.candidates_from marks.now 1 steps.now) }
+fn push_listed(
+    core: &Core<'_>,
+    marks: &[Mark],
+    shapes: &mut Vec<Shape>,
+    steps: &[Step],
+) -> Result<(), AllocError>
+    ensures { OnOk result (shapes.new.items ≡ shapes.old.items ++ spec.candidates_from core.now.world marks.now 1 steps.now) }
 {
     let mut before = 0;
     for step in steps {
-        push_candidate(marks, shapes, before + 1, *step)?;
+        push_candidate(core, marks, shapes, before + 1, *step)?;
         before += 1;
     }
     Ok(())
 }
 
-/// Adds the candidates of the choice at the end, if it is one among matches. An `Err` is want of memory.
+/// Adds the candidates of the choice at the end, if there is one. An `Err` is want of memory.
 #[tactic(auto, unfolding(crate::specs::Shapes::candidates))]
 pub(crate) fn push_candidates(
     alloc: Global,
@@ -85,11 +128,11 @@ pub(crate) fn push_candidates(
     marks: &[Mark],
     shapes: &mut Vec<Shape>,
 ) -> Result<(), AllocError>
-    ensures { OnOk result (shapes.new.items ≡ shapes.old.items ++ spec.candidates_from marks.now 1 (spec.candidates core.now.world)) }
+    ensures { OnOk result (shapes.new.items ≡ shapes.old.items ++ spec.candidates_from core.now.world marks.now 1 (spec.candidates core.now.world)) }
 {
     let steps = core.enabled(alloc)?;
-    if are_open(core, &steps) {
-        push_listed(marks, shapes, &steps)
+    if are_choices(core, &steps) {
+        push_listed(core, marks, shapes, &steps)
     } else {
         Ok(())
     }

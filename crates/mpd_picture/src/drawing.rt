@@ -13,15 +13,26 @@ use crate::glyphs::glyphs_of;
 use crate::marks::{marks_of, rows_of};
 use crate::places::{column_x, row_y, told_y};
 use crate::rows::push_rows;
+use crate::shape::Shape;
 use crate::shapes::{places_of, shapes_of};
 use crate::style::{LEGEND, OPENED, STYLE};
 use crate::svg::push_shapes;
+use crate::told::push_list;
 use mpd_core::{Core, Debugger};
 use mpd_model::{Outcome, print_outcome};
 use std::alloc::{AllocError, Global};
 
 /// How much of a run is drawn at most: so many calls that are issued, matches, releases, and ranks that go on.
 pub const GLYPHS_MAX: usize = 20_000;
+
+/// What a drawing has beside the lanes.
+#[derive(Clone, Copy)]
+pub enum Look {
+    /// The list of what is told, and the legend.
+    Full,
+    /// Neither.
+    Plain,
+}
 
 /// Why a run isn't drawn.
 #[derive(Clone, Copy)]
@@ -174,7 +185,35 @@ fn push_head(out: &mut String, width: usize, height: usize, title: &str) -> Resu
 fn height_of(rows: usize, places: usize) -> usize
     ensures { result ≡ spec.height_of rows places }
 {
-    (row_y(rows) + 224).max(told_y(places) + 12)
+    (row_y(rows) + 274).max(told_y(places) + 12)
+}
+
+/// How wide a drawing is.
+fn width_by(core: &Core<'_>, look: Look) -> usize
+    ensures { result ≡ spec.width_by look core.now.world.board }
+{
+    match look {
+        Look::Full => column_x(core) + 560,
+        Look::Plain => column_x(core),
+    }
+}
+
+/// How high a drawing is.
+fn height_by(look: Look, rows: usize, places: usize) -> usize
+    ensures { result ≡ spec.height_by look rows places }
+{
+    match look {
+        Look::Full => height_of(rows, places),
+        Look::Plain => row_y(rows) + 134,
+    }
+}
+
+/// Adds the end of a plain drawing.
+#[tactic(auto, unfolding(crate::specs::Pictures::ended_text))]
+fn push_ended(out: &mut String) -> Result<(), AllocError>
+    ensures { OnOk result (string_bytes out.new ≡ string_bytes out.old ++ spec.ended_text) }
+{
+    out.push_str("</svg>\n")
 }
 
 /// Adds the legend at a height, and the end of a drawing.
@@ -186,38 +225,71 @@ fn push_legend(out: &mut String, y: usize) -> Result<(), AllocError>
     push_legend_text(out)
 }
 
+/// Adds the list of what is told, and the legend.
+#[tactic(auto, unfolding(crate::specs::Pictures::list_and_legend))]
+fn push_list_and_legend(
+    alloc: Global,
+    core: &Core<'_>,
+    out: &mut String,
+    rows: usize,
+    shapes: &[Shape],
+) -> Result<(), AllocError>
+    ensures { OnOk result (string_bytes out.new ≡ string_bytes out.old ++ spec.list_and_legend core.now.program core.now.world.board rows shapes.now) }
+{
+    push_list(alloc, core, out, shapes)?;
+    push_legend(out, row_y(rows) + 140)
+}
+
+/// Adds what comes after the shapes.
+fn push_tail(
+    alloc: Global,
+    core: &Core<'_>,
+    out: &mut String,
+    look: Look,
+    rows: usize,
+    shapes: &[Shape],
+) -> Result<(), AllocError>
+    ensures { OnOk result (string_bytes out.new ≡ string_bytes out.old ++ spec.tail_by look core.now.program core.now.world.board rows shapes.now) }
+{
+    match look {
+        Look::Full => push_list_and_legend(alloc, core, out, rows, shapes),
+        Look::Plain => push_ended(out),
+    }
+}
+
 /// The drawing of so many steps that show this, in the state where they lead.
 #[tactic(auto, unfolding(crate::specs::Pictures::svg_by))]
 fn svg_of(
     alloc: Global,
     core: &Core<'_>,
+    look: Look,
     depth: usize,
     glyphs: &[Glyph],
 ) -> Result<String, AllocError>
-    ensures { IfOk result (λ t. string_bytes t ≡ spec.svg_of core.now.program core.now.world depth glyphs.now) }
+    ensures { IfOk result (λ t. string_bytes t ≡ spec.svg_of look core.now.program core.now.world depth glyphs.now) }
 {
     let title = title_of(alloc, core, depth)?;
     let marks = marks_of(alloc, glyphs)?;
     let shapes = shapes_of(alloc, core, &marks)?;
     let rows = rows_of(&marks);
-    let height = height_of(rows, places_of(glyphs));
+    let height = height_by(look, rows, places_of(glyphs));
     let mut out = String::new(alloc);
-    push_head(&mut out, column_x(core) + 460, height, &title)?;
+    push_head(&mut out, width_by(core, look), height, &title)?;
     push_shapes(alloc, core, &mut out, &shapes)?;
-    push_legend(&mut out, row_y(rows) + 90)?;
+    push_tail(alloc, core, &mut out, look, rows, &shapes)?;
     Ok(out)
 }
 
 /// The drawing of the steps that are not undone, as SVG 1.1.
-pub fn draw(alloc: Global, debugger: &Debugger<'_>) -> Result<String, DrawFault>
-    ensures ok { IfOk result (λ svg. spec.picture_svg debugger.now.trail debugger.now.world ≡ Some (string_bytes svg)) }
-    ensures too_long { IsErrOf result DrawFault.TooLong → spec.picture_svg debugger.now.trail debugger.now.world ≡ None }
+pub fn draw(alloc: Global, debugger: &Debugger<'_>, look: Look) -> Result<String, DrawFault>
+    ensures ok { IfOk result (λ svg. spec.picture_svg look debugger.now.trail debugger.now.world ≡ Some (string_bytes svg)) }
+    ensures too_long { IsErrOf result DrawFault.TooLong → spec.picture_svg look debugger.now.trail debugger.now.world ≡ None }
 {
     let glyphs = glyphs_of(alloc, debugger)?;
     if glyphs.len() > GLYPHS_MAX {
         return Err(DrawFault::TooLong);
     }
-    let svg = svg_of(alloc, debugger.core(), debugger.depth(), &glyphs)?;
+    let svg = svg_of(alloc, debugger.core(), look, debugger.depth(), &glyphs)?;
     Ok(svg)
 }
 

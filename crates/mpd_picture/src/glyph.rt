@@ -9,7 +9,7 @@ pub(crate) enum Event {
     Issued(CallId),
     /// A send, the first, was matched with a receive.
     Paired(CallId, CallId),
-    /// The rank of a call went on behind it.
+    /// The rank of a call went on after it.
     WentOn(CallId),
     /// All ranks left their barriers.
     Released,

@@ -37,7 +37,7 @@ fn issues(core: &Core<'_>, before: usize, rank: usize) -> bool
     before != core.board().call_count(rank)
 }
 
-/// Whether a step takes a row, on the state behind it.
+/// Whether a step takes a row, on the state after it.
 fn takes_row(core: &Core<'_>, before: usize, step: Step) -> bool
     ensures { result ≡ spec.takes_row before core.now.world.board step }
 {
@@ -48,7 +48,7 @@ fn takes_row(core: &Core<'_>, before: usize, step: Step) -> bool
     }
 }
 
-/// Adds that a rank went on behind its last call.
+/// Adds that a rank went on after its last call.
 fn push_went_on(
     core: &Core<'_>,
     glyphs: &mut Vec<Glyph>,
@@ -61,7 +61,7 @@ fn push_went_on(
     add(glyphs, Glyph { row, event })
 }
 
-/// Adds that all ranks went on behind their last calls.
+/// Adds that all ranks went on after their last calls.
 fn push_all_went_on(core: &Core<'_>, glyphs: &mut Vec<Glyph>, row: usize) -> Result<(), AllocError>
     ensures { OnOk result (glyphs.new.items ≡ glyphs.old.items ++ flat_map (spec.went_on core.now.world.board row) (rank_numbers core.now.world.board)) }
 {
@@ -72,7 +72,7 @@ fn push_all_went_on(core: &Core<'_>, glyphs: &mut Vec<Glyph>, row: usize) -> Res
     Ok(())
 }
 
-/// Adds the call that a local step has issued, where it has.
+/// Adds the call that a local step has issued, if it has.
 fn push_issued(
     core: &Core<'_>,
     glyphs: &mut Vec<Glyph>,
@@ -92,7 +92,7 @@ fn push_issued(
     add(glyphs, Glyph { row, event })
 }
 
-/// Adds what a step shows, on the state behind it.
+/// Adds what a step shows, on the state after it.
 fn push_step_glyphs(
     core: &Core<'_>,
     glyphs: &mut Vec<Glyph>,

@@ -6,6 +6,7 @@ pub mod drawing;
 mod elements;
 mod glyph;
 mod glyphs;
+mod labels;
 pub mod laws;
 mod marks;
 mod paths;
@@ -15,6 +16,8 @@ mod shape;
 mod shapes;
 mod style;
 mod svg;
+mod told;
+mod wants;
 
-pub use drawing::{DrawFault, GLYPHS_MAX, draw, push_picture};
+pub use drawing::{DrawFault, GLYPHS_MAX, Look, draw, push_picture};
 pub use laws::arrows_are_pairs;

@@ -4,6 +4,7 @@ ghost use Rattle.std.specs.Prelude.{◌≡◌, ◌++◌, ◌∷◌, [], if◌the
 ghost use Rattle.mpd_picture.specs.Marks as spec;
 
 use crate::glyph::{Event, Glyph, Mark};
+use mpd_model::CallId;
 use std::alloc::{AllocError, Global};
 
 /// Whether what a step shows takes a row.
@@ -16,23 +17,40 @@ pub(crate) fn is_row(event: Event) -> bool
     }
 }
 
-/// Whether it takes a row of a rank.
+/// Whether it stands in the lane of a rank, so that what comes after it there is below.
 fn stands_in(rank: usize, event: Event) -> bool
     ensures { result ≡ spec.stands_in rank event }
 {
     match event {
         Event::Issued(call) => rank == call.rank,
-        Event::Paired(send, receive) => rank == send.rank || rank == receive.rank,
-        Event::WentOn(_) => false,
+        Event::Paired(_, receive) => rank == receive.rank,
+        Event::WentOn(call) => rank == call.rank,
         Event::Released => true,
     }
+}
+
+/// Whether a send of a rank is matched there.
+fn sends_in(rank: usize, event: Event) -> bool
+    ensures { result ≡ spec.sends_in rank event }
+{
+    match event {
+        Event::Paired(send, _) => rank == send.rank,
+        Event::Issued(_) | Event::WentOn(_) | Event::Released => false,
+    }
+}
+
+/// The row below one.
+fn under(row: usize) -> usize
+    ensures { result ≡ spec.under row }
+{
+    row.min(1_000_000) + 1
 }
 
 /// The row below a mark.
 fn below(mark: Mark) -> usize
     ensures { result ≡ spec.below mark }
 {
-    mark.row.min(1_000_000) + 1
+    under(mark.row)
 }
 
 /// The row below a mark that takes one, else 0.
@@ -48,6 +66,17 @@ fn below_mark(rank: usize, mark: Mark) -> usize
 {
     if stands_in(rank, mark.event) {
         below(mark)
+    } else {
+        0
+    }
+}
+
+/// The row of a mark at which a send of this rank is matched, else 0.
+fn sent_mark(rank: usize, mark: Mark) -> usize
+    ensures { result ≡ (if spec.sends_in rank mark.event then mark.row else 0) }
+{
+    if sends_in(rank, mark.event) {
+        mark.row
     } else {
         0
     }
@@ -82,6 +111,39 @@ fn next_row(marks: &[Mark], rank: usize) -> usize
     row
 }
 
+/// The last row in which a send of a rank is matched.
+fn sent_row(marks: &[Mark], rank: usize) -> usize
+    ensures { result ≡ spec.sent_row marks.now rank }
+{
+    let mut row = 0_usize;
+    for mark in marks {
+        row = larger(row, sent_mark(rank, *mark));
+    }
+    row
+}
+
+/// Whether a call is issued there.
+fn is_issue(event: Event, call: CallId) -> bool
+    ensures { result ≡ spec.is_issue event call }
+{
+    match event {
+        Event::Issued(issued) => issued == call,
+        Event::Paired(_, _) | Event::WentOn(_) | Event::Released => false,
+    }
+}
+
+/// The row in which a call is issued, 0 if it isn't.
+pub(crate) fn row_of(marks: &[Mark], call: CallId) -> usize
+    ensures { result ≡ spec.row_of marks.now call }
+{
+    for mark in marks {
+        if is_issue(mark.event, call) {
+            return mark.row;
+        }
+    }
+    0
+}
+
 /// The row of what a step shows, after these marks.
 fn event_row(marks: &[Mark], event: Event) -> usize
     ensures { result ≡ spec.event_row marks.now event }
@@ -89,9 +151,12 @@ fn event_row(marks: &[Mark], event: Event) -> usize
     match event {
         Event::Issued(call) => next_row(marks, call.rank),
         Event::Paired(send, receive) => {
-            larger(next_row(marks, send.rank), next_row(marks, receive.rank))
+            larger(under(row_of(marks, send)), next_row(marks, receive.rank))
         }
-        Event::WentOn(call) => next_row(marks, call.rank).saturating_sub(1),
+        Event::WentOn(call) => larger(
+            next_row(marks, call.rank).saturating_sub(1),
+            sent_row(marks, call.rank),
+        ),
         Event::Released => rows_of(marks),
     }
 }

@@ -5,6 +5,7 @@ ghost use Rattle.mpd_picture.specs.Svg as spec;
 
 use crate::elements::push_corner;
 use crate::places::{lane_x, row_y};
+use mpd_model::CallId;
 use std::alloc::{AllocError, Global};
 
 /// Adds a bow at the left of a lane.
@@ -37,7 +38,7 @@ fn push_bent(
 ) -> Result<(), AllocError>
     ensures { OnOk result (string_bytes out.new ≡ string_bytes out.old ++ spec.bent near far x y) }
 {
-    push_straight(out, near, y.saturating_sub(20))?;
+    push_straight(out, near, y.saturating_sub(28))?;
     push_straight(out, far, y.saturating_sub(9))?;
     push_straight(out, x, y)
 }
@@ -56,8 +57,8 @@ fn push_to_higher(
     if receiver.saturating_sub(sender) == 1 {
         return push_straight(out, x.saturating_sub(7), y);
     }
-    let near = lane_x(sender) + 65;
-    push_bent(out, near, x.saturating_sub(65), x.saturating_sub(7), y)
+    let near = lane_x(sender) + 80;
+    push_bent(out, near, x.saturating_sub(80), x.saturating_sub(7), y)
 }
 
 /// Adds a line to a lower rank, at this height.
@@ -74,8 +75,8 @@ fn push_to_lower(
     if sender.saturating_sub(receiver) == 1 {
         return push_straight(out, x + 4, y);
     }
-    let near = lane_x(sender).saturating_sub(65);
-    push_bent(out, near, x + 65, x + 4, y)
+    let near = lane_x(sender).saturating_sub(80);
+    push_bent(out, near, x + 80, x + 4, y)
 }
 
 /// Adds a line to another rank, at this height.
@@ -115,22 +116,35 @@ pub(crate) fn arrow_path(
     Ok(path)
 }
 
-/// Adds a line that hangs below its ends, which are at most 30,000,000 down.
+/// Adds a line that hangs below its ends, towards these heights.
 #[tactic(auto, unfolding(crate::specs::Svg::hanging))]
-fn push_hanging(
+pub(crate) fn push_hanging(
     out: &mut String,
     x1: usize,
-    y1: usize,
+    low1: usize,
     x2: usize,
+    low2: usize,
     y2: usize,
 ) -> Result<(), AllocError>
-    requires first { y1 ≤ 30000000 }
-    requires last { y2 ≤ 30000000 }
-    ensures { OnOk result (string_bytes out.new ≡ string_bytes out.old ++ spec.hanging x1 y1 x2 y2) }
+    ensures { OnOk result (string_bytes out.new ≡ string_bytes out.old ++ spec.hanging x1 low1 x2 low2 y2) }
 {
-    push_corner(out, "C", x1, y1 + 18)?;
-    push_corner(out, " ", x2, y2 + 18)?;
+    push_corner(out, "C", x1, low1)?;
+    push_corner(out, " ", x2, low2)?;
     push_corner(out, " ", x2, y2)
+}
+
+/// The path of a request of a waitany, in the lane of its rank.
+pub(crate) fn request_path(
+    alloc: Global,
+    rank: usize,
+    from: usize,
+    to: usize,
+) -> Result<String, AllocError>
+    ensures { IfOk result (λ t. string_bytes t ≡ spec.bow (spec.lane_x rank) (spec.row_y from) (spec.row_y to)) }
+{
+    let mut path = String::new(alloc);
+    push_bow(&mut path, lane_x(rank), row_y(from), row_y(to))?;
+    Ok(path)
 }
 
 /// The path of a candidate.
@@ -149,7 +163,30 @@ pub(crate) fn candidate_path(
     if sender == receiver {
         push_bow(&mut path, x, row_y(from), row_y(to))?;
     } else {
-        push_hanging(&mut path, lane_x(sender), row_y(from), x, row_y(to))?;
+        let y = row_y(to);
+        push_hanging(&mut path, lane_x(sender), row_y(from) + 18, x, y + 18, y)?;
     }
+    Ok(path)
+}
+
+/// How far beside its lane a receive is posted, 8 to 20.
+pub(crate) fn posted_depth(call: CallId) -> usize
+    ensures { result ≡ spec.posted_depth call }
+{
+    8 + 4 * (call.index % 4)
+}
+
+/// The path of a receive that is posted, from beside its lane: out, down, and back.
+#[tactic(auto, unfolding(crate::specs::Svg::bracket))]
+pub(crate) fn bracket(
+    alloc: Global,
+    far: usize,
+    near: usize,
+    y: usize,
+) -> Result<String, AllocError>
+    ensures { IfOk result (λ t. string_bytes t ≡ spec.bracket far near y) }
+{
+    let mut path = String::new(alloc);
+    write!(path, "H{far}V{y}H{near}")?;
     Ok(path)
 }

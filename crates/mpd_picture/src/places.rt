@@ -8,25 +8,25 @@ use mpd_core::Core;
 /// The lane of a rank.
 pub(crate) fn lane_x(rank: usize) -> usize
     ensures value { result ≡ spec.lane_x rank }
-    ensures small { result ≤ 2500 }
-    ensures large { 96 ≤ result }
+    ensures small { result ≤ 2700 }
+    ensures large { 132 ≤ result }
 {
-    96 + 130 * rank.min(16)
+    132 + 160 * rank.min(16)
 }
 
 /// The middle of a row.
 pub(crate) fn row_y(row: usize) -> usize
     ensures value { result ≡ spec.row_y row }
-    ensures small { result ≤ 30000000 }
+    ensures small { result ≤ 40000000 }
 {
-    80 + 28 * row.min(1_000_000)
+    80 + 36 * row.min(1_000_000)
 }
 
 /// Where the texts of rows begin.
 pub(crate) fn column_x(core: &Core<'_>) -> usize
     ensures value { result ≡ spec.column_x core.now.world.board }
-    ensures small { result ≤ 2500 }
-    ensures large { 96 ≤ result }
+    ensures small { result ≤ 2700 }
+    ensures large { 132 ≤ result }
 {
     lane_x(core.rank_count()).max(620)
 }
@@ -34,7 +34,7 @@ pub(crate) fn column_x(core: &Core<'_>) -> usize
 /// Where the text of a place in the list of what is told stands.
 pub(crate) fn told_y(place: usize) -> usize
     ensures value { result ≡ spec.told_y place }
-    ensures small { result ≤ 30000000 }
+    ensures small { result ≤ 40000000 }
 {
     52 + 16 * place.min(1_000_000)
 }

@@ -5,6 +5,7 @@ ghost use Rattle.std.specs.List.{flat_map};
 ghost use Rattle.mpd_model.specs.steps.World.{rank_numbers};
 ghost use Rattle.mpd_picture.specs.Rows as spec;
 
+use crate::labels::push_value;
 use crate::shape::Shape;
 use crate::style::LETTERS;
 use crate::svg::{Finish, finish_of, word_of};
@@ -200,7 +201,7 @@ fn push_head_signs(core: &Core<'_>, out: &mut String) -> Result<(), AllocError>
 
 // ---- rows
 
-/// Adds a text behind the lanes.
+/// Adds a text after the lanes.
 #[tactic(auto, unfolding(crate::specs::Rows::told_text))]
 fn push_told(out: &mut String, told: &str) -> Result<(), AllocError>
     ensures { OnOk result (string_bytes out.new ≡ string_bytes out.old ++ spec.told_text told.now) }
@@ -226,7 +227,7 @@ fn push_short(out: &mut String, kind: Option<CallKind>) -> Result<(), AllocError
     }
 }
 
-/// Adds that a call is free, where it is.
+/// Adds that a call is free, if it is.
 fn push_free_word(out: &mut String, is_free: bool) -> Result<(), AllocError>
     ensures { OnOk result (string_bytes out.new ≡ string_bytes out.old ++ spec.free_text is_free) }
 {
@@ -256,23 +257,6 @@ fn push_call_row(core: &Core<'_>, out: &mut String, call: CallId) -> Result<(), 
     push_call_words(core, &mut told, call)?;
     push_call_signs(core, out, call)?;
     push_told(out, &told)
-}
-
-/// Adds the value of a message.
-fn push_value(out: &mut String, kind: Option<CallKind>) -> Result<(), AllocError>
-    ensures { OnOk result (string_bytes out.new ≡ string_bytes out.old ++ spec.value_text kind) }
-{
-    match kind {
-        Some(CallKind::Send(send)) => {
-            let value = send.value;
-            write!(out, "{value}")
-        }
-        None
-        | Some(CallKind::Recv(_))
-        | Some(CallKind::Wait(_))
-        | Some(CallKind::Waitany(_))
-        | Some(CallKind::Barrier) => Ok(()),
-    }
 }
 
 /// Adds the words of a match.
@@ -305,7 +289,7 @@ fn push_arrow_row(
     push_told(out, &told)
 }
 
-/// Adds the row of a shape, where it has one.
+/// Adds the row of a shape, if it has one.
 #[tactic(auto, unfolding(crate::specs::Rows::told_behind))]
 fn push_shape_row(core: &Core<'_>, out: &mut String, shape: Shape) -> Result<(), AllocError>
     ensures { OnOk result (string_bytes out.new ≡ string_bytes out.old ++ spec.shape_row core.now.program core.now.world.board shape) }
@@ -322,6 +306,7 @@ fn push_shape_row(core: &Core<'_>, out: &mut String, shape: Shape) -> Result<(),
         | Shape::Posted { .. }
         | Shape::Stub { .. }
         | Shape::Candidate { .. }
+        | Shape::Request { .. }
         | Shape::End { .. } => Ok(()),
     }
 }

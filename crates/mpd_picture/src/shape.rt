@@ -16,9 +16,9 @@ pub(crate) enum Shape {
         from: usize,
         to: usize,
     },
-    /// A receive of a rank is posted, from one row to another.
+    /// A receive is posted, from one row to another.
     Posted {
-        rank: usize,
+        call: CallId,
         from: usize,
         to: usize,
     },
@@ -51,6 +51,13 @@ pub(crate) enum Shape {
         send: CallId,
         from: usize,
         receive: CallId,
+        to: usize,
+        number: usize,
+    },
+    /// A request that a waitany can go on by at the end, from its row to that of the waitany; counted with the candidates.
+    Request {
+        call: CallId,
+        from: usize,
         to: usize,
         number: usize,
     },

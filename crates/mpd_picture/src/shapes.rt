@@ -8,7 +8,7 @@ ghost use Rattle.mpd_picture.specs.Shapes as spec;
 
 use crate::candidates::push_candidates;
 use crate::glyph::{Event, Glyph, Mark};
-use crate::marks::{is_row, rows_of};
+use crate::marks::{is_row, row_of, rows_of};
 use crate::shape::Shape;
 use mpd_core::Core;
 use mpd_model::{Activity, CallId, CallKind};
@@ -35,28 +35,6 @@ pub(crate) fn places_of(glyphs: &[Glyph]) -> usize
     places
 }
 
-/// Whether a call is issued there.
-fn is_issue(event: Event, call: CallId) -> bool
-    ensures { result ≡ spec.is_issue event call }
-{
-    match event {
-        Event::Issued(issued) => issued == call,
-        Event::Paired(_, _) | Event::WentOn(_) | Event::Released => false,
-    }
-}
-
-/// The row in which a call is issued, 0 where it isn't.
-pub(crate) fn row_of(marks: &[Mark], call: CallId) -> usize
-    ensures { result ≡ spec.row_of marks.now call }
-{
-    for mark in marks {
-        if is_issue(mark.event, call) {
-            return mark.row;
-        }
-    }
-    0
-}
-
 /// Adds what is shown of a call that stays free.
 fn push_free(
     core: &Core<'_>,
@@ -73,7 +51,7 @@ fn push_free(
             add(
                 shapes,
                 Shape::Posted {
-                    rank: call.rank,
+                    call,
                     from: row,
                     to: rows,
                 },
@@ -117,7 +95,7 @@ fn push_pair(
     add(
         shapes,
         Shape::Posted {
-            rank: receive.rank,
+            call: receive,
             from: row_of(marks, receive),
             to: row,
         },
@@ -194,7 +172,7 @@ fn push_lanes(core: &Core<'_>, shapes: &mut Vec<Shape>, rows: usize) -> Result<(
 }
 
 /// Whether a rank is blocked.
-fn waits(core: &Core<'_>, rank: usize) -> bool
+pub(crate) fn waits(core: &Core<'_>, rank: usize) -> bool
     ensures { result ≡ waits_in (slice_get core.now.world.ranks rank) }
 {
     match core.activity(rank) {

@@ -12,9 +12,10 @@ pub const STYLE: &str = "<style type=\"text/css\">\n\
 .mpd-paper{fill:#fff}\n\
 .mpd-lane{stroke:#999;stroke-width:1}\n\
 .mpd-waiting{stroke:#b45f06;stroke-width:5}\n\
-.mpd-posted{stroke:#38761d;stroke-width:2;stroke-dasharray:5 3}\n\
+.mpd-posted{stroke:#38761d;stroke-width:1.5;stroke-dasharray:4 2;fill:none}\n\
 .mpd-arrow{stroke:#0b5394;stroke-width:1.5;fill:none;marker-end:url(#mpd-tip)}\n\
 .mpd-candidate{stroke:#0b5394;stroke-width:1.5;stroke-dasharray:6 4;fill:none;marker-end:url(#mpd-tip)}\n\
+.mpd-want{stroke:#c00;stroke-width:1.5;stroke-dasharray:2 3;fill:none;marker-end:url(#mpd-wanted)}\n\
 .mpd-number{font-size:13px;font-weight:bold;text-anchor:middle}\n\
 .mpd-bar{stroke:#000;stroke-width:4}\n\
 .mpd-stub{stroke:#000;stroke-width:1.5;fill:#fff}\n\
@@ -30,7 +31,9 @@ pub const STYLE: &str = "<style type=\"text/css\">\n\
 .mpd-trapped{fill:none;stroke:#c00;stroke-width:3}\n\
 </style>\n\
 <defs><marker id=\"mpd-tip\" viewBox=\"0 0 10 10\" refX=\"10\" refY=\"5\" markerWidth=\"9\" markerHeight=\"9\" markerUnits=\"userSpaceOnUse\" orient=\"auto\">\
-<path d=\"M0 1L10 5L0 9z\" fill=\"#0b5394\"/></marker></defs>\n";
+<path d=\"M0 1L10 5L0 9z\" fill=\"#0b5394\"/></marker>\
+<marker id=\"mpd-wanted\" viewBox=\"0 0 10 10\" refX=\"10\" refY=\"5\" markerWidth=\"9\" markerHeight=\"9\" markerUnits=\"userSpaceOnUse\" orient=\"auto\">\
+<path d=\"M0 1L10 5L0 9z\" fill=\"#c00\"/></marker></defs>\n";
 
 /// What the shapes are, and how a drawing ends.
 pub const LEGEND: &str =
@@ -39,6 +42,7 @@ pub const LEGEND: &str =
 <path class=\"mpd-wait\" d=\"M20 40m-5 -5h10v10h-10z\"/><text x=\"40\" y=\"44\">a wait</text>\n\
 <path class=\"mpd-waitany\" d=\"M20 60m-5 -5h10v10h-10z\"/><text x=\"40\" y=\"64\">a wait for any</text>\n\
 <path class=\"mpd-barrier\" d=\"M20 80m-8 -3h16v6h-16z\"/><text x=\"40\" y=\"84\">a barrier</text>\n\
+<path class=\"mpd-want\" d=\"M10 100L30 100\"/><text x=\"40\" y=\"104\">waits for a rank</text>\n\
 <path class=\"mpd-arrow\" d=\"M200 -5L220 5\"/><text x=\"230\" y=\"4\">a message, up to its match</text>\n\
 <path class=\"mpd-stub\" d=\"M204 14l12 16m-3 0a3 3 0 1 0 6 0a3 3 0 1 0 -6 0\"/><text x=\"230\" y=\"24\">a send that is not matched</text>\n\
 <path class=\"mpd-stub\" d=\"M218 40l-18 0m-3 0a3 3 0 1 0 6 0a3 3 0 1 0 -6 0\"/><text x=\"230\" y=\"44\">a receive that is not</text>\n\

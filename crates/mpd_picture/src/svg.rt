@@ -8,9 +8,11 @@ ghost use Rattle.mpd_model.specs.steps.Outcomes.{is_stuck};
 ghost use Rattle.mpd_picture.specs.Svg as spec;
 
 use crate::elements::{push_group, push_group_end, push_line, push_path, push_text};
-use crate::paths::{arrow_path, candidate_path};
-use crate::places::{column_x, lane_x, row_y, told_y};
+use crate::labels::{push_message, short_label};
+use crate::paths::{arrow_path, bracket, candidate_path, posted_depth, request_path};
+use crate::places::{lane_x, row_y};
 use crate::shape::Shape;
+use crate::wants::{push_want, wanted_kind, wanted_rank};
 use mpd_core::Core;
 use mpd_model::{Activity, CallId, CallKind, Trap, recv_word, send_word};
 use mpd_names::{issue_line, rank_line};
@@ -76,7 +78,7 @@ fn stub_path(call: CallId, kind: Option<CallKind>) -> &'static str
     ensures { result.now ≡ spec.stub_path call kind }
 {
     match kind {
-        Some(CallKind::Recv(_)) => "l-18 0m-3 0a3 3 0 1 0 6 0a3 3 0 1 0 -6 0",
+        Some(CallKind::Recv(_)) => "l-26 0m-3 0a3 3 0 1 0 6 0a3 3 0 1 0 -6 0",
         Some(CallKind::Send(send)) => {
             if send.to < call.rank {
                 "l-12 16m-3 0a3 3 0 1 0 6 0a3 3 0 1 0 -6 0"
@@ -118,7 +120,7 @@ fn rank_name(alloc: Global, rank: usize) -> Result<String, AllocError>
 
 /// What is told of a call.
 #[tactic(auto, unfolding(crate::specs::Svg::call_told))]
-fn call_told(alloc: Global, core: &Core<'_>, call: CallId) -> Result<String, AllocError>
+pub(crate) fn call_told(alloc: Global, core: &Core<'_>, call: CallId) -> Result<String, AllocError>
     ensures { IfOk result (λ t. string_bytes t ≡ spec.call_told core.now.program core.now.world.board call) }
 {
     let mut told = String::new(alloc);
@@ -141,37 +143,9 @@ fn call_label(alloc: Global, core: &Core<'_>, call: CallId) -> Result<String, Al
     Ok(label)
 }
 
-/// Adds the value and the tag of a message.
-#[tactic(auto, unfolding(crate::specs::Svg::message_label))]
-fn push_message(out: &mut String, kind: Option<CallKind>) -> Result<(), AllocError>
-    ensures { OnOk result (string_bytes out.new ≡ string_bytes out.old ++ spec.message_label kind) }
-{
-    match kind {
-        Some(CallKind::Send(send)) => {
-            let value = send.value;
-            let tag = send.tag;
-            write!(out, "{value} tag {tag}")
-        }
-        None
-        | Some(CallKind::Recv(_))
-        | Some(CallKind::Wait(_))
-        | Some(CallKind::Waitany(_))
-        | Some(CallKind::Barrier) => Ok(()),
-    }
-}
-
-/// The label of a message.
-fn message_label(alloc: Global, kind: Option<CallKind>) -> Result<String, AllocError>
-    ensures { IfOk result (λ t. string_bytes t ≡ spec.message_label kind) }
-{
-    let mut label = String::new(alloc);
-    push_message(&mut label, kind)?;
-    Ok(label)
-}
-
 /// What is told of a message.
 #[tactic(auto, unfolding(crate::specs::Svg::arrow_told))]
-fn arrow_told(
+pub(crate) fn arrow_told(
     alloc: Global,
     core: &Core<'_>,
     send: CallId,
@@ -187,46 +161,28 @@ fn arrow_told(
 
 // ---- shapes
 
-/// What a text beside a lane belongs to: a point of the lane, at most 2,500 to the right and 30,000,000 down, and at which side of it
-/// the text stands; and the place in the list of what is told.
+/// What a text beside a lane belongs to: a point of the lane, at most 2,700 to the right and 40,000,000 down, and at which side of it
+/// the text stands.
 #[derive(Clone, Copy)]
 struct Anchor {
     x: usize,
     y: usize,
-    place: usize,
     is_left: bool,
 }
 
 /// Adds what stands beside a lane.
 #[tactic(auto, unfolding(crate::specs::Svg::side_element))]
 fn push_side(out: &mut String, anchor: Anchor, label: &str) -> Result<(), AllocError>
-    requires x { anchor.x ≤ 2500 }
-    requires y { anchor.y ≤ 30000000 }
+    requires x { anchor.x ≤ 2700 }
+    requires y { anchor.y ≤ 40000000 }
     ensures { OnOk result (string_bytes out.new ≡ string_bytes out.old ++ spec.side_element anchor.is_left anchor.x anchor.y label.now) }
 {
-    let Anchor { x, y, is_left, .. } = anchor;
+    let Anchor { x, y, is_left } = anchor;
     if is_left {
-        push_text(out, "left", x.saturating_sub(12), y + 4, label)
+        push_text(out, "left", x.saturating_sub(24), y + 4, label)
     } else {
         push_text(out, "right", x + 12, y + 4, label)
     }
-}
-
-/// Adds what stands beside a lane, and what is told of it in the list.
-#[tactic(auto, unfolding(crate::specs::Svg::row_elements))]
-fn push_row(
-    core: &Core<'_>,
-    out: &mut String,
-    anchor: Anchor,
-    label: &str,
-    told: &str,
-) -> Result<(), AllocError>
-    requires x { anchor.x ≤ 2500 }
-    requires y { anchor.y ≤ 30000000 }
-    ensures { OnOk result (string_bytes out.new ≡ string_bytes out.old ++ spec.row_elements core.now.world.board anchor.is_left anchor.x anchor.y anchor.place label.now told.now) }
-{
-    push_side(out, anchor, label)?;
-    push_text(out, "row", column_x(core), told_y(anchor.place), told)
 }
 
 /// Adds a lane.
@@ -251,11 +207,19 @@ fn push_waiting(out: &mut String, rank: usize, from: usize, to: usize) -> Result
 
 /// Adds that a receive is posted.
 #[tactic(auto, unfolding(crate::specs::Svg::posted_element))]
-fn push_posted(out: &mut String, rank: usize, from: usize, to: usize) -> Result<(), AllocError>
-    ensures { OnOk result (string_bytes out.new ≡ string_bytes out.old ++ spec.posted_element rank from to) }
+fn push_posted(
+    alloc: Global,
+    out: &mut String,
+    call: CallId,
+    from: usize,
+    to: usize,
+) -> Result<(), AllocError>
+    ensures { OnOk result (string_bytes out.new ≡ string_bytes out.old ++ spec.posted_element call from to) }
 {
-    let x = lane_x(rank) - 5;
-    push_line(out, "posted", x, row_y(from), x, row_y(to))
+    let x = lane_x(call.rank);
+    let near = x.saturating_sub(5);
+    let path = bracket(alloc, x.saturating_sub(posted_depth(call)), near, row_y(to))?;
+    push_path(out, "posted", near, row_y(from), &path)
 }
 
 /// Adds the stub of a free call.
@@ -275,9 +239,8 @@ fn push_call(
     out: &mut String,
     call: CallId,
     row: usize,
-    place: usize,
 ) -> Result<(), AllocError>
-    ensures { OnOk result (string_bytes out.new ≡ string_bytes out.old ++ spec.call_elements core.now.program core.now.world.board call row place) }
+    ensures { OnOk result (string_bytes out.new ≡ string_bytes out.old ++ spec.call_elements core.now.program core.now.world.board call row) }
 {
     let kind = core.board().kind(call);
     let label = call_label(alloc, core, call)?;
@@ -287,12 +250,11 @@ fn push_call(
     let anchor = Anchor {
         x,
         y,
-        place,
         is_left: goes_right(call, kind),
     };
     push_group(out, &told)?;
     push_path(out, class_of(kind), x, y, path_of(kind))?;
-    push_row(core, out, anchor, &label, &told)?;
+    push_side(out, anchor, &label)?;
     push_group_end(out)
 }
 
@@ -305,7 +267,6 @@ struct Arrow {
     receive: CallId,
     /// The row that it ends at.
     to: usize,
-    place: usize,
 }
 
 /// Adds the arrow of a message.
@@ -316,40 +277,37 @@ fn push_arrow(
     out: &mut String,
     arrow: Arrow,
 ) -> Result<(), AllocError>
-    ensures { OnOk result (string_bytes out.new ≡ string_bytes out.old ++ spec.arrow_elements core.now.world.board arrow.send arrow.from arrow.receive arrow.to arrow.place) }
+    ensures { OnOk result (string_bytes out.new ≡ string_bytes out.old ++ spec.arrow_elements core.now.world.board arrow.send arrow.from arrow.receive arrow.to) }
 {
     let Arrow {
         send,
         from,
         receive,
         to,
-        place,
     } = arrow;
-    let label = message_label(alloc, core.board().kind(send))?;
+    let label = short_label(alloc, core.board().kind(send))?;
     let told = arrow_told(alloc, core, send, receive)?;
     let path = arrow_path(alloc, send.rank, from, receive.rank, to)?;
     let anchor = Anchor {
         x: lane_x(receive.rank),
         y: row_y(to),
-        place,
         is_left: receive.rank < send.rank,
     };
     push_group(out, &told)?;
     push_path(out, "arrow", lane_x(send.rank), row_y(from), &path)?;
-    push_row(core, out, anchor, &label, &told)?;
+    push_side(out, anchor, &label)?;
     push_group_end(out)
 }
 
 /// Adds the bar of a release.
 #[tactic(auto, unfolding(crate::specs::Svg::bar_elements))]
-fn push_bar(core: &Core<'_>, out: &mut String, row: usize, place: usize) -> Result<(), AllocError>
-    ensures { OnOk result (string_bytes out.new ≡ string_bytes out.old ++ spec.bar_elements core.now.world.board row place) }
+fn push_bar(core: &Core<'_>, out: &mut String, row: usize) -> Result<(), AllocError>
+    ensures { OnOk result (string_bytes out.new ≡ string_bytes out.old ++ spec.bar_elements core.now.world.board row) }
 {
     let y = row_y(row);
     let last = lane_x(core.rank_count().saturating_sub(1));
     push_group(out, "release: all ranks leave the barrier")?;
     push_line(out, "bar", lane_x(0) - 14, y, last + 14, y)?;
-    push_text(out, "row", column_x(core), told_y(place), "release")?;
     push_group_end(out)
 }
 
@@ -385,18 +343,26 @@ fn number_text(alloc: Global, number: usize) -> Result<String, AllocError>
     Ok(text)
 }
 
+/// Where a candidate begins, and its number.
+#[derive(Clone, Copy)]
+struct Start {
+    rank: usize,
+    row: usize,
+    number: usize,
+}
+
 /// Adds a candidate with a title, and its number.
 fn push_candidate_group(
     out: &mut String,
-    candidate: Candidate,
+    start: Start,
     path: &str,
     title: &str,
     number: &str,
 ) -> Result<(), AllocError>
-    ensures { OnOk result (string_bytes out.new ≡ string_bytes out.old ++ (spec.group_begun title.now ++ spec.path_element (codes "candidate") (spec.lane_x candidate.send.rank) (spec.row_y candidate.from) path.now ++ spec.text_element (codes "number") (spec.lane_x candidate.send.rank) (spec.row_y candidate.from - 9) number.now ++ spec.group_ended)) }
+    ensures { OnOk result (string_bytes out.new ≡ string_bytes out.old ++ (spec.group_begun title.now ++ spec.path_element (codes "candidate") (spec.lane_x start.rank) (spec.row_y start.row) path.now ++ spec.text_element (codes "number") (spec.lane_x start.rank) (spec.row_y start.row - 9) number.now ++ spec.group_ended)) }
 {
-    let x = lane_x(candidate.send.rank);
-    let y = row_y(candidate.from);
+    let x = lane_x(start.rank);
+    let y = row_y(start.row);
     push_group(out, title)?;
     push_path(out, "candidate", x, y, path)?;
     push_text(out, "number", x, y.saturating_sub(9), number)?;
@@ -408,15 +374,15 @@ fn push_candidate_group(
 fn push_candidate_by(
     alloc: Global,
     out: &mut String,
-    candidate: Candidate,
+    start: Start,
     path: &str,
     told: &str,
 ) -> Result<(), AllocError>
-    ensures { OnOk result (string_bytes out.new ≡ string_bytes out.old ++ spec.candidate_by (spec.lane_x candidate.send.rank) (spec.row_y candidate.from) candidate.number path.now told.now) }
+    ensures { OnOk result (string_bytes out.new ≡ string_bytes out.old ++ spec.candidate_by (spec.lane_x start.rank) (spec.row_y start.row) start.number path.now told.now) }
 {
-    let title = candidate_told(alloc, candidate.number, told)?;
-    let number = number_text(alloc, candidate.number)?;
-    push_candidate_group(out, candidate, path, &title, &number)
+    let title = candidate_told(alloc, start.number, told)?;
+    let number = number_text(alloc, start.number)?;
+    push_candidate_group(out, start, path, &title, &number)
 }
 
 /// Adds a candidate.
@@ -434,11 +400,53 @@ fn push_candidate(
         from,
         receive,
         to,
-        ..
+        number,
     } = candidate;
     let told = arrow_told(alloc, core, send, receive)?;
     let path = candidate_path(alloc, send.rank, from, receive.rank, to)?;
-    push_candidate_by(alloc, out, candidate, &path, &told)
+    let start = Start {
+        rank: send.rank,
+        row: from,
+        number,
+    };
+    push_candidate_by(alloc, out, start, &path, &told)
+}
+
+/// A request that a waitany can go on by.
+#[derive(Clone, Copy)]
+struct Request {
+    call: CallId,
+    /// The row of the call.
+    from: usize,
+    /// The row of the waitany.
+    to: usize,
+    number: usize,
+}
+
+/// Adds a request that a waitany can go on by.
+#[tactic(auto, unfolding(crate::specs::Svg::request_elements))]
+fn push_request(
+    alloc: Global,
+    core: &Core<'_>,
+    out: &mut String,
+    request: Request,
+) -> Result<(), AllocError>
+    ensures { OnOk result (string_bytes out.new ≡ string_bytes out.old ++ spec.request_elements core.now.program core.now.world.board request.call request.from request.to request.number) }
+{
+    let Request {
+        call,
+        from,
+        to,
+        number,
+    } = request;
+    let told = call_told(alloc, core, call)?;
+    let path = request_path(alloc, call.rank, from, to)?;
+    let start = Start {
+        rank: call.rank,
+        row: from,
+        number,
+    };
+    push_candidate_by(alloc, out, start, &path, &told)
 }
 
 // ---- how a rank is at the end
@@ -521,7 +529,7 @@ fn finish_told(finish: Finish) -> &'static str
     }
 }
 
-/// The line of the statement where a rank stands: that of its last call where it is blocked, else of the one that it has not got past.
+/// The line of the statement where a rank stands: that of its last call if it is blocked, else of the one that it has not got past.
 fn end_line(core: &Core<'_>, rank: usize, finish: Finish) -> usize
     ensures { result ≡ spec.end_line core.now.program core.now.world rank finish }
 {
@@ -559,9 +567,13 @@ struct RankEnd {
     rank: usize,
     row: usize,
     finish: Finish,
+    /// The call that it waits for, if it waits.
+    kind: Option<CallKind>,
+    /// The rank that it waits for, if that is one.
+    wanted: Option<usize>,
 }
 
-/// Adds the place where a rank stands that hasn't ended, below a point that is at most 30,000,000 down.
+/// Adds the place where a rank stands that hasn't ended, below a point that is at most 40,000,000 down.
 fn push_place(
     out: &mut String,
     finish: Finish,
@@ -569,7 +581,7 @@ fn push_place(
     y: usize,
     place: &str,
 ) -> Result<(), AllocError>
-    requires { y ≤ 30000000 }
+    requires { y ≤ 40000000 }
     ensures { OnOk result (string_bytes out.new ≡ string_bytes out.old ++ spec.place_element finish x y place.now) }
 {
     match finish {
@@ -580,6 +592,16 @@ fn push_place(
     }
 }
 
+/// Adds where a rank stands, and whom it waits for.
+#[tactic(auto, unfolding(crate::specs::Svg::standing))]
+fn push_standing(out: &mut String, end: RankEnd, place: &str) -> Result<(), AllocError>
+    ensures { OnOk result (string_bytes out.new ≡ string_bytes out.old ++ spec.standing end.finish end.rank (spec.row_y end.row) place.now end.kind end.wanted) }
+{
+    let y = row_y(end.row);
+    push_place(out, end.finish, lane_x(end.rank), y, place)?;
+    push_want(out, end.finish, end.rank, y, end.kind, end.wanted)
+}
+
 /// Adds how a rank of that name is at the end, with a title and the place where it stands.
 fn push_finish_group(
     out: &mut String,
@@ -588,23 +610,28 @@ fn push_finish_group(
     title: &str,
     place: &str,
 ) -> Result<(), AllocError>
-    ensures { OnOk result (string_bytes out.new ≡ string_bytes out.old ++ (spec.group_begun title.now ++ spec.path_element (spec.finish_class end.finish) (spec.lane_x end.rank) (spec.row_y end.row) (spec.finish_path end.finish) ++ spec.text_element (codes "name") (spec.lane_x end.rank) (spec.row_y end.row + 24) name.now ++ spec.text_element (codes "name") (spec.lane_x end.rank) (spec.row_y end.row + 38) (spec.finish_told end.finish) ++ spec.place_element end.finish (spec.lane_x end.rank) (spec.row_y end.row) place.now ++ spec.group_ended)) }
+    ensures { OnOk result (string_bytes out.new ≡ string_bytes out.old ++ (spec.group_begun title.now ++ spec.path_element (spec.finish_class end.finish) (spec.lane_x end.rank) (spec.row_y end.row) (spec.finish_path end.finish) ++ spec.text_element (codes "name") (spec.lane_x end.rank) (spec.row_y end.row + 24) name.now ++ spec.text_element (codes "name") (spec.lane_x end.rank) (spec.row_y end.row + 38) (spec.finish_told end.finish) ++ spec.standing end.finish end.rank (spec.row_y end.row) place.now end.kind end.wanted ++ spec.group_ended)) }
 {
-    let RankEnd { rank, row, finish } = end;
+    let RankEnd {
+        rank,
+        row,
+        finish,
+        ..
+    } = end;
     let x = lane_x(rank);
     let y = row_y(row);
     push_group(out, title)?;
     push_path(out, finish_class(finish), x, y, finish_path(finish))?;
     push_text(out, "name", x, y + 24, name)?;
     push_text(out, "name", x, y + 38, finish_told(finish))?;
-    push_place(out, finish, x, y, place)?;
+    push_standing(out, end, place)?;
     push_group_end(out)
 }
 
 /// Adds how a rank is at the end, with the place where it stands.
 #[tactic(auto, unfolding(crate::specs::Svg::end_told))]
 fn push_finish(alloc: Global, out: &mut String, end: RankEnd, place: &str) -> Result<(), AllocError>
-    ensures { OnOk result (string_bytes out.new ≡ string_bytes out.old ++ spec.end_told end.rank end.row end.finish place.now) }
+    ensures { OnOk result (string_bytes out.new ≡ string_bytes out.old ++ spec.end_told end.rank end.row end.finish place.now end.kind end.wanted) }
 {
     let name = rank_name(alloc, end.rank)?;
     let title = end_title(alloc, &name, finish_told(end.finish))?;
@@ -624,7 +651,16 @@ fn push_end(
 {
     let finish = finish_of(core, rank);
     let place = line_told(alloc, end_line(core, rank, finish))?;
-    push_finish(alloc, out, RankEnd { rank, row, finish }, &place)
+    let kind = wanted_kind(core, rank);
+    let wanted = wanted_rank(alloc, core, kind)?;
+    let end = RankEnd {
+        rank,
+        row,
+        finish,
+        kind,
+        wanted,
+    };
+    push_finish(alloc, out, end, &place)
 }
 
 // ---- any shape
@@ -641,26 +677,25 @@ fn push_shape(
     match shape {
         Shape::Lane { rank, row } => push_lane(alloc, out, rank, row),
         Shape::Waiting { rank, from, to } => push_waiting(out, rank, from, to),
-        Shape::Posted { rank, from, to } => push_posted(out, rank, from, to),
-        Shape::Call { call, row, place } => push_call(alloc, core, out, call, row, place),
+        Shape::Posted { call, from, to } => push_posted(alloc, out, call, from, to),
+        Shape::Call { call, row, .. } => push_call(alloc, core, out, call, row),
         Shape::Stub { call, row } => push_stub(core, out, call, row),
         Shape::Arrow {
             send,
             from,
             receive,
             to,
-            place,
+            ..
         } => {
             let arrow = Arrow {
                 send,
                 from,
                 receive,
                 to,
-                place,
             };
             push_arrow(alloc, core, out, arrow)
         }
-        Shape::Bar { row, place } => push_bar(core, out, row, place),
+        Shape::Bar { row, .. } => push_bar(core, out, row),
         Shape::Candidate {
             send,
             from,
@@ -676,6 +711,20 @@ fn push_shape(
                 number,
             };
             push_candidate(alloc, core, out, candidate)
+        }
+        Shape::Request {
+            call,
+            from,
+            to,
+            number,
+        } => {
+            let request = Request {
+                call,
+                from,
+                to,
+                number,
+            };
+            push_request(alloc, core, out, request)
         }
         Shape::End { rank, row } => push_end(alloc, core, out, rank, row),
     }

@@ -8,7 +8,7 @@ use mpd_core::Debugger;
 use mpd_explore::{Witness, WitnessFault, verify};
 use mpd_lines::{EngineFault, Sink, write_all};
 use mpd_model::{STEPS_MAX, Step, StepList};
-use mpd_picture::{DrawFault, draw};
+use mpd_picture::{DrawFault, Look, draw};
 use mpd_policy::{Plain, Wide};
 use mpd_runs::{
     ChoicesFault, ReadFault, StepsFault, WordsFault, choices_of, lead_first, steps_by_choices,
@@ -167,9 +167,10 @@ fn lead<'a>(
 fn write_drawing<'a, W: Sink>(
     alloc: Global,
     debugger: &Debugger<'_>,
+    look: Look,
     sink: &mut W,
 ) -> Result<(), Fault<'a>> {
-    let svg = match draw(alloc, debugger) {
+    let svg = match draw(alloc, debugger, look) {
         Ok(svg) => svg,
         Err(DrawFault::TooLong) => return Err(Fault::LongPicture),
         Err(DrawFault::Memory) => return Err(Fault::from(EngineFault::Memory)),
@@ -180,19 +181,16 @@ fn write_drawing<'a, W: Sink>(
     Ok(())
 }
 
-/// Takes the steps of the run that is asked for, and writes its drawing.
-fn draw_from<'a, W: Sink>(
+/// Writes the drawing of a debugger, if it has taken the steps.
+fn write_led<'a, W: Sink>(
     alloc: Global,
-    subject: Subject<'_>,
-    debugger: &mut Debugger<'_>,
-    asked: Asked<'a>,
-    fuel: usize,
+    debugger: &Debugger<'_>,
+    led: Result<(), Fault<'a>>,
+    look: Look,
     sink: &mut W,
-) -> Result<(), Fault<'a>>
-    requires { fuel ≤ STEPS_MAX }
-{
-    lead(alloc, subject, debugger, asked, fuel)?;
-    write_drawing(alloc, debugger, sink)
+) -> Result<(), Fault<'a>> {
+    led?;
+    write_drawing(alloc, debugger, look, sink)
 }
 
 /// Draws the run that is asked for, and writes it.
@@ -201,12 +199,14 @@ pub(crate) fn draw_run<'a, W: Sink>(
     subject: Subject<'_>,
     asked: Asked<'a>,
     fuel: usize,
+    look: Look,
     sink: &mut W,
 ) -> Result<(), Fault<'a>>
     requires { fuel ≤ STEPS_MAX }
 {
     let mut debugger = started(alloc, subject)?;
-    let drawn = draw_from(alloc, subject, &mut debugger, asked, fuel, sink);
+    let led = lead(alloc, subject, &mut debugger, asked, fuel);
+    let drawn = write_led(alloc, &debugger, led, look, sink);
     drop(debugger);
     drawn
 }
