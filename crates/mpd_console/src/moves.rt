@@ -546,13 +546,7 @@ fn refusal_line(is_next: bool, word: Word, refusal: Refusal) -> &'static str
         Refusal::BreaksFull => "refused: 64 breakpoints are set\n",
         Refusal::BadNumber if is_next => "refused: there is no such candidate\n",
         Refusal::BadNumber => range_line(word),
-        Refusal::NeedsChoice { .. }
-        | Refusal::LineTooLong
-        | Refusal::NotJson
-        | Refusal::BadField
-        | Refusal::UnknownCommand
-        | Refusal::Stale { .. }
-        | Refusal::HistoryFull => "",
+        Refusal::NeedsChoice { .. } | Refusal::Stale { .. } => "",
     }
 }
 

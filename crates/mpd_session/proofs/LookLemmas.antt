@@ -56,13 +56,6 @@ mapped_more f i n so_far now total x h e more is =
     let u : map f (range_with_len i (n - i)) ≡ f i ∷ map f (range_with_len (i + 1) (n - (i + 1))) = rw k refl in
     ap (λ xs. xs ++ map f (range_with_len (i + 1) (n - (i + 1)))) (more ∙ ap (λ y. so_far ++ y ∷ []) is) ∙ append_assoc so_far (f i ∷ []) (map f (range_with_len (i + 1) (n - (i + 1)))) ∙ ap (λ xs. so_far ++ xs) (sym u) ∙ e
 
-pub joined_more : {A : Type 0} (f : ℕ → List A) (i n : ℕ) (so_far now total : List A) → i < n → so_far ++ flat_map f (range_with_len i (n - i)) ≡ total → now ≡ so_far ++ f i
-    → now ++ flat_map f (range_with_len (i + 1) (n - (i + 1))) ≡ total
-joined_more f i n so_far now total h e more =
-    let k : n - i ≡ suc (n - (i + 1)) = omega arith in
-    let u : flat_map f (range_with_len i (n - i)) ≡ f i ++ flat_map f (range_with_len (i + 1) (n - (i + 1))) = rw k refl in
-    ap (λ xs. xs ++ flat_map f (range_with_len (i + 1) (n - (i + 1)))) more ∙ append_assoc so_far (f i) (flat_map f (range_with_len (i + 1) (n - (i + 1)))) ∙ ap (λ xs. so_far ++ xs) (sym u) ∙ e
-
 -- where no number is left, all is there
 pub joined_all : {A : Type 0} (f : ℕ → List A) (i n : ℕ) (so_far total : List A) → n ≤ i → so_far ++ flat_map f (range_with_len i (n - i)) ≡ total → so_far ≡ total
 joined_all f i n so_far total h e =

@@ -11,18 +11,13 @@ refusal_number refusal.Full = 22
 refusal_number refusal.AtStart = 24
 refusal_number refusal.NoRedo = 25
 refusal_number refusal.NotBefore = 26
-refusal_number refusal.LineTooLong = 41
-refusal_number refusal.NotJson = 42
-refusal_number refusal.BadField = 43
-refusal_number refusal.UnknownCommand = 44
 refusal_number (refusal.Stale now) = 51
 refusal_number (refusal.NeedsChoice count) = 52
 refusal_number refusal.NoSuchBreak = 53
 refusal_number refusal.BreaksFull = 54
 refusal_number refusal.BadNumber = 55
-refusal_number refusal.HistoryFull = 56
 
--- a history that is full has the number of what is replied
+-- why a desk has not taken a request
 abbrev pub desk_fault_number : DeskFault → ℕ
-desk_fault_number desk.HistoryFull = refusal_number refusal.HistoryFull
+desk_fault_number desk.HistoryFull = 56
 desk_fault_number desk.Memory = 0

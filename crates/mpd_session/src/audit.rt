@@ -21,7 +21,7 @@ pub enum AuditFault {
 }
 
 impl AuditFault {
-    /// Its number, as docs/DEFINITIONS.md lists them.
+    /// Its number, 57 or 58, as docs/FORMATS.md, "Numbers of refusals", lists them.
     pub fn number(self) -> u8
         ensures { result ≡ audit_fault_number self }
     {

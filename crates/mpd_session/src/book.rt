@@ -16,7 +16,7 @@ use crate::session::Session;
 use std::alloc::{AllocError, Global};
 use std::marker::Model;
 
-/// Why a request was not taken. Nothing has changed.
+/// Why a book has not taken a request, which leaves it as it was.
 #[derive(Clone, Copy)]
 pub enum TakeFault {
     /// The history has 65,536 entries (56).
@@ -86,7 +86,7 @@ impl<'c> Model for Book<'c> {
 }
 
 impl<'c> Book<'c> {
-    /// An empty history, with a session that has answered nothing.
+    /// A book whose history is empty, with a session that has answered nothing.
     pub fn new(alloc: Global, session: Session<'c>) -> Book<'c>
         requires { session ≡ opened session.trail.program session.trail.mode }
         ensures session { result.session ≡ session.entry }

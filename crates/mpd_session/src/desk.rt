@@ -9,7 +9,7 @@ use crate::reply::Reply;
 use crate::request::Request;
 use std::alloc::Global;
 
-/// Why a desk has not taken a request.
+/// Why a desk has not taken a request, which leaves it as it was.
 #[derive(Clone, Copy)]
 pub enum DeskFault {
     /// The history of the desk is full (56).
@@ -38,7 +38,8 @@ pub trait Desk {
     /// What is so of a desk that says that its history is full.
     ghost is_full: { Self → Type 0 };
 
-    /// Takes a request, and replies to it.
+    /// Takes a request, and replies to it; an `Err` leaves the desk as it was. `HistoryFull` (56) comes only from a desk whose history
+    /// may be full.
     fn ask(&mut self, alloc: Global, request: &Request) -> Result<Reply, DeskFault>
         ensures ok { IfOk result (λ reply. asks self.old request.now reply self.new) }
         ensures full { IsErrOf result DeskFault.HistoryFull → is_full self.old }

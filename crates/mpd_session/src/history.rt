@@ -6,7 +6,7 @@ ghost use Rattle.mpd_session.specs.History.{Noted, noted};
 use crate::reply::Reply;
 use crate::request::Request;
 
-/// How many entries a history has at most.
+/// How many entries a history has at most (docs/SESSIONS.md, "Several clients").
 pub const HISTORY_MAX: usize = 65_536;
 
 /// A request that was answered, as the history has it.
@@ -40,12 +40,12 @@ pub struct Log {
     pub receipts: Vec<Receipt>,
 }
 
-/// What has a log.
+/// What has a log of receipts, as each client of a shared session has.
 pub trait Logged {
     /// What the log keeps.
     ghost logged: { Self → Noted };
 
-    /// The log.
+    /// Its receipts, with their client.
     fn log(&self) -> &Log
         ensures { noted result.now ≡ logged self.now };
 }

@@ -6,7 +6,7 @@ ghost use Rattle.mpd_session.specs.RefusalNumbers.{refusal_number};
 use mpd_model::{Step, Stop};
 use std::marker::Model;
 
-/// A text; contracts see its bytes.
+/// The text of how a run has ended (docs/SESSIONS.md, "Requests"); contracts see its bytes.
 #[derive(Drop)]
 pub struct Text {
     pub string: String,
@@ -20,7 +20,7 @@ impl Model for Text {
     ghost view = { λ t. string_bytes t.string };
 }
 
-/// Texts in their order; contracts see the list of their bytes.
+/// The texts that a reply lists, in the order that docs/SESSIONS.md, "Requests", tells; contracts see the list of their bytes.
 #[derive(Drop)]
 pub struct TextList {
     pub items: Vec<String>,
@@ -62,7 +62,8 @@ impl Model for HandleList {
     ghost view = { λ l. l.items.items };
 }
 
-/// What is told of a request that was carried out. A depth is how many steps are not undone behind it.
+/// What is told of a request that was carried out, by its command (docs/SESSIONS.md, "Requests"). A depth is how many steps are not
+/// undone then, 0 to 1,000,000.
 #[derive(Drop)]
 pub enum Answer {
     /// Of `step`, `back`, `redo` and `goto`: the depth.
@@ -124,7 +125,8 @@ pub enum Answer {
     },
 }
 
-/// Why a request was not carried out. The numbers are those of docs/SESSIONS.md, "Refusals".
+/// Why a session has not carried out a request, by the numbers of docs/SESSIONS.md, "Refusals"; then nothing has changed. What is
+/// wrong with a line of JSON, and that a history is full, is none of these, since no session says so.
 #[derive(Clone, Copy)]
 pub enum Refusal {
     /// The step is not enabled (21).
@@ -137,14 +139,6 @@ pub enum Refusal {
     NoRedo,
     /// The depth is above the present one (26).
     NotBefore,
-    /// The line has more than 4,096 bytes (41).
-    LineTooLong,
-    /// The line is no JSON text (42).
-    NotJson,
-    /// A field is missing, or is none that the command can have (43).
-    BadField,
-    /// There is no such command (44).
-    UnknownCommand,
     /// The session has another version than the request names (51).
     Stale {
         /// The version that it has.
@@ -161,12 +155,10 @@ pub enum Refusal {
     BreaksFull,
     /// A number is out of its range, or names what isn't there (55).
     BadNumber,
-    /// The history has as many entries as it may have (56).
-    HistoryFull,
 }
 
 impl Refusal {
-    /// Its number, as docs/SESSIONS.md lists them.
+    /// Its number, 21 to 26 or 51 to 55, as docs/SESSIONS.md, "Refusals", lists them.
     pub fn number(self) -> u8
         ensures { result ≡ refusal_number self }
     {
@@ -176,21 +168,16 @@ impl Refusal {
             Refusal::AtStart => 24,
             Refusal::NoRedo => 25,
             Refusal::NotBefore => 26,
-            Refusal::LineTooLong => 41,
-            Refusal::NotJson => 42,
-            Refusal::BadField => 43,
-            Refusal::UnknownCommand => 44,
             Refusal::Stale { .. } => 51,
             Refusal::NeedsChoice { .. } => 52,
             Refusal::NoSuchBreak => 53,
             Refusal::BreaksFull => 54,
             Refusal::BadNumber => 55,
-            Refusal::HistoryFull => 56,
         }
     }
 }
 
-/// What a client is told.
+/// What a client is told: that its request was carried out, with the version then, or why not, and then nothing has changed.
 #[derive(Drop)]
 pub enum Reply {
     /// It was carried out.

@@ -2,7 +2,7 @@
 
 use mpd_model::{Break, CallId, Step};
 
-/// A command with its fields. Numbers are as they were given, whatever a session has.
+/// A command with its fields (docs/SESSIONS.md, "Requests"); numbers are as they were given, also where a session refuses them.
 #[derive(Clone, Copy)]
 pub enum Command {
     /// Take this step.
@@ -46,7 +46,7 @@ pub enum Command {
     },
 }
 
-/// What a client asks.
+/// What a client asks: a command, and which version it is for, if it names one.
 #[derive(Clone, Copy)]
 pub struct Request {
     /// What is to be done.

@@ -47,7 +47,7 @@ fn same_command(one: Command, other: Command) -> bool
     }
 }
 
-/// Whether two requests are one.
+/// Whether two requests are one: the same command with the same fields, for the same version or for any.
 pub fn same_request(one: &Request, other: &Request) -> bool
     ensures { Decides result (one.now ≡ other.now) }
 {
@@ -233,10 +233,6 @@ fn same_refusal(one: Refusal, other: Refusal) -> bool
         Refusal::AtStart => matches!(other, Refusal::AtStart),
         Refusal::NoRedo => matches!(other, Refusal::NoRedo),
         Refusal::NotBefore => matches!(other, Refusal::NotBefore),
-        Refusal::LineTooLong => matches!(other, Refusal::LineTooLong),
-        Refusal::NotJson => matches!(other, Refusal::NotJson),
-        Refusal::BadField => matches!(other, Refusal::BadField),
-        Refusal::UnknownCommand => matches!(other, Refusal::UnknownCommand),
         Refusal::Stale { now } => matches!(other, Refusal::Stale { now: also } if also == now),
         Refusal::NeedsChoice { count } => {
             matches!(other, Refusal::NeedsChoice { count: also } if also == count)
@@ -244,11 +240,10 @@ fn same_refusal(one: Refusal, other: Refusal) -> bool
         Refusal::NoSuchBreak => matches!(other, Refusal::NoSuchBreak),
         Refusal::BreaksFull => matches!(other, Refusal::BreaksFull),
         Refusal::BadNumber => matches!(other, Refusal::BadNumber),
-        Refusal::HistoryFull => matches!(other, Refusal::HistoryFull),
     }
 }
 
-/// Whether two replies are one.
+/// Whether two replies are one: the same version with the same answer, text by text, or the same refusal.
 pub fn same_reply(one: &Reply, other: &Reply) -> bool
     ensures { Decides result (one.now ≡ other.now) }
 {

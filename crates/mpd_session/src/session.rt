@@ -95,7 +95,7 @@ fn carry_out(
     }
 }
 
-/// A debugger with breakpoints and a version; contracts see what it holds.
+/// A debugger with up to 64 breakpoints and a version, which answers requests (docs/SESSIONS.md); contracts see what it holds.
 #[derive(Drop)]
 pub struct Session<'c> {
     debugger: Debugger<'c>,
@@ -114,7 +114,7 @@ impl<'c> Model for Session<'c> {
 }
 
 impl<'c> Session<'c> {
-    /// No step was taken, no breakpoint is set, and the version is 0. An `Err` is want of memory.
+    /// A session at the start of a script: no step was taken, no breakpoint is set, and the version is 0. An `Err` is want of memory.
     pub fn start(alloc: Global, code: &'c Code, mode: Mode) -> Result<Session<'c>, AllocError>
         ensures { IfOk result (λ s. s ≡ opened code.now.program mode) }
     {
@@ -157,8 +157,8 @@ impl<'c> Session<'c> {
         last_hit(&mut self.debugger, &self.breaks)
     }
 
-    /// Has these steps as the ones that are kept. They begin with those that are not undone, and lead on from there; those behind the
-    /// depth lie ahead then, as if they had been taken and taken back. It raises the version, and takes no memory.
+    /// Keeps these steps in the place of those that it had: those after the depth lie ahead then, as if they had been taken and taken
+    /// back. They begin with the steps that are not undone, and lead on from there. It raises the version, and takes no memory.
     pub fn lay(&mut self, steps: Vec<Step>)
         requires begins { take self.old.trail.depth steps.items ≡ done_steps self.old.trail }
         requires run { IsRun self.old.trail.program self.old.trail.mode steps.items }
@@ -168,7 +168,8 @@ impl<'c> Session<'c> {
         self.version = raised(self.version);
     }
 
-    /// Answers a request (docs/SESSIONS.md, "Requests"). An `Err` is want of memory, and then nothing has changed.
+    /// Replies to a request, and does what it asks for unless it is refused (docs/SESSIONS.md, "Requests" and "Refusals"). An `Err` is
+    /// want of memory, and then nothing has changed.
     #[tactic(auto, using(crate::proofs::AnswerLemmas::answering))]
     pub fn answer(&mut self, alloc: Global, request: &Request) -> Result<Reply, AllocError>
         ensures reply { IfOk result (λ reply. reply ≡ (respond self.old request.now).0) }

@@ -6,26 +6,26 @@ use Rattle.mpd_wire.specs.declared.fault.WireFault.{WireFault}
 use Rattle.mpd_wire.specs.declared.fault.WireFault.TheVariants.{LineTooLong, NotJson, BadField, UnknownCommand, Memory}
 use Rattle.mpd_session.specs.declared.reply.Reply.{Reply}
 use Rattle.mpd_wire.specs.Requests.{request_in}
-use Rattle.mpd_wire.specs.Replies.{reply_line, reply_data}
+use Rattle.mpd_wire.specs.Replies.{reply_line}
 use Rattle.mpd_wire.specs.Says.{memory_line, unprinted_line, full_line, fault_line, Asked, Took, Says, AddsTold, AddsAsked, AddsTook, one_more, counted}
 use Rattle.mpd_wire.proofs.Json.{too_long}
 
 -- ---- constants
 
 pub too_long_line : codes "{\"error\":\"line-too-long\",\"ok\":false}\n" ≡ fault_line LineTooLong
-unfolding fault_line reply_data serde_json_on_literals
+unfolding fault_line serde_json_on_literals
 too_long_line = refl
 
 pub not_json_line : codes "{\"error\":\"not-json\",\"ok\":false}\n" ≡ fault_line NotJson
-unfolding fault_line reply_data serde_json_on_literals
+unfolding fault_line serde_json_on_literals
 not_json_line = refl
 
 pub bad_field_line : codes "{\"error\":\"bad-field\",\"ok\":false}\n" ≡ fault_line BadField
-unfolding fault_line reply_data serde_json_on_literals
+unfolding fault_line serde_json_on_literals
 bad_field_line = refl
 
 pub unknown_line : codes "{\"error\":\"unknown-command\",\"ok\":false}\n" ≡ fault_line UnknownCommand
-unfolding fault_line reply_data serde_json_on_literals
+unfolding fault_line serde_json_on_literals
 unknown_line = refl
 
 pub no_memory_line : codes "{\"error\":\"memory\",\"ok\":false}\n" ≡ fault_line Memory
@@ -33,7 +33,7 @@ unfolding fault_line
 no_memory_line = refl
 
 history_full_line : codes "{\"error\":\"history-full\",\"ok\":false}\n" ≡ full_line
-unfolding reply_data serde_json_on_literals
+unfolding serde_json_on_literals
 history_full_line = refl
 
 pub ruleset faulting = (too_long_line, not_json_line, bad_field_line, unknown_line, no_memory_line)

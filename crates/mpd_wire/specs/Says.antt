@@ -1,14 +1,15 @@
 -- What a line is answered, and where that leaves the desk.
 use Rattle.std.specs.Prelude.{◌≡◌, ℕ, suc, ◌+◌, ◌==◌, ◌<◌, ◌⊎◌, if◌then◌else◌, List, [], ◌∷◌, ◌++◌, length, codes, Result, Ok, Err}
+use Rattle.serde_json.specs.Data.{object}
+use Rattle.serde_json.specs.Written.{compact_text}
 use Rattle.mpd_model.specs.declared.limits.TheConstants.{LINE_MAX}
+use Rattle.mpd_model.specs.texts.Texts.{line}
 use Rattle.mpd_session.specs.declared.request.Request.{Request}
 use Rattle.mpd_wire.specs.declared.fault.WireFault.{WireFault}
 use Rattle.mpd_wire.specs.declared.fault.WireFault.TheVariants as fault
 use Rattle.mpd_session.specs.declared.reply.Reply.{Reply}
-use Rattle.mpd_session.specs.declared.reply.Reply.TheVariants.{Refused}
-use Rattle.mpd_session.specs.declared.reply.Refusal.TheVariants as refusal
 use Rattle.mpd_wire.specs.Requests.{request_in}
-use Rattle.mpd_wire.specs.Replies.{reply_line}
+use Rattle.mpd_wire.specs.Replies.{members, refused, reply_line}
 
 -- the two lines that stand in the place of a reply: where memory is refused before the desk has taken the request, and behind that
 abbrev pub memory_line : List ℕ
@@ -17,12 +18,16 @@ memory_line = codes "{\"error\":\"memory\",\"ok\":false}\n"
 abbrev pub unprinted_line : List ℕ
 unprinted_line = codes "{\"error\":\"unprinted\",\"ok\":false}\n"
 
+-- what answers where no session is asked: an object of the form of a refusal, with a name of its own
+abbrev pub error_line : List ℕ → List ℕ
+error_line name = line (compact_text (object (members (refused name))))
+
 -- what answers a line that is no request
 unfoldable pub fault_line : WireFault → List ℕ
-fault_line fault.LineTooLong = reply_line (Refused refusal.LineTooLong)
-fault_line fault.NotJson = reply_line (Refused refusal.NotJson)
-fault_line fault.BadField = reply_line (Refused refusal.BadField)
-fault_line fault.UnknownCommand = reply_line (Refused refusal.UnknownCommand)
+fault_line fault.LineTooLong = error_line (codes "line-too-long")
+fault_line fault.NotJson = error_line (codes "not-json")
+fault_line fault.BadField = error_line (codes "bad-field")
+fault_line fault.UnknownCommand = error_line (codes "unknown-command")
 fault_line fault.Memory = memory_line
 
 -- the line of a reply, or the one that stands in its place
@@ -31,7 +36,7 @@ Told r text = (text ≡ reply_line r) ⊎ (text ≡ unprinted_line)
 
 -- what answers a request that the desk has not taken: its history is full, or memory was refused
 abbrev pub full_line : List ℕ
-full_line = reply_line (Refused refusal.HistoryFull)
+full_line = error_line (codes "history-full")
 
 abbrev pub NotTaken : {D : Type 0} → (D → Type 0) → D → List ℕ → Type 0
 NotTaken full d text = (full d × (text ≡ full_line)) ⊎ (text ≡ memory_line)

@@ -139,7 +139,7 @@ impl<'d, D: Desk> LineDesk for JsonDesk<'d, D> {
     }
 }
 
-/// The input has ended.
+/// What is told if the input has ended: how many of its lines were answered.
 #[derive(Clone, Copy)]
 pub struct End {
     /// How many lines were answered: all that aren't empty.

@@ -12,7 +12,8 @@ use mpd_session::Request;
 use serde_json::Value;
 use std::alloc::Global;
 
-/// Reads a request from a line without its end (docs/SESSIONS.md, "Requests").
+/// The request that a line is, without its line feed, or the first fault that it has (docs/SESSIONS.md, "Requests"). Memory is
+/// refused only for lines of 1 to 4,096 bytes.
 #[tactic(auto, using(crate::proofs::Json::line_is, crate::proofs::Json::too_long, crate::proofs::Json::not_json, crate::proofs::Json::never_memory))]
 pub fn parse(alloc: Global, line: &[u8]) -> Result<Request, WireFault>
     ensures exact { result ≢ Err Memory → result ≡ request_in line.now }

@@ -180,16 +180,11 @@ fn refused_value(alloc: Global, refusal: Refusal) -> Result<Value, AllocError>
         Refusal::AtStart => named(alloc, "at-start"),
         Refusal::NoRedo => named(alloc, "no-redo"),
         Refusal::NotBefore => named(alloc, "not-before"),
-        Refusal::LineTooLong => named(alloc, "line-too-long"),
-        Refusal::NotJson => named(alloc, "not-json"),
-        Refusal::BadField => named(alloc, "bad-field"),
-        Refusal::UnknownCommand => named(alloc, "unknown-command"),
         Refusal::Stale { now } => stale_value(alloc, now),
         Refusal::NeedsChoice { count } => choice_value(alloc, count),
         Refusal::NoSuchBreak => named(alloc, "no-such-break"),
         Refusal::BreaksFull => named(alloc, "breaks-full"),
         Refusal::BadNumber => named(alloc, "bad-number"),
-        Refusal::HistoryFull => named(alloc, "history-full"),
     }
 }
 
