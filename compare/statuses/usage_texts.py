@@ -30,6 +30,7 @@ Commands:
   words     Write the trace words of the run with these choices
   c         Write the script of a file as a C program with MPI calls
   picture   Draw a run of the script of a file, as SVG
+  page      Write a page for a browser that shows runs of the script of a file
   help      Print this message or the help of the given subcommand(s)
 
 Options:
@@ -268,6 +269,7 @@ Options:
       --words <WORDS>      Draw the run of a file of trace words, one a line
       --fuel <N>           How many steps a run takes at most, 1 to 1000000 [default: 100000]
       --ends               The choices are those of a leaf of `check --ends` or `check --sample`
+      --plain              Leave out the list of calls and the legend
   -h, --help               Print help
 
 One of --choices, --witness and --words says which run is drawn. Without them it is the run of the
@@ -276,6 +278,34 @@ first candidates. --fuel is for a run of choices or of first candidates. Choices
 
 Example:
   ./mpdbg picture examples/race.mpd --choices '1' > race.svg
+"""
+
+PAGE = """\
+Write a page for a browser that shows runs of the script of a file
+
+Usage: mpdbg page [OPTIONS] <FILE>
+
+Arguments:
+  <FILE>  The script
+
+Options:
+      --ranks <N>          How many ranks run the script, 1 to 16, in place of the number in it
+      --mode <M>           How standard sends behave: rendezvous, buffered, or slots:K with K from 0 to 65536 [default: rendezvous]
+      --choices <C>        Show the run with these choices, numbers from 0 with spaces between them
+      --witness <WITNESS>  Show the run of a witness or a report
+      --words <WORDS>      Show the run of a file of trace words, one a line
+      --runs <N>           Show the runs of the first N leaves that `check` lists, 1 to 1000
+      --fuel <N>           How many steps a run takes at most, 1 to 1000000 [default: 100000]
+      --ends               Take choices and runs along the wide walk, as `check --ends` does
+      --hide               Cover how runs end until the key h is pressed
+  -h, --help               Print help
+
+One of --choices, --witness, --words and --runs says which runs are shown. Without them it is the first
+run that hangs or traps, and the first that ends well. --ends is for choices and for runs of `mpdbg check`:
+choices of a leaf of `mpdbg check --ends` or `mpdbg check --sample` want it beside them.
+
+Example:
+  ./mpdbg page examples/stolen_message.mpd > run.html
 """
 
 VERSION = 'mpdbg 0.1.0\n'
@@ -307,13 +337,14 @@ ANSWERS = (
     ('words|no-such-file|--ends|--choices|x|-h', WORDS), ('picture|no-such-file|--ends|--help', PICTURE),
     ('c|--help', C), ('c|-h', C), ('help|c', C), ('c|no-such-file|--help', C),
     ('picture|--help', PICTURE), ('picture|-h', PICTURE), ('help|picture', PICTURE),
-    ('picture|no-such-file|--choices|x|--words=w|--witness|w|--fuel|7|--mode|no-mode|--help', PICTURE))
+    ('picture|no-such-file|--choices|x|--words=w|--witness|w|--fuel|7|--mode|no-mode|--help', PICTURE),
+    ('page|--help', PAGE), ('page|-h', PAGE), ('help|page', PAGE), ('page|no-such-file|--runs|7|--hide|--ends|--mode|no-mode|--help', PAGE))
 
 NO_COMMAND = 'mpdbg <COMMAND>'
-OF_DIAGNOSE, OF_TRACE, OF_DEBUG, OF_RUN, OF_SERVE, OF_CHECK, OF_VERIFY, OF_WORDS, OF_C, OF_PICTURE = (
+OF_DIAGNOSE, OF_TRACE, OF_DEBUG, OF_RUN, OF_SERVE, OF_CHECK, OF_VERIFY, OF_WORDS, OF_C, OF_PICTURE, OF_PAGE = (
     f'mpdbg {rest}' for rest in ('diagnose [OPTIONS] <FILE>', 'trace [OPTIONS] <FILE>', 'debug [OPTIONS] <FILE>', 'run [OPTIONS] <FILE>',
                                  'serve [OPTIONS] --port <P> --clients <N> <FILE>', 'check [OPTIONS] <FILE>',
-                                 'verify [OPTIONS] <FILE> <WITNESS>', 'words [OPTIONS] --choices <C> <FILE>', 'c [OPTIONS] <FILE>', 'picture [OPTIONS] <FILE>'))
+                                 'verify [OPTIONS] <FILE> <WITNESS>', 'words [OPTIONS] --choices <C> <FILE>', 'c [OPTIONS] <FILE>', 'picture [OPTIONS] <FILE>', 'page [OPTIONS] <FILE>'))
 # What `serve` wants, where something that was given is named.
 WANTED_OF_SERVE = 'mpdbg serve --port <P> --clients <N> <FILE>'
 # And what `words` wants, with another flag and without.
@@ -379,6 +410,8 @@ MISTAKES = (
     Mistake('help|c|x', "unrecognized subcommand 'x'", OF_C),
     Mistake('pictur|a', "unrecognized subcommand 'pictur'", NO_COMMAND, "some similar subcommands exist: 'c', 'picture'"),
     Mistake('pixture|a', "unrecognized subcommand 'pixture'", NO_COMMAND, "a similar subcommand exists: 'picture'"),
+    Mistake('pag|a', "unrecognized subcommand 'pag'", NO_COMMAND, "a similar subcommand exists: 'page'"),
+    Mistake('help|page|x', "unrecognized subcommand 'x'", OF_PAGE),
     Mistake('help|picture|x', "unrecognized subcommand 'x'", OF_PICTURE),
     Mistake('a.mpd', "unrecognized subcommand 'a.mpd'", NO_COMMAND),
     Mistake('', "unrecognized subcommand ''", NO_COMMAND),
@@ -437,6 +470,8 @@ MISTAKES = (
     missing('picture|--words|w', ['<FILE>'], 'mpdbg picture --words <WORDS> <FILE>'),
     missing('picture|--choices|0|--fuel|5', ['<FILE>'], 'mpdbg picture --choices <C> --fuel <N> <FILE>'),
     missing('picture|--ends', ['<FILE>'], ENDS_OF_PICTURE),
+    missing('page', ['<FILE>'], 'mpdbg page <FILE>'),
+    missing('page|--runs|5|--hide', ['<FILE>'], 'mpdbg page --runs <N> --hide <FILE>'),
     unknown('trace|a|b', 'b', OF_TRACE),
     unknown('diagnose|a|b', 'b', OF_DIAGNOSE),
     unknown('diagnose|a|--strict|b', 'b', OF_DIAGNOSE),
@@ -453,6 +488,7 @@ MISTAKES = (
     unknown('words|a|--choices|0|1', '1', OF_WORDS),
     unknown('c|a|b', 'b', OF_C),
     unknown('picture|a|b', 'b', OF_PICTURE),
+    unknown('page|a|b', 'b', OF_PAGE),
     unknown('words|a|--choices|0|--ends|b', 'b', OF_WORDS),
     unknown('picture|a|--ends|b', 'b', OF_PICTURE),
     # options
@@ -525,6 +561,7 @@ MISTAKES = (
     unknown('picture|a|--word|w', '--word', 'mpdbg picture --words <WORDS> <FILE>', "a similar argument exists: '--words'"),
     unknown('picture|a|--laid_witness|w', '--laid_witness', 'mpdbg picture --witness <WITNESS> <FILE>', "a similar argument exists: '--witness'"),
     unknown('picture|a|--runs|5', '--runs', 'mpdbg picture --ranks <N> <FILE>', "a similar argument exists: '--ranks'"),
+    unknown('page|a|--hid', '--hid', 'mpdbg page --hide <FILE>', "a similar argument exists: '--hide'"),
     hyphened('picture|a|-c|0', '-c', OF_PICTURE),
     hyphened('trace|a|--ends', '--ends', 'mpdbg trace <FILE>'),
     Mistake('trace|a|--mode', "a value is required for '--mode <M>' but none was supplied"),
@@ -584,6 +621,10 @@ MISTAKES = (
     Mistake('picture|a|--choices|--ends', "a value is required for '--choices <C>' but none was supplied"),
     Mistake('words|a|--choices|0|--ends|--ends', "the argument '--ends' cannot be used multiple times", OF_WORDS),
     Mistake('picture|a|--ends|--ends', "the argument '--ends' cannot be used multiple times", OF_PICTURE),
+    Mistake('picture|a|--plain|--plain', "the argument '--plain' cannot be used multiple times", OF_PICTURE),
+    Mistake('page|a|--hide|--hide', "the argument '--hide' cannot be used multiple times", OF_PAGE),
+    Mistake('page|a|--hide=true', "unexpected value 'true' for '--hide' found; no more were expected", 'mpdbg page --hide <FILE>'),
+    Mistake('page|a|--runs', "a value is required for '--runs <N>' but none was supplied"),
     Mistake('words|a|--choices|0|--ends=true', "unexpected value 'true' for '--ends' found; no more were expected", ENDS_OF_WORDS),
     Mistake('picture|a|--ends=true', "unexpected value 'true' for '--ends' found; no more were expected", ENDS_OF_PICTURE),
     Mistake('picture|a|--words', "a value is required for '--words <WORDS>' but none was supplied"),
@@ -659,6 +700,9 @@ MISTAKES = (
     bad_number('words|a|--choices|0|--fuel|0', '0', 'fuel', '0 is not in 1..=1000000'),
     bad_number('words|a|--fuel=1000001', '1000001', 'fuel', '1000001 is not in 1..=1000000'),
     bad_number('picture|a|--fuel|0', '0', 'fuel', '0 is not in 1..=1000000'),
+    bad_number('page|a|--runs|0', '0', 'runs', '0 is not in 1..=1000'),
+    bad_number('page|a|--runs=1001', '1001', 'runs', '1001 is not in 1..=1000'),
+    bad_number('page|a|--fuel=1000001', '1000001', 'fuel', '1000001 is not in 1..=1000000'),
     bad_number('picture|a|--fuel=1000001', '1000001', 'fuel', '1000001 is not in 1..=1000000'),
     bad_number('check|a|--runs=', '', 'runs', 'cannot parse integer from empty string'),
     bad_number('check|a|--runs|99999999999999999999', '99999999999999999999', 'runs', TOO_LARGE))

@@ -1,18 +1,18 @@
 -- What `clap` makes of the items of a table, and of a value of one.
-use Rattle.std.proofs.Common.{◌≡◌, ◌≢◌, ◌∙◌, ◌<◌, ◌≤◌, ◌^◌, ◌&&◌, ◌||◌, ℕ, Bool, true, false, not, List, [], ◌∷◌, ◌++◌, ◌==◌, cond, suc, zero, Option, Some, None, is_some, option_map, find, codes, refl, sym, ap, ap₂, subst, if◌then◌else◌, arith}
+use Rattle.std.proofs.Common.{◌≡◌, ◌≢◌, ◌∙◌, ◌≤◌, ◌<◌, ◌&&◌, ◌||◌, ℕ, Bool, true, false, not, List, [], ◌∷◌, ◌++◌, ◌==◌, cond, suc, Option, Some, None, is_some, option_map, find, codes, refl, sym, ap, ap₂, subst, if◌then◌else◌, arith}
 use Rattle.std.specs.Prelude.{nat_le}
 use Rattle.std.specs.List.{list_all}
 use Rattle.std.specs.Option.{option_map_or}
 use Rattle.std.specs.Str.{bytes_eq}
+use Rattle.std.proofs.Math.Bool.{and-false, or-false}
 use Rattle.std.proofs.lemmas.Bool.{leb-true}
 use Rattle.std.proofs.lemmas.Slice.Eq.{bytes_eq-Decides}
 use Rattle.clap.specs.Words.{Row, Rule, Shape, Text}
-use Rattle.clap.specs.Kinds.{Kinds, or_else}
+use Rattle.clap.specs.Kinds.{Kinds, or_else, values_kinds}
 use Rattle.clap.specs.Faults.{use_fault}
 use Rattle.clap.specs.Simple.{filled, help_rule, new_shape}
-use Rattle.clap.specs.ValueTests.{is_unsigned_in}
+use Rattle.clap.specs.Values.{reading_of}
 use Rattle.clap.specs.Walk.{arg_by_id, arg_by_index, arg_by_long, arg_by_short, has_long, has_row, has_short, used, with_values, without}
-use Rattle.clap.specs.declared.builder.action.ArgAction.{ArgAction}
 use Rattle.clap.specs.declared.builder.action.ArgAction.TheVariants.{Set, SetTrue}
 use Rattle.clap.specs.declared.builder.value_parser.Reading.{Reading}
 use Rattle.clap.specs.declared.builder.value_parser.Reading.TheVariants.{AsWritten}
@@ -26,76 +26,45 @@ use Rattle.clap.proofs.OnLiterals.{clap_on_literals}
 use Rattle.clap.proofs.WalkLemmas.{both}
 use Rattle.mpd_options.specs.Asked.{Said, said_named, said_of}
 use Rattle.mpd_options.specs.Numbers.{most_usize}
-use Rattle.mpd_options.specs.Program.{Lies, only_deadlock}
-use Rattle.mpd_options.specs.Table.{Item, Tool, a_file, a_flag, an_option, Unsaid, Values, any_word, called, checker, deadlock_alone, debugger, default_of, diagnoser, files_of, fits, from_to, is_file, is_flag, is_missed, is_nothing, is_required, is_same_as, is_spelled, item_named, items_of, name_of, option_among, painter, runner, server, teller, tracer, translator, verifier}
+use Rattle.mpd_options.specs.Program.{Lies, default_values, only_deadlock}
+use Rattle.mpd_options.specs.Table.{Item, Unsaid, called, default_of, files_of, fits, holds, is_missed_unsaid, is_spelled, item_named, items_of, option_among}
+use Rattle.mpd_options.specs.declared.table.Tool.{Tool}
+use Rattle.mpd_options.specs.declared.table.Tool.TheVariants as tool
+use Rattle.mpd_options.specs.declared.table.Values.{Values}
+use Rattle.mpd_options.specs.declared.table.Values.TheVariants.{AnyWord, DeadlockAlone, FromTo}
 use Rattle.mpd_options.proofs.NumberReads.{accepts_number}
 
 -- ---- the rule that `clap` builds of an item
 
-abbrev seat_of : Item → Option ℕ
-seat_of (a_file place name) = Some place
-seat_of _ = None
+abbrev parser_of : Lies → Bool → Values → ValueParser
+parser_of lie true values = parser.Bool
+parser_of lie false AnyWord = parser.String
+parser_of lie false (FromTo low high) = parser.Unsigned low high
+parser_of lie false DeadlockAlone = parser.Names (only_deadlock lie)
 
-abbrev long_for : Item → Option Text
-long_for (a_file place name) = None
-long_for (a_flag name) = Some name
-long_for (an_option name spelling values unsaid) = Some spelling
-
-abbrev action_for : Item → ArgAction
-action_for (a_flag name) = SetTrue
-action_for _ = Set
-
-abbrev how_many : Item → ℕ
-how_many (a_flag name) = 0
-how_many _ = 1
-
-abbrev value_names_for : Item → ℕ
-value_names_for (an_option name spelling values unsaid) = 1
-value_names_for _ = 0
-
-abbrev pub default_list : Unsaid → List Text
-default_list (is_same_as value) = value ∷ []
-default_list _ = []
-
-abbrev pub defaults_for : Item → List Text
-defaults_for (a_file place name) = []
-defaults_for (a_flag name) = codes "false" ∷ []
-defaults_for (an_option name spelling values unsaid) = default_list unsaid
-
-abbrev missing_for : Item → List Text
-missing_for (a_flag name) = codes "true" ∷ []
-missing_for _ = []
-
-abbrev parser_of : Lies → Values → ValueParser
-parser_of lie any_word = parser.String
-parser_of lie (from_to low high) = parser.Unsigned low high
-parser_of lie deadlock_alone = parser.Names (only_deadlock lie)
-
-abbrev parser_for : Lies → Item → ValueParser
-parser_for lie (a_file place name) = parser.String
-parser_for lie (a_flag name) = parser.Bool
-parser_for lie (an_option name spelling values unsaid) = parser_of lie values
-
-abbrev pub rule_for : Lies → Item → Rule
-rule_for lie i = record {
-  id = name_of i;
-  long = long_for i;
+abbrev pub rule_by : Lies → Item → Bool → Values → Unsaid → Rule
+rule_by lie i flag values unsaid = record {
+  id = i.name;
+  long = i.spelling;
   aliases = [];
   short = None;
   short_aliases = [];
-  index = seat_of i;
-  action = Some (action_for i);
-  range = Some (record { start_inclusive = how_many i; end_inclusive = how_many i });
-  value_names = value_names_for i;
-  defaults = defaults_for i;
-  missing = missing_for i;
+  index = i.place;
+  action = Some (if flag then SetTrue else Set);
+  range = Some (if flag then record { start_inclusive = 0; end_inclusive = 0 } else record { start_inclusive = 1; end_inclusive = 1 });
+  value_names = if flag then 0 else 1;
+  defaults = default_values unsaid;
+  missing = if flag then codes "true" ∷ [] else [];
   trailing_var_arg = false;
-  parser = Some (parser_for lie i);
+  parser = Some (parser_of lie flag values);
   ignore_case = false;
-  required = is_required i;
+  required = is_missed_unsaid unsaid;
   is_simple = true;
   is_free = true;
 }
+
+abbrev pub rule_for : Lies → Item → Rule
+rule_for lie i = rule_by lie i i.flag i.values i.unsaid
 
 abbrev pub help_arg : Rule
 help_arg = filled help_rule
@@ -126,28 +95,17 @@ find_rules lie q p same (i ∷ items) =
       | false ↦ find_rules lie q p same items
     ]
 
-pub by_id : (lie : Lies) (t : Tool) (i : Item) → item_named (name_of i) (items_of t) ≡ Some i → arg_by_id (rules lie t) (name_of i) ≡ Some (rule_for lie i)
-by_id lie t i own = find_rules lie (λ a. bytes_eq a.id (name_of i)) (λ j. bytes_eq (name_of j) (name_of i)) (λ j. refl) (items_of t) ∙ ap (λ o. at_rule lie o (arg_by_id (help_arg ∷ []) (name_of i))) own
+pub by_id : (lie : Lies) (t : Tool) (i : Item) → item_named i.name (items_of t) ≡ Some i → arg_by_id (rules lie t) i.name ≡ Some (rule_for lie i)
+by_id lie t i own = find_rules lie (λ a. bytes_eq a.id i.name) (λ j. bytes_eq j.name i.name) (λ j. refl) (items_of t) ∙ ap (λ o. at_rule lie o (arg_by_id (help_arg ∷ []) i.name)) own
 
-pub or_nothing : (b : Bool) → (b || false) ≡ b
-or_nothing true = refl
-or_nothing false = refl
-
-long_same : (lie : Lies) (name : Text) (i : Item) → (not (is_some (seat_of i)) && has_long (rule_for lie i) name) ≡ is_spelled name i
-long_same lie name (a_file place own) = refl
-long_same lie name (a_flag own) = or_nothing (bytes_eq own name)
-long_same lie name (an_option own spelling values unsaid) = or_nothing (bytes_eq spelling name)
+long_same : (lie : Lies) (name : Text) (i : Item) → (not (is_some i.place) && has_long (rule_for lie i) name) ≡ is_spelled name i
+long_same lie name i = ap (λ b. not (is_some i.place) && b) (or-false (option_map_or (λ s. bytes_eq s name) i.spelling false))
 
 -- an option, or the help
 pub by_long : (lie : Lies) (t : Tool) (name : Text) → arg_by_long (rules lie t) name ≡ at_rule lie (option_among (items_of t) name) (cond (bytes_eq (codes "help") name) (Some help_arg) None)
 by_long lie t name =
     find_rules lie (λ a. not (is_some a.index) && has_long a name) (is_spelled name) (long_same lie name) (items_of t)
-    ∙ ap (λ b. at_rule lie (option_among (items_of t) name) (cond b (Some help_arg) None)) (or_nothing (bytes_eq (codes "help") name))
-
-short_none : (lie : Lies) (x : ℕ) (i : Item) → (not (is_some (seat_of i)) && has_short (rule_for lie i) x) ≡ false
-short_none lie x (a_file place own) = refl
-short_none lie x (a_flag own) = refl
-short_none lie x (an_option own spelling values unsaid) = refl
+    ∙ ap (λ b. at_rule lie (option_among (items_of t) name) (cond b (Some help_arg) None)) (or-false (bytes_eq (codes "help") name))
 
 find_none : (items : List Item) → find (λ i. false) items ≡ None
 find_none [] = refl
@@ -156,51 +114,34 @@ find_none (i ∷ items) = find_none items
 -- no letter but that of the help
 pub by_short : (lie : Lies) (t : Tool) (x : ℕ) → arg_by_short (rules lie t) x ≡ cond (104 == x) (Some help_arg) None
 by_short lie t x =
-    find_rules lie (λ a. not (is_some a.index) && has_short a x) (λ i. false) (short_none lie x) (items_of t) ∙ ap (λ o. at_rule lie o (arg_by_short (help_arg ∷ []) x)) (find_none (items_of t))
-    ∙ ap (λ b. cond b (Some help_arg) None) (or_nothing (104 == x))
+    find_rules lie (λ a. not (is_some a.index) && has_short a x) (λ i. false) (λ i. and-false (not (is_some i.place))) (items_of t) ∙ ap (λ o. at_rule lie o (arg_by_short (help_arg ∷ []) x)) (find_none (items_of t))
+    ∙ ap (λ b. cond b (Some help_arg) None) (or-false (104 == x))
 
 abbrev pub item_at : ℕ → List Item → Option Item
-item_at n items = find (λ i. option_map_or (λ k. k == n) (seat_of i) false) items
+item_at n items = find (λ i. option_map_or (λ k. k == n) i.place false) items
 
 pub by_index : (lie : Lies) (t : Tool) (n : ℕ) → arg_by_index (rules lie t) n ≡ at_rule lie (item_at n (items_of t)) None
-by_index lie t n = find_rules lie (λ a. option_map_or (λ k. k == n) a.index false) (λ i. option_map_or (λ k. k == n) (seat_of i) false) (λ i. refl) (items_of t)
+by_index lie t n = find_rules lie (λ a. option_map_or (λ k. k == n) a.index false) (λ i. option_map_or (λ k. k == n) i.place false) (λ i. refl) (items_of t)
 
 -- ---- each table is sound
 
 -- the numbers of a range can be told, and a value that stands for none is one of the item's
 abbrev is_bounded : Values → Bool
-is_bounded (from_to low high) = nat_le high most_usize
+is_bounded (FromTo low high) = nat_le high most_usize
 is_bounded _ = true
 
+-- and that of a flag is `false`
 abbrev pub is_sound_item : Item → Bool
-is_sound_item (an_option name spelling values unsaid) = is_bounded values && option_map_or (fits (an_option name spelling values unsaid)) (default_of (an_option name spelling values unsaid)) true
-is_sound_item _ = true
+is_sound_item i = is_bounded i.values && (option_map_or (fits i) (default_of i) true && (not i.flag || option_map_or (λ v. bytes_eq v (codes "false")) (default_of i) false))
 
 -- no two have one name
 abbrev pub are_distinct : List Item → Bool
 are_distinct [] = true
-are_distinct (i ∷ items) = not (is_some (item_named (name_of i) items)) && are_distinct items
+are_distinct (i ∷ items) = not (is_some (item_named i.name items)) && are_distinct items
 
-abbrev pub is_sound_table : List Item → Bool
-is_sound_table items = list_all is_sound_item items && are_distinct items
-
-sound : (t : Tool) → is_sound_table (items_of t) ≡ true
-sound tracer = refl
-sound debugger = refl
-sound runner = refl
-sound server = refl
-sound checker = refl
-sound verifier = refl
-sound teller = refl
-sound translator = refl
-sound painter = refl
-sound diagnoser = refl
-
-pub sound_items : (t : Tool) → list_all is_sound_item (items_of t) ≡ true
-sound_items t = (both (list_all is_sound_item (items_of t)) (are_distinct (items_of t)) (sound t)).0
-
-pub distinct : (t : Tool) → are_distinct (items_of t) ≡ true
-distinct t = (both (list_all is_sound_item (items_of t)) (are_distinct (items_of t)) (sound t)).1
+pub sound : (t : Tool) → (list_all is_sound_item (items_of t) ≡ true) × (are_distinct (items_of t) ≡ true)
+sound tool.Trace = (refl, refl)
+sound _ = (refl, refl)
 
 -- each of these has this test
 pub all_items : (P : Item → Bool) (items : List Item) → list_all P items ≡ true → (p : Item → Bool) (i : Item) → find p items ≡ Some i → P i ≡ true
@@ -212,8 +153,8 @@ all_items P (j ∷ items) all p i e =
       | false ↦ λ h. all_items P items parts.1 p i h
     ] e
 
-pub is_sound : (t : Tool) (p : Item → Bool) (i : Item) → find p (items_of t) ≡ Some i → is_sound_item i ≡ true
-is_sound t p i e = all_items is_sound_item (items_of t) (sound_items t) p i e
+pub sound_own : (t : Tool) (i : Item) → item_named i.name (items_of t) ≡ Some i → is_sound_item i ≡ true
+sound_own t i own = all_items is_sound_item (items_of t) (sound t).0 (λ j. bytes_eq j.name i.name) i own
 
 -- what is found has the test
 pub found_holds : {A : Type 0} (items : List A) (p : A → Bool) (i : A) → find p items ≡ Some i → p i ≡ true
@@ -223,25 +164,25 @@ found_holds (j ∷ items) p i e = elim (p j) as (λ b. p j ≡ b → cond b (Som
   | false ↦ λ q h. found_holds items p i h
 ] refl e
 
-same_text : (x : Text) → bytes_eq x x ≡ true
+pub same_text : (x : Text) → bytes_eq x x ≡ true
 same_text x = (bytes_eq-Decides x x).1 refl
 
 -- what is found in any way is found by its name
-pub named_again : (items : List Item) → are_distinct items ≡ true → (p : Item → Bool) (i : Item) → find p items ≡ Some i → item_named (name_of i) items ≡ Some i
+pub named_again : (items : List Item) → are_distinct items ≡ true → (p : Item → Bool) (i : Item) → find p items ≡ Some i → item_named i.name items ≡ Some i
 named_again [] apart p i e = cc
 named_again (j ∷ items) apart p i e =
-    let parts = both (not (is_some (item_named (name_of j) items))) (are_distinct items) apart in
-    elim (p j) as (λ b. cond b (Some j) (find p items) ≡ Some i → item_named (name_of i) (j ∷ items) ≡ Some i) [
+    let parts = both (not (is_some (item_named j.name items))) (are_distinct items) apart in
+    elim (p j) as (λ b. cond b (Some j) (find p items) ≡ Some i → item_named i.name (j ∷ items) ≡ Some i) [
       | true ↦ λ h. (
           let same : j ≡ i = cc in
-          let first : item_named (name_of j) (j ∷ items) ≡ Some j = ap (λ b. cond b (Some j) (item_named (name_of j) items)) (same_text (name_of j)) in
-          subst (λ k. item_named (name_of k) (j ∷ items) ≡ Some k) same first
+          let first : item_named j.name (j ∷ items) ≡ Some j = ap (λ b. cond b (Some j) (item_named j.name items)) (same_text j.name) in
+          subst (λ k. item_named k.name (j ∷ items) ≡ Some k) same first
           )
       | false ↦ λ h. (
           let later = named_again items parts.1 p i h in
-          elim (bytes_eq (name_of j) (name_of i)) as (λ b. bytes_eq (name_of j) (name_of i) ≡ b → cond b (Some j) (item_named (name_of i) items) ≡ Some i) [
+          elim (bytes_eq j.name i.name) as (λ b. bytes_eq j.name i.name ≡ b → cond b (Some j) (item_named i.name items) ≡ Some i) [
             | true ↦ λ q. (
-                let known : item_named (name_of j) items ≡ Some i = subst (λ n. item_named n items ≡ Some i) (sym ((bytes_eq-Decides (name_of j) (name_of i)).0 q)) later in
+                let known : item_named j.name items ≡ Some i = subst (λ n. item_named n items ≡ Some i) (sym ((bytes_eq-Decides j.name i.name).0 q)) later in
                 let bad : false ≡ true = sym (ap (λ o. not (is_some o)) known) ∙ parts.0 in
                 cc
                 )
@@ -250,44 +191,30 @@ named_again (j ∷ items) apart p i e =
           )
     ] e
 
-pub own : (t : Tool) (p : Item → Bool) (i : Item) → find p (items_of t) ≡ Some i → item_named (name_of i) (items_of t) ≡ Some i
-own t p i e = named_again (items_of t) (distinct t) p i e
+pub own : (t : Tool) (p : Item → Bool) (i : Item) → find p (items_of t) ≡ Some i → item_named i.name (items_of t) ≡ Some i
+own t p i e = named_again (items_of t) (sound t).1 p i e
 
 -- ---- a use of an item
-
-abbrev accepted_by : Values → Text → Bool
-accepted_by any_word text = true
-accepted_by (from_to low high) text = is_unsigned_in low high text
-accepted_by deadlock_alone text = bytes_eq (codes "deadlock") text || false
-
-abbrev pub accepted : Item → Text → Bool
-accepted (an_option name spelling values unsaid) text = accepted_by values text
-accepted _ text = true
-
-pub same_either_way : (a b : Text) → bytes_eq a b ≡ bytes_eq b a
-same_either_way a b = elim (bytes_eq a b) as (λ x. bytes_eq a b ≡ x → x ≡ bytes_eq b a) [
-  | true ↦ λ e. sym ((bytes_eq-Decides b a).1 (sym ((bytes_eq-Decides a b).0 e)))
-  | false ↦ λ e. elim (bytes_eq b a) as (λ y. bytes_eq b a ≡ y → false ≡ y) [
-    | true ↦ λ h. sym e ∙ (bytes_eq-Decides a b).1 (sym ((bytes_eq-Decides b a).0 h))
-    | false ↦ λ h. refl
-  ] refl
-] refl
-
-pub accepted_fits : (i : Item) (v : Text) → is_sound_item i ≡ true → accepted i v ≡ fits i v
-accepted_fits (a_file place name) v s = refl
-accepted_fits (a_flag name) v s = refl
-accepted_fits (an_option name spelling any_word unsaid) v s = refl
-accepted_fits (an_option name spelling (from_to low high) unsaid) v s = let top : high ≤ most_usize = leb-true high most_usize (both (nat_le high most_usize) _ s).0 in accepts_number low high v (omega (arith, top))
-accepted_fits (an_option name spelling deadlock_alone unsaid) v s = or_nothing (bytes_eq (codes "deadlock") v) ∙ same_either_way (codes "deadlock") v
 
 -- the fault of a value, by whether it is taken
 abbrev pub value_fault : ErrorKind → Bool → Kinds
 value_fault k taken = or_else (if taken then [] else k ∷ []) []
 
--- the kind of fault of a value of an item that isn't taken
-abbrev refused_as : Item → ErrorKind
-refused_as (an_option name spelling deadlock_alone unsaid) = kind.InvalidValue
+-- the kind of fault of a value that isn't taken
+abbrev pub refused_as : Values → ErrorKind
+refused_as DeadlockAlone = kind.InvalidValue
 refused_as _ = kind.ValueValidation
+
+pub kinds_by : (lie : Lies) (values : Values) (v : Text) → is_bounded values ≡ true → values_kinds false (parser_of lie false values) (v ∷ []) ≡ value_fault (refused_as values) (holds values v)
+unfolding clap_on_literals
+kinds_by lie AnyWord v s = refl
+kinds_by lie (FromTo low high) v s = (let top : high ≤ most_usize = leb-true high most_usize s in ap (value_fault kind.ValueValidation) (accepts_number low high v (omega (arith, top))))
+kinds_by lie DeadlockAlone v s = ap (value_fault kind.InvalidValue) (or-false (bytes_eq (codes "deadlock") v))
+
+pub reads_as_written : (lie : Lies) (flag : Bool) (values : Values) → reading_of (parser_of lie flag values) ≡ AsWritten
+reads_as_written lie true values = refl
+reads_as_written lie false AnyWord = refl
+reads_as_written lie false _ = refl
 
 -- the fault of a use, by whether there was one before
 abbrev again_fault : Bool → Kinds
@@ -297,63 +224,42 @@ abbrev fault_by : ErrorKind → Bool → Bool → Kinds
 fault_by k again taken = or_else (again_fault again) (value_fault k taken)
 
 abbrev pub row_for : Item → Text → ValueSource → Row
-row_for i v source = record { id = name_of i; values = v ∷ []; count = None; source = Some source; reading = AsWritten }
+row_for i v source = record { id = i.name; values = v ∷ []; count = None; source = Some source; reading = AsWritten }
 
 -- a use of an item with these values gives it this text
 pub record Uses (lie : Lies) (i : Item) (v : Text) (values : List Text) : Type 0 where
-  pub fault : (rows : List Row) → use_fault false (rule_for lie i) values rows ≡ fault_by (refused_as i) (has_row (name_of i) rows) (fits i v)
-  pub rows_are : (rows : List Row) → used (rule_for lie i) values rows ≡ with_values (name_of i) AsWritten CommandLine (v ∷ []) (without (name_of i) rows)
+  pub fault : (rows : List Row) → use_fault false (rule_for lie i) values rows ≡ fault_by (refused_as i.values) (has_row i.name rows) (fits i v)
+  pub rows_are : (rows : List Row) → used (rule_for lie i) values rows ≡ with_values i.name AsWritten CommandLine (v ∷ []) (without i.name rows)
 
-accepted_use : (lie : Lies) (i : Item) (v : Text) (rows : List Row) → is_flag i ≡ false → use_fault false (rule_for lie i) (v ∷ []) rows ≡ fault_by (refused_as i) (has_row (name_of i) rows) (accepted i v)
+pub uses_value : (lie : Lies) (i : Item) (v : Text) → i.flag ≡ false → is_sound_item i ≡ true → Uses lie i v (v ∷ [])
 unfolding clap_on_literals
-accepted_use lie (a_file place name) v rows e = refl
-accepted_use lie (a_flag name) v rows e = cc
-accepted_use lie (an_option name spelling any_word unsaid) v rows e = refl
-accepted_use lie (an_option name spelling (from_to low high) unsaid) v rows e = refl
-accepted_use lie (an_option name spelling deadlock_alone unsaid) v rows e = refl
-
-value_rows : (lie : Lies) (i : Item) (v : Text) (rows : List Row) → is_flag i ≡ false → used (rule_for lie i) (v ∷ []) rows ≡ with_values (name_of i) AsWritten CommandLine (v ∷ []) (without (name_of i) rows)
-unfolding clap_on_literals
-value_rows lie (a_file place name) v rows e = refl
-value_rows lie (a_flag name) v rows e = cc
-value_rows lie (an_option name spelling any_word unsaid) v rows e = refl
-value_rows lie (an_option name spelling (from_to low high) unsaid) v rows e = refl
-value_rows lie (an_option name spelling deadlock_alone unsaid) v rows e = refl
-
-pub uses_value : (lie : Lies) (i : Item) (v : Text) → is_flag i ≡ false → is_sound_item i ≡ true → Uses lie i v (v ∷ [])
 uses_value lie i v e s = record {
-  fault = λ rows. accepted_use lie i v rows e ∙ ap (fault_by (refused_as i) (has_row (name_of i) rows)) (accepted_fits i v s);
-  rows_are = λ rows. value_rows lie i v rows e;
+  fault = λ rows. rw e (ap (or_else (again_fault (has_row i.name rows))) (kinds_by lie i.values v (both (is_bounded i.values) _ s).0));
+  rows_are = λ rows. rw e (ap (λ how. with_values i.name how CommandLine (v ∷ []) (without i.name rows)) (reads_as_written lie false i.values));
 }
 
-pub uses_flag : (lie : Lies) (i : Item) → is_flag i ≡ true → Uses lie i (codes "true") []
+pub uses_flag : (lie : Lies) (i : Item) → i.flag ≡ true → Uses lie i (codes "true") []
 unfolding clap_on_literals
-uses_flag lie (a_flag name) e = record { fault = λ rows. refl; rows_are = λ rows. refl }
-uses_flag lie (a_file place name) e = cc
-uses_flag lie (an_option name spelling values unsaid) e = cc
+uses_flag lie i e = record { fault = λ rows. rw e refl; rows_are = λ rows. rw e refl }
 
 -- a first use whose value fits
-pub used_well : (lie : Lies) (i : Item) (v : Text) (values : List Text) (rows : List Row) → Uses lie i v values → has_row (name_of i) rows ≡ false → fits i v ≡ true → use_fault false (rule_for lie i) values rows ≡ []
-used_well lie i v values rows u h f = u.fault rows ∙ ap₂ (fault_by (refused_as i)) h f
+pub used_well : (lie : Lies) (i : Item) (v : Text) (values : List Text) (rows : List Row) → Uses lie i v values → has_row i.name rows ≡ false → fits i v ≡ true → use_fault false (rule_for lie i) values rows ≡ []
+used_well lie i v values rows u h f = u.fault rows ∙ ap₂ (fault_by (refused_as i.values)) h f
 
-taken_or_not : (k : ErrorKind) (taken : Bool) → fault_by k true taken ≢ []
-taken_or_not k taken = λ e. cc
+wrong_use : (k : ErrorKind) (again taken : Bool) → (not again && taken) ≡ false → fault_by k again taken ≢ []
+wrong_use k true taken e = λ z. cc
+wrong_use k false false e = λ z. cc
+wrong_use k false true e = cc
 
--- a second use
-pub used_again : (lie : Lies) (i : Item) (v : Text) (values : List Text) (rows : List Row) → Uses lie i v values → has_row (name_of i) rows ≡ true → use_fault false (rule_for lie i) values rows ≢ []
-used_again lie i v values rows u h =
-    let P : Kinds → Type 0 = λ ks. ks ≢ [] in
-    subst P (sym (u.fault rows ∙ ap (λ b. fault_by (refused_as i) b (fits i v)) h)) (taken_or_not (refused_as i) (fits i v))
+-- a second use, or a value that doesn't fit
+pub used_wrong : (lie : Lies) (i : Item) (v : Text) (values : List Text) (rows : List Row) → Uses lie i v values → (not (has_row i.name rows) && fits i v) ≡ false → use_fault false (rule_for lie i) values rows ≢ []
+used_wrong lie i v values rows u e = let P : Kinds → Type 0 = λ ks. ks ≢ [] in subst P (sym (u.fault rows)) (wrong_use (refused_as i.values) (has_row i.name rows) (fits i v) e)
 
-unfit : (k : ErrorKind) (again : Bool) → fault_by k again false ≢ []
-unfit k true = λ e. cc
-unfit k false = λ e. cc
+pub used_again : (lie : Lies) (i : Item) (v : Text) (values : List Text) (rows : List Row) → Uses lie i v values → has_row i.name rows ≡ true → use_fault false (rule_for lie i) values rows ≢ []
+used_again lie i v values rows u h = used_wrong lie i v values rows u (ap (λ b. not b && fits i v) h)
 
--- a value that doesn't fit
 pub used_badly : (lie : Lies) (i : Item) (v : Text) (values : List Text) (rows : List Row) → Uses lie i v values → fits i v ≡ false → use_fault false (rule_for lie i) values rows ≢ []
-used_badly lie i v values rows u f =
-    let P : Kinds → Type 0 = λ ks. ks ≢ [] in
-    subst P (sym (u.fault rows ∙ ap (fault_by (refused_as i) (has_row (name_of i) rows)) f)) (unfit (refused_as i) (has_row (name_of i) rows))
+used_badly lie i v values rows u f = used_wrong lie i v values rows u (ap (λ b. not (has_row i.name rows) && b) f ∙ and-false (not (has_row i.name rows)))
 
 -- faults are no empty list where there is a first one: told by computing to it, which is far cheaper than `cc` on such a list
 abbrev pub has_fault : Kinds → Bool
@@ -363,13 +269,6 @@ has_fault (k ∷ ks) = true
 pub some_fault : (ks : Kinds) → has_fault ks ≡ true → ks ≢ []
 some_fault [] e = λ z. cc
 some_fault (k ∷ ks) e = λ z. cc
-
--- an option that waits for its value still
-pub no_value : (lie : Lies) (rows : List Row) (i : Item) → is_flag i ≡ false → use_fault false (rule_for lie i) [] rows ≢ []
-unfolding clap_on_literals
-no_value lie rows (a_file place name) e = some_fault _ refl
-no_value lie rows (a_flag name) e = cc
-no_value lie rows (an_option name spelling values unsaid) e = some_fault _ refl
 
 -- ---- rows
 
@@ -395,11 +294,8 @@ values_at_end id how source values (r ∷ rs) h =
       | false ↦ λ e q. rw q (ap (λ xs. r ∷ xs) (values_at_end id how source values rs e))
     ] h refl
 
-at_end_of : (i : Item) (v : Text) (rows : List Row) → has_row (name_of i) rows ≡ false → with_values (name_of i) AsWritten CommandLine (v ∷ []) (without (name_of i) rows) ≡ rows ++ row_for i v CommandLine ∷ []
-at_end_of i v rows h = ap (λ rs. with_values (name_of i) AsWritten CommandLine (v ∷ []) rs) (without_none (name_of i) rows h) ∙ values_at_end (name_of i) AsWritten CommandLine (v ∷ []) rows h
-
-pub used_once : (lie : Lies) (i : Item) (v : Text) (values : List Text) (rows : List Row) → Uses lie i v values → has_row (name_of i) rows ≡ false → used (rule_for lie i) values rows ≡ rows ++ row_for i v CommandLine ∷ []
-used_once lie i v values rows u h = u.rows_are rows ∙ at_end_of i v rows h
+pub used_once : (lie : Lies) (i : Item) (v : Text) (values : List Text) (rows : List Row) → Uses lie i v values → has_row i.name rows ≡ false → used (rule_for lie i) values rows ≡ rows ++ row_for i v CommandLine ∷ []
+used_once lie i v values rows u h = u.rows_are rows ∙ ap (λ rs. with_values i.name AsWritten CommandLine (v ∷ []) rs) (without_none i.name rows h) ∙ values_at_end i.name AsWritten CommandLine (v ∷ []) rows h
 
 -- ---- the row of a name
 
@@ -427,18 +323,15 @@ row_at_more id (x ∷ xs) r = elim (bytes_eq x.id id) as (λ b. cond b (Some x) 
 -- what was said is in order: each item of the table once, with a value that fits
 abbrev pub Valid : Tool → Said → Type 0
 Valid t [] = Unit {0}
-Valid t (entry ∷ said) = (said_of entry.0 said ≡ None) × (fits entry.0 entry.1 ≡ true) × (item_named (name_of entry.0) (items_of t) ≡ Some entry.0) × Valid t said
+Valid t (entry ∷ said) = (said_of entry.0 said ≡ None) × (fits entry.0 entry.1 ≡ true) × (item_named entry.0.name (items_of t) ≡ Some entry.0) × Valid t said
 
 -- the row of a name, by the text that was said
 abbrev pub named_row : Text → Option Text → Option Row
 named_row id = option_map (λ v. let r : Row = record { id = id; values = v ∷ []; count = None; source = Some CommandLine; reading = AsWritten } in r)
 
-abbrev text_by : Bool → Text → Option Text → Option Text
-text_by b v other = if b then Some v else other
-
-joined_rows : (i : Item) (v id : Text) (said : Option Text) (b : Bool) → bytes_eq (name_of i) id ≡ b → (b ≡ true → said ≡ None)
-    → or_row (named_row id said) (cond b (Some (row_for i v CommandLine)) None) ≡ named_row id (text_by b v said)
-joined_rows i v id None true e first = ap (λ n. named_row n (Some v)) ((bytes_eq-Decides (name_of i) id).0 e)
+joined_rows : (i : Item) (v id : Text) (said : Option Text) (b : Bool) → bytes_eq i.name id ≡ b → (b ≡ true → said ≡ None)
+    → or_row (named_row id said) (cond b (Some (row_for i v CommandLine)) None) ≡ named_row id (if b then Some v else said)
+joined_rows i v id None true e first = ap (λ n. named_row n (Some v)) ((bytes_eq-Decides i.name id).0 e)
 joined_rows i v id (Some w) true e first = (let bad : Some w ≡ None = first refl in cc)
 joined_rows i v id None false e first = refl
 joined_rows i v id (Some w) false e first = refl
@@ -447,38 +340,28 @@ pub row_said : (t : Tool) (id : Text) (said : Said) → Valid t said → row_at 
 row_said t id [] h = refl
 row_said t id (entry ∷ said) h =
     row_at_more id (rows_for said) (row_for entry.0 entry.1 CommandLine)
-    ∙ ap (λ o. or_row o (cond (bytes_eq (name_of entry.0) id) (Some (row_for entry.0 entry.1 CommandLine)) None)) (row_said t id said h.3)
-    ∙ joined_rows entry.0 entry.1 id (said_named id said) (bytes_eq (name_of entry.0) id) refl (λ e. subst (λ n. said_named n said ≡ None) ((bytes_eq-Decides (name_of entry.0) id).0 e) h.0)
+    ∙ ap (λ o. or_row o (cond (bytes_eq entry.0.name id) (Some (row_for entry.0 entry.1 CommandLine)) None)) (row_said t id said h.3)
+    ∙ joined_rows entry.0 entry.1 id (said_named id said) (bytes_eq entry.0.name id) refl (λ e. subst (λ n. said_named n said ≡ None) ((bytes_eq-Decides entry.0.name id).0 e) h.0)
 
 named_some : (id : Text) (o : Option Text) → is_some (named_row id o) ≡ is_some o
 named_some id None = refl
 named_some id (Some v) = refl
 
-pub has_said : (t : Tool) (i : Item) (said : Said) → Valid t said → has_row (name_of i) (rows_for said) ≡ is_some (said_of i said)
-has_said t i said h = has_is (name_of i) (rows_for said) ∙ ap is_some (row_said t (name_of i) said h) ∙ named_some (name_of i) (said_of i said)
+pub has_said : (t : Tool) (i : Item) (said : Said) → Valid t said → has_row i.name (rows_for said) ≡ is_some (said_of i said)
+has_said t i said h = has_is i.name (rows_for said) ∙ ap is_some (row_said t i.name said h) ∙ named_some i.name (said_of i said)
 
 -- ---- the files of a command
 
--- a place that a file may have
-abbrev pub is_early : ℕ → Bool
-is_early zero = true
-is_early (suc zero) = true
-is_early (suc (suc zero)) = true
-is_early _ = false
+-- an item that takes any word
+abbrev pub IsFile : Item → Type 0
+IsFile i = (i.flag ≡ false) × (i.values ≡ AnyWord)
 
 -- these take the words that are no options, from the nth on, and no other item does
 abbrev pub Seated : List Item → ℕ → List Item → Type 0
 Seated items n [] = item_at n items ≡ None
-Seated items n (i ∷ files) = (item_at n items ≡ Some i) × (is_file i ≡ true) × (is_early n ≡ true) × Seated items (suc n) files
+Seated items n (i ∷ files) = (item_at n items ≡ Some i) × IsFile i × (n < 3) × Seated items (suc n) files
 
 pub all_seated : (t : Tool) → Seated (items_of t) 1 (files_of t)
-all_seated tracer = (refl, refl, refl, refl)
-all_seated debugger = (refl, refl, refl, refl)
-all_seated runner = (refl, refl, refl, refl)
-all_seated server = (refl, refl, refl, refl)
-all_seated checker = (refl, refl, refl, refl)
-all_seated verifier = (refl, refl, refl, (refl, refl, refl, refl))
-all_seated teller = (refl, refl, refl, refl)
-all_seated translator = (refl, refl, refl, refl)
-all_seated painter = (refl, refl, refl, refl)
-all_seated diagnoser = (refl, refl, refl, refl)
+all_seated tool.Verify = (refl, (refl, refl), omega arith, (refl, (refl, refl), omega arith, refl))
+all_seated tool.Trace = (refl, (refl, refl), omega arith, refl)
+all_seated _ = (refl, (refl, refl), omega arith, refl)

@@ -1,23 +1,27 @@
 -- What the words of a command line ask for.
-use Rattle.std.specs.Prelude.{◌≡◌, ◌≤◌, ◌&&◌, ◌||◌, ⊤, IfSome, ℕ, Bool, true, false, not, if◌then◌else◌, List, [], ◌∷◌, Option, Some, None, is_some, option_and_then, option_map, codes}
+use Rattle.std.specs.Prelude.{◌≡◌, ◌≤◌, ◌||◌, ⊤, IfSome, ℕ, Bool, true, false, not, if◌then◌else◌, List, [], ◌∷◌, Option, Some, None, is_some, option_and_then, option_map, codes}
 use Rattle.std.specs.Borrow.{Bor}
 use Rattle.std.specs.List.{list_all}
 use Rattle.std.specs.Option.{option_map_or, unwrap_or}
 use Rattle.std.specs.Str.{bytes_eq, chars}
 use Rattle.clap.specs.Lexer.{long_of, short_of}
-use Rattle.clap.specs.Words.{Row, first_of, one_of}
+use Rattle.clap.specs.Words.{Row, first_of}
 use Rattle.mpd_options.specs.Numbers.{most_usize, number_in}
-use Rattle.mpd_options.specs.Table.{Item, Tool, a_file, a_flag, an_option, checker, debugger, default_of, diagnoser, files_of, fits, from_to, is_flag, is_required, item_named, items_of, most_clients, most_fuel, most_leaf, most_modes, most_piece, most_port, most_ranks, most_runs, most_sample, most_seed, most_split, most_states, most_workers, name_of, needed_choices, option_among, painter, runner, server, teller, the_choices, the_clients, the_complete, the_ends, the_explain, the_file, the_fuel, the_given_mode, the_group, the_laid_witness, the_leaf, the_mode, the_modes, the_outcomes, the_piece, the_pieces, the_port, the_rank_span, the_ranks, the_runs, the_sample, the_seed, the_split, the_states, the_strict, the_until, the_witness, the_witness_file, the_words, the_workers, tool_named, tracer, translator, usual_runs, usual_split, verifier}
+use Rattle.mpd_options.specs.Table.{Item, default_of, files_of, fits, is_required, item_named, item_of, items_of, most_clients, most_fuel, most_leaf, most_modes, most_paged, most_piece, most_port, most_ranks, most_runs, most_sample, most_seed, most_split, most_states, most_workers, option_among, tool_named, usual_runs, usual_split}
+use Rattle.mpd_options.specs.declared.table.Name.{Name}
+use Rattle.mpd_options.specs.declared.table.Name.TheVariants as the
+use Rattle.mpd_options.specs.declared.table.Tool.{Tool}
+use Rattle.mpd_options.specs.declared.table.Tool.TheVariants as tool
 use Rattle.mpd_options.specs.declared.options.CheckOptions.{CheckOptions}
 use Rattle.mpd_options.specs.declared.options.CommandLine.{CommandLine}
 use Rattle.mpd_options.specs.declared.options.Options.{Options}
-use Rattle.mpd_options.specs.declared.options.Options.TheVariants.{Plain, Diagnose, Trace, Debug, Run, Serve, Check, Verify, Words, Translate, Picture}
+use Rattle.mpd_options.specs.declared.options.Options.TheVariants.{Plain, Diagnose, Trace, Debug, Run, Serve, Check, Verify, Words, Translate, Picture, Page}
 
 -- what is asked for: a script and its trace on standard input, a diagnosis of a file, the trace of one, a console on one, with the choices of a run or
 -- none and a witness or none, answers to requests on one, of one or of several clients, a look for deadlocks in one, a check of a witness, the trace words of a run,
--- a script in C, or a picture of a run, by its choices, a witness, or trace words, each given or not; with the words of files, mode and
--- choices, up to how many slots modes are diagnosed, whether messages left over count, the word of several numbers of ranks, the port, how many clients, how deadlocks are looked for, the number of a leaf, the fuel, and
--- whether choices are those of a report of `--ends` or `--sample`
+-- a script in C, a picture of a run, by its choices, a witness, or trace words, each given or not, or a page of runs, by these or by how many; with the words of files, mode and
+-- choices, up to how many slots modes are diagnosed, whether messages left over count, the word of several numbers of ranks, the port, how many clients, how deadlocks are looked for, the number of a leaf, the fuel,
+-- whether choices are those of a report of `--ends` or `--sample`, and whether how runs end is covered
 pub data Task : Type 0 where
   plain : Task
   diagnose : List ℕ → Option (List ℕ) → Option ℕ → Bool → Option (List ℕ) → Task
@@ -29,7 +33,8 @@ pub data Task : Type 0 where
   verify : List ℕ → List ℕ → List ℕ → Option ℕ → Task
   tell : List ℕ → List ℕ → List ℕ → ℕ → Bool → Task
   translate : List ℕ → Task
-  paint : List ℕ → List ℕ → Option (List ℕ) → Option (List ℕ) → Option (List ℕ) → ℕ → Bool → Task
+  paint : List ℕ → List ℕ → Option (List ℕ) → Option (List ℕ) → Option (List ℕ) → ℕ → Bool → Bool → Task
+  page : List ℕ → List ℕ → Option (List ℕ) → Option (List ℕ) → Option (List ℕ) → Option ℕ → ℕ → Bool → Bool → Task
 
 -- a task, and for how many ranks its script is meant, where that is said
 pub record Asked : Type 0 where
@@ -51,7 +56,12 @@ task_of (Check file mode options) = check file.now mode.now options
 task_of (Verify file witness mode leaf) = verify file.now witness.now mode.now leaf
 task_of (Words file choices mode fuel ends) = tell file.now choices.now mode.now fuel ends
 task_of (Translate file) = translate file.now
-task_of (Picture file mode choices witness words fuel ends) = paint file.now mode.now (given_word choices) (given_word witness) (given_word words) fuel ends
+task_of (Picture file mode choices witness words fuel ends bare) = paint file.now mode.now (given_word choices) (given_word witness) (given_word words) fuel ends bare
+task_of (Page p) = page p.file.now p.mode.now (given_word p.choices) (given_word p.witness) (given_word p.words) p.runs p.fuel p.ends p.hide
+
+-- what no words ask for
+abbrev pub as_written : Asked
+as_written = record { task = plain; ranks = None }
 
 -- a task for as many ranks as the script says
 abbrev pub as_it_stands : Option Task → Option Asked
@@ -73,7 +83,8 @@ IsTaskInRange (serve file mode port clients) = (1 ≤ port) × (port ≤ most_po
 IsTaskInRange (check file mode options) = AreInRange options
 IsTaskInRange (verify file witness mode leaf) = IfSome leaf (λ n. n ≤ most_leaf)
 IsTaskInRange (tell file choices mode fuel ends) = (1 ≤ fuel) × (fuel ≤ most_fuel)
-IsTaskInRange (paint file mode choices witness words fuel ends) = (1 ≤ fuel) × (fuel ≤ most_fuel)
+IsTaskInRange (paint file mode choices witness words fuel ends bare) = (1 ≤ fuel) × (fuel ≤ most_fuel)
+IsTaskInRange (page file mode choices witness words runs fuel ends hide) = IfSome runs (λ n. (1 ≤ n) × (n ≤ most_paged)) × (1 ≤ fuel) × (fuel ≤ most_fuel)
 IsTaskInRange _ = ⊤
 
 -- and how many ranks there are
@@ -125,10 +136,10 @@ Said = List (Item × List ℕ)
 
 abbrev pub said_named : List ℕ → Said → Option (List ℕ)
 said_named name [] = None
-said_named name (entry ∷ said) = if bytes_eq (name_of entry.0) name then Some entry.1 else said_named name said
+said_named name (entry ∷ said) = if bytes_eq (entry.0.name) name then Some entry.1 else said_named name said
 
 abbrev pub said_of : Item → Said → Option (List ℕ)
-said_of item said = said_named (name_of item) said
+said_of item said = said_named (item.name) said
 
 -- where nothing was said of an item before
 abbrev pub if_new : Option (List ℕ) → Option Asked → Option Asked
@@ -154,8 +165,8 @@ joined true item value said next = None
 joined false item value said next = once item value said (next among_options)
 
 abbrev pub with_option : Item → Option (List ℕ) → Said → (Place → Said → Option Asked) → Option Asked
-with_option item None said next = alone (is_flag item) item said next
-with_option item (Some value) said next = joined (is_flag item) item value said next
+with_option item None said next = alone item.flag item said next
+with_option item (Some value) said next = joined item.flag item value said next
 
 -- a word for the next file, where one is to come
 abbrev pub for_file : List Item → List ℕ → Said → (List Item → Said → Option Asked) → Option Asked
@@ -192,51 +203,52 @@ abbrev pub is_on : Option (List ℕ) → Bool
 is_on text = option_map_or (λ t. bytes_eq t (codes "true")) text false
 
 -- how deadlocks are looked for
-abbrev pub options_by : (Item → Option (List ℕ)) → CheckOptions
+abbrev pub options_by : (Name → Option (List ℕ)) → CheckOptions
 options_by text = record {
-  modes = number_by (text the_modes);
-  runs = unwrap_or (number_by (text the_runs)) usual_runs;
-  runs_given = is_some (number_by (text the_runs));
-  fuel = number_or_none (number_by (text the_fuel));
-  split = unwrap_or (number_by (text the_split)) usual_split;
-  split_given = is_some (number_by (text the_split));
-  workers = number_or_none (number_by (text the_workers));
-  ends = is_on (text the_ends);
-  outcomes = is_on (text the_outcomes);
-  states = number_by (text the_states);
-  sample = number_by (text the_sample);
-  seed = number_by (text the_seed);
-  explain = is_on (text the_explain);
-  group = is_on (text the_group);
-  until_bad = is_some (text the_until);
-  witness = is_on (text the_witness);
-  complete = is_on (text the_complete);
-  piece = number_by (text the_piece);
-  count_pieces = is_on (text the_pieces);
+  modes = number_by (text the.Modes);
+  runs = unwrap_or (number_by (text the.Runs)) usual_runs;
+  runs_given = is_some (number_by (text the.Runs));
+  fuel = number_or_none (number_by (text the.Fuel));
+  split = unwrap_or (number_by (text the.Split)) usual_split;
+  split_given = is_some (number_by (text the.Split));
+  workers = number_or_none (number_by (text the.Workers));
+  ends = is_on (text the.Ends);
+  outcomes = is_on (text the.Outcomes);
+  states = number_by (text the.States);
+  sample = number_by (text the.Sample);
+  seed = number_by (text the.Seed);
+  explain = is_on (text the.Explain);
+  group = is_on (text the.Group);
+  until_bad = is_some (text the.Until);
+  witness = is_on (text the.Witness);
+  complete = is_on (text the.Complete);
+  piece = number_by (text the.Piece);
+  count_pieces = is_on (text the.Pieces);
 }
 
-abbrev pub task_by : Tool → (Item → Option (List ℕ)) → Task
-task_by tracer text = trace (word_by (text the_file)) (word_by (text the_mode))
-task_by debugger text = debug (word_by (text the_file)) (word_by (text the_mode)) (text the_choices) (text the_laid_witness) (is_on (text the_ends))
-task_by runner text = run (word_by (text the_file)) (word_by (text the_mode))
-task_by server text = serve (word_by (text the_file)) (word_by (text the_mode)) (number_or_none (port_by (text the_port))) (number_or_none (number_by (text the_clients)))
-task_by checker text = check (word_by (text the_file)) (word_by (text the_mode)) (options_by text)
-task_by verifier text = verify (word_by (text the_file)) (word_by (text the_witness_file)) (word_by (text the_mode)) (number_by (text the_leaf))
-task_by teller text = tell (word_by (text the_file)) (word_by (text needed_choices)) (word_by (text the_mode)) (number_or_none (number_by (text the_fuel))) (is_on (text the_ends))
-task_by translator text = translate (word_by (text the_file))
-task_by painter text = paint (word_by (text the_file)) (word_by (text the_mode)) (text the_choices) (text the_laid_witness) (text the_words) (number_or_none (number_by (text the_fuel))) (is_on (text the_ends))
-task_by diagnoser text = diagnose (word_by (text the_file)) (text the_given_mode) (number_by (text the_modes)) (is_on (text the_strict)) (text the_rank_span)
+abbrev pub task_by : Tool → (Name → Option (List ℕ)) → Task
+task_by tool.Trace text = trace (word_by (text the.File)) (word_by (text the.Mode))
+task_by tool.Debug text = debug (word_by (text the.File)) (word_by (text the.Mode)) (text the.LaidChoices) (text the.LaidWitness) (is_on (text the.ChosenEnds))
+task_by tool.Run text = run (word_by (text the.File)) (word_by (text the.Mode))
+task_by tool.Serve text = serve (word_by (text the.File)) (word_by (text the.Mode)) (number_or_none (port_by (text the.Port))) (number_or_none (number_by (text the.Clients)))
+task_by tool.Check text = check (word_by (text the.File)) (word_by (text the.Mode)) (options_by text)
+task_by tool.Verify text = verify (word_by (text the.File)) (word_by (text the.WitnessFile)) (word_by (text the.Mode)) (number_by (text the.Leaf))
+task_by tool.Words text = tell (word_by (text the.File)) (word_by (text the.NeededChoices)) (word_by (text the.Mode)) (number_or_none (number_by (text the.Fuel))) (is_on (text the.ChosenEnds))
+task_by tool.Translate text = translate (word_by (text the.File))
+task_by tool.Picture text = paint (word_by (text the.File)) (word_by (text the.Mode)) (text the.DrawnChoices) (text the.DrawnWitness) (text the.DrawnWords) (number_or_none (number_by (text the.Fuel))) (is_on (text the.ChosenEnds)) (is_on (text the.PlainDrawing))
+task_by tool.Page text = page (word_by (text the.File)) (word_by (text the.Mode)) (text the.PagedChoices) (text the.PagedWitness) (text the.PagedWords) (number_by (text the.PagedRuns)) (number_or_none (number_by (text the.Fuel))) (is_on (text the.PagedEnds)) (is_on (text the.Hide))
+task_by tool.Diagnose text = diagnose (word_by (text the.File)) (text the.GivenMode) (number_by (text the.Modes)) (is_on (text the.Strict)) (text the.RankSpan)
 
-abbrev pub asked_by : Tool → (Item → Option (List ℕ)) → Asked
-asked_by t text = record { task = task_by t text; ranks = number_by (text the_ranks) }
+abbrev pub asked_by : Tool → (Name → Option (List ℕ)) → Asked
+asked_by t text = record { task = task_by t text; ranks = number_by (text the.Ranks) }
 
 abbrev pub or_default : Option (List ℕ) → Option (List ℕ) → Option (List ℕ)
 or_default None value = value
 or_default (Some text) value = Some text
 
 -- the text of an item that the command has: what was said of it, or the same as where nothing is
-abbrev pub text_of : Tool → Said → Item → Option (List ℕ)
-text_of t said item = option_and_then (λ own. or_default (said_of own said) (default_of own)) (item_named (name_of item) (items_of t))
+abbrev pub text_of : Tool → Said → Name → Option (List ℕ)
+text_of t said item = option_and_then (λ own. or_default (said_of own said) (default_of own)) (item_named ((item_of item).name) (items_of t))
 
 -- something was said of it, where something must be
 abbrev pub is_there : Said → Item → Bool
@@ -262,26 +274,22 @@ behind (Some t) words = wanted t words among_options (files_of t) []
 
 -- what all words ask for, without the program's name
 abbrev pub meant : List (List ℕ) → Option Asked
-meant [] = Some (record { task = plain; ranks = None })
+meant [] = Some as_written
 meant (word ∷ words) = behind (tool_named word) words
 
 -- ---- the same, of what was found
 
--- the text of an item: that of a number and of a flag is read by their types
-abbrev pub text_in : List Row → Item → Option (List ℕ)
-text_in rows (a_file place name) = first_of name rows
-text_in rows (a_flag name) = one_of name rows
-text_in rows (an_option name spelling (from_to low high) unsaid) = one_of name rows
-text_in rows (an_option name spelling values unsaid) = first_of name rows
+abbrev pub text_in : List Row → Name → Option (List ℕ)
+text_in rows item = first_of ((item_of item).name) rows
 
-abbrev pub task_of_tool : Option Tool → List Row → Task
-task_of_tool None rows = plain
-task_of_tool (Some t) rows = task_by t (text_in rows)
+abbrev pub asked_in : Option Tool → List Row → Asked
+asked_in None rows = as_written
+asked_in (Some t) rows = asked_by t (text_in rows)
 
 -- what the command of this name, of which this was found, asks for
 abbrev pub asked_of : Option (List ℕ × List Row) → Asked
-asked_of None = record { task = plain; ranks = None }
-asked_of (Some command) = record { task = task_of_tool (tool_named command.0) command.1; ranks = number_by (text_in command.1 the_ranks) }
+asked_of None = as_written
+asked_of (Some command) = asked_in (tool_named command.0) command.1
 
 -- these words ask for what was found of the command, with each number in its range
 abbrev pub IsFound : List (List ℕ) → Option (List ℕ × List Row) → Type 0

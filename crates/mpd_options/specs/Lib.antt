@@ -7,6 +7,7 @@ pub mod DiagnoseRows
 pub mod FaultRows
 pub mod Help
 pub mod Numbers
+pub mod PageRows
 pub mod PictureRows
 pub mod RanksRows
 pub mod Program

@@ -20,11 +20,11 @@ writes words file = (codes "c" ∷ words, Some (translate file))
 
 -- words behind `picture`, and the mode, the choices, the witness, the trace words and the fuel that they ask for, of the file `a`, without `--ends`
 abbrev draws : List (List ℕ) → List ℕ → Option (List ℕ) → Option (List ℕ) → Option (List ℕ) → ℕ → Row
-draws words mode choices witness trace_words fuel = (codes "picture" ∷ words, Some (paint (codes "a") mode choices witness trace_words fuel false))
+draws words mode choices witness trace_words fuel = (codes "picture" ∷ words, Some (paint (codes "a") mode choices witness trace_words fuel false false))
 
 -- and with it
 abbrev draws_ends : List (List ℕ) → List ℕ → Option (List ℕ) → Option (List ℕ) → Option (List ℕ) → ℕ → Row
-draws_ends words mode choices witness trace_words fuel = (codes "picture" ∷ words, Some (paint (codes "a") mode choices witness trace_words fuel true))
+draws_ends words mode choices witness trace_words fuel = (codes "picture" ∷ words, Some (paint (codes "a") mode choices witness trace_words fuel true false))
 
 -- words behind `picture a` that make them ask for nothing
 abbrev smears : List (List ℕ) → Row
@@ -88,8 +88,8 @@ rows =
     ∷ draws (codes "--choices" ∷ codes "1" ∷ codes "--witness" ∷ codes "2" ∷ codes "--words" ∷ codes "3" ∷ codes "--fuel" ∷ codes "4" ∷ codes "--mode" ∷ codes "5" ∷ codes "--" ∷ codes "a" ∷ []) (codes "5") (Some (codes "1")) (Some (codes "2")) (Some (codes "3")) 4
     ∷ draws (codes "--words=1" ∷ codes "--witness=2" ∷ codes "a" ∷ codes "--choices=3" ∷ []) (codes "rendezvous") (Some (codes "3")) (Some (codes "2")) (Some (codes "1")) 100000
     ∷ draws (codes "a" ∷ codes "--words" ∷ codes "w" ∷ codes "--" ∷ []) (codes "rendezvous") None None (Some (codes "w")) 100000
-    ∷ (codes "picture" ∷ codes "--words" ∷ codes "picture" ∷ codes "picture" ∷ [], Some (paint (codes "picture") (codes "rendezvous") None None (Some (codes "picture")) 100000 false))
-    ∷ (codes "picture" ∷ codes "--" ∷ codes "--words" ∷ [], Some (paint (codes "--words") (codes "rendezvous") None None None 100000 false))
+    ∷ (codes "picture" ∷ codes "--words" ∷ codes "picture" ∷ codes "picture" ∷ [], Some (paint (codes "picture") (codes "rendezvous") None None (Some (codes "picture")) 100000 false false))
+    ∷ (codes "picture" ∷ codes "--" ∷ codes "--words" ∷ [], Some (paint (codes "--words") (codes "rendezvous") None None None 100000 false false))
     ∷ draws_ends (codes "a" ∷ codes "--choices" ∷ codes "0 1" ∷ codes "--ends" ∷ []) (codes "rendezvous") (Some (codes "0 1")) None None 100000
     ∷ draws_ends (codes "--ends" ∷ codes "--choices=" ∷ codes "a" ∷ []) (codes "rendezvous") (Some []) None None 100000
     ∷ draws_ends (codes "a" ∷ codes "--ends" ∷ []) (codes "rendezvous") None None None 100000
@@ -98,8 +98,10 @@ rows =
     ∷ draws_ends (codes "a" ∷ codes "--ends" ∷ codes "--words=w" ∷ []) (codes "rendezvous") None None (Some (codes "w")) 100000
     ∷ draws_ends (codes "--choices" ∷ codes "1" ∷ codes "--witness" ∷ codes "2" ∷ codes "--ends" ∷ codes "--words" ∷ codes "3" ∷ codes "--fuel" ∷ codes "4" ∷ codes "--mode" ∷ codes "5" ∷ codes "--" ∷ codes "a" ∷ []) (codes "5") (Some (codes "1")) (Some (codes "2")) (Some (codes "3")) 4
     ∷ draws (codes "a" ∷ codes "--choices=--ends" ∷ []) (codes "rendezvous") (Some (codes "--ends")) None None 100000
-    ∷ (codes "picture" ∷ codes "--" ∷ codes "--ends" ∷ [], Some (paint (codes "--ends") (codes "rendezvous") None None None 100000 false))
-    ∷ (codes "picture" ∷ codes "--ends" ∷ codes "--" ∷ codes "--ends" ∷ [], Some (paint (codes "--ends") (codes "rendezvous") None None None 100000 true))
+    ∷ (codes "picture" ∷ codes "a" ∷ codes "--plain" ∷ [], Some (paint (codes "a") (codes "rendezvous") None None None 100000 false true))
+    ∷ (codes "picture" ∷ codes "--plain" ∷ codes "a" ∷ codes "--ends" ∷ [], Some (paint (codes "a") (codes "rendezvous") None None None 100000 true true))
+    ∷ (codes "picture" ∷ codes "--" ∷ codes "--ends" ∷ [], Some (paint (codes "--ends") (codes "rendezvous") None None None 100000 false false))
+    ∷ (codes "picture" ∷ codes "--ends" ∷ codes "--" ∷ codes "--ends" ∷ [], Some (paint (codes "--ends") (codes "rendezvous") None None None 100000 true false))
     ∷ smears (codes "b" ∷ [])
     ∷ smears (codes "--" ∷ codes "b" ∷ [])
     ∷ smears (codes "--choices" ∷ [])

@@ -37,7 +37,7 @@ rows =
     ∷ for (codes "words" ∷ codes "a" ∷ codes "--choices" ∷ codes "0" ∷ codes "--ranks" ∷ codes "2" ∷ codes "--ends" ∷ []) (tell (codes "a") (codes "0") (codes "rendezvous") 100000 true) 2
     ∷ for (codes "c" ∷ codes "a" ∷ codes "--ranks" ∷ codes "12" ∷ []) (translate (codes "a")) 12
     ∷ for (codes "c" ∷ codes "--ranks" ∷ codes "12" ∷ codes "--" ∷ codes "--ranks" ∷ []) (translate (codes "--ranks")) 12
-    ∷ for (codes "picture" ∷ codes "--ranks" ∷ codes "3" ∷ codes "a" ∷ codes "--fuel" ∷ codes "4" ∷ []) (paint (codes "a") (codes "rendezvous") None None None 4 false) 3
+    ∷ for (codes "picture" ∷ codes "--ranks" ∷ codes "3" ∷ codes "a" ∷ codes "--fuel" ∷ codes "4" ∷ []) (paint (codes "a") (codes "rendezvous") None None None 4 false false) 3
     ∷ says (codes "--ranks" ∷ codes "4" ∷ []) (Some (codes "4")) false
     ∷ says (codes "--ranks=2-5" ∷ codes "--strict" ∷ []) (Some (codes "2-5")) true
     ∷ says (codes "--ranks" ∷ codes "" ∷ []) (Some []) false

@@ -2,11 +2,15 @@
 ghost use Rattle.std.specs.Prelude.{◌≡◌};
 ghost use Rattle.mpd_options.specs.Help.{example_of};
 
-const ABOUT: &str = "A reversible debugger of small MPI rank scripts.
+use crate::table::Tool;
+
+/// What the program is.
+pub(crate) const ABOUT: &str = "A reversible debugger of small MPI rank scripts.
 
 Without words it reads a script from standard input, up to a line ---, and answers the trace words behind it.";
 
-const EXAMPLE: &str = "Example:
+/// How it is begun.
+pub(crate) const EXAMPLE: &str = "Example:
   ./mpdbg < examples/first.trace";
 
 const DIAGNOSE_ABOUT: &str =
@@ -101,65 +105,49 @@ first candidates. --fuel is for a run of choices or of first candidates. Choices
 Example:
   ./mpdbg picture examples/race.mpd --choices '1' > race.svg";
 
-/// What help speaks of: the program, or one of its commands.
-#[derive(Clone, Copy)]
-pub enum Topic {
-    /// The program.
-    Program,
-    /// `mpdbg diagnose`.
-    Diagnose,
-    /// `mpdbg trace`.
-    Trace,
-    /// `mpdbg debug`.
-    Debug,
-    /// `mpdbg run`.
-    Run,
-    /// `mpdbg serve`.
-    Serve,
-    /// `mpdbg check`.
-    Check,
-    /// `mpdbg verify`.
-    Verify,
-    /// `mpdbg words`.
-    Words,
-    /// `mpdbg c`.
-    Translate,
-    /// `mpdbg picture`.
-    Picture,
-}
+const PAGE_ABOUT: &str = "Write a page for a browser that shows runs of the script of a file";
 
-/// What it does, in a few words.
-pub(crate) fn about<'a>(topic: Topic) -> &'a str {
-    match topic {
-        Topic::Program => ABOUT,
-        Topic::Diagnose => DIAGNOSE_ABOUT,
-        Topic::Trace => TRACE_ABOUT,
-        Topic::Debug => DEBUG_ABOUT,
-        Topic::Run => RUN_ABOUT,
-        Topic::Serve => SERVE_ABOUT,
-        Topic::Check => CHECK_ABOUT,
-        Topic::Verify => VERIFY_ABOUT,
-        Topic::Words => WORDS_ABOUT,
-        Topic::Translate => TRANSLATE_ABOUT,
-        Topic::Picture => PICTURE_ABOUT,
+const PAGE_EXAMPLE: &str =
+    "One of --choices, --witness, --words and --runs says which runs are shown. Without them it is the first
+run that hangs or traps, and the first that ends well. --ends is for choices and for runs of `mpdbg check`:
+choices of a leaf of `mpdbg check --ends` or `mpdbg check --sample` want it beside them.
+
+Example:
+  ./mpdbg page examples/stolen_message.mpd > run.html";
+
+/// What a command does, in a few words.
+pub(crate) fn about<'a>(tool: Tool) -> &'a str {
+    match tool {
+        Tool::Diagnose => DIAGNOSE_ABOUT,
+        Tool::Trace => TRACE_ABOUT,
+        Tool::Debug => DEBUG_ABOUT,
+        Tool::Run => RUN_ABOUT,
+        Tool::Serve => SERVE_ABOUT,
+        Tool::Check => CHECK_ABOUT,
+        Tool::Verify => VERIFY_ABOUT,
+        Tool::Words => WORDS_ABOUT,
+        Tool::Translate => TRANSLATE_ABOUT,
+        Tool::Picture => PICTURE_ABOUT,
+        Tool::Page => PAGE_ABOUT,
     }
 }
 
-/// An example of it.
-pub(crate) fn example<'a>(topic: Topic) -> &'a str
-    ensures { result.now ≡ example_of topic }
+/// What help shows of it as an example.
+#[tactic(auto, unfolding(crate::specs::Help::example_of))]
+pub(crate) fn example<'a>(tool: Tool) -> &'a str
+    ensures { result.now ≡ example_of tool }
 {
-    match topic {
-        Topic::Program => EXAMPLE,
-        Topic::Diagnose => DIAGNOSE_EXAMPLE,
-        Topic::Trace => TRACE_EXAMPLE,
-        Topic::Debug => DEBUG_EXAMPLE,
-        Topic::Run => RUN_EXAMPLE,
-        Topic::Serve => SERVE_EXAMPLE,
-        Topic::Check => CHECK_EXAMPLE,
-        Topic::Verify => VERIFY_EXAMPLE,
-        Topic::Words => WORDS_EXAMPLE,
-        Topic::Translate => TRANSLATE_EXAMPLE,
-        Topic::Picture => PICTURE_EXAMPLE,
+    match tool {
+        Tool::Diagnose => DIAGNOSE_EXAMPLE,
+        Tool::Trace => TRACE_EXAMPLE,
+        Tool::Debug => DEBUG_EXAMPLE,
+        Tool::Run => RUN_EXAMPLE,
+        Tool::Serve => SERVE_EXAMPLE,
+        Tool::Check => CHECK_EXAMPLE,
+        Tool::Verify => VERIFY_EXAMPLE,
+        Tool::Words => WORDS_EXAMPLE,
+        Tool::Translate => TRANSLATE_EXAMPLE,
+        Tool::Picture => PICTURE_EXAMPLE,
+        Tool::Page => PAGE_EXAMPLE,
     }
 }

@@ -4,9 +4,9 @@
 pub mod clash;
 pub mod command;
 pub mod help;
-mod names;
 pub mod options;
+pub mod table;
 
 pub use clash::{CheckOption, Clash};
-pub use help::Topic;
-pub use options::{CheckOptions, CommandLine, Options, UsageFault, read_options};
+pub use options::{CheckOptions, CommandLine, Options, PageOptions, UsageFault, read_options};
+pub use table::Tool;

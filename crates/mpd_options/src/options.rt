@@ -1,23 +1,25 @@
 //! What the words of a command line ask for.
-ghost use Rattle.std.specs.Prelude.{◌≡◌, ◌<◌, IfOk, IfErr, Some, length, map, option_and_then};
-ghost use Rattle.clap.specs.Words.{first_of, found_of, one_of, rows_of, subcommand_rows_of};
-ghost use Rattle.mpd_options.specs.Asked.{IsFound, IsLineInRange, asked, asked_of, given_word, is_on, meant, number_by, number_or_none, options_by, port_by, task_by, task_of, text_in, word_by};
+ghost use Rattle.std.specs.Prelude.{◌≡◌, ◌<◌, IfOk, IfErr, Some, length, map};
+ghost use Rattle.clap.specs.Words.{found_of, rows_of, subcommand_rows_of};
+ghost use Rattle.mpd_options.specs.Asked as spec;
+ghost use Rattle.mpd_options.specs.Asked.{IsFound, IsLineInRange, asked, asked_by, asked_of, given_word, meant, number_by, number_or_none, options_by, port_by, task_by, task_of, text_in, word_by};
 ghost use Rattle.mpd_options.specs.Numbers.{most_usize, number_in};
 ghost use Rattle.mpd_options.specs.Refused.{IsRefused, is_answer, usage_of, usage_status, usage_text};
-ghost use Rattle.mpd_options.specs.Table.{checker, debugger, diagnoser, painter, runner, server, teller, tracer, translator, verifier};
+ghost use Rattle.mpd_options.specs.Table.{most_port};
 
-use crate::command::{USUAL_RUNS, USUAL_SPLIT, only_deadlock, program};
-use crate::names::{
-    CHECK, CHOICES, CLIENTS, COMPLETE, DEBUG, DIAGNOSE, ENDS, EXPLAIN, FILE, FUEL, GROUP,
-    LAID_WITNESS, LEAF, MODE, MODES, OUTCOMES, PICTURE, PIECE, PIECES, PLAIN, PORT, RANK_SPAN, RANKS, RUN,
-    RUNS, SAMPLE, SEED, SERVE, SPLIT, STATES, STRICT, TRACE, TRANSLATE, UNTIL, VERIFY, WITNESS,
-    WITNESS_FILE, WORDS, WORDS_FILE, WORKERS,
-};
+use crate::command::{only_deadlock, program};
+use crate::table::{Name, Tool, tool_named};
 use clap::ArgMatches;
 use clap::error::ErrorKind;
 use std::alloc::{AllocError, Global};
 use std::convert::AsStr;
 use std::fmt;
+
+/// How many runs of each piece are tried where that isn't said.
+const USUAL_RUNS: usize = 1_000;
+
+/// By how many choices the runs are cut into pieces where that isn't said.
+const USUAL_SPLIT: usize = 1;
 
 /// What is said of words that are no text, as `clap` says it.
 const NOT_TEXT: &str =
@@ -65,6 +67,29 @@ pub struct CheckOptions {
     pub piece: Option<usize>,
     /// Whether it is only asked how many pieces there are.
     pub count_pieces: bool,
+}
+
+/// Which runs of the script of a file a page shows, and how.
+#[derive(Clone, Copy)]
+pub struct PageOptions<'a> {
+    /// The file's word.
+    pub file: &'a str,
+    /// The mode's word, whatever it is; `rendezvous` where there is none.
+    pub mode: &'a str,
+    /// The word of a run's choices, whatever it is; there need be none.
+    pub choices: Option<&'a str>,
+    /// The file of a witness or a report, whose run is shown; there need be none.
+    pub witness: Option<&'a str>,
+    /// The file of a run's trace words; there need be none.
+    pub words: Option<&'a str>,
+    /// The runs of how many leaves that `check` lists, 1 to 1,000, where that is asked for.
+    pub runs: Option<usize>,
+    /// How many steps a run takes at most, 1 to 1,000,000.
+    pub fuel: usize,
+    /// Whether choices and runs go along the wide walk.
+    pub ends: bool,
+    /// Whether how runs end is covered at first.
+    pub hide: bool,
 }
 
 /// What a command line asks for.
@@ -177,9 +202,11 @@ pub enum Options<'a> {
         fuel: usize,
         /// Whether the choices are those of a report of `--ends` or `--sample`.
         ends: bool,
-        /// Whether the drawing has neither list nor legend.
+        /// Whether the drawing has neither the list of calls nor the legend.
         plain: bool,
     },
+    /// Show runs of the script of a file as a page for a browser.
+    Page(PageOptions<'a>),
 }
 
 /// A whole command line: what it asks for, and for how many ranks.
@@ -264,38 +291,93 @@ fn usage_fault(error: clap::Error) -> UsageFault
     }
 }
 
-/// The word of this name; the empty one where there is none.
-fn word_in<'a>(matches: &ArgMatches<'a>, name: &str) -> &'a str
-    ensures { result.now ≡ word_by (first_of name.now (rows_of (found_of matches.now))) }
+/// The text of a row of the table, where one was given or stands for it.
+#[tactic(auto, using(crate::proofs::Commands::text_is))]
+fn text<'a>(matches: &ArgMatches<'a>, name: Name) -> Option<&'a str>
+    ensures { given_word result ≡ text_in (rows_of (found_of matches.now)) name }
 {
-    matches.get_str(name).unwrap_or("")
+    matches.get_str(name.item().id)
 }
 
-/// The word of this name, where one was given.
-fn given_word_in<'a>(matches: &ArgMatches<'a>, name: &str) -> Option<&'a str>
-    ensures { given_word result ≡ first_of name.now (rows_of (found_of matches.now)) }
+/// The text of a row; the empty one where there is none.
+#[tactic(auto, using(crate::proofs::Commands::word_is))]
+fn word<'a>(matches: &ArgMatches<'a>, name: Name) -> &'a str
+    ensures { result.now ≡ word_by (text_in (rows_of (found_of matches.now)) name) }
 {
-    matches.get_str(name)
+    text(matches, name).unwrap_or("")
 }
 
-/// What the words behind `trace` ask for.
+/// The number that a text writes.
+fn parsed(text: &str) -> Option<usize>
+    ensures { result ≡ number_in 0 most_usize text.now }
+{
+    let read = text.parse::<usize>();
+    read.ok()
+}
+
+/// The number of a row, where one was given or stands for it.
+fn given(matches: &ArgMatches<'_>, name: Name) -> Option<usize>
+    ensures { result ≡ number_by (text_in (rows_of (found_of matches.now)) name) }
+{
+    match text(matches, name) {
+        Some(text) => parsed(text),
+        None => None,
+    }
+}
+
+/// The number of a row; 0 where there is none.
+fn number(matches: &ArgMatches<'_>, name: Name) -> usize
+    ensures { result ≡ number_or_none (number_by (text_in (rows_of (found_of matches.now)) name)) }
+{
+    given(matches, name).unwrap_or(0)
+}
+
+/// The port that a text writes.
+fn parsed_port(text: &str) -> Option<u16>
+    ensures { result ≡ number_in 0 most_port text.now }
+{
+    let read = text.parse::<u16>();
+    read.ok()
+}
+
+/// The port; 0 where there is none.
+fn port_of(serve: &ArgMatches<'_>) -> u16
+    ensures { result ≡ number_or_none (port_by (text_in (rows_of (found_of serve.now)) Name.Port)) }
+{
+    match text(serve, Name::Port) {
+        Some(text) => parsed_port(text).unwrap_or(0),
+        None => 0,
+    }
+}
+
+/// Whether the flag of a row was given.
+fn is_on(matches: &ArgMatches<'_>, name: Name) -> bool
+    ensures { result ≡ spec.is_on (text_in (rows_of (found_of matches.now)) name) }
+{
+    match text(matches, name) {
+        Some(text) => text == "true",
+        None => false,
+    }
+}
+
+/// What the words after `trace` ask for.
 fn trace_in<'a>(trace: &ArgMatches<'a>) -> Options<'a>
-    ensures { task_of result ≡ task_by tracer (text_in (rows_of (found_of trace.now))) }
+    ensures { task_of result ≡ task_by Tool.Trace (text_in (rows_of (found_of trace.now))) }
 {
-    let file = word_in(trace, FILE);
-    let mode = word_in(trace, MODE);
+    let file = word(trace, Name::File);
+    let mode = word(trace, Name::Mode);
     Options::Trace { file, mode }
 }
 
-/// What the words behind `debug` ask for.
+/// What the words after `debug` ask for.
 fn debug_in<'a>(debug: &ArgMatches<'a>) -> Options<'a>
-    ensures { task_of result ≡ task_by debugger (text_in (rows_of (found_of debug.now))) }
+    ensures { task_of result ≡ task_by Tool.Debug (text_in (rows_of (found_of debug.now))) }
 {
-    let file = word_in(debug, FILE);
-    let mode = word_in(debug, MODE);
-    let choices_word = given_word_in(debug, CHOICES);
-    let witness_file = given_word_in(debug, LAID_WITNESS);
-    let ends = flag_of(debug, ENDS);
+    let file = word(debug, Name::File);
+    let mode = word(debug, Name::Mode);
+    let choices_word = text(debug, Name::LaidChoices);
+    let witness_file = text(debug, Name::LaidWitness);
+    let ends = is_on(debug, Name::ChosenEnds);
     Options::Debug {
         file,
         mode,
@@ -305,15 +387,15 @@ fn debug_in<'a>(debug: &ArgMatches<'a>) -> Options<'a>
     }
 }
 
-/// What the words behind `diagnose` ask for.
+/// What the words after `diagnose` ask for.
 fn diagnose_in<'a>(diagnose: &ArgMatches<'a>) -> Options<'a>
-    ensures { task_of result ≡ task_by diagnoser (text_in (rows_of (found_of diagnose.now))) }
+    ensures { task_of result ≡ task_by Tool.Diagnose (text_in (rows_of (found_of diagnose.now))) }
 {
-    let file = word_in(diagnose, FILE);
-    let mode_word = given_word_in(diagnose, MODE);
-    let most_slots = given_of(diagnose, MODES);
-    let is_strict = flag_of(diagnose, STRICT);
-    let span_word = given_word_in(diagnose, RANK_SPAN);
+    let file = word(diagnose, Name::File);
+    let mode_word = text(diagnose, Name::GivenMode);
+    let most_slots = given(diagnose, Name::Modes);
+    let is_strict = is_on(diagnose, Name::Strict);
+    let span_word = text(diagnose, Name::RankSpan);
     Options::Diagnose {
         file,
         mode: mode_word,
@@ -323,23 +405,23 @@ fn diagnose_in<'a>(diagnose: &ArgMatches<'a>) -> Options<'a>
     }
 }
 
-/// What the words behind `run` ask for.
+/// What the words after `run` ask for.
 fn run_in<'a>(run: &ArgMatches<'a>) -> Options<'a>
-    ensures { task_of result ≡ task_by runner (text_in (rows_of (found_of run.now))) }
+    ensures { task_of result ≡ task_by Tool.Run (text_in (rows_of (found_of run.now))) }
 {
-    let file = word_in(run, FILE);
-    let mode = word_in(run, MODE);
+    let file = word(run, Name::File);
+    let mode = word(run, Name::Mode);
     Options::Run { file, mode }
 }
 
-/// What the words behind `serve` ask for.
+/// What the words after `serve` ask for.
 fn serve_in<'a>(serve: &ArgMatches<'a>) -> Options<'a>
-    ensures { task_of result ≡ task_by server (text_in (rows_of (found_of serve.now))) }
+    ensures { task_of result ≡ task_by Tool.Serve (text_in (rows_of (found_of serve.now))) }
 {
-    let file = word_in(serve, FILE);
-    let mode = word_in(serve, MODE);
+    let file = word(serve, Name::File);
+    let mode = word(serve, Name::Mode);
     let port = port_of(serve);
-    let clients = number_of(serve, CLIENTS);
+    let clients = number(serve, Name::Clients);
     Options::Serve {
         file,
         mode,
@@ -348,62 +430,38 @@ fn serve_in<'a>(serve: &ArgMatches<'a>) -> Options<'a>
     }
 }
 
-/// The number of this name, where one was given.
-fn given_of<'a>(matches: &ArgMatches<'a>, name: &str) -> Option<usize>
-    ensures { result ≡ number_by (one_of name.now (rows_of (found_of matches.now))) }
-{
-    matches.get_one::<usize>(name)
-}
-
-/// The number of this name; 0 where there is none.
-fn number_of<'a>(matches: &ArgMatches<'a>, name: &str) -> usize
-    ensures { result ≡ number_or_none (number_by (one_of name.now (rows_of (found_of matches.now)))) }
-{
-    given_of(matches, name).unwrap_or(0)
-}
-
-/// The port; 0 where there is none.
-fn port_of<'a>(serve: &ArgMatches<'a>) -> u16
-    ensures { result ≡ number_or_none (port_by (one_of PORT.now (rows_of (found_of serve.now)))) }
-{
-    serve.get_one::<u16>(PORT).unwrap_or(0)
-}
-
 /// What the draw begins with, where that was given.
-fn seed_of<'a>(check: &ArgMatches<'a>) -> Option<u64>
-    ensures { result ≡ number_by (one_of SEED.now (rows_of (found_of check.now))) }
+fn seed_of(check: &ArgMatches<'_>) -> Option<u64>
+    ensures { result ≡ number_by (text_in (rows_of (found_of check.now)) Name.Seed) }
 {
-    check.get_one::<u64>(SEED)
+    match given(check, Name::Seed) {
+        Some(seed) => Some(seed as u64),
+        None => None,
+    }
 }
 
-/// Whether the flag of this name was given.
-fn flag_of<'a>(matches: &ArgMatches<'a>, name: &str) -> bool
-    ensures { result ≡ is_on (one_of name.now (rows_of (found_of matches.now))) }
-{
-    matches.get_one::<bool>(name).unwrap_or(false)
-}
-
-/// How the words behind `check` ask for deadlocks to be looked for.
-fn check_options_in<'a>(check: &ArgMatches<'a>) -> CheckOptions
+/// How the words after `check` ask for deadlocks to be looked for.
+#[tactic(auto, using(crate::proofs::Commands::is_given))]
+fn check_options_in(check: &ArgMatches<'_>) -> CheckOptions
     ensures { result ≡ options_by (text_in (rows_of (found_of check.now))) }
 {
-    let modes = given_of(check, MODES);
-    let runs = given_of(check, RUNS);
-    let fuel = number_of(check, FUEL);
-    let split = given_of(check, SPLIT);
-    let workers = number_of(check, WORKERS);
-    let ends = flag_of(check, ENDS);
-    let outcomes = flag_of(check, OUTCOMES);
-    let states = given_of(check, STATES);
-    let sample = given_of(check, SAMPLE);
+    let modes = given(check, Name::Modes);
+    let runs = given(check, Name::Runs);
+    let fuel = number(check, Name::Fuel);
+    let split = given(check, Name::Split);
+    let workers = number(check, Name::Workers);
+    let ends = is_on(check, Name::Ends);
+    let outcomes = is_on(check, Name::Outcomes);
+    let states = given(check, Name::States);
+    let sample = given(check, Name::Sample);
     let seed = seed_of(check);
-    let explain = flag_of(check, EXPLAIN);
-    let group = flag_of(check, GROUP);
-    let ends_at_first = given_word_in(check, UNTIL);
-    let wants_witness = flag_of(check, WITNESS);
-    let is_complete = flag_of(check, COMPLETE);
-    let piece = given_of(check, PIECE);
-    let counts_pieces = flag_of(check, PIECES);
+    let explain = is_on(check, Name::Explain);
+    let group = is_on(check, Name::Group);
+    let ends_at_first = text(check, Name::Until);
+    let wants_witness = is_on(check, Name::Witness);
+    let is_complete = is_on(check, Name::Complete);
+    let piece = given(check, Name::Piece);
+    let counts_pieces = is_on(check, Name::Pieces);
     CheckOptions {
         modes,
         runs: runs.unwrap_or(USUAL_RUNS),
@@ -427,12 +485,12 @@ fn check_options_in<'a>(check: &ArgMatches<'a>) -> CheckOptions
     }
 }
 
-/// What the words behind `check` ask for.
+/// What the words after `check` ask for.
 fn check_in<'a>(check: &ArgMatches<'a>) -> Options<'a>
-    ensures { task_of result ≡ task_by checker (text_in (rows_of (found_of check.now))) }
+    ensures { task_of result ≡ task_by Tool.Check (text_in (rows_of (found_of check.now))) }
 {
-    let file = word_in(check, FILE);
-    let mode = word_in(check, MODE);
+    let file = word(check, Name::File);
+    let mode = word(check, Name::Mode);
     let options = check_options_in(check);
     Options::Check {
         file,
@@ -441,14 +499,14 @@ fn check_in<'a>(check: &ArgMatches<'a>) -> Options<'a>
     }
 }
 
-/// What the words behind `verify` ask for.
+/// What the words after `verify` ask for.
 fn verify_in<'a>(verify: &ArgMatches<'a>) -> Options<'a>
-    ensures { task_of result ≡ task_by verifier (text_in (rows_of (found_of verify.now))) }
+    ensures { task_of result ≡ task_by Tool.Verify (text_in (rows_of (found_of verify.now))) }
 {
-    let file = word_in(verify, FILE);
-    let witness = word_in(verify, WITNESS_FILE);
-    let mode = word_in(verify, MODE);
-    let leaf = given_of(verify, LEAF);
+    let file = word(verify, Name::File);
+    let witness = word(verify, Name::WitnessFile);
+    let mode = word(verify, Name::Mode);
+    let leaf = given(verify, Name::Leaf);
     Options::Verify {
         file,
         witness,
@@ -457,15 +515,15 @@ fn verify_in<'a>(verify: &ArgMatches<'a>) -> Options<'a>
     }
 }
 
-/// What the words behind `words` ask for.
+/// What the words after `words` ask for.
 fn words_in<'a>(words: &ArgMatches<'a>) -> Options<'a>
-    ensures { task_of result ≡ task_by teller (text_in (rows_of (found_of words.now))) }
+    ensures { task_of result ≡ task_by Tool.Words (text_in (rows_of (found_of words.now))) }
 {
-    let file = word_in(words, FILE);
-    let choices = word_in(words, CHOICES);
-    let mode = word_in(words, MODE);
-    let fuel = number_of(words, FUEL);
-    let ends = flag_of(words, ENDS);
+    let file = word(words, Name::File);
+    let choices = word(words, Name::NeededChoices);
+    let mode = word(words, Name::Mode);
+    let fuel = number(words, Name::Fuel);
+    let ends = is_on(words, Name::ChosenEnds);
     Options::Words {
         file,
         choices,
@@ -475,26 +533,26 @@ fn words_in<'a>(words: &ArgMatches<'a>) -> Options<'a>
     }
 }
 
-/// What the words behind `c` ask for.
+/// What the words after `c` ask for.
 fn translate_in<'a>(translate: &ArgMatches<'a>) -> Options<'a>
-    ensures { task_of result ≡ task_by translator (text_in (rows_of (found_of translate.now))) }
+    ensures { task_of result ≡ task_by Tool.Translate (text_in (rows_of (found_of translate.now))) }
 {
-    let file = word_in(translate, FILE);
+    let file = word(translate, Name::File);
     Options::Translate { file }
 }
 
-/// What the words behind `picture` ask for.
+/// What the words after `picture` ask for.
 fn picture_in<'a>(picture: &ArgMatches<'a>) -> Options<'a>
-    ensures { task_of result ≡ task_by painter (text_in (rows_of (found_of picture.now))) }
+    ensures { task_of result ≡ task_by Tool.Picture (text_in (rows_of (found_of picture.now))) }
 {
-    let file = word_in(picture, FILE);
-    let mode = word_in(picture, MODE);
-    let choices_word = given_word_in(picture, CHOICES);
-    let witness_file = given_word_in(picture, LAID_WITNESS);
-    let words_file = given_word_in(picture, WORDS_FILE);
-    let fuel = number_of(picture, FUEL);
-    let ends = flag_of(picture, ENDS);
-    let plain = flag_of(picture, PLAIN);
+    let file = word(picture, Name::File);
+    let mode = word(picture, Name::Mode);
+    let choices_word = text(picture, Name::DrawnChoices);
+    let witness_file = text(picture, Name::DrawnWitness);
+    let words_file = text(picture, Name::DrawnWords);
+    let fuel = number(picture, Name::Fuel);
+    let ends = is_on(picture, Name::ChosenEnds);
+    let plain = is_on(picture, Name::PlainDrawing);
     Options::Picture {
         file,
         mode,
@@ -507,62 +565,78 @@ fn picture_in<'a>(picture: &ArgMatches<'a>) -> Options<'a>
     }
 }
 
-/// What the command that was found asks for.
-fn options_in<'a>(matches: &ArgMatches<'a>) -> Options<'a>
-    ensures { task_of result ≡ (asked_of (subcommand_rows_of matches.now)).task }
+/// What the words after `page` ask for.
+fn page_in<'a>(page: &ArgMatches<'a>) -> Options<'a>
+    ensures { task_of result ≡ task_by Tool.Page (text_in (rows_of (found_of page.now))) }
 {
-    if let Some(trace) = matches.subcommand_matches(TRACE) {
-        return trace_in(trace);
-    }
-    if let Some(debug) = matches.subcommand_matches(DEBUG) {
-        return debug_in(debug);
-    }
-    if let Some(run) = matches.subcommand_matches(RUN) {
-        return run_in(run);
-    }
-    if let Some(serve) = matches.subcommand_matches(SERVE) {
-        return serve_in(serve);
-    }
-    if let Some(check) = matches.subcommand_matches(CHECK) {
-        return check_in(check);
-    }
-    if let Some(verify) = matches.subcommand_matches(VERIFY) {
-        return verify_in(verify);
-    }
-    if let Some(words) = matches.subcommand_matches(WORDS) {
-        return words_in(words);
-    }
-    if let Some(translate) = matches.subcommand_matches(TRANSLATE) {
-        return translate_in(translate);
-    }
-    if let Some(diagnose) = matches.subcommand_matches(DIAGNOSE) {
-        return diagnose_in(diagnose);
-    }
-    if let Some(picture) = matches.subcommand_matches(PICTURE) {
-        return picture_in(picture);
-    }
-    Options::Plain
+    let file = word(page, Name::File);
+    let mode = word(page, Name::Mode);
+    let choices_word = text(page, Name::PagedChoices);
+    let witness_file = text(page, Name::PagedWitness);
+    let words_file = text(page, Name::PagedWords);
+    let runs = given(page, Name::PagedRuns);
+    let fuel = number(page, Name::Fuel);
+    let ends = is_on(page, Name::PagedEnds);
+    let hide = is_on(page, Name::Hide);
+    Options::Page(PageOptions {
+        file,
+        mode,
+        choices: choices_word,
+        witness: witness_file,
+        words: words_file,
+        runs,
+        fuel,
+        ends,
+        hide,
+    })
 }
 
-/// For how many ranks the command that was found is meant, where that is said.
-fn ranks_in(matches: &ArgMatches<'_>) -> Option<usize>
-    ensures { result ≡ (asked_of (subcommand_rows_of matches.now)).ranks }
+/// What the words after a command ask for.
+fn options_in<'a>(tool: Tool, matches: &ArgMatches<'a>) -> Options<'a>
+    ensures { task_of result ≡ task_by tool (text_in (rows_of (found_of matches.now))) }
 {
-    let Some((_, command)) = matches.subcommand() else {
-        return None;
-    };
-    given_of(command, RANKS)
+    match tool {
+        Tool::Diagnose => diagnose_in(matches),
+        Tool::Trace => trace_in(matches),
+        Tool::Debug => debug_in(matches),
+        Tool::Run => run_in(matches),
+        Tool::Serve => serve_in(matches),
+        Tool::Check => check_in(matches),
+        Tool::Verify => verify_in(matches),
+        Tool::Words => words_in(matches),
+        Tool::Translate => translate_in(matches),
+        Tool::Picture => picture_in(matches),
+        Tool::Page => page_in(matches),
+    }
 }
 
-/// What the command that was found asks for, and for how many ranks.
-fn line_in<'a>(matches: &ArgMatches<'a>) -> CommandLine<'a>
-    ensures { asked result ≡ asked_of (subcommand_rows_of matches.now) }
+/// What the words after a command ask for, and for how many ranks.
+fn tool_line_in<'a>(tool: Tool, matches: &ArgMatches<'a>) -> CommandLine<'a>
+    ensures { asked result ≡ asked_by tool (text_in (rows_of (found_of matches.now))) }
 {
-    let options = options_in(matches);
-    let number = ranks_in(matches);
+    let options = options_in(tool, matches);
+    let number = given(matches, Name::Ranks);
     CommandLine {
         asked: options,
         ranks: number,
+    }
+}
+
+/// What the command that was found asks for, and for how many ranks.
+#[tactic(auto, using(crate::proofs::Commands::no_command))]
+fn line_in<'a>(matches: &ArgMatches<'a>) -> CommandLine<'a>
+    ensures { asked result ≡ asked_of (subcommand_rows_of matches.now) }
+{
+    let plain = CommandLine {
+        asked: Options::Plain,
+        ranks: None,
+    };
+    let Some((word, command)) = matches.subcommand() else {
+        return plain;
+    };
+    match tool_named(word) {
+        Some(tool) => tool_line_in(tool, command),
+        None => plain,
     }
 }
 

@@ -1,18 +1,11 @@
+use Rattle.std.proofs.Common.{◌≡◌, ap, fold}
+use Rattle.std.proofs.lemmas.Result.{IfOk-weaker}
+use Rattle.clap.specs.Words.{app_of}
+use Rattle.mpd_options.specs.Program.{mpdbg_app, named_app, with_tool}
+use Rattle.mpd_options.specs.Table.{tools}
 use Rattle.mpd_options.proofs.command.program.Goals as goal
 
 pub returns-clause-app : goal.returns-clause-app
 returns-clause-app c =
-    let diagnoses = c.with_command-program.ensures _ c.named_program.ensures.app in
-    let traces = c.with_command-program-2.ensures _ diagnoses in
-    let debugs = c.with_command-program-3.ensures _ traces in
-    let runs = c.with_command-program-4.ensures _ debugs in
-    let serves = c.with_command-program-5.ensures _ runs in
-    let checks = c.with_command-program-6.ensures _ serves in
-    let verifies = c.with_command-program-7.ensures _ checks in
-    let words = c.with_command-program-8.ensures _ verifies in
-    let translates = c.with_command-program-9.ensures _ words in
-    let pictures = c.with_command-program-10.ensures _ translates in
-    c.with_help.ensures.app _ pictures
-
-pub returns-clause-example : goal.returns-clause-example
-returns-clause-example c = c.with_help.ensures.example
+    let words = c.args.until.words in
+    c.with_help.ensures.app _ (c.with_commands-program.ensures (mpdbg_app words) (IfOk-weaker c.named_program.result (λ k. app_of k ≡ named_app) (λ k. fold (with_tool words) (app_of k) tools ≡ mpdbg_app words) (λ k named. ap (λ a. fold (with_tool words) a tools) named) c.named_program.ensures))

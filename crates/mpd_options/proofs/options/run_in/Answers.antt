@@ -1,5 +1,0 @@
-use Rattle.std.proofs.Common.{refl}
-use Rattle.mpd_options.proofs.options.run_in.Goals as goal
-
-pub returns : goal.returns
-returns c = rw (c.word_in-file.ensures, c.word_in-mode.ensures) refl

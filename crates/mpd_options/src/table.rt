@@ -1,0 +1,589 @@
+//! The table of the command line (docs/FORMATS.md, "The command line"): its commands, and what words after each can say something of.
+ghost use Rattle.std.specs.Prelude.{◌≡◌, ℕ};
+ghost use Rattle.mpd_options.specs.Table as spec;
+ghost use Rattle.mpd_options.specs.Table.{a_file, a_flag, an_option, called, item_in, item_of, names_of, unsaid_in};
+
+const MOST_RANKS: u64 = 16;
+
+const MOST_PORT: u64 = 65_535;
+
+const MOST_CLIENTS: u64 = 16;
+
+const MOST_MODES: u64 = 1_000;
+
+const MOST_RUNS: u64 = 65_536;
+
+const MOST_FUEL: u64 = 1_000_000;
+
+const MOST_SPLIT: u64 = 8;
+
+const MOST_WORKERS: u64 = 1_000;
+
+const MOST_STATES: u64 = 16_000_000;
+
+const MOST_SAMPLE: u64 = 65_536;
+
+const MOST_SEED: u64 = 18_446_744_073_709_551_615;
+
+const MOST_PIECE: u64 = 1_023;
+
+const MOST_LEAF: u64 = 67_108_863;
+
+const MOST_PAGED: u64 = 1_000;
+
+/// A command.
+#[derive(Clone, Copy)]
+pub enum Tool {
+    /// `mpdbg diagnose`.
+    Diagnose,
+    /// `mpdbg trace`.
+    Trace,
+    /// `mpdbg debug`.
+    Debug,
+    /// `mpdbg run`.
+    Run,
+    /// `mpdbg serve`.
+    Serve,
+    /// `mpdbg check`.
+    Check,
+    /// `mpdbg verify`.
+    Verify,
+    /// `mpdbg words`.
+    Words,
+    /// `mpdbg c`.
+    Translate,
+    /// `mpdbg picture`.
+    Picture,
+    /// `mpdbg page`.
+    Page,
+}
+
+/// A row of the table: a file, a flag or an option of some commands. What is asked by one of several has a row for each text of help.
+#[derive(Clone, Copy)]
+pub(crate) enum Name {
+    File,
+    WitnessFile,
+    Mode,
+    GivenMode,
+    Ranks,
+    RankSpan,
+    Modes,
+    Port,
+    Clients,
+    Runs,
+    Fuel,
+    Split,
+    Workers,
+    Ends,
+    ChosenEnds,
+    Outcomes,
+    States,
+    Sample,
+    Seed,
+    Explain,
+    Group,
+    Until,
+    Witness,
+    Complete,
+    Piece,
+    Pieces,
+    Leaf,
+    NeededChoices,
+    LaidChoices,
+    LaidWitness,
+    DrawnChoices,
+    DrawnWitness,
+    DrawnWords,
+    PagedChoices,
+    PagedWitness,
+    PagedWords,
+    PagedRuns,
+    PagedEnds,
+    Hide,
+    PlainDrawing,
+    Strict,
+}
+
+/// The values that an option takes.
+#[derive(Clone, Copy)]
+pub(crate) enum Values {
+    /// Any word.
+    AnyWord,
+    /// The numbers from the first to the second.
+    FromTo(u64, u64),
+    /// `deadlock` alone.
+    DeadlockAlone,
+}
+
+/// What it means that an option isn't there.
+#[derive(Clone, Copy)]
+pub(crate) enum Unsaid {
+    /// It is missed.
+    Missed,
+    /// Nothing.
+    Nothing,
+    /// The same as this value.
+    SameAs(&'static str),
+}
+
+/// What is known of an option with a value.
+#[derive(Clone, Copy)]
+pub(crate) struct Valued {
+    /// How it is spelled, without its hyphens.
+    pub(crate) spelling: &'static str,
+    /// What stands for its value in help.
+    pub(crate) shown: &'static str,
+    pub(crate) values: Values,
+    pub(crate) unsaid: Unsaid,
+}
+
+/// How words say something of it.
+#[derive(Clone, Copy)]
+pub(crate) enum Kind {
+    /// A file, whose word stands alone and must be there, by its place among such words.
+    File(usize),
+    /// A flag, which is spelled as `clap` knows it.
+    Flag,
+    /// An option with a value.
+    Valued(Valued),
+}
+
+/// What stands in a row.
+#[derive(Clone, Copy)]
+pub(crate) struct Item {
+    /// What `clap` knows it by.
+    pub(crate) id: &'static str,
+    pub(crate) kind: Kind,
+    /// What help says of it.
+    pub(crate) help: &'static str,
+}
+
+/// A file.
+fn file(id: &'static str, place: usize, help: &'static str) -> Item
+    ensures { item_in result ≡ a_file place id.entry.now }
+{
+    Item {
+        id,
+        kind: Kind::File(place),
+        help,
+    }
+}
+
+/// A flag.
+fn flag(id: &'static str, help: &'static str) -> Item
+    ensures { item_in result ≡ a_flag id.entry.now }
+{
+    Item {
+        id,
+        kind: Kind::Flag,
+        help,
+    }
+}
+
+/// An option that is spelled as `clap` knows it.
+fn option(
+    id: &'static str,
+    shown: &'static str,
+    values: Values,
+    unsaid: Unsaid,
+    help: &'static str,
+) -> Item
+    ensures { item_in result ≡ an_option id.entry.now id.entry.now values (unsaid_in unsaid) }
+{
+    Item {
+        id,
+        kind: Kind::Valued(Valued {
+            spelling: id,
+            shown,
+            values,
+            unsaid,
+        }),
+        help,
+    }
+}
+
+/// The file of a witness, whose option is spelled as the flag of `check` is.
+fn witness(help: &'static str) -> Item
+    ensures { item_in result ≡ item_of Name.LaidWitness }
+{
+    Item {
+        id: "laid_witness",
+        kind: Kind::Valued(Valued {
+            spelling: "witness",
+            shown: "WITNESS",
+            values: Values::AnyWord,
+            unsaid: Unsaid::Nothing,
+        }),
+        help,
+    }
+}
+
+impl Name {
+    /// Its row.
+    pub(crate) fn item(self) -> Item
+        ensures { item_in result ≡ item_of self }
+    {
+        match self {
+            Name::File => file("FILE", 1, "The script"),
+            Name::WitnessFile => file("WITNESS", 2, "The file of the witness"),
+            Name::Mode => option(
+                "mode",
+                "M",
+                Values::AnyWord,
+                Unsaid::SameAs("rendezvous"),
+                "How standard sends behave: rendezvous, buffered, or slots:K with K from 0 to 65536",
+            ),
+            Name::GivenMode => option(
+                "mode",
+                "M",
+                Values::AnyWord,
+                Unsaid::Nothing,
+                "How standard sends behave: rendezvous, which is usual, buffered, or slots:K with K from 0 to 65536",
+            ),
+            Name::Ranks => option(
+                "ranks",
+                "N",
+                Values::FromTo(1, MOST_RANKS),
+                Unsaid::Nothing,
+                "How many ranks run the script, 1 to 16, in place of the number in it",
+            ),
+            Name::RankSpan => Item {
+                id: "rank_span",
+                kind: Kind::Valued(Valued {
+                    spelling: "ranks",
+                    shown: "N[-M]",
+                    values: Values::AnyWord,
+                    unsaid: Unsaid::Nothing,
+                }),
+                help: "How many ranks run the script, 1 to 16, in place of the number in it; N-M tells each number from N to M by a line",
+            },
+            Name::Modes => option(
+                "modes",
+                "N",
+                Values::FromTo(0, MOST_MODES),
+                Unsaid::Nothing,
+                "Try rendezvous, slots:1 to slots:N and buffered in place of one mode, 0 to 1000",
+            ),
+            Name::Port => option(
+                "port",
+                "P",
+                Values::FromTo(1, MOST_PORT),
+                Unsaid::Missed,
+                "The port that it listens on, 1 to 65535",
+            ),
+            Name::Clients => option(
+                "clients",
+                "N",
+                Values::FromTo(1, MOST_CLIENTS),
+                Unsaid::Missed,
+                "How many clients it answers, 1 to 16",
+            ),
+            Name::Runs => option(
+                "runs",
+                "N",
+                Values::FromTo(1, MOST_RUNS),
+                Unsaid::Nothing,
+                "How many runs of each piece are tried at most, 1 to 65536 [default: 1000]",
+            ),
+            Name::Fuel => option(
+                "fuel",
+                "N",
+                Values::FromTo(1, MOST_FUEL),
+                Unsaid::SameAs("100000"),
+                "How many steps a run takes at most, 1 to 1000000",
+            ),
+            Name::Split => option(
+                "split",
+                "K",
+                Values::FromTo(0, MOST_SPLIT),
+                Unsaid::Nothing,
+                "By how many choices the runs are cut into pieces, 0 to 8 [default: 1]",
+            ),
+            Name::Workers => option(
+                "workers",
+                "N",
+                Values::FromTo(0, MOST_WORKERS),
+                Unsaid::SameAs("4"),
+                "How many workers make the report, 1 to 16",
+            ),
+            Name::Ends => flag(
+                "ends",
+                "List each end once: leave out runs that differ only in the order of steps that don't conflict",
+            ),
+            Name::ChosenEnds => flag(
+                "ends",
+                "The choices are those of a leaf of `check --ends` or `check --sample`",
+            ),
+            Name::Outcomes => flag(
+                "outcomes",
+                "Count the runs that come to each different end, without trying them one by one",
+            ),
+            Name::States => option(
+                "states",
+                "N",
+                Values::FromTo(1, MOST_STATES),
+                Unsaid::Nothing,
+                "How many states --outcomes keeps at most, 1 to 16000000 [default: 1000000]",
+            ),
+            Name::Sample => option(
+                "sample",
+                "N",
+                Values::FromTo(1, MOST_SAMPLE),
+                Unsaid::Nothing,
+                "Draw the choices of N runs at random, 1 to 65536",
+            ),
+            Name::Seed => option(
+                "seed",
+                "S",
+                Values::FromTo(0, MOST_SEED),
+                Unsaid::Nothing,
+                "What --sample begins to draw with, 0 to 18446744073709551615 [default: 0]",
+            ),
+            Name::Explain => flag(
+                "explain",
+                "Explain each deadlock and trap, and tell what is left over",
+            ),
+            Name::Group => flag(
+                "group",
+                "List each different end once, with how many runs come to it",
+            ),
+            Name::Until => option(
+                "until",
+                "END",
+                Values::DeadlockAlone,
+                Unsaid::Nothing,
+                "Stop at the first run that ends in a deadlock or a trap",
+            ),
+            Name::Witness => flag(
+                "witness",
+                "Print the trace words of a run that ends in a deadlock or a trap",
+            ),
+            Name::Complete => flag(
+                "complete",
+                "End with status 4 where nothing was found and not all was tried, with --modes in each mode; not beside --piece or --pieces",
+            ),
+            Name::Piece => option(
+                "piece",
+                "N",
+                Values::FromTo(0, MOST_PIECE),
+                Unsaid::Nothing,
+                "Print the part of the report that piece N has, 0 to 1023",
+            ),
+            Name::Pieces => flag(
+                "pieces",
+                "Print how many pieces there are, and nothing else",
+            ),
+            Name::Leaf => option(
+                "leaf",
+                "N",
+                Values::FromTo(0, MOST_LEAF),
+                Unsaid::Nothing,
+                "Take the witness of leaf N of a whole report, 0 to 67108863",
+            ),
+            Name::NeededChoices => option(
+                "choices",
+                "C",
+                Values::AnyWord,
+                Unsaid::Missed,
+                "The choices of the run, numbers from 0 with spaces between them",
+            ),
+            Name::LaidChoices => option(
+                "choices",
+                "C",
+                Values::AnyWord,
+                Unsaid::Nothing,
+                "The choices of a run that is laid ahead, numbers from 0 with spaces between them",
+            ),
+            Name::LaidWitness => witness("A witness or a report, whose run is laid ahead"),
+            Name::DrawnChoices => option(
+                "choices",
+                "C",
+                Values::AnyWord,
+                Unsaid::Nothing,
+                "Draw the run with these choices, numbers from 0 with spaces between them",
+            ),
+            Name::DrawnWitness => witness("Draw the run of a witness or a report"),
+            Name::DrawnWords => option(
+                "words",
+                "WORDS",
+                Values::AnyWord,
+                Unsaid::Nothing,
+                "Draw the run of a file of trace words, one a line",
+            ),
+            Name::PagedChoices => option(
+                "choices",
+                "C",
+                Values::AnyWord,
+                Unsaid::Nothing,
+                "Show the run with these choices, numbers from 0 with spaces between them",
+            ),
+            Name::PagedWitness => witness("Show the run of a witness or a report"),
+            Name::PagedWords => option(
+                "words",
+                "WORDS",
+                Values::AnyWord,
+                Unsaid::Nothing,
+                "Show the run of a file of trace words, one a line",
+            ),
+            Name::PagedRuns => option(
+                "runs",
+                "N",
+                Values::FromTo(1, MOST_PAGED),
+                Unsaid::Nothing,
+                "Show the runs of the first N leaves that `check` lists, 1 to 1000",
+            ),
+            Name::PagedEnds => flag(
+                "ends",
+                "Take choices and runs along the wide walk, as `check --ends` does",
+            ),
+            Name::Hide => flag("hide", "Cover how runs end until the key h is pressed"),
+            Name::PlainDrawing => flag("plain", "Leave out the list of calls and the legend"),
+            Name::Strict => flag(
+                "strict",
+                "End with status 1 also where calls can be left over",
+            ),
+        }
+    }
+}
+
+/// The commands, as help lists them.
+pub(crate) const TOOLS: [Tool; 11] = [
+    Tool::Diagnose,
+    Tool::Trace,
+    Tool::Debug,
+    Tool::Run,
+    Tool::Serve,
+    Tool::Check,
+    Tool::Verify,
+    Tool::Words,
+    Tool::Translate,
+    Tool::Picture,
+    Tool::Page,
+];
+
+impl Tool {
+    /// Its word.
+    pub(crate) fn word<'a>(self) -> &'a str
+        ensures { result.now ≡ called self }
+    {
+        match self {
+            Tool::Diagnose => "diagnose",
+            Tool::Trace => "trace",
+            Tool::Debug => "debug",
+            Tool::Run => "run",
+            Tool::Serve => "serve",
+            Tool::Check => "check",
+            Tool::Verify => "verify",
+            Tool::Words => "words",
+            Tool::Translate => "c",
+            Tool::Picture => "picture",
+            Tool::Page => "page",
+        }
+    }
+
+    /// What words after it can say something of, as its help lists it.
+    pub(crate) fn names(self) -> &'static [Name]
+        ensures { result.now ≡ names_of self }
+    {
+        match self {
+            Tool::Diagnose => &[
+                Name::File,
+                Name::RankSpan,
+                Name::GivenMode,
+                Name::Modes,
+                Name::Strict,
+            ],
+            Tool::Trace | Tool::Run => &[Name::File, Name::Ranks, Name::Mode],
+            Tool::Debug => &[
+                Name::File,
+                Name::Ranks,
+                Name::Mode,
+                Name::LaidChoices,
+                Name::LaidWitness,
+                Name::ChosenEnds,
+            ],
+            Tool::Serve => &[
+                Name::File,
+                Name::Ranks,
+                Name::Mode,
+                Name::Port,
+                Name::Clients,
+            ],
+            Tool::Check => &[
+                Name::File,
+                Name::Ranks,
+                Name::Mode,
+                Name::Modes,
+                Name::Runs,
+                Name::Fuel,
+                Name::Split,
+                Name::Workers,
+                Name::Ends,
+                Name::Outcomes,
+                Name::States,
+                Name::Sample,
+                Name::Seed,
+                Name::Explain,
+                Name::Group,
+                Name::Until,
+                Name::Witness,
+                Name::Complete,
+                Name::Piece,
+                Name::Pieces,
+            ],
+            Tool::Verify => &[
+                Name::File,
+                Name::Ranks,
+                Name::Mode,
+                Name::WitnessFile,
+                Name::Leaf,
+            ],
+            Tool::Words => &[
+                Name::File,
+                Name::Ranks,
+                Name::Mode,
+                Name::NeededChoices,
+                Name::Fuel,
+                Name::ChosenEnds,
+            ],
+            Tool::Translate => &[Name::File, Name::Ranks],
+            Tool::Page => &[
+                Name::File,
+                Name::Ranks,
+                Name::Mode,
+                Name::PagedChoices,
+                Name::PagedWitness,
+                Name::PagedWords,
+                Name::PagedRuns,
+                Name::Fuel,
+                Name::PagedEnds,
+                Name::Hide,
+            ],
+            Tool::Picture => &[
+                Name::File,
+                Name::Ranks,
+                Name::Mode,
+                Name::DrawnChoices,
+                Name::DrawnWitness,
+                Name::DrawnWords,
+                Name::Fuel,
+                Name::ChosenEnds,
+                Name::PlainDrawing,
+            ],
+        }
+    }
+}
+
+/// The command that a word names.
+pub(crate) fn tool_named(word: &str) -> Option<Tool>
+    ensures { result ≡ spec.tool_named word.now }
+{
+    let mut tools: &[Tool] = &TOOLS;
+    while let [tool, rest @ ..] = tools {
+        if tool.word() == word {
+            return Some(*tool);
+        }
+        tools = rest;
+    }
+    None
+}
