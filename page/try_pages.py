@@ -1,7 +1,7 @@
 #!/usr/bin/env python3
 """Draws every state of twelve pages in a browser, forward and back, by keys, clicks and the slider, and takes a screenshot of each.
 
-    page/try_pages.py PROGRAM                  of pages that page/make.py makes of what PROGRAM answers
+    page/try_pages.py PROGRAM                  of pages that PROGRAM makes
     page/try_pages.py PROGRAM --keep FOLDER    pages and screenshots stay there
     page/try_pages.py PROGRAM --size 1024,768 --dark
 
@@ -25,8 +25,9 @@ from pathlib import Path
 TOP = os.path.dirname(os.path.dirname(os.path.abspath(__file__)))
 sys.path.insert(0, f'{TOP}/compare')
 
-from runs.pages import CLOSING, OPENING, Shown
+from runs.pages import OPENING, Shown
 
+CLOSING = b'</script>'
 BROWSERS = 'chromium', 'chromium-browser', 'google-chrome', 'chrome'
 # The pages: a name, the words of each, and the moment of its screenshot.
 PAGES = (('stolen_message', ('examples/stolen_message.mpd',), '#run=0&step=9'), ('race', ('examples/race.mpd',), '#run=1&step=14'),
@@ -156,8 +157,7 @@ def wrong_states(data, lines):
 def tried(program, folder, asked, name, words, moment):
     """What is wrong with a page in the browser, how many states were drawn, and its screenshot."""
     words = [str(Path(folder, word)) if word == 'signs.mpd' else word for word in words]
-    made = subprocess.run([sys.executable, f'{TOP}/page/make.py', *words], capture_output=True, cwd=TOP, check=False,
-                          env=os.environ | {'MPDBG': os.path.abspath(asked.program)})
+    made = subprocess.run([os.path.abspath(asked.program), 'page', *words], capture_output=True, cwd=TOP, check=False)
     if made.returncode:
         return [made.stderr.decode().strip()], 0
     page, trial, picture = (Path(folder, f'{name}{end}') for end in ('.html', '-trial.html', '.png'))

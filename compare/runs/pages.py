@@ -4,7 +4,7 @@
     python3 compare/runs/pages.py PROGRAM --count 300    more of them
     python3 compare/runs/pages.py --broken               faults that are put into pages (page_faults.py), each of which must be noticed
 
-page/make.py makes the pages, of what PROGRAM answers. Of each script there is one of the runs that it takes by itself, of choices along
+The command `page` of PROGRAM makes the pages. Of each script there is one of the runs that it takes by itself, of choices along
 decisions and along the wide walk, of the first leaves, of trace words, and of a witness. A page is read again: its changes are applied to
 one view after another, and each view must show what `show` of the model does where the steps lead, the lines, why ranks wait, and the
 candidates. The text is that of the model, too, to the byte. Without a PROGRAM the pages are the model's. The status is 0 where nothing
@@ -39,9 +39,8 @@ from model.walks import Run
 from places import EXAMPLES, TOP
 from runs import driving
 
-MAKER, TEMPLATE = f'{TOP}/page/make.py', f'{TOP}/page/page.html'
-FIRST, OPENING, CLOSING = b'<!DOCTYPE html>', b'<script type="application/json" id="run">', b'</script>'
-NOTE = 'Made by page/make.py: nothing of it is proved.'
+TEMPLATE = f'{TOP}/page/page.html'
+OPENING = b'<script type="application/json" id="run">'
 CHUNK, MOST_FUEL, MOST_LOOKED_AT, MANY = 5, 300, 3000, 20
 # The examples whose pages are read, each with its mode.
 SHOWN = (('stolen_message', RENDEZVOUS), ('race', RENDEZVOUS), ('one_in_seven', RENDEZVOUS), ('waitany', RENDEZVOUS), ('order_decides', RENDEZVOUS),
@@ -60,7 +59,7 @@ class Asked(NamedTuple):
     of: page_model.Asked
 
     def told_in(self, folder):
-        """The words that ask the maker, with files in a folder."""
+        """The words behind `page`, with files in a folder."""
         words = [held(folder, 'asked', self.file) if word is None else word for word in self.words]
         return held(folder, self.of.name, self.of.text), '--mode', self.of.mode, *['--hide'] * self.of.hide, *words
 
@@ -120,7 +119,7 @@ def questions(text, script, mode, random, fuel, name):
     told = ('--fuel', str(fuel))
 
     def asked(kind, words, walk, runs, more=True, file=None):
-        of = page_model.Asked(text, script, mode, walk, tuple(runs), name, random.random() < 0.3, NOTE, (), more, MOST_LOOKED_AT)
+        of = page_model.Asked(text, script, mode, walk, tuple(runs), name, random.random() < 0.3, '', (), more, MOST_LOOKED_AT)
         return Asked(kind, (*words, *told), file, of)
 
     if (found := by_itself(begun)) is not None:
@@ -145,15 +144,14 @@ def made(chosen, asked):
     if chosen.program is None:
         return by_model(asked), b''
     with tempfile.TemporaryDirectory(prefix='pages-') as folder:
-        done = subprocess.run([sys.executable, MAKER, *asked.told_in(folder)], capture_output=True, timeout=chosen.seconds * 10, check=False,
-                              env=os.environ | {'MPDBG': chosen.program})
+        done = subprocess.run([chosen.program, 'page', *asked.told_in(folder)], capture_output=True, timeout=chosen.seconds * 10, check=False)
     return done.stdout, done.stderr
 
 
 def parts():
     """What stands in a page before its data, and behind it."""
     head, tail = Path(TEMPLATE).read_bytes().split(OPENING + b'null')
-    return head.replace(FIRST, FIRST + f'<!-- {NOTE} -->'.encode(), 1) + OPENING, tail
+    return head + OPENING, tail
 
 
 def by_model(asked):

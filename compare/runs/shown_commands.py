@@ -38,7 +38,7 @@ SECONDS = 60
 # What begins a command that is not run here, since it is none of the program.
 NOT_RUN = ('.ci/', 'GATE_', 'rt ', 'python3 compare/', 'python3 bench/', 'git ', 'mpicc ', 'mpiexec ', 'tools/record/', './mpdbg --prove')
 # What begins a command that is run.
-RUN = ('./mpdbg', 'page/', 'cat ', 'sed ', 'echo ', 'mkdir ', 'seq ', 'sbatch ', 'sh examples/', 'python3 examples/')
+RUN = ('./mpdbg', 'cat ', 'sed ', 'echo ', 'mkdir ', 'seq ', 'sbatch ', 'sh examples/', 'python3 examples/')
 # How a block begins that shows neither commands nor what one of the commands answers: a line of another command, or a form.
 EXCERPTS = {
     'README.md': ('checked as it runs',),

@@ -57,6 +57,17 @@ pub(crate) fn diagnose_script<'a, W: Sink>(
     Ok(verdict_of(&told, strict))
 }
 
+/// What is said of the runs of the script of a file, in lines of 80 columns at most.
+pub(crate) fn said_of<'a>(
+    alloc: Global,
+    subject: Subject<'_>,
+    file: &str,
+    ranks: Option<usize>,
+) -> Result<Vec<u8>, Fault<'a>> {
+    let told = diagnose(alloc, subject, plan_of(file, ranks))?;
+    Ok(told.text)
+}
+
 /// Writes what is told.
 fn write_told<'a, W: Sink>(sink: &mut W, told: &[u8]) -> Result<(), Fault<'a>> {
     if write_all(sink, told).is_err() {

@@ -163,6 +163,38 @@ fn lead<'a>(
     }
 }
 
+/// The steps of a run that is asked for, by a debugger at the start.
+fn steps_led<'a>(
+    alloc: Global,
+    subject: Subject<'_>,
+    debugger: &mut Debugger<'_>,
+    asked: Asked<'a>,
+    fuel: usize,
+) -> Result<StepList, Fault<'a>>
+    requires { fuel ≤ STEPS_MAX }
+{
+    lead(alloc, subject, debugger, asked, fuel)?;
+    match Vec::from_slice(alloc, debugger.steps()) {
+        Ok(items) => Ok(StepList { items }),
+        Err(_) => Err(Fault::from(EngineFault::Memory)),
+    }
+}
+
+/// The steps of the run that is asked for.
+pub(crate) fn steps_of_asked<'a>(
+    alloc: Global,
+    subject: Subject<'_>,
+    asked: Asked<'a>,
+    fuel: usize,
+) -> Result<StepList, Fault<'a>>
+    requires { fuel ≤ STEPS_MAX }
+{
+    let mut debugger = started(alloc, subject)?;
+    let steps = steps_led(alloc, subject, &mut debugger, asked, fuel);
+    drop(debugger);
+    steps
+}
+
 /// Writes the drawing of the steps of a debugger.
 fn write_drawing<'a, W: Sink>(
     alloc: Global,

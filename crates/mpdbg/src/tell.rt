@@ -59,6 +59,8 @@ pub(crate) enum Fault<'a> {
     ManyWords,
     /// The run shows too much to be drawn.
     LongPicture,
+    /// The runs have too many states for a page.
+    LongPage,
     /// A script, standard input or output, or memory.
     Plain(PlainFault),
     /// A port can't be listened on, or no client accepted.
@@ -368,6 +370,10 @@ pub(crate) fn tell<R: Print + Eprint + AllocGlobal>(
         }
         Fault::LongPicture => {
             let _unwritten = eprintln!(rt; "mpdbg: picture of more than 20000 glyphs");
+            WRONG
+        }
+        Fault::LongPage => {
+            let _unwritten = eprintln!(rt; "mpdbg: page of more than 20000 states");
             WRONG
         }
         Fault::Plain(fault) => tell_plain(rt, fault, notes),

@@ -1,0 +1,17 @@
+pub mod JsonLemmas
+pub mod PlaceLemmas
+pub mod ChangeLemmas
+pub mod NodeLemmas
+pub mod TreeLemmas
+pub mod RunLemmas
+pub mod EndLemmas
+pub mod PageLemmas
+pub mod CellLemmas
+pub mod KeptLemmas
+pub mod CallLemmas
+pub mod LawLemmas
+pub mod MarkupLemmas
+pub mod CleanLemmas
+pub mod DataLemmas
+pub mod ParentLemmas
+pub mod TellingLemmas

@@ -1,0 +1,17 @@
+pub mod Json
+pub mod Places
+pub mod Changes
+pub mod Reasons
+pub mod Nodes
+pub mod Trees
+pub mod Heads
+pub mod Templates
+pub mod Ends
+pub mod Pages
+pub mod Applied
+pub mod Issues
+pub mod Views
+pub mod Markup
+pub mod Telling
+pub mod PageLaws
+pub mod PageRows

@@ -1,0 +1,30 @@
+//! Laws of pages.
+
+ghost use Rattle.mpd_page.specs.PageLaws.{ChangesLeadOn, NoMarkup, ParentsComeFirst, RunsAreShown, StartIsShown, TextsTellChanges};
+
+/// A law: the changes of a step, applied to what is shown of the state before it, give what is shown of the state to which it leads; what is
+/// told of the start gives what is shown there; and so do the changes of a run, applied in turn, of the state where its steps lead.
+#[tactic(auto, using(crate::proofs::LawLemmas::showing))]
+pub fn states_are_shown()
+    ensures changes { ChangesLeadOn }
+    ensures first { StartIsShown }
+    ensures runs { RunsAreShown }
+{}
+
+/// A law: the data of a page has no `<`.
+#[tactic(auto, using(crate::proofs::DataLemmas::no_markup))]
+pub fn data_has_no_markup()
+    ensures { NoMarkup }
+{}
+
+/// A law: in the tree of any runs a state has a greater number than the one from which a step leads there.
+#[tactic(auto, using(crate::proofs::ParentLemmas::parents_come_first))]
+pub fn parents_come_first()
+    ensures { ParentsComeFirst }
+{}
+
+/// A law: the text of a state is told by its changes alone.
+#[tactic(auto, using(crate::proofs::TellingLemmas::texts_tell_changes))]
+pub fn texts_tell_changes()
+    ensures { TextsTellChanges }
+{}

@@ -1,0 +1,582 @@
+//! The template of a page, cut at its data (docs/PAGES.md, "The file"). `page/template.py --write` makes this file of `page/page.html`.
+
+/// What stands before the data: part 1 of 3.
+pub const HEAD_0: &str = "\
+<!DOCTYPE html>\n\
+<html lang=\"en\">\n\
+<head>\n\
+<meta charset=\"utf-8\">\n\
+<meta name=\"viewport\" content=\"width=device-width, initial-scale=1\">\n\
+<title>A run of ranks, step by step</title>\n\
+<style>\n\
+:root { color-scheme: light dark; font-size: clamp(15px, 1.25vw, 21px);\n\
+\x20 --ink:#17202c; --soft:#4d5866; --rule:#ccd3dc; --paper:#fff; --back:#eef1f5; --mark:#ffe58a; --bad:#b3261e; --good:#00694b; --warn:#855300; --choice:#6a2fa8; --tint:#f5effc;\n\
+\x20 --r0:#005fa3; --r1:#b34700; --r2:#00735a; --r3:#9b2f7a; --r4:#6b5900; --r5:#3f48b5; --r6:#7a3b10; --r7:#4a5560; }\n\
+@media (prefers-color-scheme: dark) { :root {\n\
+\x20 --ink:#eef2f6; --soft:#b2bcc8; --rule:#465160; --paper:#171c23; --back:#0c0f13; --mark:#6b5400; --bad:#ff8a7d; --good:#4fd6a6; --warn:#f0b454; --choice:#c9a2ff; --tint:#2a2138;\n\
+\x20 --r0:#6cb8f5; --r1:#ff9a57; --r2:#3fd0a5; --r3:#f08fd0; --r4:#e3ce4a; --r5:#a9b1ff; --r6:#dba37c; --r7:#c0c9d2; } }\n\
+* { box-sizing: border-box; }\n\
+html, body { height: 100%; margin: 0; }\n\
+body { display: grid; grid-template-rows: auto minmax(0, 1fr) auto; font: 1rem/1.4 system-ui, \"DejaVu Sans\", sans-serif; color: var(--ink); background: var(--back); }\n\
+h1, h2, h3, p { margin: 0; }\n\
+code, pre, .code, #source { font-family: ui-monospace, \"DejaVu Sans Mono\", Menlo, Consolas, monospace; font-size: .95em; }\n\
+header { padding: .4rem .9rem; background: var(--paper); border-bottom: 1px solid var(--rule); }\n\
+header div { display: flex; gap: .2rem 1rem; align-items: baseline; flex-wrap: wrap; }\n\
+h1 { font-size: 1.2rem; overflow-wrap: anywhere; }\n\
+h2 { font-size: .8rem; color: var(--soft); padding: .35rem .7rem .1rem; }\n\
+h3 { font-size: 1.05rem; }\n\
+.soft { color: var(--soft); }\n\
+#step { font-size: 1.1rem; min-height: 1.55em; }\n\
+#verdict { font-weight: 600; }\n\
+main { display: grid; grid-template-columns: minmax(20rem, 36%) minmax(0, 1fr); gap: .5rem; padding: .5rem; min-height: 0; }\n\
+.side { display: grid; gap: .5rem; min-height: 0; }\n\
+#left { grid-template-rows: minmax(0, 1fr) auto; }\n\
+#right { grid-template-rows: auto minmax(0, 1fr); }\n\
+.pane { background: var(--paper); border: 1px solid var(--rule); border-radius: .4rem; overflow: auto; min-height: 0; position: relative; }\n\
+:focus-visible { outline: 3px solid var(--choice); outline-offset: -2px; }\n\
+#source { line-height: 1.5; padding-bottom: .4rem; tab-size: 4; }\n\
+.line { display: grid; grid-template-columns: 5rem 2.4rem minmax(0, 1fr); }\n\
+.line > :nth-child(-n+2) { text-align: right; padding-right: .4rem; }\n\
+.line > :last-child { white-space: pre-wrap; overflow-wrap: anywhere; padding: 0 .4rem 0 2ch; text-indent: -2ch; }\n\
+.line.now { background: var(--mark); }\n\
+.line.now > :nth-child(2) { font-weight: 700; color: var(--ink); }\n\
+.badge { display: inline-block; min-width: 1.45rem; padding: 0 .2rem; margin-left: .15rem; border: 2px solid var(--c); border-radius: .25rem; background: var(--c); color: var(--paper); font: 700 .8rem/1.2 system-ui, \"DejaVu Sans\", sans-serif; text-align: center; text-indent: 0; }\n\
+.badge.round { border-radius: 1rem; }\n\
+.badge.blocked { background: var(--paper); color: var(--c); border-style: dashed; }\n\
+.badge.trapped { background: var(--paper); color: var(--bad); border: 3px double var(--bad); }\n\
+.badge.ended { opacity: .75; }\n\
+#lanes { max-height: 46vh; }\n\
+#lanes svg, #tree svg { display: block; }\n\
+#tree { max-height: 28vh; overflow: auto; }\n\
+text { font: 12px system-ui, \"DejaVu Sans\", sans-serif; fill: var(--ink); }\n\
+text.mid { text-anchor: middle; } text.bold { font-weight: 700; } text.rank { font-weight: 700; font-size: 15px; fill: var(--c); }\n\
+.lane { stroke: var(--c); stroke-width: 2; } .lane.round { stroke-dasharray: 9 2; }\n\
+.wait { stroke: var(--c); stroke-opacity: .35; }\n\
+.posted { stroke: var(--c); stroke-width: 1.6; stroke-dasharray: 3 3; }\n\
+.full { fill: var(--c); stroke: var(--c); stroke-width: 2; } .open { fill: var(--paper); stroke: var(--c); stroke-width: 2.4; }\n\
+.arrow { fill: none; stroke: var(--c); stroke-width: 2; } .new .arrow { stroke-width: 4; }\n\
+.halo { fill: var(--mark); } .bar { stroke: var(--ink); stroke-width: 4; } .past { fill: var(--back); } .hand { stroke: var(--soft); stroke-dasharray: 3 3; }\n";
+
+/// What stands before the data: part 2 of 3.
+pub const HEAD_1: &str = "\
+.dia { fill: var(--paper); stroke: var(--choice); stroke-width: 2.2; cursor: pointer; } .dia.here { fill: var(--choice); }\n\
+.twig { fill: none; stroke: var(--rule); stroke-width: 2; } .twig.on { stroke: var(--choice); stroke-width: 3.5; }\n\
+.bad { color: var(--bad); fill: var(--bad); } .good { color: var(--good); fill: var(--good); } .warn { color: var(--warn); fill: var(--warn); }\n\
+table { border-collapse: collapse; width: 100%; font-size: .93rem; }\n\
+caption { text-align: left; font-size: .8rem; font-weight: 700; color: var(--soft); padding: .35rem .7rem .1rem; }\n\
+th { text-align: left; font-size: .8rem; color: var(--soft); padding: .15rem .5rem; }\n\
+td:nth-child(2) { white-space: nowrap; } td[colspan] { white-space: normal !important; }\n\
+td { padding: .2rem .5rem; border-top: 1px solid var(--rule); vertical-align: top; }\n\
+.why td { border: 0; padding-top: 0; font-size: .9rem; }\n\
+mark { background: var(--mark); color: inherit; border-bottom: 2px solid var(--ink); }\n\
+.value { display: inline-block; margin-right: .9rem; }\n\
+.token { display: inline-block; white-space: nowrap; border: 1px solid var(--rule); border-left: .3rem solid var(--c); border-radius: .25rem; padding: 0 .3rem; margin: 0 .2rem .15rem 0; }\n\
+.token.may { border-color: var(--choice); background: var(--tint); font-weight: 700; }\n\
+.box { margin: .5rem; padding: .5rem .7rem; border: 2px solid currentColor; border-radius: .4rem; }\n\
+.box > * { color: var(--ink); } .box > h3 { color: inherit; }\n\
+#choice { color: var(--choice); }\n\
+#choice button { display: flex; gap: .6rem; align-items: center; width: 100%; margin: .3rem 0; padding: .2rem .6rem; text-align: left; }\n\
+#choice button.on { background: var(--tint); border: 2px solid var(--choice); font-weight: 700; }\n\
+#choice button > :last-child { margin-left: auto; white-space: nowrap; font-weight: 400; }\n\
+.told { display: flex; gap: .8rem; align-items: center; }\n\
+.told > div { flex: 1; }\n\
+.told p { padding-left: 2ch; text-indent: -2ch; }\n\
+button { font: inherit; color: inherit; background: var(--paper); border: 1px solid var(--soft); border-radius: .35rem; cursor: pointer; }\n\
+button:disabled { color: var(--soft); cursor: default; border-style: dashed; }\n\
+footer { display: grid; grid-template-columns: auto minmax(0, 1fr) auto; gap: 1rem; align-items: center; padding: .3rem .9rem; background: var(--paper); border-top: 1px solid var(--rule); }\n\
+footer button { padding: .25rem .6rem; font-weight: 700; }\n\
+#track { position: relative; padding-top: 1.15rem; } #track input { width: 100%; margin: 0; display: block; }\n\
+#marks { position: absolute; left: 8px; right: 8px; top: 0; }\n\
+#marks span { position: absolute; transform: translateX(-50%); cursor: pointer; font-size: .95rem; line-height: 1.2; } #marks .choice { color: var(--choice); }\n\
+@media (max-width: 1100px) { .token { white-space: normal; } footer { grid-template-columns: auto minmax(0, 1fr); } #keys { grid-column: 1 / -1; } }\n\
+@media print { :root { color-scheme: light; font-size: 11pt; } html, body { height: auto; } body, main, .side { display: block; background: #fff; } footer, #treepane, #table { display: none; }\n\
+\x20 .pane { border: 0; overflow: visible; max-height: none !important; break-inside: avoid; } #lanes svg { width: 100%; height: auto; } * { print-color-adjust: exact; } }\n\
+</style>\n\
+</head>\n\
+<body>\n\
+<header><div><h1 id=\"name\">No run stands on this page</h1><span id=\"about\" class=\"soft\"></span><span id=\"verdict\"></span></div><p id=\"step\" role=\"status\"></p></header>\n\
+<main>\n\
+<div class=\"side\" id=\"left\">\n\
+<section class=\"pane\" aria-labelledby=\"h-source\" tabindex=\"0\"><h2 id=\"h-source\">Script, and where ranks stand</h2><div id=\"source\"></div></section>\n\
+<section class=\"pane\" id=\"treepane\" aria-labelledby=\"h-tree\"><h2 id=\"h-tree\">Runs</h2><div id=\"tree\" tabindex=\"0\"></div></section>\n\
+</div>\n\
+<div class=\"side\" id=\"right\">\n\
+<section class=\"pane\" id=\"lanes\" aria-label=\"Lanes of the ranks\" tabindex=\"0\"></section>\n\
+<section class=\"pane\" aria-label=\"What happens now\" tabindex=\"0\"><div id=\"choice\" class=\"box\" hidden></div><div id=\"told\" hidden></div><table id=\"table\"></table></section>\n\
+</div>\n\
+</main>\n";
+
+/// What stands before the data: part 3 of 3.
+pub const HEAD_2: &str = "\
+<footer><span><button data-go=\"start\" title=\"To the start (Home)\">|&lt;</button> <button data-go=\"back\" title=\"A step back (left)\">&lt;</button> <button data-go=\"on\" title=\"A step on (right)\">&gt;</button> <button data-go=\"end\" title=\"To the end (End)\">&gt;|</button></span>\n\
+<div id=\"track\"><div id=\"marks\"></div><input type=\"range\" id=\"slider\" min=\"0\" value=\"0\" aria-label=\"Step\"></div>\n\
+<span id=\"keys\" class=\"soft\">&larr; &rarr; step &ensp; c u choice &ensp; 1 2 .. take &ensp; b decides<span id=\"uncover\"></span></span></footer>\n\
+<script type=\"application/json\" id=\"run\">";
+
+/// What stands after the data: part 1 of 8.
+pub const TAIL_0: &str = "\
+</script>\n\
+<script>\n\
+'use strict';\n\
+// A page of recorded runs. The data stands in the element `run`; docs/PAGES.md tells its fields. Nothing is fetched.\n\
+const D = JSON.parse(document.getElementById('run').textContent);\n\
+const el = id => document.getElementById(id);\n\
+const esc = text => String(text).replace(/[&<>\"]/g, sign => `&#${sign.charCodeAt(0)};`);\n\
+\n\
+// ---- the tree of states\n\
+const N = D ? D.ranks : 0, nodes = D ? D.nodes : [], ends = D ? D.ends : [];\n\
+const parent = i => nodes[i].p === undefined ? i - 1 : nodes[i].p;\n\
+const kids = nodes.map(() => []), under = nodes.map(() => []); // of each state those a step later, and the ends that it leads to\n\
+const endAt = new Map(ends.map((end, e) => [end.node, e]));\n\
+const isChoice = i => (nodes[i].k || []).length > 1;\n\
+const taken = (i, c) => kids[i].find(j => nodes[j].s === nodes[i].k[c]); // the state after candidate c; undefined if it isn't recorded\n\
+nodes.forEach((_, i) => i && kids[parent(i)].push(i));\n\
+ends.forEach((end, e) => { for (const i of pathTo(end.node)) under[i].push(e); });\n\
+\n\
+function pathTo(i) {\n\
+\x20 const path = [i];\n\
+\x20 while (i) path.push(i = parent(i));\n\
+\x20 return path.reverse();\n\
+}\n\
+\n\
+// ---- a state, by the changes that lead to it\n\
+const cells = names => names.reduce((sum, [, size]) => sum + (size === null ? 1 : size), 0);\n\
+const two = call => call.split('.').map(Number);\n\
+\n\
+function blank() {\n\
+\x20 const each = make => Array.from({ length: N }, make);\n\
+\x20 return { place: each(() => [0]), values: each(() => Array(cells(D.vars)).fill('0')), requests: each(() => Array(cells(D.handles)).fill(null)),\n\
+\x20   printed: each(() => []), calls: each(() => []), why: each(() => null), changed: new Set() };\n\
+}\n\
+function apply(s, node) {\n\
+\x20 s.changed = new Set();\n\
+\x20 for (const [p, ...place] of node.d || []) { s.place[p] = place; s.changed.add('d' + p); }\n\
+\x20 for (const [p, cell, value] of node.v || []) { s.values[p][cell] = value; s.changed.add(`v${p}.${cell}`); }\n\
+\x20 for (const [p, cell, call] of node.h || []) { s.requests[p][cell] = call; s.changed.add(`h${p}.${cell}`); }\n\
+\x20 for (const [p, value] of node.o || []) { s.changed.add(`o${p}.${s.printed[p].push(value) - 1}`); }\n\
+\x20 for (const [p, why] of node.w || []) s.why[p] = why;\n\
+\x20 const [kind, first, second] = node.s.split(' ');\n\
+\x20 if (node.c) s.changed.add(`c${first}.${s.calls[+first].push({ line: node.c[0], text: node.c[1] }) - 1}`);\n\
+\x20 if (kind === 'match') { callOf(s, first).partner = second; callOf(s, second).partner = first; }\n\
+}\n\
+const callOf = (s, id) => { const [p, i] = two(id); return s.calls[p][i]; };\n\
+const isSend = call => /^i?s?send/.test(call.text), isReceive = call => /^i?recv/.test(call.text);\n\
+const target = call => +call.text.split(' ')[2]; // the rank that a send goes to\n\
+const message = call => { const w = call.text.split(' '); return `value ${w[6]}, tag ${w[4]}`; };\n\
+const calledAt = (s, id) => `line ${callOf(s, id).line}, ${esc(callOf(s, id).text)} <span class=\"soft\">(${id})</span>`;\n\
+\n\
+function stateOf(path) {\n\
+\x20 const s = blank();\n\
+\x20 for (const i of path) apply(s, nodes[i]);\n\
+\x20 return s;\n\
+}\n\
+\n\
+// What a step is about, by the state before it: its kind, its rank, its lines, its calls.\n\
+function factOf(s, node) {\n\
+\x20 const [kind, first, second] = node.s.split(' '), fact = { kind, lines: [] };\n\
+\x20 if (kind === 'match') return { kind, send: first, receive: second, rank: two(second)[0], lines: [callOf(s, first).line, callOf(s, second).line] };\n\
+\x20 if (kind === 'release') return { kind, lines: s.place.map(place => place[0]) };\n\
+\x20 fact.rank = +first;\n\
+\x20 fact.lines = [s.place[fact.rank][0]];\n\
+\x20 if (node.c) Object.assign(fact, { call: `${first}.${s.calls[fact.rank].length}`, text: node.c[1], line: node.c[0] });\n\
+\x20 if (kind === 'wakeany') fact.by = requestOf(s, fact.rank, +second);\n\
+\x20 return fact;\n\
+}\n\
+// The call of request i of the waitany in which a rank waits.\n\
+function requestOf(s, p, i) {\n\
+\x20 const first = +s.calls[p][s.calls[p].length - 1].text.split(' ')[1];\n\
+\x20 return `${p}.${s.requests[p][first + i]}`;\n\
+}\n\
+const shows = fact => fact.call !== undefined || fact.kind === 'match' || fact.kind === 'release';\n\
+\n\
+function inWords(fact, s) {\n";
+
+/// What stands after the data: part 2 of 8.
+pub const TAIL_1: &str = "\
+\x20 const p = fact.rank, code = text => `<code>${esc(text)}</code>`;\n\
+\x20 if (fact.call) return `rank ${p} runs line ${fact.line}: ${code(fact.text)} (${fact.call})`;\n\
+\x20 if (fact.kind === 'local') return `rank ${p} runs line ${fact.lines[0]}: ${code((D.script[fact.lines[0] - 1] || '').trim())}`;\n\
+\x20 if (fact.kind === 'match') return `rank ${p}, line ${fact.lines[1]}, takes the message of rank ${two(fact.send)[0]}, line ${fact.lines[0]}: <b>${message(callOf(s, fact.send))}</b>`;\n\
+\x20 if (fact.kind === 'release') return 'all ranks leave the barrier';\n\
+\x20 return `rank ${p} goes on from line ${fact.lines[0]}` + (fact.by ? ` by ${calledAt(s, fact.by)}` : ': its call is complete');\n\
+}\n\
+\n\
+// ---- where the page stands: a run is the states up to an end; k counts its steps up to the state that is shown\n\
+let run = [0], facts = [], k = 0, S = null, covered = D && D.hide, printing = false, later = 0;\n\
+const last = () => run.length - 1, endOf = () => endAt.get(run[last()]);\n\
+\n\
+function choose(end, depth) {\n\
+\x20 run = pathTo(ends[end].node);\n\
+\x20 const s = blank();\n\
+\x20 facts = run.map((i, d) => { const fact = d ? factOf(s, nodes[i]) : null; apply(s, nodes[i]); return fact; });\n\
+\x20 el('slider').max = last();\n\
+\x20 layout();\n\
+\x20 go(depth);\n\
+}\n\
+function go(depth) {\n\
+\x20 k = Math.max(0, Math.min(last(), Math.round(depth) || 0));\n\
+\x20 S = stateOf(run.slice(0, k + 1));\n\
+\x20 el('slider').value = k;\n\
+\x20 el('step').innerHTML = `<b>${k ? `step ${k} of ${last()}` : `start, ${last()} steps`}</b>` + (k ? ` &ensp;${inWords(facts[k], S)}` : '');\n\
+\x20 for (const part of [source, choice, told, table, marks, tree]) part();\n\
+\x20 follow();\n\
+\x20 clearTimeout(later);\n\
+\x20 later = setTimeout(note, 200); // browsers refuse many at once\n\
+}\n\
+function note() {\n\
+\x20 history.replaceState(null, '', `#run=${endOf()}&step=${k}`);\n\
+}\n\
+function take(c) {\n\
+\x20 const i = run[k], j = isChoice(i) && nodes[i].k[c] ? taken(i, c) : undefined;\n\
+\x20 if (j !== undefined) choose(under[j].includes(endOf()) ? endOf() : under[j][0], k + 1);\n\
+}\n\
+// The step that decides: of this run, or else of another that goes the same way up to there.\n\
+function deciding() {\n\
+\x20 for (const end of [ends[endOf()], ...ends])\n\
+\x20   if (end.decided && end.decided[0] !== null && pathTo(end.node)[end.decided[0]] === run[end.decided[0]]) return end.decided;\n\
+\x20 return null;\n\
+}\n\
+const choices = () => run.map((i, d) => isChoice(i) ? d : -1).filter(d => d >= 0);\n\
+\n\
+// ---- the script\n\
+const round = p => p > 7 ? ' round' : '', colour = p => `style=\"--c:var(--r${p % 8})\"`;\n\
+const doing = place => place[1] === undefined ? '' : place[1].split(' ')[0];\n\
+const badge = (s, p) => `<span class=\"badge ${doing(s.place[p])}${round(p)}\" ${colour(p)} title=\"rank ${p} ${s.place[p][1] || 'can run'}\">${p}</span>`;\n\
+\n\
+function source() {\n\
+\x20 const at = {}, now = new Set(k ? facts[k].lines : []);\n\
+\x20 for (let p = 0; p < N; p++) (at[S.place[p][0]] = at[S.place[p][0]] || []).push(badge(S, p));\n\
+\x20 el('source').innerHTML = D.script.map((text, i) => {\n\
+\x20   const cut = text.indexOf('#') < 0 ? text.length : text.indexOf('#');\n\
+\x20   return `<div class=\"line ${now.has(i + 1) ? 'now' : ''}\"><span>${(at[i + 1] || []).join('')}</span><span class=\"soft\">${i + 1}</span>` +\n\
+\x20     `<span>${esc(text.slice(0, cut)) || ' '}<span class=\"soft\">${esc(text.slice(cut))}</span></span></div>`;\n\
+\x20 }).join('') + (at[0] ? `<div class=\"line\"><span></span><span></span><span class=\"soft\">ended: ${at[0].join('')}</span></div>` : '');\n\
+\x20 const line = el('source').children[(k ? Math.max(...facts[k].lines) : 1) - 1];\n\
+\x20 if (line) line.scrollIntoView({ block: 'nearest' });\n\
+}\n\
+\n\
+// ---- lanes: time goes to the right, a lane for each rank\n\
+const TOP = 36, NAME = N > 10 ? 74 : 64;\n\
+let xs = [], gap = 60, wide = 60, unit = 1;\n\
+\n\
+// The place of each step: those that show something get more room.\n\
+function layout() {\n\
+\x20 unit = parseFloat(getComputedStyle(document.documentElement).fontSize) / 16;\n\
+\x20 const room = Math.max(300, el('lanes').clientWidth / unit - NAME - 60), many = facts.slice(1).filter(shows).length, few = last() - many;\n\
+\x20 const small = Math.min(14, Math.max(7, room / (many * 3.5 + few + 1)));\n";
+
+/// What stands after the data: part 3 of 8.
+pub const TAIL_2: &str = "\
+\x20 wide = Math.min(78, Math.max(34, (room - few * small) / Math.max(1, many)));\n\
+\x20 xs = [NAME + 14];\n\
+\x20 for (let d = 1; d <= last(); d++) xs.push(xs[d - 1] + (shows(facts[d]) ? wide : small));\n\
+\x20 gap = N > 10 ? 17 : N > 5 ? 30 : Math.min(56, 180 / N);\n\
+}\n\
+const laneY = p => TOP + gap * (p + .5);\n\
+const svgText = (x, y, text, kind = 'mid') => `<text x=\"${x}\" y=\"${y}\" class=\"${kind}\">${text}</text>`;\n\
+const svgLine = (x1, y1, x2, y2, kind, more = '') => `<line x1=\"${x1}\" y1=\"${y1}\" x2=\"${x2}\" y2=\"${y2}\" class=\"${kind}\" ${more}/>`;\n\
+const svgGroup = (p, title, body, isNew) => `<g ${colour(p)} ${isNew ? 'class=\"new\"' : ''}><title>${esc(title)}</title>${body}</g>`;\n\
+\n\
+// An arrow from one place to another, with its tip; to the same lane it is bent.\n\
+function arrow(x1, y1, x2, y2) {\n\
+\x20 const bent = y1 === y2, down = y2 > y1 ? 1 : -1, y = bent ? y2 + 7 : y2 - 7 * down, angle = bent ? -Math.PI / 2 : Math.atan2(y - y1, x2 - x1);\n\
+\x20 const at = turn => `${x2 - 11 * Math.cos(angle + turn)} ${y - 11 * Math.sin(angle + turn)}`;\n\
+\x20 const way = bent ? `M${x1} ${y1}C${x1} ${y1 + gap * .7} ${x2} ${y1 + gap * .7} ${x2} ${y}` : `M${x1} ${y1}L${x2} ${y}`;\n\
+\x20 return `<path d=\"${way}\" class=\"arrow\"/><path d=\"M${x2} ${y}L${at(.4)}L${at(-.4)}z\" class=\"full\"/>`;\n\
+}\n\
+function glyph(x, y, word) {\n\
+\x20 const r = gap > 24 ? 6 : 4.5;\n\
+\x20 if (/send/.test(word)) return `<circle cx=\"${x}\" cy=\"${y}\" r=\"${r}\" class=\"full\"/>`;\n\
+\x20 if (/recv/.test(word)) return `<circle cx=\"${x}\" cy=\"${y}\" r=\"${r}\" class=\"open\"/>`;\n\
+\x20 if (word === 'barrier') return `<rect x=\"${x - 3}\" y=\"${y - gap * .3}\" width=\"6\" height=\"${gap * .6}\" class=\"full\"/>`;\n\
+\x20 return `<path d=\"${word === 'wait' ? `M${x - r} ${y - r}h${2 * r}v${2 * r}h${-2 * r}z` : `M${x - r - 2} ${y}l${r + 2} ${-r - 2}l${r + 2} ${r + 2}l${-r - 2} ${r + 2}z`}\" class=\"open\"/>`;\n\
+}\n\
+function lanes() {\n\
+\x20 const box = el('lanes'), now = xs[k], height = TOP + gap * N + 14, large = gap > 28;\n\
+\x20 const left = printing ? Math.max(0, now - 1200) : box.scrollLeft / unit, room = printing ? Math.min(1260, Math.max(500, now + 60)) : box.clientWidth / unit;\n\
+\x20 const width = printing ? room : Math.max(xs[last()] + 50, room - 2), seen = (a, b) => b > left - 200 && a < left + room + 200;\n\
+\x20 const under = [], over = [], names = [], issued = {}, since = Array(N).fill(null), stops = Array(N).fill(now);\n\
+\x20 const waits = (p, to) => {\n\
+\x20   const thick = `stroke-width=\"${Math.min(11, gap * .42)}\"`;\n\
+\x20   if (since[p] !== null && seen(since[p], to)) under.push(svgGroup(p, `rank ${p} waits`, svgLine(since[p], laneY(p), to, laneY(p), 'wait', thick)));\n\
+\x20   since[p] = null;\n\
+\x20 };\n\
+\x20 for (let d = 1; d <= k; d++) {\n\
+\x20   const fact = facts[d], x = xs[d], p = fact.rank, y = laneY(p), isNew = d === k;\n\
+\x20   const halo = isNew && p !== undefined && fact.kind !== 'match' ? `<circle cx=\"${x}\" cy=\"${y}\" r=\"${gap > 24 ? 11 : 8}\" class=\"halo\"/>` : '';\n\
+\x20   if (fact.call) {\n\
+\x20     const word = fact.text.split(' ')[0], isUp = /send/.test(word) && target(fact) < p;\n\
+\x20     issued[fact.call] = { x, p, text: fact.text, to: null };\n\
+\x20     if (seen(x, x)) over.push(svgGroup(p, `line ${fact.line}, ${fact.call} ${fact.text}`, halo + glyph(x, y, word) + (large ? svgText(x, isUp ? y + 21 : y - (word === 'barrier' ? gap * .3 + 4 : 11), wide > 50 ? `${fact.line} ${word}` : fact.line, isNew ? 'mid bold' : 'mid') : ''), isNew));\n\
+\x20     if ((nodes[run[d]].d || []).some(([q, , how]) => q === p && how === 'blocked')) since[p] = x;\n\
+\x20   } else if (fact.kind === 'match') {\n\
+\x20     const send = issued[fact.send], value = send.text.split(' ')[6];\n\
+\x20     send.to = issued[fact.receive].to = x;\n\
+\x20     if (seen(send.x, x)) {\n\
+\x20       const lx = send.x + (x - send.x) * .5, ly = laneY(send.p) + (y - laneY(send.p)) * .5 + (send.p === p ? gap * .5 : 0), w = 8 * value.length + 8;\n\
+\x20       over.push(svgGroup(send.p, `${fact.send} to ${fact.receive}: ${message(send)}`, arrow(send.x, laneY(send.p), x, y) + `<rect x=\"${lx - w / 2}\" y=\"${ly - 8}\" width=\"${w}\" height=\"16\" rx=\"4\" class=\"open\" style=\"stroke-width:1\"/>` + svgText(lx, ly + 4, value, 'mid bold'), isNew));\n\
+\x20     }\n\
+\x20   } else if (fact.kind === 'release') {\n";
+
+/// What stands after the data: part 4 of 8.
+pub const TAIL_3: &str = "\
+\x20     if (seen(x, x)) over.push(`<g><title>release: all ranks leave the barrier</title>${svgLine(x, laneY(0) - 12, x, laneY(N - 1) + 12, 'bar')}</g>`);\n\
+\x20     for (let q = 0; q < N; q++) waits(q, x);\n\
+\x20   } else if (fact.kind === 'local') {\n\
+\x20     if (seen(x, x)) over.push(svgGroup(p, `rank ${p} runs line ${fact.lines[0]}`, halo + svgLine(x, y - 4, x, y + 4, 'lane')));\n\
+\x20   } else { waits(p, x); over.push(svgGroup(p, `rank ${p} goes on`, halo)); }\n\
+\x20   for (const [q, , how] of nodes[run[d]].d || []) if (how && how !== 'blocked') stops[q] = x;\n\
+\x20 }\n\
+\x20 for (let p = 0; p < N; p++) { waits(p, now); under.push(svgGroup(p, `lane of rank ${p}`, svgLine(NAME, laneY(p), stops[p], laneY(p), 'lane' + round(p)))); }\n\
+\x20 const posted = Array(N).fill(0);\n\
+\x20 for (const call of Object.values(issued)) {\n\
+\x20   const y = laneY(call.p), to = call.to === null ? now : call.to;\n\
+\x20   if (isReceive(call) && seen(call.x, to)) {\n\
+\x20     const low = y + (gap > 24 ? 9 + 4 * (posted[call.p]++ % 3) : 6);\n\
+\x20     under.push(svgGroup(call.p, `posted: ${call.text}`, svgLine(call.x, low, to, low, 'posted')));\n\
+\x20   }\n\
+\x20   if (isSend(call) && call.to === null && seen(call.x, call.x)) {\n\
+\x20     const dy = (target(call) > call.p ? 1 : -1) * Math.min(20, gap * .4);\n\
+\x20     over.push(svgGroup(call.p, `${call.text}: not received yet`, svgLine(call.x, y, call.x + 14, y + dy, 'posted') + `<circle cx=\"${call.x + 14}\" cy=\"${y + dy}\" r=\"4\" class=\"open\"/>`));\n\
+\x20   }\n\
+\x20 }\n\
+\x20 for (let p = 0; p < N; p++) {\n\
+\x20   const y = laneY(p), how = doing(S.place[p]), x = stops[p];\n\
+\x20   if (how === 'ended') over.push(svgGroup(p, `rank ${p} has ended`, svgLine(x + 2, y - 9, x + 2, y + 9, 'lane', 'style=\"stroke-width:4\"')));\n\
+\x20   if (how === 'trapped') over.push(`<g><title>rank ${p} is trapped</title><path d=\"M${x - 7} ${y - 7}l14 14m0 -14l-14 14\" style=\"stroke:var(--bad);stroke-width:4\"/></g>`);\n\
+\x20   if (how === 'blocked' && k === last() && !covered) over.push(`<g><title>rank ${p} is blocked</title><path d=\"M${now - 4} ${y - 9}h8l5 5v8l-5 5h-8l-5 -5v-8z\" class=\"bad\"/><text x=\"${now}\" y=\"${y + 4.5}\" class=\"mid bold\" style=\"fill:var(--paper)\">!</text></g>`);\n\
+\x20   names.push(`<g ${colour(p)}>${svgText(left + 6, y + 5, `rank ${p}`, 'rank')}</g>`);\n\
+\x20 }\n\
+\x20 const marks = choices().filter(d => seen(xs[d], xs[d])).map(d => `<g data-step=\"${d}\"><title>a choice of ${nodes[run[d]].k.length}</title>${svgLine(xs[d], 30, xs[d], height, 'hand', 'style=\"stroke:var(--choice);stroke-opacity:.5\"')}<path d=\"M${xs[d]} 15l7 7l-7 7l-7 -7z\" class=\"dia ${d === k ? 'here' : ''}\"/></g>`);\n\
+\x20 box.innerHTML = `<svg width=\"${width * unit}\" height=\"${height * unit}\" viewBox=\"${printing ? left : 0} 0 ${width} ${height}\" role=\"img\"><title>Lanes of ${N} ranks after ${k} steps</title>` +\n\
+\x20   `<rect x=\"${now}\" width=\"${Math.max(0, width + left - now)}\" height=\"${height}\" class=\"past\"/>${svgLine(now, 14, now, height, 'hand')}${svgText(now, 11, k, 'mid bold')}${under.join('')}${marks.join('')}${over.join('')}<rect x=\"${left}\" width=\"${NAME - 4}\" height=\"${height}\" style=\"fill:var(--paper)\"/>${names.join('')}</svg>`;\n\
+}\n\
+// Scrolls the lanes to where the page stands, and draws them.\n\
+function follow() {\n\
+\x20 const box = el('lanes'), x = xs[k] * unit;\n\
+\x20 if (x < box.scrollLeft + 120 || x > box.scrollLeft + box.clientWidth - 70) { lanes(); box.scrollLeft = Math.max(0, x - box.clientWidth * .6); }\n\
+\x20 lanes();\n\
+}\n\
+\n\
+// ---- the choice, and the step that decides\n\
+const SIGN = { done: '\\u2714', leftovers: '\\u25b2', cut: '\\u2026', deadlock: '\\u2716', trap: '\\u2716' };\n\
+const wordOf = outcome => outcome.split(' ')[0];\n\
+const kindOf = outcome => /^(deadlock|trap)/.test(outcome) ? 'bad' : wordOf(outcome) === 'done' ? 'good' : 'warn';\n\
+const sign = outcome => covered ? '?' : `<b class=\"${kindOf(outcome)}\">${SIGN[wordOf(outcome)]}</b> ${wordOf(outcome)}`;\n\
+\n\
+function howEnds(list) {\n\
+\x20 const counts = {};\n\
+\x20 for (const e of list) { const s = sign(ends[e].outcome); counts[s] = (counts[s] || 0) + 1; }\n\
+\x20 return Object.entries(counts).map(([s, count]) => covered ? s : (count > 1 ? `${count} \\u00d7 ` : '') + s).join(' &ensp;');\n\
+}\n\
+function candidate(step) {\n";
+
+/// What stands after the data: part 5 of 8.
+pub const TAIL_4: &str = "\
+\x20 const fact = factOf(S, { s: step }), p = fact.rank;\n\
+\x20 if (fact.kind === 'match') return `message of <b>rank ${two(fact.send)[0]}</b>, line ${fact.lines[0]}: <b>${message(callOf(S, fact.send))}</b> \\u2192 rank ${p}, line ${fact.lines[1]}`;\n\
+\x20 if (fact.kind === 'release') return 'all ranks leave the barrier';\n\
+\x20 if (fact.kind === 'local') return `rank ${p} runs line ${fact.lines[0]}`;\n\
+\x20 return `rank ${p}, line ${fact.lines[0]}, goes on` + (fact.by ? ` by ${calledAt(S, fact.by)}` + (callOf(S, fact.by).partner && isReceive(callOf(S, fact.by)) ? `: <b>${message(callOf(S, callOf(S, fact.by).partner))}</b>` : '') : '');\n\
+}\n\
+// The page that takes candidate c here, as a command, where the run is told by its choices.\n\
+function otherWay(c) {\n\
+\x20 const numbers = run.slice(1, k + 1).map(i => nodes[i].n).filter(n => n !== undefined);\n\
+\x20 return D.walk === 'words' ? 'not on this page' : `on another page: <code>page/make.py ${esc(D.name)} ${D.walk === 'wide' ? '--ends ' : ''}--choices '${[...numbers, c].join(' ')}'</code>`;\n\
+}\n\
+function choice() {\n\
+\x20 const i = run[k], box = el('choice'), steps = isChoice(i) ? nodes[i].k : [], found = covered ? null : deciding(), isDecided = found && found[0] === k;\n\
+\x20 box.hidden = !steps.length && !isDecided;\n\
+\x20 box.innerHTML = (steps.length ? `<h3>\\u25c6 A choice: which of these ${steps.length} comes next?</h3>` : '') + steps.map((step, c) => {\n\
+\x20   const j = taken(i, c);\n\
+\x20   return `<button data-take=\"${c}\" class=\"${j !== undefined && j === run[k + 1] ? 'on' : ''}\" ${j === undefined ? 'disabled' : ''}><b>${c + 1}</b><span>${candidate(step)}</span><span>${j === undefined ? otherWay(c) : howEnds(under[j])}</span></button>`;\n\
+\x20 }).join('') + (isDecided ? `<p><b class=\"warn\">\\u25bc The step that decides:</b> ${esc(found[1].replace(/^decided at depth \\d+: /, ''))}</p>` : '');\n\
+}\n\
+\n\
+// ---- the end of a run, and who waits for whom\n\
+const TITLE = { done: 'The run ends well: all ranks have ended', leftovers: 'All ranks have ended, but calls are left over', deadlock: 'Deadlock: these ranks wait for ever', trap: 'A rank has trapped', cut: 'The record ends here' };\n\
+\n\
+function told() {\n\
+\x20 const box = el('told'), end = k === last() ? ends[endOf()] : null;\n\
+\x20 box.hidden = !end;\n\
+\x20 if (!end) return;\n\
+\x20 box.className = 'box ' + (covered ? '' : kindOf(end.outcome));\n\
+\x20 if (covered) { box.innerHTML = '<h3>The run ends here</h3><p>The key <b>h</b> shows how.</p>'; return; }\n\
+\x20 const lines = [...(end.told || []).map(line => line.slice(2)), ...end.lost || []], said = end.decided ? [end.decided[1] + (end.decided[0] === null ? '' : ' (key b)')] : [];\n\
+\x20 const texts = [...lines, ...said].map(line => `<p style=\"margin-left:${line.search(/\\S/)}ch\">${esc(line.trim())}</p>`);\n\
+\x20 box.innerHTML = `<h3>${SIGN[wordOf(end.outcome)]} ${TITLE[wordOf(end.outcome)]}</h3><div class=\"told\"><div>${texts.join('')}</div>${waitGraph(lines)}</div>`;\n\
+}\n\
+// The lines `rank 0 waits for rank 1 (ended)` as a graph.\n\
+function waitGraph(lines) {\n\
+\x20 const edges = lines.flatMap(line => {\n\
+\x20   const found = /^rank (\\d+) waits for (.*)$/.exec(line);\n\
+\x20   return found ? [...found[2].matchAll(/rank (\\d+)( \\(ended\\))?/g)].map(m => [+found[1], +m[1], !!m[2]]) : [];\n\
+\x20 });\n\
+\x20 if (!edges.length) return '';\n\
+\x20 const ranks = [...new Set(edges.flatMap(([a, b]) => [a, b]))].sort((a, b) => a - b), R = 26 + 6 * ranks.length, C = R + 30, at = {};\n\
+\x20 ranks.forEach((p, i) => { const turn = 2 * Math.PI * i / ranks.length - Math.PI / 2; at[p] = [C + R * Math.cos(turn), C + R * Math.sin(turn)]; });\n\
+\x20 const edge = ([a, b, isOver]) => {\n\
+\x20   const [x1, y1] = at[a], [x2, y2] = at[b], far = Math.hypot(x2 - x1, y2 - y1) || 1, ux = (x2 - x1) / far, uy = (y2 - y1) / far, off = edges.some(([c, d]) => c === b && d === a) ? 6 : 0;\n\
+\x20   if (a === b) return `<circle cx=\"${x1 + 15}\" cy=\"${y1 - 13}\" r=\"10\" class=\"arrow\" style=\"--c:var(--ink)\"/>`;\n\
+\x20   const px = x2 - 17 * ux - off * uy, py = y2 - 17 * uy + off * ux, tip = side => `${px - 9 * ux + side * 4.5 * uy} ${py - 9 * uy - side * 4.5 * ux}`;\n";
+
+/// What stands after the data: part 6 of 8.
+pub const TAIL_5: &str = "\
+\x20   return `<g style=\"--c:var(--ink)\">${svgLine(x1 + 15 * ux - off * uy, y1 + 15 * uy + off * ux, px, py, 'arrow', isOver ? 'stroke-dasharray=\"4 3\"' : '')}<path d=\"M${px} ${py}L${tip(1)}L${tip(-1)}z\" class=\"full\"/></g>`;\n\
+\x20 };\n\
+\x20 const spot = p => {\n\
+\x20   const [x, y] = at[p], isOver = edges.some(([, b, over]) => b === p && over);\n\
+\x20   return `<g ${colour(p)}><circle cx=\"${x}\" cy=\"${y}\" r=\"14\" class=\"${isOver ? 'open' : 'full'}\"/><text x=\"${x}\" y=\"${y + 5}\" class=\"mid bold\" style=\"font-size:14px;fill:var(${isOver ? '--ink' : '--paper'})\">${p}</text></g>${isOver ? svgText(x, y + 27, 'ended') : ''}`;\n\
+\x20 };\n\
+\x20 return `<svg width=\"${2 * C * unit}\" height=\"${2 * C * unit}\" viewBox=\"0 0 ${2 * C} ${2 * C}\" role=\"img\" style=\"flex:none\"><title>Who waits for whom: ${edges.map(([a, b]) => `${a} for ${b}`).join(', ')}</title>${edges.map(edge).join('')}${ranks.map(spot).join('')}</svg>`;\n\
+}\n\
+\n\
+// ---- the table of ranks\n\
+const MOST = 16; // so many cells of an array are shown, and those that changed\n\
+const marked = (key, text) => S.changed.has(key) ? `<mark>${text}</mark>` : text;\n\
+\n\
+function valuesOf(p, names, kind, show) {\n\
+\x20 let cell = 0;\n\
+\x20 return names.map(([name, size]) => {\n\
+\x20   const texts = Array.from({ length: size === null ? 1 : size }, () => marked(`${kind}${p}.${cell}`, show(cell++)));\n\
+\x20   const shown = texts.flatMap((text, i) => i < MOST ? [text] : text[0] === '<' ? [`${i}: ${text}`] : []);\n\
+\x20   return `<span class=\"code value\">${name}&nbsp;=&nbsp;${size === null ? texts[0] : `[${shown.join(', ')}${size > MOST ? ', ..' : ''}]`}</span>`;\n\
+\x20 }).join('');\n\
+}\n\
+function token(p, i, text, may) {\n\
+\x20 return `<span class=\"token code ${may.has(`${p}.${i}`) ? 'may' : ''}\" ${colour(p)} title=\"line ${S.calls[p][i].line}, ${p}.${i} ${esc(S.calls[p][i].text)}\">${marked(`c${p}.${i}`, text)}</span>`;\n\
+}\n\
+function request(p, cell) {\n\
+\x20 const call = S.calls[p][S.requests[p][cell]];\n\
+\x20 return call ? `${call.text.split(' ')[0]}, line ${call.line}${call.partner ? ' \\u2714' : ''}` : '-';\n\
+}\n\
+function stateText(p) {\n\
+\x20 const [line, word] = S.place[p], how = doing(S.place[p]);\n\
+\x20 return marked('d' + p, how === '' ? `at line ${line}` : how === 'ended' ? how : how === 'blocked' ? `waits, line ${line}` : `<b class=\"bad\">trap: ${word.slice(8)}</b>, line ${line}`);\n\
+}\n\
+function table() {\n\
+\x20 const may = new Set(isChoice(run[k]) ? nodes[run[k]].k.flatMap(step => step.split(' ').slice(1)) : []);\n\
+\x20 const columns = [['rank', p => badge(S, p)], ['state', stateText], ['variables', p => valuesOf(p, D.vars, 'v', cell => S.values[p][cell]), D.vars.length],\n\
+\x20   ['requests', p => valuesOf(p, D.handles, 'h', cell => request(p, cell)), D.handles.length],\n\
+\x20   ['receives posted', p => S.calls[p].map((call, i) => isReceive(call) && !call.partner ? token(p, i, esc(call.text.replace(/^\\w+ /, '')), may) : '').join('')],\n\
+\x20   ['messages to it', p => S.calls.flatMap((list, q) => list.map((call, i) => isSend(call) && !call.partner && target(call) === p ? token(q, i, `from ${q}: ${message(call)}`, may) : '')).join('')],\n\
+\x20   ['printed', p => S.printed[p].map((value, i) => marked(`o${p}.${i}`, value)).join(' '), +nodes.some(node => node.o)],\n\
+\x20 ].filter(column => column[2] !== 0);\n\
+\x20 const rows = S.place.map((_, p) => `<tr>${columns.map(([, show]) => `<td>${show(p)}</td>`).join('')}</tr>` +\n\
+\x20   (S.why[p] ? `<tr class=\"why soft\"><td></td><td colspan=\"${columns.length - 1}\">${whyText(p)}</td></tr>` : ''));\n\
+\x20 el('table').innerHTML = `<caption>Ranks (what the last step changed is underlined)</caption><tr>${columns.map(([name]) => `<th scope=\"col\">${name}</th>`).join('')}</tr>${rows.join('')}`;\n\
+}\n\
+// Why a rank waits: for each call that it waits for, with what that can be matched.\n\
+function whyText(p) {\n\
+\x20 const calls = S.calls[p], own = `<code>${esc(calls[calls.length - 1].text)}</code>`, isEnd = k === last() && !covered;\n\
+\x20 const parts = S.why[p].map(([call, ...found]) => {\n\
+\x20   const name = two(call)[1] === calls.length - 1 || call === 'barrier' ? '' : `for ${calledAt(S, call)}: `;\n\
+\x20   if (call === 'barrier') return found.length ? `not there: ${found.map(q => `rank ${q}`).join(', ')}` : 'all ranks are there';\n";
+
+/// What stands after the data: part 7 of 8.
+pub const TAIL_6: &str = "\
+\x20   if (found[0] === 'complete') return `${name}<b>complete</b>`;\n\
+\x20   if (!found.length) return name + (isEnd ? 'nothing fits' : 'nothing that fits has come yet');\n\
+\x20   const texts = found.map(text => { const [other, by] = text.split(' '); return by ? `fits ${calledAt(S, other)}, but <b>held back</b> by ${calledAt(S, by)}` : `can be matched with ${calledAt(S, other)}`; });\n\
+\x20   return name + [...texts.slice(0, 3), ...(texts.length > 3 ? [`and with ${texts.length - 3} more`] : [])].join('<br>');\n\
+\x20 });\n\
+\x20 return [own, ...(parts.length ? parts : ['nothing to wait for'])].join(parts.length > 1 ? '<br>' : ' &ensp; ');\n\
+}\n\
+\n\
+// ---- the tree of runs: a diamond for each choice, a sign for each end\n\
+let shape = null;\n\
+function treeShape() {\n\
+\x20 const points = [], open = [{ node: 0, deep: 0 }];\n\
+\x20 let rows = 0, deep = 0;\n\
+\x20 while (open.length) { // from the top, each point before those below it\n\
+\x20   const point = open.pop();\n\
+\x20   while (!isChoice(point.node) && !endAt.has(point.node)) point.node = kids[point.node][0];\n\
+\x20   points.push(point);\n\
+\x20   deep = Math.max(deep, point.deep);\n\
+\x20   point.kids = endAt.has(point.node) ? [] : nodes[point.node].k.flatMap((_, c) => {\n\
+\x20     const j = taken(point.node, c);\n\
+\x20     return j === undefined ? [] : [{ node: j, deep: point.deep + 1, number: c + 1 }];\n\
+\x20   });\n\
+\x20   if (!point.kids.length) point.row = rows++;\n\
+\x20   open.push(...[...point.kids].reverse());\n\
+\x20 }\n\
+\x20 for (const point of [...points].reverse()) if (point.kids.length) point.row = (point.kids[0].row + point.kids[point.kids.length - 1].row) / 2;\n\
+\x20 return { points, rows, deep };\n\
+}\n\
+function tree() {\n\
+\x20 shape = shape || treeShape();\n\
+\x20 const { points, rows, deep } = shape, on = new Set(run), column = Math.min(110, Math.max(26, 220 / Math.max(1, deep))), X = t => 18 + column * t.deep, Y = t => 14 + 23 * t.row, parts = [];\n\
+\x20 for (const t of points) for (const u of t.kids) {\n\
+\x20   const isOn = on.has(t.node) && on.has(u.node);\n\
+\x20   parts.push(`<path d=\"M${X(t)} ${Y(t)}C${X(t) + column / 2} ${Y(t)} ${X(t) + column * .4} ${Y(u)} ${X(u)} ${Y(u)}\" class=\"twig ${isOn ? 'on' : ''}\"/>${svgText(X(u) - 15, Y(u) - 3, u.number, isOn ? 'mid bold' : 'mid')}`);\n\
+\x20 }\n\
+\x20 for (const t of points) {\n\
+\x20   const end = endAt.get(t.node), isHere = run[k] === t.node ? 'here' : '';\n\
+\x20   if (end === undefined) { parts.push(`<g data-node=\"${t.node}\"><title>a choice of ${nodes[t.node].k.length}</title><path d=\"M${X(t)} ${Y(t) - 8}l8 8l-8 8l-8 -8z\" class=\"dia ${isHere}\"/></g>`); continue; }\n\
+\x20   const outcome = ends[end].outcome, kind = covered ? '' : kindOf(outcome), isOn = end === endOf();\n\
+\x20   const disc = kind === 'bad' ? `<rect x=\"${X(t) - 8}\" y=\"${Y(t) - 8}\" width=\"16\" height=\"16\" rx=\"2\" class=\"bad\"/>` : `<circle cx=\"${X(t)}\" cy=\"${Y(t)}\" r=\"8.5\" class=\"${kind}\"/>`;\n\
+\x20   parts.push(`<g data-end=\"${end}\" style=\"cursor:pointer\"><title>run ${end + 1}</title>${disc}<text x=\"${X(t)}\" y=\"${Y(t) + 4.5}\" class=\"mid bold\" style=\"fill:var(--paper)\">${covered ? '?' : SIGN[wordOf(outcome)]}</text>${svgText(X(t) + 15, Y(t) + 4.5, covered ? `run ${end + 1}` : esc(outcome), isOn ? 'bold' : '')}</g>`);\n\
+\x20 }\n\
+\x20 el('tree').innerHTML = `<svg width=\"${(X({ deep }) + 200) * unit}\" height=\"${(rows * 23 + 8) * unit}\" viewBox=\"0 0 ${X({ deep }) + 200} ${rows * 23 + 8}\" role=\"img\"><title>Runs by their choices: ${ends.length}</title>${parts.join('')}</svg>` + (D.more ? '<p class=\"soft\" style=\"font-size:.85rem;padding:0 .7rem .3rem\">there are more runs than these</p>' : '');\n\
+\x20 const mine = points.find(t => endAt.get(t.node) === endOf()), box = el('tree'), y = Y(mine) * unit;\n\
+\x20 if (y < box.scrollTop || y > box.scrollTop + box.clientHeight - 15) box.scrollTop = y - box.clientHeight / 2;\n\
+}\n\
+function marks() {\n\
+\x20 const found = covered ? null : deciding(), at = (d, kind, text, title) => `<span class=\"${kind}\" data-step=\"${d}\" style=\"left:${100 * d / Math.max(1, last())}%\" title=\"${title}\">${text}</span>`, outcome = ends[endOf()].outcome;\n";
+
+/// What stands after the data: part 8 of 8.
+pub const TAIL_7: &str = "\
+\x20 el('marks').innerHTML = choices().filter(d => !found || d !== found[0]).map(d => at(d, 'choice', '\\u25c6', 'a choice')).join('') + (found ? at(found[0], 'warn', '<b>\\u25bc</b>', 'the step that decides') : '') + at(last(), covered ? '' : kindOf(outcome), covered ? '?' : SIGN[wordOf(outcome)], 'the end');\n\
+}\n\
+\n\
+// ---- keys, clicks, the address\n\
+const MOVES = { start: () => 0, back: () => k - 1, on: () => k + 1, end: () => last() };\n\
+const KEYS = {\n\
+\x20 ArrowRight: () => go(k + 1), ArrowLeft: () => go(k - 1), Home: () => go(0), End: () => go(last()),\n\
+\x20 c: () => go(choices().find(d => d > k) ?? last()), u: () => go(choices().reverse().find(d => d < k) ?? 0),\n\
+\x20 b: () => { const found = covered ? null : deciding(); if (found) go(found[0]); },\n\
+\x20 h: () => { covered = D.hide && !covered; title(); go(k); },\n\
+};\n\
+function pressed(event) {\n\
+\x20 if (event.ctrlKey || event.metaKey || event.altKey) return;\n\
+\x20 const key = event.key.length > 1 ? event.key : event.key.toLowerCase();\n\
+\x20 if (/^[1-9]$/.test(key)) take(key - 1); else if (KEYS[key]) KEYS[key](); else return;\n\
+\x20 event.preventDefault();\n\
+}\n\
+function clicked(event) {\n\
+\x20 const of = event.target.closest('[data-go], [data-take], [data-end], [data-node], [data-step]'), data = of ? of.dataset : {};\n\
+\x20 if (data.go) go(MOVES[data.go]());\n\
+\x20 if (data.take) take(+data.take);\n\
+\x20 if (data.step) go(+data.step);\n\
+\x20 if (data.end) choose(+data.end, Infinity);\n\
+\x20 if (data.node) choose(run.includes(+data.node) ? endOf() : under[+data.node][0], pathTo(+data.node).length - 1);\n\
+}\n\
+// To the moment that the address names.\n\
+function come() {\n\
+\x20 const at = new URLSearchParams(location.hash.slice(1)), bad = ends.findIndex(end => kindOf(end.outcome) === 'bad');\n\
+\x20 choose(Math.min(ends.length - 1, at.has('run') ? +at.get('run') || 0 : Math.max(0, bad)), +at.get('step') || 0);\n\
+}\n\
+function title() {\n\
+\x20 el('name').textContent = D.name;\n\
+\x20 document.title = `${D.name}: a run of ${N} ranks, step by step`;\n\
+\x20 el('about').textContent = `${N} rank${N > 1 ? 's' : ''}, ${D.mode}${D.note ? `. ${D.note}` : ''}`;\n\
+\x20 el('verdict').textContent = covered ? '' : D.said.join('; ');\n\
+\x20 el('uncover').innerHTML = D.hide ? ` &ensp; h ${covered ? 'shows' : 'hides'} ends` : '';\n\
+\x20 el('treepane').hidden = ends.length < 2 && !nodes.some((_, i) => isChoice(i));\n\
+}\n\
+function begin() {\n\
+\x20 title();\n\
+\x20 come();\n\
+\x20 document.addEventListener('keydown', pressed);\n\
+\x20 document.addEventListener('click', clicked);\n\
+\x20 el('slider').addEventListener('input', () => go(+el('slider').value));\n\
+\x20 el('lanes').addEventListener('scroll', () => requestAnimationFrame(lanes));\n\
+\x20 addEventListener('hashchange', come);\n\
+\x20 addEventListener('resize', () => { layout(); go(k); });\n\
+\x20 addEventListener('beforeprint', () => { printing = true; lanes(); });\n\
+\x20 addEventListener('afterprint', () => { printing = false; lanes(); });\n\
+}\n\
+if (D) begin();\n\
+</script>\n\
+</body>\n\
+</html>\n";

@@ -1,0 +1,404 @@
+//! `mpdbg page`: runs of a script as one file for a browser (docs/PAGES.md).
+
+ghost use Rattle.std.specs.Prelude.{◌≤◌};
+
+use crate::diagnose::said_of;
+use crate::picture::{Asked, steps_of_asked};
+use crate::tell::Fault;
+use mpd_code::Subject;
+use mpd_core::Debugger;
+use mpd_explore::{Leaf, Limits, Report, Unwatched, explore};
+use mpd_lines::{EngineFault, Sink, write_all};
+use mpd_model::{STEPS_MAX, StepList, bare_line, cut_line};
+use mpd_outcomes::{Count, Goal, Outcomes, StateLimits, explore_outcomes};
+use mpd_page::{PageFault, Title, Walk, make_page};
+use mpd_policy::{Plain, Wide};
+use mpd_runs::{WordsFault, steps_by_choices};
+use std::alloc::{AllocError, Global};
+
+/// How many states the search for the ways to end keeps at most.
+const KEPT_MAX: usize = 1_000_000;
+
+/// How many states it comes to at most, kept or not.
+const VISITED_MAX: usize = 20_000_000;
+
+/// Before a line that goes on one before it.
+const GOES_ON: usize = 8;
+
+/// Which runs are shown.
+#[derive(Drop)]
+pub(crate) enum Wanted<'a> {
+    /// One that is given by its choices, along the wide walk or not.
+    Choices { asked: Asked<'a>, ends: bool },
+    /// One that is given by its steps.
+    Steps(Asked<'a>),
+    /// So many leaves of a check.
+    Leaves { runs: usize, ends: bool },
+    /// One that hangs or traps, and one that ends well.
+    Both { ends: bool },
+}
+
+/// The script of a page, and how it is named.
+#[derive(Clone, Copy)]
+pub(crate) struct PageScript<'s> {
+    pub(crate) subject: Subject<'s>,
+    pub(crate) text: &'s [u8],
+    pub(crate) file: &'s str,
+    pub(crate) ranks: Option<usize>,
+    /// How many steps a run has at most.
+    pub(crate) fuel: usize,
+    /// Whether how runs end is covered at first.
+    pub(crate) hide: bool,
+}
+
+/// The runs that are shown.
+#[derive(Drop)]
+struct Found {
+    runs: Vec<StepList>,
+    walk: Walk,
+    said: Vec<u8>,
+    more: bool,
+}
+
+/// Adds a run.
+fn add_run(runs: &mut Vec<StepList>, run: StepList) -> Result<(), AllocError> {
+    runs.push(run)?;
+    Ok(())
+}
+
+/// Adds bytes.
+fn add(out: &mut Vec<u8>, text: &[u8]) -> Result<(), AllocError> {
+    out.extend_from_slice(text)
+}
+
+/// One run that is given.
+fn given<'a>(
+    alloc: Global,
+    subject: Subject<'_>,
+    asked: Asked<'a>,
+    walk: Walk,
+    fuel: usize,
+) -> Result<Found, Fault<'a>>
+    requires { fuel ≤ STEPS_MAX }
+{
+    let run = steps_of_asked(alloc, subject, asked, fuel)?;
+    let mut runs = Vec::new(alloc);
+    add_run(&mut runs, run)?;
+    Ok(Found {
+        runs,
+        walk,
+        said: Vec::new(alloc),
+        more: true,
+    })
+}
+
+/// The steps of the run with these choices.
+fn steps_with<'a>(
+    alloc: Global,
+    subject: Subject<'_>,
+    choices: &[usize],
+    wide: bool,
+    fuel: usize,
+) -> Result<StepList, Fault<'a>>
+    requires { fuel ≤ STEPS_MAX }
+{
+    let Ok(mut debugger) = Debugger::start(alloc, subject.code, subject.mode) else {
+        return Err(Fault::from(EngineFault::Memory));
+    };
+    let found = if wide {
+        steps_by_choices(alloc, &Wide, &mut debugger, choices, fuel)
+    } else {
+        steps_by_choices(alloc, &Plain, &mut debugger, choices, fuel)
+    };
+    drop(debugger);
+    match found {
+        Ok(steps) => Ok(steps),
+        Err(WordsFault::BadChoices(place)) => Err(Fault::BadChoices(place)),
+        Err(WordsFault::Memory) => Err(Fault::from(EngineFault::Memory)),
+    }
+}
+
+/// Adds the run of a leaf.
+fn add_leaf<'a>(
+    alloc: Global,
+    subject: Subject<'_>,
+    runs: &mut Vec<StepList>,
+    leaf: &Leaf,
+    wide: bool,
+    fuel: usize,
+) -> Result<(), Fault<'a>>
+    requires { fuel ≤ STEPS_MAX }
+{
+    let run = steps_with(alloc, subject, &leaf.choices.items, wide, fuel)?;
+    add_run(runs, run)?;
+    Ok(())
+}
+
+/// The runs of leaves.
+fn runs_of<'a>(
+    alloc: Global,
+    subject: Subject<'_>,
+    leaves: &[Leaf],
+    wide: bool,
+    fuel: usize,
+) -> Result<Vec<StepList>, Fault<'a>>
+    requires { fuel ≤ STEPS_MAX }
+{
+    let mut runs = Vec::new(alloc);
+    for leaf in leaves {
+        add_leaf(alloc, subject, &mut runs, leaf, wide, fuel)?;
+    }
+    Ok(runs)
+}
+
+/// Along what choices are told.
+fn walk_of(wide: bool) -> Walk {
+    if wide { Walk::Wide } else { Walk::Decisions }
+}
+
+/// The leaves of a check.
+fn report_of<'a>(alloc: Global, subject: Subject<'_>, limits: Limits) -> Result<Report, Fault<'a>>
+    requires { limits.fuel ≤ STEPS_MAX }
+{
+    let Ok(mut debugger) = Debugger::start(alloc, subject.code, subject.mode) else {
+        return Err(Fault::from(EngineFault::Memory));
+    };
+    let report = explore(alloc, &mut debugger, limits, &mut Unwatched);
+    drop(debugger);
+    match report {
+        Ok(report) => Ok(report),
+        Err(_) => Err(Fault::from(EngineFault::Memory)),
+    }
+}
+
+/// The runs of the first leaves of a check.
+fn first_leaves<'a>(
+    alloc: Global,
+    subject: Subject<'_>,
+    runs: usize,
+    ends: bool,
+    fuel: usize,
+) -> Result<Found, Fault<'a>>
+    requires { fuel ≤ STEPS_MAX }
+{
+    let limits = Limits {
+        runs,
+        fuel,
+        witnesses: false,
+        until_bad: false,
+        ends,
+    };
+    let report = report_of(alloc, subject, limits)?;
+    let found = runs_of(alloc, subject, &report.leaves, ends, fuel)?;
+    Ok(Found {
+        runs: found,
+        walk: walk_of(ends),
+        said: Vec::new(alloc),
+        more: report.more,
+    })
+}
+
+/// The ways that runs end.
+fn outcomes_of<'a>(
+    alloc: Global,
+    subject: Subject<'_>,
+    limits: StateLimits,
+) -> Result<Outcomes, Fault<'a>>
+    requires { limits.fuel ≤ STEPS_MAX }
+{
+    let Ok(mut debugger) = Debugger::start(alloc, subject.code, subject.mode) else {
+        return Err(Fault::from(EngineFault::Memory));
+    };
+    let outcomes = explore_outcomes(alloc, &mut debugger, limits);
+    drop(debugger);
+    match outcomes {
+        Ok(outcomes) => Ok(outcomes),
+        Err(_) => Err(Fault::from(EngineFault::Memory)),
+    }
+}
+
+/// The place of the first leaf that ends so.
+fn first_that(leaves: &[Leaf], goal: Goal) -> Option<usize> {
+    leaves.iter().position(|leaf| goal.is_met(&leaf.ending))
+}
+
+/// Which leaves are shown: the first that hangs or traps and the first that ends well, in their order, or else the first.
+fn chosen(leaves: &[Leaf]) -> (usize, Option<usize>) {
+    match (
+        first_that(leaves, Goal::Bad),
+        first_that(leaves, Goal::Well),
+    ) {
+        (Some(bad), Some(well)) => (bad.min(well), Some(bad.max(well))),
+        _ => (0, None),
+    }
+}
+
+/// Adds the run of the leaf at a place, where there is one.
+fn add_at<'a>(
+    alloc: Global,
+    subject: Subject<'_>,
+    runs: &mut Vec<StepList>,
+    leaf: Option<&Leaf>,
+    wide: bool,
+    fuel: usize,
+) -> Result<(), Fault<'a>>
+    requires { fuel ≤ STEPS_MAX }
+{
+    match leaf {
+        None => Ok(()),
+        Some(leaf) => add_leaf(alloc, subject, runs, leaf, wide, fuel),
+    }
+}
+
+/// The runs of those leaves.
+fn chosen_runs<'a>(
+    alloc: Global,
+    subject: Subject<'_>,
+    leaves: &[Leaf],
+    wide: bool,
+    fuel: usize,
+) -> Result<Vec<StepList>, Fault<'a>>
+    requires { fuel ≤ STEPS_MAX }
+{
+    let (first, second) = chosen(leaves);
+    let mut runs = Vec::new(alloc);
+    add_at(alloc, subject, &mut runs, leaves.get(first), wide, fuel)?;
+    if let Some(second) = second {
+        add_at(alloc, subject, &mut runs, leaves.get(second), wide, fuel)?;
+    }
+    Ok(runs)
+}
+
+/// Whether there are more runs than so many.
+fn is_more(total: Count, shown: usize) -> bool {
+    match total {
+        Count::Exactly(count) => count > shown as u64,
+        Count::More => true,
+    }
+}
+
+/// Adds a line of what is said: one that begins with a space is a command, and isn't told, unless it goes on one before it.
+fn add_said(said: &mut Vec<u8>, line: &[u8], is_told: bool) -> Result<bool, AllocError> {
+    let goes_on = line.len() >= GOES_ON && line.iter().take(GOES_ON).all(|byte| *byte == b' ');
+    let is_command = line.first() == Some(&b' ');
+    if goes_on {
+        if is_told {
+            let (_, rest) = line.split_at(GOES_ON - 1);
+            add(said, rest)?;
+        }
+        return Ok(is_told);
+    }
+    if is_command {
+        return Ok(false);
+    }
+    if !said.is_empty() {
+        add(said, b"\n")?;
+    }
+    add(said, line)?;
+    Ok(true)
+}
+
+/// The first lines of a diagnosis, up to an empty one and without commands; long ones are joined.
+fn said_first<'a>(alloc: Global, text: &[u8]) -> Result<Vec<u8>, Fault<'a>> {
+    let mut said = Vec::new(alloc);
+    let mut is_told = false;
+    let mut rest = text;
+    while let Some((line, behind)) = cut_line(rest) {
+        let line = bare_line(line);
+        if line.is_empty() {
+            return Ok(said);
+        }
+        is_told = add_said(&mut said, line, is_told)?;
+        rest = behind;
+    }
+    Ok(said)
+}
+
+/// A run that hangs or traps and one that ends well, or the first that there is.
+fn both<'a>(alloc: Global, script: PageScript<'_>, ends: bool) -> Result<Found, Fault<'a>>
+    requires { script.fuel ≤ STEPS_MAX }
+{
+    let PageScript { subject, fuel, .. } = script;
+    let wide = ends || !subject.code.has_no_waitany() || subject.mode.is_limited();
+    let limits = StateLimits {
+        fuel,
+        kept: KEPT_MAX,
+        visited: VISITED_MAX,
+        witnesses: false,
+        until: None,
+    };
+    let outcomes = outcomes_of(alloc, subject, limits)?;
+    let runs = chosen_runs(alloc, subject, &outcomes.firsts.leaves, wide, fuel)?;
+    let told = said_of(alloc, subject, script.file, script.ranks)?;
+    let said = said_first(alloc, &told)?;
+    let more = outcomes.firsts.more || is_more(outcomes.total, runs.len());
+    Ok(Found {
+        runs,
+        walk: walk_of(wide),
+        said,
+        more,
+    })
+}
+
+/// The runs that are wanted.
+fn found_runs<'a>(
+    alloc: Global,
+    script: PageScript<'_>,
+    wanted: Wanted<'a>,
+) -> Result<Found, Fault<'a>>
+    requires { script.fuel ≤ STEPS_MAX }
+{
+    let PageScript { subject, fuel, .. } = script;
+    match wanted {
+        Wanted::Choices { asked, ends } => given(alloc, subject, asked, walk_of(ends), fuel),
+        Wanted::Steps(asked) => given(alloc, subject, asked, Walk::Words, fuel),
+        Wanted::Leaves { runs, ends } => first_leaves(alloc, subject, runs, ends, fuel),
+        Wanted::Both { ends } => both(alloc, script, ends),
+    }
+}
+
+/// The last part of the name of a file.
+fn last_part(file: &[u8]) -> &[u8] {
+    let mut rest = file;
+    while let Some(place) = rest.iter().position(|byte| *byte == b'/') {
+        let (_, behind) = rest.split_at(place + 1);
+        rest = behind;
+    }
+    rest
+}
+
+/// The page of some runs.
+fn page_of<'a>(alloc: Global, script: PageScript<'_>, found: &Found) -> Result<Vec<u8>, Fault<'a>> {
+    let title = Title {
+        name: last_part(script.file.as_bytes()),
+        text: script.text,
+        walk: found.walk,
+        hide: script.hide,
+        said: &found.said,
+        more: found.more,
+    };
+    let Subject { code, mode } = script.subject;
+    match make_page(alloc, code, mode, title, &found.runs) {
+        Ok(page) => Ok(page),
+        Err(PageFault::TooMany) => Err(Fault::LongPage),
+        Err(PageFault::Memory) => Err(Fault::from(EngineFault::Memory)),
+    }
+}
+
+/// Writes the page of the runs that are wanted.
+pub(crate) fn write_page<'a, W: Sink>(
+    alloc: Global,
+    script: PageScript<'_>,
+    wanted: Wanted<'a>,
+    sink: &mut W,
+) -> Result<(), Fault<'a>>
+    requires { script.fuel ≤ STEPS_MAX }
+{
+    let found = found_runs(alloc, script, wanted)?;
+    let page = page_of(alloc, script, &found)?;
+    drop(found);
+    if write_all(sink, &page).is_err() {
+        return Err(Fault::from(EngineFault::WriteFailed));
+    }
+    Ok(())
+}
