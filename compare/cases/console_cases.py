@@ -67,15 +67,15 @@ def shares(usual=2, **named):
     return {word: named.get(word.replace('-', '_'), usual) for word in words}
 
 
-MOVING = Habits(shares(1, watch=0, info=0, next=20, run=12, back=5, run_back=4, undo_choice=6, goto=7, redo=9, local=10, deadlock=3, trap=3, follow=4,
+MOVING = Habits(shares(1, watch=0, info=0, next=20, run=12, until=5, finish=7, back=5, run_back=4, undo_choice=6, goto=7, redo=9, local=10, deadlock=3, trap=3, follow=4,
                        history=2, blame=2),
                 (25, 40, 60))
-STOPPING = Habits(shares(1, next=8, run=16, back=4, run_back=12, redo=5, goto=2, **{'break': 12}, delete=4, breaks=4), (30, 50))
+STOPPING = Habits(shares(1, next=8, run=16, until=6, finish=6, back=4, run_back=12, redo=5, goto=2, **{'break': 12}, delete=4, breaks=4), (30, 50))
 LOOKING = Habits(shares(3, next=12, run=12, restart=1, watch=1, help=6, why=16, print=20, vars=6, list=4, calls=4, queues=4, ranks=4, enabled=4,
                         check=6), (30, 45))
 ENDING = Habits(shares(1, restart=0, watch=0, info=0, next=14, run=22, back=4, undo_choice=9, redo=10, deadlock=8, trap=6, follow=8, check=8, why=6,
                        history=3, goto=4, blame=10), (25, 40))
-FILLING = Habits(shares(0, **{'break': 60}, delete=3, breaks=1, run=2, run_back=2), (90, 110), spoiled=0.01)
+FILLING = Habits(shares(0, until=0, finish=0, **{'break': 60}, delete=3, breaks=1, run=2, run_back=2), (90, 110), spoiled=0.01)
 SPOILED = Habits(shares(3, next=8, run=4), (40, 60), spoiled=0.6, empty=0.15)
 HITTING = Habits(shares(1, next=10, run=20, back=4, undo_choice=9, redo=6, goto=4, local=6, restart=0, info=0, **{'break': 14}, watch=2, delete=4),
                  (30, 50), hitting=0.9)
@@ -190,6 +190,13 @@ class Talk:
     def run(self):
         most = self.edge(1, 2, 3, 5, 10, 30, 100) if self.chance(0.35) else None
         return ['run', *([] if most is None else [most])]
+
+    def until(self):
+        return ['until', self.edge(0, *(self.random.randint(1, self.source_lines) for _ in range(5)))]
+
+    def finish(self):
+        blocked = [str(number) for number, rank in enumerate(self.world.ranks) if rank.mode == 'blocked']
+        return ['finish', *self.maybe(lambda: self.random.choice(blocked) if blocked and self.chance(0.8) else self.rank(), 0.7)]
 
     def back(self):
         return ['back', *self.maybe(lambda: self.edge(1, 2, self.walked.depth, self.random.randint(0, self.walked.depth)), 0.5)]
@@ -350,7 +357,7 @@ class Talk:
         if word in ('list', 'vars', 'calls'):
             return self.of_rank(word)
         drawing = {'break': self.break_, **{name: getattr(self, name) for name in (
-            'next', 'run', 'back', 'goto', 'redo', 'local', 'watch', 'delete', 'info', 'print', 'why', 'history', 'check', 'follow',
+            'next', 'run', 'until', 'finish', 'back', 'goto', 'redo', 'local', 'watch', 'delete', 'info', 'print', 'why', 'history', 'check', 'follow',
             'help')}}.get(word)
         return [word] if drawing is None else drawing()
 
@@ -420,6 +427,8 @@ class Talk:
         if asked.word == 'run' or asked.word == 'next' and number is not None and isinstance(self.console.decided, Forced):
             is_within = number is not None and (number <= LONGEST_RUN or number > debugger.MOST_STEPS)
             return not is_within and not is_short(self.walked, self.console.session.breaks)
+        if asked.word in ('until', 'finish'):
+            return not is_short(self.walked, policy.Breaks())
         if asked.word == 'check' and (number is None or 1 <= number <= explorer.MOST_RUNS):
             return not is_tried_soon(self.walked, lambda count, _: count == (1000 if number is None else number))
         if asked.word == 'follow' and 1 <= number <= explorer.MOST_RUNS:
@@ -447,7 +456,7 @@ class Talk:
             asked = self.console.asked(line)
         except NotAsked:
             return False
-        return asked is not None and asked.word in ('next', 'run', 'check', 'follow', 'blame', *SOUGHT)
+        return asked is not None and asked.word in ('next', 'run', 'until', 'finish', 'check', 'follow', 'blame', *SOUGHT)
 
     def note(self, line):
         """Counts what is asked."""

@@ -8,26 +8,34 @@ from model.modes import BUFFERED
 
 STEP = r'(local|match|wake|wakeany|release)\b.*'
 CALL = r'line \d+, \d+\.\d+ '
+SENDS, TO = r'rank \d+ sends -?\d+, tag \d+ \(line \d+\)', r'to rank \d+ \(line \d+\)'
+REQUEST = r'request \w+(\[\d+\])?, the {} of line \d+ \(value -?\d+\)'
 # What a line of an answer tells, by its form.
 TOLD_BY = {
     **{f'a step {word}': rf'\d+ {word}\b.*: .*' for word in ('local', 'match', 'wake', 'wakeany', 'release')},
     'steps ahead': rf'\d+ ahead: {STEP}', 'next': rf'next: {STEP}',
     'a choice of one call': r'stopped at a choice of rank \d+, line \d+; next N takes one:',
-    'a choice of several calls': r'stopped at a choice; next N takes one:', 'a candidate that is a match': r'  \d+ match .*',
-    'a candidate that is a wake': rf'  \d+ wakeany .*: line \d+, by {CALL}.*',
+    'a choice of several calls': r'stopped at a choice; next N takes one:', 'a candidate that is a match': rf'  \d+: {SENDS}; match .*', 'a candidate of several calls': rf'  \d+: {SENDS}, {TO}; match .*',
+    'a candidate that is a receive': rf'  \d+: {REQUEST.format("receive")}; wakeany .*', 'a candidate that is a send': rf'  \d+: {REQUEST.format("send")}; wakeany .*',
+    'a match that is enabled': rf'{SENDS}, {TO}; match .*', 'a request that is enabled': rf'{REQUEST.format("(receive|send)")}, for rank \d+; wakeany .*',
+    'a local step that is enabled': r'rank \d+ runs line \d+; local \d+', 'a wake that is enabled': r'rank \d+ goes on from line \d+; wake \d+',
+    'a release that is enabled': r'all ranks leave the barrier; release',
     **{f'ended {word}': rf'ended: {word}\b.*' for word in ('done', 'leftovers', 'deadlock', 'trap')},
     'a run': r'\d+ steps, depth \d+', 'a run of one step': r'1 step, depth \d+', 'a run back': r'\d+ steps back, depth \d+',
     'a run back of one step': r'1 step back, depth \d+', 'at the start': r'at the start',
     'before a breakpoint': r'before breakpoint \d+: .*', 'stopped by a number': r'stopped: as many steps .*',
-    'stopped behind a choice': r'stopped: behind the choice', 'printed on the way': r'rank \d+ prints -?\d+',
+    'stopped behind a choice': r'stopped: behind the choice', 'stopped at a line': r'stopped: a rank is at line \d+',
+    'stopped behind a call': r'stopped: that call is over', 'steps that are gone': r'the \d+ steps that lay ahead are gone',
+    'a step that is gone': r'the step that lay ahead is gone', 'which runs are listed': r'one run for all orders of .*', 'printed on the way': r'rank \d+ prints -?\d+',
     'several values on the way': r'rank \d+ prints -?\d+( -?\d+)+', 'no statement at a line': r'no statement begins at line \d+',
-    'a depth': r'depth \d+', **{f'a run ahead that is {way}': rf'{way}.* is \d+ steps? ahead' for way in ('done', 'leftovers')}, 'a deadlock ahead': r'deadlock .* is \d+ steps? ahead', 'a trap ahead': r'trap .* is \d+ steps? ahead',
+    'a depth': r'depth \d+', **{f'a run ahead that is {way}': rf'{way} is \d+ steps? ahead(: rank .*)?' for way in ('done', 'leftovers')},
+    **{f'a {way} ahead': rf'{way} is \d+ steps? ahead: rank .*' for way in ('deadlock', 'trap')},
     **{f'no {way}': rf'no {way} from here: .*' for way in ('deadlock', 'trap')},
     'none of several runs': r'no (deadlock|trap) from here: ([2-9]|\d\d+) runs, .*',
     'decided by another message': r'decided at depth \d+: .*; with that of rank .* it need not hang or trap',
     'decided by another step': r'decided at depth \d+: .*; if .* instead, it need not hang or trap',
     'decided from the start': r'decided from the start: every run hangs or traps', 'not decided': r'not decided: not every run hangs or traps',
-    **{f'a run that is {way} ahead': rf'run \d+, {way}.*, is \d+ steps? ahead' for way in ('done', 'leftovers', 'deadlock', 'trap')},
+    **{f'a run that is {way} ahead': rf'run \d+, {way}, is \d+ steps? ahead(: rank .*)?' for way in ('done', 'leftovers', 'deadlock', 'trap')},
     'more runs': r'\d+ runs?, and there are more \(.*\)', 'no more runs': r'\d+ runs?, and no more \(.*\)', 'one run': r'1 run, .*',
     **{f'runs that are {way}': rf'.*runs?, and .*[(,] ?\d+ {way}\b.*' for way in ('done', 'leftovers', 'deadlock', 'trap')},
     'runs that end in several ways': r'\d+ runs, and .*\(.*, .*\)',
@@ -41,7 +49,7 @@ TOLD_BY = {
     'requests of one line that are lost': r'rank \d+ has lost \d+ requests of line \d+, the first \d+\.\d+ .*',
     'a breakpoint of a cell of an array': r'breakpoint \d+: change \d+ \w+\[\d+\]', 'no breakpoint': r'no breakpoint', 'deleted': r'deleted \d+',
     'a line with ranks': r' +\d+  .*  <- rank \d+.*', 'a line with several ranks': r' +\d+  .*  <- rank \d+.*, rank .*',
-    'a line with one that is blocked': r' +\d+  .*  <- .*rank \d+ blocked.*',
+    'a line with one that waits': r' +\d+  .*  <- .*rank \d+ waits.*', 'a line with one that can go on': r' +\d+  .*  <- .*rank \d+ can go on.*',
     'a line with one that is trapped': r' +\d+  .*  <- .*rank \d+ trapped.*',
     'ranks below the script': r'ended: rank .*', 'a rank that has ended': r'rank \d+ has ended', 'a rank that waits': rf'rank \d+ waits at {CALL}.*',
     'a rank that can go on': rf'rank \d+ can go on from {CALL}.*', 'a call that is complete': r'  the call is complete: rank \d+ can go on',
@@ -64,7 +72,7 @@ TOLD_BY = {
     'an unknown word with other bytes': r"unknown word '.*\?.*': .*", 'an unknown name': r"no variable or request is called '\w+'",
     'a name that is none': r"no variable or request is called '.*[^\w'].*'",
     **{f'refused: {why}': f'refused: {why}' for why in (
-        'this step is not enabled', 'there is no such candidate', 'there is no such run', 'no choice was made before',
+        'this step is not enabled', 'the last step is of no rank; finish P names one', 'there is no such candidate', 'there is no such run', 'no choice was made before',
         'fewer steps are taken', 'so many steps are neither taken nor ahead', 'no step is ahead',
         '1 to 1000000 steps can be asked for', '1 to 65536 runs can be asked for', 'lines are 1 to 65537',
         'there is no such rank', 'there is no such call', 'there is no such index', 'an array needs an index here',
@@ -99,7 +107,7 @@ OF_DIALOGUES = ('slots', 'buffered', 'rendezvous', 'no mode', 'version 2', 'a wi
                 *HITS, *OF_LOOKS,
                 *(f'the name {name}' for row in TABLE for name in names_of(row) if 'quit' not in row.words))
 # What may stand between the line of a step and the breakpoint that it hits.
-ON_THE_WAY = r'(( {8}|rank \d+ (prints|has lost) ).*\n)*'
+ON_THE_WAY = r'(( {8}|rank \d+ (prints|has lost) |the .*that lay ahead ).*\n)*'
 # What is met in lines as they are written, of which those that go on stand behind eight blanks.
 OF_LINES = {'a line that goes on': r'\n {8}\S', 'a line that goes on twice': r'\n {8}\S.*\n {8}\S', 'a line of 80 bytes': r'\n[^\n]{80}\n',
             'a line of the script': r'\nnext: .*\n +\d+  ',

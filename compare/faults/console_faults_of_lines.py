@@ -193,10 +193,34 @@ def step_faults():
             'no way to take one': changed('choice_lines', lambda lines, *_: [lines[0].replace(f'; {console_lines.TAKES_ONE}', ':'), *lines[1:]]),
             'no way to take one of several calls': changed('choice_lines', lambda lines, *_: [
                 lines[0].replace(f'choice; {console_lines.TAKES_ONE}', 'choice:'), *lines[1:]]),
-            'always a rank': lambda at, text, steps: [*SOUND['choice_lines'](at, text, steps[:1])[:1], *SOUND['choice_lines'](at, text, steps)[1:]],
+            'always a rank': lambda at, names, text, steps: [*SOUND['choice_lines'](at, names, text, steps[:1])[:1],
+                                                            *SOUND['choice_lines'](at, names, text, steps)[1:]],
             'no colon': changed('choice_lines', lambda lines, *_: [lines[0].rstrip(':'), *lines[1:]]),
-            'no line of the script': changed('choice_lines', lambda lines, at, text, steps: [lines[0], *lines[-len(steps):]]),
+            'no line of the script': changed('choice_lines', lambda lines, at, names, text, steps: [lines[0], *lines[-len(steps):]]),
             'a line of the script for each of several': lines_of_all}),
+        *named('step_told', {
+            'the receive of each match': lambda at, names, step, is_one: SOUND['step_told'](at, names, step, is_one and step.kind != 'match'),
+            'the rank of each wake': lambda at, names, step, is_one: SOUND['step_told'](at, names, step, is_one and step.kind != 'wakeany'),
+            'no receive of any': lambda at, names, step, is_one: SOUND['step_told'](at, names, step, True)}),
+        *named('message_told', {
+            'no value': changed('message_told', lambda text, *_: re.sub(r' -?\d+, tag', ', tag', text)),
+            'no tag': changed('message_told', lambda text, *_: re.sub(r', tag \d+', '', text)),
+            'no line': changed('message_told', lambda text, *_: text.partition(' (')[0]),
+            'the line of the receive': lambda at, step: f'{SOUND["message_told"](at, step).partition(" (")[0]} {console_lines.in_line(at, step.second)}'}),
+        *named('request_told', {
+            'no name': changed('request_told', lambda text, *_: re.sub(r'request \S+,', 'request,', text)),
+            'no value': changed('request_told', lambda text, *_: text.partition(' (')[0]),
+            'the line of the wait': lambda at, names, step: re.sub(
+                r'line \d+', f'line {console_lines.line_of(at, debugger.last_call(at.world, step.first))}', SOUND['request_told'](at, names, step)),
+            'all receives': changed('request_told', lambda text, *_: text.replace('the send', 'the receive'))}),
+        *named('candidate_words', {
+            'no trace word': changed('candidate_words', lambda text, *_: text.rpartition('; ')[0]),
+            'the trace word first': changed('candidate_words', lambda text, *_: '; '.join(text.rpartition('; ')[::-2]))}),
+        *named('end_places', {
+            'no places': lambda at, outcome: '',
+            'no trap': changed('end_places', lambda text, *_: re.sub(r' \([a-z-]+\)', '', text)),
+            'the first alone': changed('end_places', lambda text, *_: text.partition(', ')[0]),
+            'calls for lines': lambda at, outcome: ': ' + outcome.partition(' ')[2] if ' ' in outcome else ''}),
         *named('lines_about', {
             'the send of a match alone': changed('lines_about', lambda lines, *_: lines[:1]),
             'the receive of a match alone': changed('lines_about', lambda lines, *_: lines[-1:]),
@@ -214,9 +238,9 @@ def step_faults():
             'carriage returns': lambda text, numbers: [SOUND['numbered'](number, text.decode().split('\n')[number - 1]) for number in numbers]})]
 
 
-def lines_of_all(at, text, steps):
+def lines_of_all(at, names, text, steps):
     """What tells a line of the script for each of several calls."""
-    lines = SOUND['choice_lines'](at, text, steps)
+    lines = SOUND['choice_lines'](at, names, text, steps)
     calls = dict.fromkeys(console_lines.chosen_for(at, step) for step in steps)
     numbers = dict.fromkeys(console_lines.line_of(at, call_id) for call_id in calls)
     return lines if len(calls) == 1 else [lines[0], *console_lines.source(text, numbers), *lines[1:]]
@@ -291,7 +315,9 @@ def list_faults():
             'a trapped rank nowhere': nowhere('trapped'),
             'a blocked rank nowhere': nowhere('blocked')}),
         *named('standing', {
-            'blocked not told': changed('standing', lambda text, *_: text.removesuffix(' blocked')),
+            'that one waits not told': changed('standing', lambda text, *_: text.removesuffix(' waits')),
+            'that one can go on not told': changed('standing', lambda text, *_: text.removesuffix(' can go on')),
+            'one that can go on waits': changed('standing', lambda text, *_: text.replace(' can go on', ' waits')),
             'trapped not told': changed('standing', lambda text, *_: text.removesuffix(' trapped'))}),
         *named('listed', {
             'four columns': each_line(lambda line: line[1:]),

@@ -91,14 +91,14 @@ def by_other_walks(method):
 
 # ---- runs by number
 
-def numbered_run(number, leaf):
+def numbered_run(at, number, leaf):
     """What tells the candidates of a run from 0."""
-    return SOUND_RUN_LINE(number, leaf._replace(choices=tuple(choice - 1 for choice in leaf.choices)))
+    return SOUND_RUN_LINE(at, number, leaf._replace(choices=tuple(choice - 1 for choice in leaf.choices)))
 
 
-def first_word(number, leaf):
-    """What tells how a run ends without its calls."""
-    return SOUND_RUN_LINE(number, leaf._replace(outcome=console.way(leaf)))
+def first_word(at, number, leaf):
+    """What tells how a run ends without where."""
+    return SOUND_RUN_LINE(at, number, leaf).partition(': rank ')[0]
 
 
 def ways_by(key):
@@ -177,9 +177,9 @@ def number_faults():
             'what is ahead is dropped': lambda self, *given: cleared(self, SOUND['check'](self, *given))}),
         *named('run_line', {
             'candidates from 0': numbered_run,
-            'runs from 0': lambda number, leaf: SOUND_RUN_LINE(number - 1, leaf),
-            'no number': lambda number, leaf: SOUND_RUN_LINE(number, leaf).partition(' ')[2],
-            'no choice left out': lambda number, leaf: SOUND_RUN_LINE(number, leaf).replace('no choice', 'choices '),
+            'runs from 0': lambda at, number, leaf: SOUND_RUN_LINE(at, number - 1, leaf),
+            'no number': lambda at, number, leaf: SOUND_RUN_LINE(at, number, leaf).partition(' ')[2],
+            'no choice left out': lambda at, number, leaf: SOUND_RUN_LINE(at, number, leaf).replace('no choice', 'choices '),
             'the first word of an outcome': first_word}, owner=console),
         *named('counted', {
             'no ways': lambda ends, more: SOUND_COUNTED(ends, more).partition(' (')[0],

@@ -111,8 +111,28 @@ def told_back(change):
     return told
 
 
+def sender_of_last(self):
+    """What takes the sender of a match for its rank."""
+    steps = self.debugger.steps[:self.debugger.depth]
+    return steps[-1].first.rank if steps and steps[-1].kind == 'match' else SOUND['last_rank'](self)
+
+
 def way_line_faults():
     return [
+        *named('gone', {
+            'nothing is gone': lambda self, depth, ahead: [],
+            'gone along the way, too': lambda self, depth, ahead: SOUND['gone'](self, depth, [None, *ahead[1:]] if ahead else ahead),
+            'one less': lambda self, depth, ahead: SOUND['gone'](self, depth, ahead[:1] + ahead[2:])}),
+        *named('last_rank', {
+            'the sender of a match': sender_of_last,
+            'rank 0 at the start': lambda self: SOUND['last_rank'](self) if self.debugger.depth else 0}),
+        *named('steps_to', {
+            'one step more': lambda self, is_last: None if (most := SOUND['steps_to'](self, is_last)) is None else most + 1,
+            'one step': lambda self, is_last: 1,
+            'all steps': lambda self, is_last: None}),
+        *named('up_to', {
+            'told as a run': lambda self, is_last, why, note=(): SOUND['up_to'](self, is_last, console.STOPS[policy.MAX], note),
+            'no statement of the line untold': lambda self, is_last, why, note=(): SOUND['up_to'](self, is_last, why)}),
         *named('on_the_way', {
             'nothing': lambda self, before: [],
             'prints twice': on_the_way(lambda lines: [*filter(is_print, lines), *lines]),

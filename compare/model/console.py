@@ -31,6 +31,7 @@ TOO_LONG = 'refused: this line is too long'
 NO_CANDIDATE = 'refused: there is no such candidate'
 NO_RUN = 'refused: there is no such run'
 NO_CHOICE = 'refused: no choice was made before'
+NO_LAST_RANK = 'refused: the last step is of no rank; finish P names one'
 NO_INDEX = 'refused: there is no such index'
 NEEDS_INDEX = 'refused: an array needs an index here'
 NO_WAIT = 'no rank waits for a call'
@@ -50,6 +51,8 @@ BEHIND_CHOICE = 'stopped: behind the choice'
 LISTED, TRIED, MOST_FUEL = 10, 1000, 100000
 # How many states are come to where each is looked at once, at most.
 MOST_STATES = 1000000
+# Which runs `check` lists.
+ORDERS = "one run for all orders of steps that don't meet; diagnose counts each order"
 # How a run ends, by the first word of its outcome, in the order in which the last line of `check` has them.
 WAYS = 'done', 'leftovers', 'deadlock', 'trap', CUT
 # What may stand behind the first `[` of a name.
@@ -103,10 +106,15 @@ def none_found(sought, ends, more, are_all):
     return f'no {sought}{"" if are_all else " found"} from here: {counted(ends, more)}'
 
 
-def run_line(number, leaf):
-    """A run by its number and its choices, and how it ends."""
+def run_line(at, number, leaf):
+    """A run from somewhere by its number and its choices, and how it ends."""
     choices = ' '.join(str(choice + 1) for choice in leaf.choices)
-    return f'{number} {f"choices {choices}" if choices else "no choice"}: {leaf.outcome}'
+    return f'{number} {f"choices {choices}" if choices else "no choice"}: {way(leaf)}{places_of(at, leaf)}'
+
+
+def places_of(at, leaf):
+    """Where a run from somewhere has ended."""
+    return '' if leaf.outcome in ('done', CUT) else console_lines.end_places(console_lines.went_on(at, leaf.steps), leaf.outcome)
 
 
 def text_of(lines):
@@ -240,13 +248,21 @@ class Console:
 
     def told(self, asked):
         """The answer to what is asked, with what happened on the way; a refusal changes nothing."""
-        depth, before = self.debugger.depth, self.world
+        depth, before, ahead = self.debugger.depth, self.world, self.ahead
         try:
             lines = self.done(asked)
         except Refused as refused:
             return [REFUSALS[refused.number]]
         first = LINES_FIRST.get(asked.word, 1)
-        return [*lines[:first], *self.on_the_way(before), *lines[first:]] if self.debugger.depth > depth else lines
+        if self.debugger.depth <= depth:
+            return lines
+        return [*lines[:first], *self.gone(depth, ahead), *self.on_the_way(before), *lines[first:]]
+
+    def gone(self, depth, ahead):
+        """That steps are gone which lay ahead at a depth: another one was taken there."""
+        if not ahead or self.debugger.steps[depth] == ahead[0]:
+            return []
+        return ['the step that lay ahead is gone' if len(ahead) == 1 else f'the {len(ahead)} steps that lay ahead are gone']
 
     def done(self, asked):
         """Does what is asked; the lines of the answer."""
@@ -261,10 +277,10 @@ class Console:
         at, decided, ahead = self.at, self.decided, self.ahead
         lines = self.with_source(at, f'{len(ahead)} ahead', ahead[0]) if ahead else []
         if isinstance(decided, Choice):
-            return lines + console_lines.choice_lines(at, self.text, decided.steps)
+            return lines + console_lines.choice_lines(at, self.script.names, self.text, decided.steps)
         if isinstance(decided, Forced):
             return lines or self.with_source(at, 'next', decided.step)
-        return lines + [f'ended: {decided.outcome}', *self.explanation(decided.outcome), *self.lost(at)]
+        return lines + [f'ended: {console_lines.end_words(at, decided.outcome)}', *self.explanation(decided.outcome), *self.lost(at)]
 
     def on_the_way(self, before):
         """What the steps did that were taken since a world that was before; requests that are lost are told at an end anyway."""
@@ -323,6 +339,50 @@ class Console:
             return self.again([BEHIND_CHOICE]) if min(most, len(self.ahead)) == 1 else self.run_along(most)
         must_be(1 <= most <= session.MOST_COUNT, BAD_STEPS)
         return self.stopped(policy.run_on(self.debugger, self.session.breaks, most), '')
+
+    def until(self, line):
+        """Goes on as `run` does, to where a rank comes to a line at most."""
+        must_be(1 <= line <= session.HIGHEST_LINE, BAD_LINE)
+        stop = policy.LineBreak(line)
+        return self.up_to(lambda world, step: policy.is_hit(stop, world, step), f'stopped: a rank is at line {line}', self.no_statement(line))
+
+    def finish(self, number=None):
+        """Goes on as `run` does, to where a rank goes on at most that waits: the one of a number, or that of the last step."""
+        number = self.last_rank() if number is None else number
+        if number is None:
+            return [NO_LAST_RANK]
+        if self.rank(number).mode != 'blocked':
+            return self.why(number)
+        return self.up_to(lambda world, step: step.kind == 'release' or step.kind in ('wake', 'wakeany') and step.first == number,
+                          'stopped: that call is over')
+
+    def last_rank(self):
+        """The rank of the last step, of a match that of its receive; None where it has none."""
+        step = self.debugger.steps[self.debugger.depth - 1] if self.debugger.depth else None
+        if step is None or step.kind == 'release':
+            return None
+        return step.second.rank if step.kind == 'match' else step.first
+
+    def up_to(self, is_last, why, note=()):
+        """Goes on as `run` does, but no further than a step that is the last; tells why it stops there."""
+        if self.can_choose_again or self.leaves_ahead(session.MOST_COUNT):
+            return self.run()
+        most = self.steps_to(is_last)
+        lines = self.run(session.MOST_COUNT if most is None else most)
+        told = [why if line == STOPS[MAX] else line for line in lines]
+        return [told[0], *note, *told[1:]]
+
+    def steps_to(self, is_last):
+        """How many steps a run takes up to one that is the last; None where it comes to none."""
+        world = self.world
+        for count in range(1, session.MOST_COUNT + 1):
+            decided = policy.settled(policy.decision(world))
+            if not isinstance(decided, Forced):
+                return None
+            if is_last(world, decided.step):
+                return count
+            world = debugger.next_world(world, decided.step)
+        return None
 
     def run_along(self, most):
         """Takes so many of the steps ahead, or all of them, past breakpoints and choices."""
@@ -398,9 +458,7 @@ class Console:
 
     def cell_name(self, kind, cell):
         """The name of a cell of variables, or of a handle."""
-        names = {declared.first + place: console_lines.place_name(name, declared, place)
-                 for name, declared in self.script.names.items() if declared.kind == kind for place in console_lines.all_places(declared)}
-        return names[cell]
+        return console_lines.cell_name(self.script.names, kind, cell)
 
     def break_line(self, number):
         return f'breakpoint {number}: {self.break_text(self.session.breaks.get(number))}'
@@ -494,7 +552,7 @@ class Console:
 
     def enabled(self):
         at = self.at
-        return [step_words(at, step) for step in enabled_steps(self.world)] or ['no step is enabled']
+        return [console_lines.candidate_words(at, self.script.names, step) for step in enabled_steps(self.world)] or ['no step is enabled']
 
     def why(self, asked=None):
         """Why a call, or the one that a rank waits for, or all that ranks wait for, aren't matched."""
@@ -538,13 +596,14 @@ class Console:
         must_be(1 <= runs <= explorer.MOST_RUNS, BAD_RUNS)
         found = list(islice(self.walk(), runs + 1))
         leaves, more = found[:runs], len(found) > runs
-        return [*(run_line(number, leaf) for number, leaf in enumerate(leaves, 1)), counted(ends_of(leaves), more)]
+        at = self.at
+        return [*(run_line(at, number, leaf) for number, leaf in enumerate(leaves, 1)), counted(ends_of(leaves), more), ORDERS]
 
     def follow(self, number):
         """Lays the steps of the run of a number ahead."""
         is_within = 1 <= number <= explorer.MOST_RUNS
         leaf = next(islice(self.walk(), number - 1, None), None) if is_within else None
-        return [NO_RUN] if leaf is None else self.laid_ahead(f'run {number}, {leaf.outcome},', leaf)
+        return [NO_RUN] if leaf is None else self.laid_ahead(f'run {number}, {way(leaf)},', leaf)
 
     def deadlock(self):
         return self.seek('deadlock')
@@ -605,12 +664,12 @@ class Console:
         return deciding.last_not_doomed(deciding.worlds_along(self.debugger.worlds[0], steps), fuel, deciding.by_search(search))
 
     def found(self, leaf):
-        return self.laid_ahead(leaf.outcome, leaf)
+        return self.laid_ahead(way(leaf), leaf)
 
     def laid_ahead(self, called, leaf):
         """Lays the steps of a run ahead, in the place of those that are undone; tells what it is called."""
         self.debugger.steps[self.debugger.depth:] = leaf.steps
-        return [f'{called} is {plural(len(leaf.steps), "step")} ahead', *self.where()]
+        return [f'{called} is {plural(len(leaf.steps), "step")} ahead{places_of(self.at, leaf)}', *self.where()]
 
     # ---- the rest
 

@@ -5,7 +5,7 @@ What they are told of is `at`: a world, and the line of each call that was issue
 """
 
 from model import explaining, order
-from model.debugger import call_line, enabled_steps, find_call, is_done, last_call, partner, pending, posted, step_text
+from model.debugger import call_line, enabled_steps, find_call, is_done, last_call, next_world, partner, pending, posted, step_text
 from model.explaining import Reached, call_text, next_line, plain_text, short_value, wish
 from model.language import Branch, While
 from model.worlds import CallId, Step
@@ -96,15 +96,87 @@ def chosen_for(at, step):
     return step.second if step.kind == 'match' else last_call(at.world, step.first)
 
 
-def choice_lines(at, text, steps):
-    """What is told of a choice, with the line of the script where it is one of a single call."""
+def in_line(at, call_id):
+    return f'(line {line_of(at, call_id)})'
+
+
+def whose(at, call_id):
+    """The rank of a call, and its line."""
+    return f'rank {call_id.rank} {in_line(at, call_id)}'
+
+
+def message_told(at, step):
+    """Who sends what, of a match."""
+    send = find_call(at.world, step.first)
+    return f'rank {step.first.rank} sends {send.value}, tag {send.tag} {in_line(at, step.first)}'
+
+
+def request_told(at, names, step):
+    """By which request a rank goes on from a wait for any, and the value of that."""
+    wait, call_id = find_call(at.world, last_call(at.world, step.first)), request_of(at.world, step)
+    call = find_call(at.world, call_id)
+    word, send = ('send', call) if call.kind == 'send' else ('receive', find_call(at.world, partner(at.world, call_id)))
+    return f'request {cell_name(names, "req", wait.first + step.second)}, the {word} of line {line_of(at, call_id)} (value {send.value})'
+
+
+def step_told(at, names, step, is_one):
+    """What a step does that is enabled; that of a candidate doesn't tell the call which all candidates are for."""
+    if step.kind == 'release':
+        return 'all ranks leave the barrier'
+    if step.kind == 'local':
+        return f'rank {step.first} runs line {next_line(at.world.ranks[step.first])}'
+    if step.kind == 'wake':
+        return f'rank {step.first} goes on from line {line_of(at, last_call(at.world, step.first))}'
+    if step.kind == 'match':
+        return message_told(at, step) + ('' if is_one else f', to {whose(at, step.second)}')
+    return request_told(at, names, step) + ('' if is_one else f', for rank {step.first}')
+
+
+def candidate_words(at, names, step, is_one=False):
+    """What a step does, and its trace word behind that."""
+    return f'{step_told(at, names, step, is_one)}; {step_text(step)}'
+
+
+def choice_lines(at, names, text, steps):
+    """What is told of a choice, with the line of the script where it is one of a single call. No two candidates are told alike: of the sends
+    of a rank that fit a receive the first alone is one."""
     calls = {chosen_for(at, step) for step in steps}
-    candidates = [f'  {number} {step_words(at, step)}' for number, step in enumerate(steps, 1)]
-    if len(calls) > 1:
+    is_one = len(calls) == 1
+    assert len({step_told(at, names, step, is_one) for step in steps}) == len(steps)
+    candidates = [f'  {number}: {candidate_words(at, names, step, is_one)}' for number, step in enumerate(steps, 1)]
+    if not is_one:
         return [f'stopped at a choice; {TAKES_ONE}', *candidates]
     call_id, = calls
     line = line_of(at, call_id)
     return [f'stopped at a choice of rank {call_id.rank}, line {line}; {TAKES_ONE}', *source(text, [line]), *candidates]
+
+
+# ---- ends
+
+def went_on(at, steps):
+    """Where steps lead on from somewhere."""
+    world, lines = at.world, dict(at.lines)
+    for step in steps:
+        behind = next_world(world, step)
+        if step.kind == 'local' and len(behind.ranks[step.first].calls) > len(world.ranks[step.first].calls):
+            lines[last_call(behind, step.first)] = next_line(world.ranks[step.first])
+        world = behind
+    return Reached(world, lines)
+
+
+def end_places(at, outcome):
+    """Which ranks an outcome is about, each with its line, and why it is trapped; `at` is where the run has ended."""
+    name, *parts = outcome.split()
+    if name == 'trap':
+        places = [f'rank {rank} at line {next_line(at.world.ranks[int(rank)])} ({trap})' for rank, trap in zip(parts[::2], parts[1::2])]
+    else:
+        calls = [CallId(*map(int, part.split('.'))) for part in parts]
+        places = [f'rank {call_id.rank} at line {at.lines[call_id]}' for call_id in calls]
+    return f': {", ".join(places)}' if places else ''
+
+
+def end_words(at, outcome):
+    return outcome.split()[0] + end_places(at, outcome)
 
 
 # ---- the script
@@ -151,7 +223,8 @@ def stands_at(at, number):
 def standing(at, number):
     """A rank as it is told beside its line."""
     mode = at.world.ranks[number].mode
-    return f'rank {number}' if mode == 'running' else f'rank {number} {mode}'
+    note = {'running': '', 'trapped': ' trapped', 'blocked': ' can go on' if can_go_on(at.world, number) else ' waits'}[mode]
+    return f'rank {number}{note}'
 
 
 def listed(at, text, lines):
@@ -190,6 +263,12 @@ def value_text(at, number, declared, place):
 
 def place_name(name, declared, place):
     return name if declared.size is None else f'{name}[{place}]'
+
+
+def cell_name(names, kind, cell):
+    """The name of a cell of variables, or of a handle."""
+    return next(place_name(name, declared, cell - declared.first) for name, declared in names.items()
+                if declared.kind == kind and cell - declared.first in all_places(declared))
 
 
 def value_line(at, number, name, declared, places):

@@ -38,6 +38,8 @@ TABLE = (
         'takes the step that comes next; at a choice the one that lies ahead, or it lists the candidates, of which next N takes one, from 1 '
         '(reports count them from 0, in [..]); elsewhere next N is run N'),
     Row(('run [N]',), ('r', 'continue', 'c'), 'goes on to a breakpoint, a choice or an end; or so many steps at most'),
+    Row(('until LINE',), (), 'goes on until a rank comes to that line; as run does to a breakpoint there'),
+    Row(('finish [P]',), (), "goes on until a rank's call is over; the one that rank P waits in, or the rank of the last step"),
     Row(('back [N]',), ('bk', 'undo', 'rs', 'reverse-step', 'reverse-next'), 'takes a step back, or so many'),
     Row(('run-back',), ('rc', 'reverse-continue'), 'goes back to a breakpoint, or to the start'),
     Row(('undo-choice',), ('u',), 'goes back to the last choice; another candidate can be taken there'),
@@ -95,7 +97,7 @@ ALL = 'all'
 HELP_ON = b'all', b'choice'
 # What may follow each word: lists of what reads the words behind it, one of which must fit.
 FOLLOWING = {
-    'next': MAYBE_NUMBER, 'run': MAYBE_NUMBER, 'back': MAYBE_NUMBER, 'run-back': ((),), 'undo-choice': ((),), 'goto': ((NUMBER,),),
+    'next': MAYBE_NUMBER, 'run': MAYBE_NUMBER, 'until': ((NUMBER,),), 'finish': MAYBE_NUMBER, 'back': MAYBE_NUMBER, 'run-back': ((),), 'undo-choice': ((),), 'goto': ((NUMBER,),),
     'restart': ((),), 'redo': (*MAYBE_NUMBER, (literal(ALL),)),
     'local': ((NUMBER,),), 'match': ((CALL, CALL),), 'wake': ((NUMBER,),), 'wakeany': ((NUMBER, NUMBER),), 'release': ((),),
     'break': ((NUMBER,), (literal('line'), NUMBER), (literal('match'), NUMBER), (literal('change'), NUMBER, NAME)),

@@ -45,7 +45,7 @@ LEFT_OUT = {
         'text_at': 'called by check_outcomes', **dict.fromkeys(('firsts', 'explanation_at'), 'called by print_grouped'),
         'calls_name_their_statements': 'a law',
         **dict.fromkeys(('push_wish', 'push_helps', 'push_all_absent', 'push_told', 'requests', 'push_calls', 'push_enabled', 'push_history',
-                         'push_queues', 'push_ranks', 'push_standing', 'push_step', 'push_step_line', 'push_why', 'push_why_rank', 'push_why_ranks',
+                         'push_queues', 'push_ranks', 'push_standing', 'push_step', 'push_candidate', 'push_why', 'push_why_rank', 'push_why_ranks',
                          'push_words', 'push_lost', 'push_all_lost', 'push_lost_told', 'lost_calls'), BY_WORDS)},
     'mpd_session': dict.fromkeys(('debugger', 'breaks', 'last_hit', 'lay'), BY_WORDS),
     'mpd_diagnose': {
@@ -55,11 +55,11 @@ LEFT_OUT = {
     'mpd_vocabulary': dict.fromkeys(('line_of', 'push_fault', 'push_help'), BY_WORDS),
     'mpd_console': {
         'has_quit': 'called by the program behind a console',
-        **dict.fromkeys(('doing_of', 'goto_command', 'known_for', 'lead_of', 'lead_text', 'push_break_line', 'push_reply'), BY_WORDS)},
+        **dict.fromkeys(('doing_of', 'goto_command', 'known_for', 'lead_of', 'push_break_line', 'push_reply'), BY_WORDS)},
     'mpd_names': {
-        'push_read': 'called by explain',
+        'push_read': 'called by explain', **dict.fromkeys(('is_blocked', 'can_wake', 'end_name'), 'takes no memory'),
         **dict.fromkeys(('find_named', 'issue_line', 'rank_line', 'push_issuer', 'push_placed', 'push_spaced', 'push_break', 'push_cell_name', 'push_list',
-                         'push_list_about', 'push_named', 'push_source', 'push_variables'), BY_WORDS)}}
+                         'push_list_about', 'push_named', 'push_source', 'push_variables', 'push_end', 'push_end_places'), BY_WORDS)}}
 
 
 def text_of(path):

@@ -479,7 +479,7 @@ MODELS = {
     'mpd_script::read': read, 'mpd_script::read of all beginnings': prefixes, 'mpd_script::print': printed, 'mpd_code::lower': lowered,
     'mpd_c::print_c': printed_in_c, 'write_c': written_in_c, 'mpd_trace::read_script': script_read,
     'mpd_code looks': code_looks, 'eval': by_hand, 'Expr::unary, element, binary': by_hand, 'numbers and names': by_hand, 'words and lines': by_hand,
-    'read_up_to': text_read, 'mpd_trace::read_code': code_read, 'mpd_trace::excerpt': by_hand, 'mpd_trace::allowed': by_hand,
+    'read_up_to': text_read, 'mpd_trace::read_code': code_read, 'mpd_trace::excerpt': by_hand, 'mpd_trace::allowed': by_hand, 'mpd_trace::hint': by_hand,
     'Tape::filled': by_hand, 'Tape::keep_room': by_hand, 'Tape::copy': by_hand, 'Tape changes': by_hand,
     'Lists::new': by_hand, 'Lists::keep_room': by_hand, 'Lists::copy': by_hand, 'Lists changes': by_hand,
     'Board::new': board_made, 'Board::copy': board_copied, 'Board::keep_room': board_room, 'Board::why': why_told,

@@ -57,6 +57,7 @@ def scripts():
     yield Row('mpd_trace::excerpt', MISSING, argument='24', by_hand=no_state('  print 2;\n  ^\n\n'))
     yield Row('mpd_trace::allowed', MISSING, argument='24',
               by_hand=no_state("  found 'print'; only ';' or an operator can stand here\n\n"))
+    yield Row('mpd_trace::hint', 'mpd 1; ranks 1;\nif 1 {\n', by_hand=no_state("  the block that line 2 opens isn't closed\n\n"))
 
 
 def expressions():

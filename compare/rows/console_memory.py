@@ -17,7 +17,7 @@ from rows.session_memory import HEAD_TO_HEAD, SCRIPT
 
 REFUSED, UNPRINTED = b'refused: memory\n', b'done, but memory for the answer was refused\n'
 # Words that may change something, and what is looked at behind each.
-CHANGING = {**dict.fromkeys(('next', 'run', 'back', 'run-back', 'undo-choice', 'goto', 'redo', 'follow', 'deadlock', 'trap', 'blame', *STEPS), b'show'),
+CHANGING = {**dict.fromkeys(('next', 'run', 'until', 'finish', 'back', 'run-back', 'undo-choice', 'goto', 'redo', 'follow', 'deadlock', 'trap', 'blame', *STEPS), b'show'),
             **dict.fromkeys(('break', 'delete'), b'breaks')}
 
 

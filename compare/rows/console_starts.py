@@ -34,7 +34,7 @@ BOTH_SEND = 'mpd 1; ranks 2; var x;\nsend 1 to 1 - rank tag 0;\nrecv x from 1 - 
 
 def ahead(line):
     """What is told where two local steps of a line lie ahead, by the text of that line."""
-    return Result(f'''deadlock 0.0 1.0 is 2 steps ahead
+    return Result(f'''deadlock is 2 steps ahead: rank 0 at line 2, rank 1 at line 2
 2 ahead: local 0: line 2
     2  {line}
 no step is taken
@@ -79,7 +79,7 @@ refused: no step is ahead
 ''')
 # The match of rank 2 comes first along the wide walk, where its request is the one that is taken (worked_ends.py).
 ORDER_DECIDES = open_example('order_decides.mpd').decode()
-TRAPPED = told('''trap 0 assert is 14 steps ahead
+TRAPPED = told('''trap is 14 steps ahead: rank 0 at line 11 (assert)
 14 ahead: local 0: line 7
     7  if rank == 0 {
 no step is taken

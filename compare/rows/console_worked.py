@@ -22,6 +22,7 @@ from rows.worked_console_help import HELP
 from rows.worked_console_hits import HITS
 from rows.worked_console_looks import LOOKS
 from rows.worked_console_moves import FIRST_RUNS, MOVES
+from rows.worked_console_onward import ONWARD
 from rows.worked_console_scripts import LOOP, Dialogue
 from rows.worked_console_sought import ALL_RUNS, MANY_RUNS, SOUGHT
 from rows.worked_console_texts import TEXTS
@@ -29,7 +30,7 @@ from rows.worked_console_told import TOLD
 from rows.worked_console_ways import WAYS
 
 PAGE = os.path.join(os.path.dirname(EXAMPLES), 'docs', 'CONSOLE.md')
-DIALOGUES = MOVES + ALONG + LOOKS + TOLD + TEXTS + HELP + CHOICES + SOUGHT + WAYS + GOING + HITS + BLAME
+DIALOGUES = MOVES + ALONG + LOOKS + TOLD + TEXTS + HELP + CHOICES + SOUGHT + WAYS + GOING + HITS + BLAME + ONWARD
 SLOW = ALL_RUNS + FIRST_RUNS
 # What takes the model long: runs of 100,000 steps, and of one more.
 CUT = (
@@ -51,6 +52,7 @@ next: local 0: line 2
 > check
 1 no choice: cut
 1 run, and no more (1 cut)
+one run for all orders of steps that don't meet; diagnose counts each order
 > next
 1 local 0: line 2
 next: local 0: line 2
@@ -223,7 +225,8 @@ def refusals_problem():
     """What the model refuses by other lines than the page tells; None where nothing is."""
     with open(PAGE, encoding='ascii') as file:
         told = set(re.findall(r'^\| `(refused: [^`]+)` \|', file.read(), re.M))
-    here = {*console.REFUSALS.values(), console.NO_CANDIDATE, console.NO_RUN, console.NO_CHOICE, console.NO_INDEX, console.NEEDS_INDEX, NO_MEMORY}
+    here = {*console.REFUSALS.values(), console.NO_CANDIDATE, console.NO_RUN, console.NO_CHOICE, console.NO_LAST_RANK, console.NO_INDEX, console.NEEDS_INDEX,
+            NO_MEMORY}
     return None if told == here else f'the page has {told ^ here}'
 
 

@@ -8,11 +8,12 @@ ALONG = (
 > run
 8 steps, depth 8
 stopped at a choice; next N takes one:
-  1 match 2.0 0.0: rank 2, line 5, to rank 0, line 3
-  2 match 3.0 1.0: rank 3, line 5, to rank 1, line 3
+  1: rank 2 sends 7, tag 0 (line 5), to rank 0 (line 3); match 2.0 0.0
+  2: rank 3 sends 7, tag 0 (line 5), to rank 1 (line 3); match 3.0 1.0
 > check
 1 choices 1 1: done
 1 run, and no more (1 done)
+one run for all orders of steps that don't meet; diagnose counts each order
 > deadlock
 no deadlock from here: 2 runs, and no more (2 done)
 > next 2
@@ -45,7 +46,7 @@ next: wake 0: line 3
 > list
     1  mpd 1; ranks 4; var x;
     2  if rank < 2 {
-    3    recv x from any tag 0;  <- rank 0 blocked
+    3    recv x from any tag 0;  <- rank 0 can go on
     4  } else {
     5    send 7 to rank - 2 tag 0;
     6  }
@@ -147,6 +148,7 @@ depth 8
 {BOTH_RACES}
 > next 1
 9 match 2.0 0.0: rank 2, line 5, to rank 0, line 3
+the 6 steps that lay ahead are gone
 breakpoint 0: match 3
 next: wake 0: line 3
     3    recv x from any tag 0;

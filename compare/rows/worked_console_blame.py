@@ -53,15 +53,15 @@ TO_LATER = f'''
 6 steps, depth 6
 stopped at a choice of rank 0, line 2; next N takes one:
 {LATER_LINE}
-  1 match 1.0 0.0: rank 1, line 2, to rank 0, line 2
-  2 match 2.0 0.0: rank 2, line 2, to rank 0, line 2
+  1: rank 1 sends 1, tag 0 (line 2); match 1.0 0.0
+  2: rank 2 sends 2, tag 0 (line 2); match 2.0 0.0
 > next 1
 7 match 1.0 0.0: rank 1, line 2, to rank 0, line 2
 next: wake 0: line 2
 {LATER_LINE}
 > run
 3 steps, depth 10
-ended: deadlock 0.1
+ended: deadlock: rank 0 at line 2
   rank 0 waits at line 2, 0.1 recv from 0 tag 9: for a send of rank 0 with tag 9
   rank 0 waits for rank 0
   a cycle, where each waits for the next: rank 0, rank 0
@@ -77,8 +77,8 @@ depth 6
 {LATER_LINE}
 stopped at a choice of rank 0, line 2; next N takes one:
 {LATER_LINE}
-  1 match 1.0 0.0: rank 1, line 2, to rank 0, line 2
-  2 match 2.0 0.0: rank 2, line 2, to rank 0, line 2
+  1: rank 1 sends 1, tag 0 (line 2); match 1.0 0.0
+  2: rank 2 sends 2, tag 0 (line 2); match 2.0 0.0
 '''
 # If the waitany goes on by its first request it hangs; the second may be matched before.
 TOO_EARLY = '''mpd 2; ranks 3; var x; var i; req r[2];
@@ -131,6 +131,7 @@ depth 8
 {STOLEN_BLAME}
 > next 2
 10 match 2.0 0.0: rank 2, line 13, to rank 0, line 8
+the 2 steps that lay ahead are gone
 next: wake 2: line 13
    13    if rank == 1 {{ send 42 to 0 tag 7; }} else {{ send 5 to 0 tag 1; }}
 > blame
@@ -146,7 +147,7 @@ ended: done
 '''),
     Dialogue('what decided a deadlock that lies ahead', 'stolen_message.mpd', f'''
 > deadlock
-deadlock 0.1 2.0 is 11 steps ahead
+deadlock is 11 steps ahead: rank 0 at line 9, rank 2 at line 13
 11 ahead: local 0: line 7
     7  if rank == 0 {{
 > blame
@@ -177,7 +178,7 @@ blame: goes to the step that decided how it ends; after that step every run ends
         badly
 '''),
     Dialogue('what decided the deadlock of a witness', 'stolen_message.mpd', f'''
-deadlock 0.1 2.0 is 11 steps ahead
+deadlock is 11 steps ahead: rank 0 at line 9, rank 2 at line 13
 11 ahead: local 0: line 7
     7  if rank == 0 {{
 > blame
@@ -185,7 +186,7 @@ deadlock 0.1 2.0 is 11 steps ahead
 ''', witness=STOLEN_AHEAD),
     Dialogue('what is printed on the way to where it was decided', PRINTS_FIRST, '''
 > deadlock
-deadlock 0.1 1.0 is 11 steps ahead
+deadlock is 11 steps ahead: rank 0 at line 5, rank 1 at line 6
 11 ahead: local 0: line 2
     2  if rank == 0 {
 > blame
@@ -200,17 +201,17 @@ rank 0 prints 5
     4    recv x from any tag 0;
 stopped at a choice of rank 0, line 4; next N takes one:
     4    recv x from any tag 0;
-  1 match 1.0 0.0: rank 1, line 6, to rank 0, line 4
-  2 match 2.0 0.0: rank 2, line 6, to rank 0, line 4
+  1: rank 1 sends 1, tag 0 (line 6); match 1.0 0.0
+  2: rank 2 sends 2, tag 0 (line 6); match 2.0 0.0
 '''),
     Dialogue('what decided a trap', 'waited_twice.mpd', '''
 > trap
-trap 0 assert is 16 steps ahead
+trap is 16 steps ahead: rank 0 at line 12 (assert)
 16 ahead: local 0: line 7
     7  if rank == 0 {
 > redo all
 depth 16
-ended: trap 0 assert
+ended: trap: rank 0 at line 12 (assert)
   rank 0, line 12: trap assert, with answers = [0, 20]
 > blame
 decided at depth 12: rank 0, line 10, goes on by line 9, 0.1 irecv from 2 tag 0;
@@ -222,8 +223,8 @@ depth 12
    10    waitany r to which;
 stopped at a choice of rank 0, line 10; next N takes one:
    10    waitany r to which;
-  1 wakeany 0 0: line 10, by line 8, 0.0 irecv from 1 tag 0
-  2 wakeany 0 1: line 10, by line 9, 0.1 irecv from 2 tag 0
+  1: request r[0], the receive of line 8 (value 10); wakeany 0 0
+  2: request r[1], the receive of line 9 (value 20); wakeany 0 1
 '''),
     Dialogue('where no run ends well', 'swapped_tags.mpd', f'''
 > blame
@@ -239,14 +240,14 @@ next: local 1: line 6
 local 0
 local 0
 > deadlock
-deadlock 0.0 1.0 is 2 steps ahead
+deadlock is 2 steps ahead: rank 0 at line 7, rank 1 at line 10
 2 ahead: local 1: line 6
     6  if rank == 0 {{
 > blame
 {FROM_START}
 > goto 4
 depth 4
-ended: deadlock 0.0 1.0
+ended: deadlock: rank 0 at line 7, rank 1 at line 10
   rank 0 waits at line 7, 0.0 send to 1 tag 1 value 640: for a receive of rank 1
         from rank 0 with tag 1
     nearest miss: line 10, 1.0 recv from 0 tag 2: another tag
@@ -261,7 +262,7 @@ ended: deadlock 0.0 1.0
 '''),
     Dialogue('a local step that decided, with a slot', 'freed_slot.mpd', f'''
 > deadlock
-deadlock 0.2 is 8 steps ahead
+deadlock is 8 steps ahead: rank 0 at line 9
 8 ahead: local 0: line 6
     6  if rank == 0 {{
 > blame
@@ -274,6 +275,7 @@ depth 4
     8    isend r[1] 2 to 1 tag 1;
 > match 0.0 1.0
 5 match 0.0 1.0: rank 0, line 7, to rank 1, line 11
+the 4 steps that lay ahead are gone
 next: local 0: line 8
     8    isend r[1] 2 to 1 tag 1;
 > blame
@@ -282,7 +284,7 @@ next: local 0: line 8
     # no candidate is listed where it was decided: `next 2` goes on into the hang, and the word that is told goes another way
     Dialogue('a wake by a waitany that decided, where it alone comes next', TOO_EARLY, f'''
 > deadlock
-deadlock 0.3 is 13 steps ahead
+deadlock is 13 steps ahead: rank 0 at line 6
 13 ahead: local 0: line 2
     2  if rank == 0 {{
 > blame
@@ -296,10 +298,11 @@ stopped: as many steps as were asked for
 {EARLY_BLAME}
 > match 2.0 0.1
 10 match 2.0 0.1: rank 2, line 7, to rank 0, line 4
+the 4 steps that lay ahead are gone
 stopped at a choice of rank 0, line 5; next N takes one:
     5    waitany r to i;
-  1 wakeany 0 0: line 5, by line 3, 0.0 irecv from 1 tag 0
-  2 wakeany 0 1: line 5, by line 4, 0.1 irecv from any tag 0
+  1: request r[0], the receive of line 3 (value 1); wakeany 0 0
+  2: request r[1], the receive of line 4 (value 2); wakeany 0 1
 > blame
 {NOT_DECIDED}
 '''),
@@ -341,9 +344,9 @@ depth 6
 8 steps, depth 8
 stopped at a choice of rank 0, line 3; next N takes one:
     3    recv x from any tag 0;
-  1 match 1.0 0.0: rank 1, line 7, to rank 0, line 3
-  2 match 2.0 0.0: rank 2, line 7, to rank 0, line 3
-  3 match 3.0 0.0: rank 3, line 7, to rank 0, line 3
+  1: rank 1 sends 1, tag 0 (line 7); match 1.0 0.0
+  2: rank 2 sends 2, tag 0 (line 7); match 2.0 0.0
+  3: rank 3 sends 3, tag 0 (line 7); match 3.0 0.0
 > next 1
 9 match 1.0 0.0: rank 1, line 7, to rank 0, line 3
 next: wake 0: line 3
@@ -376,7 +379,7 @@ next: release: all ranks leave the barrier
 next: release: all ranks leave the barrier
 > run
 5 steps, depth 15
-ended: deadlock 0.3
+ended: deadlock: rank 0 at line 6
   rank 0 waits at line 6, 0.3 recv from 0 tag 9: for a send of rank 0 with tag 9
   rank 0 waits for rank 0
   a cycle, where each waits for the next: rank 0, rank 0

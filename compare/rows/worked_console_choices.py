@@ -7,11 +7,11 @@ from rows.worked_console_scripts import (AT_A_BARRIER, BESIDE_ANY, BOTH_RACES, H
 # The choice of TRAP_THEN_HANG, its trap, its deadlock, and the choice of HANG_THEN_TRAP, whose lines are the same.
 TRAP_CHOICE = '''stopped at a choice of rank 0, line 3; next N takes one:
     3    recv x from any tag 0;
-  1 match 1.0 0.0: rank 1, line 6, to rank 0, line 3
-  2 match 2.0 0.0: rank 2, line 6, to rank 0, line 3'''
-TRAP_END = '''ended: trap 0 zero-divisor
+  1: rank 1 sends 1, tag 0 (line 6); match 1.0 0.0
+  2: rank 2 sends 2, tag 0 (line 6); match 2.0 0.0'''
+TRAP_END = '''ended: trap: rank 0 at line 4 (zero-divisor)
   rank 0, line 4: trap zero-divisor, with x = 1'''
-HANG_END = '''ended: deadlock 0.1 1.0
+HANG_END = '''ended: deadlock: rank 0 at line 5, rank 1 at line 6
   rank 0 waits at line 5, 0.1 recv from 2 tag 0: for a send of rank 2 with tag 0
     nearest miss: line 6, 1.0 send to 0 tag 0 value 1: another source
     the last that fits is taken: line 6, 2.0 send to 0 tag 0 value 2, by line 3,
@@ -25,26 +25,27 @@ HANG_END = '''ended: deadlock 0.1 1.0
   rank 1 waits for rank 0'''
 
 # The trap of examples/order_decides.mpd, and the choice before it.
-ORDER_TRAPS = '''ended: trap 0 assert
+ORDER_TRAPS = '''ended: trap: rank 0 at line 11 (assert)
   rank 0, line 11: trap assert, with i = 1'''
 OTHER_REQUEST = 'wakeany 0 1: line 10, by line 9, 0.1 irecv from any tag 0'
 REQUESTS_CHOICE = f'''stopped at a choice of rank 0, line 10; next N takes one:
    10    waitany r to i;
-  1 wakeany 0 0: line 10, by line 8, 0.0 irecv from 1 tag 0
-  2 {OTHER_REQUEST}'''
+  1: request r[0], the receive of line 8 (value 1); wakeany 0 0
+  2: request r[1], the receive of line 9 (value 2); wakeany 0 1'''
 
 CHOICES = (
     Dialogue('a first run that traps, and a second one that is a deadlock', TRAP_THEN_HANG, f'''
 > check
-1 choices 1: trap 0 zero-divisor
-2 choices 2: deadlock 0.1 1.0
+1 choices 1: trap: rank 0 at line 4 (zero-divisor)
+2 choices 2: deadlock: rank 0 at line 5, rank 1 at line 6
 2 runs, and no more (1 deadlock, 1 trap)
+one run for all orders of steps that don't meet; diagnose counts each order
 > deadlock
-deadlock 0.1 1.0 is 11 steps ahead
+deadlock is 11 steps ahead: rank 0 at line 5, rank 1 at line 6
 11 ahead: local 0: line 2
     2  if rank == 0 {{
 > trap
-trap 0 zero-divisor is 10 steps ahead
+trap is 10 steps ahead: rank 0 at line 4 (zero-divisor)
 10 ahead: local 0: line 2
     2  if rank == 0 {{
 > run
@@ -78,10 +79,10 @@ stopped: behind the choice
 > deadlock
 no deadlock from here: 1 run, and no more (1 trap)
 > trap
-trap 0 zero-divisor is 0 steps ahead
+trap is 0 steps ahead: rank 0 at line 4 (zero-divisor)
 {TRAP_END}
 > follow 1
-run 1, trap 0 zero-divisor, is 0 steps ahead
+run 1, trap, is 0 steps ahead: rank 0 at line 4 (zero-divisor)
 {TRAP_END}
 > follow 2
 refused: there is no such run
@@ -92,7 +93,7 @@ depth 6
     3    recv x from any tag 0;
 {TRAP_CHOICE}
 > follow 2
-run 2, deadlock 0.1 1.0, is 5 steps ahead
+run 2, deadlock, is 5 steps ahead: rank 0 at line 5, rank 1 at line 6
 5 ahead: match 2.0 0.0: rank 2, line 6, to rank 0, line 3
     6  }} else {{ send rank to 0 tag 0; }}
     3    recv x from any tag 0;
@@ -123,7 +124,7 @@ depth 10
 1 ahead: wake 2: line 6
     6  }} else {{ send rank to 0 tag 0; }}
 > f 1
-run 1, deadlock 0.1 1.0, is 1 step ahead
+run 1, deadlock, is 1 step ahead: rank 0 at line 5, rank 1 at line 6
 1 ahead: wake 2: line 6
     6  }} else {{ send rank to 0 tag 0; }}
 > trap
@@ -136,10 +137,11 @@ refused: there is no such run
 '''),
     Dialogue('a first run that is a deadlock, and a second one that traps', HANG_THEN_TRAP, f'''
 > check 1
-1 choices 1: deadlock 0.1 2.0
+1 choices 1: deadlock: rank 0 at line 5, rank 2 at line 6
 1 run, and there are more (1 deadlock)
+one run for all orders of steps that don't meet; diagnose counts each order
 > trap
-trap 0 zero-divisor is 10 steps ahead
+trap is 10 steps ahead: rank 0 at line 4 (zero-divisor)
 10 ahead: local 0: line 2
     2  if rank == 0 {{
 > run
@@ -150,6 +152,7 @@ trap 0 zero-divisor is 10 steps ahead
 {TRAP_CHOICE}
 > next 1
 7 match 1.0 0.0: rank 1, line 6, to rank 0, line 3
+the 4 steps that lay ahead are gone
 next: wake 0: line 3
     3    recv x from any tag 0;
 > trap
@@ -161,7 +164,7 @@ depth 6
     3    recv x from any tag 0;
 {TRAP_CHOICE}
 > trap
-trap 0 zero-divisor is 4 steps ahead
+trap is 4 steps ahead: rank 0 at line 4 (zero-divisor)
 4 ahead: match 2.0 0.0: rank 2, line 6, to rank 0, line 3
     6  }} else {{ send rank to 0 tag 0; }}
     3    recv x from any tag 0;
@@ -171,24 +174,26 @@ trap 0 zero-divisor is 4 steps ahead
     Dialogue('more runs that trap than are done', THIRD_TRAPS, '''
 > check
 1 choices 1: done
-2 choices 2: trap 0 assert
-3 choices 3: trap 0 assert
+2 choices 2: trap: rank 0 at line 2 (assert)
+3 choices 3: trap: rank 0 at line 2 (assert)
 3 runs, and no more (1 done, 2 trap)
+one run for all orders of steps that don't meet; diagnose counts each order
 > deadlock
 no deadlock from here: 3 runs, and no more (1 done, 2 trap)
 > check 2
 1 choices 1: done
-2 choices 2: trap 0 assert
+2 choices 2: trap: rank 0 at line 2 (assert)
 2 runs, and there are more (1 done, 1 trap)
+one run for all orders of steps that don't meet; diagnose counts each order
 > trap
-trap 0 assert is 12 steps ahead
+trap is 12 steps ahead: rank 0 at line 2 (assert)
 12 ahead: local 0: line 2
     2  if rank == 0 { recv x from any tag 0; assert x == 1; recv x from 2 tag 0;
         recv x from 3 tag 0; }
 '''),
     Dialogue('as many runs as are looked at, and no more', TRAP_THEN_HANG, '''
 > deadlock
-deadlock 0.1 1.0 is 11 steps ahead
+deadlock is 11 steps ahead: rank 0 at line 5, rank 1 at line 6
 11 ahead: local 0: line 2
     2  if rank == 0 {
 > goto 6
@@ -198,10 +203,11 @@ depth 6
     3    recv x from any tag 0;
 stopped at a choice of rank 0, line 3; next N takes one:
     3    recv x from any tag 0;
-  1 match 1.0 0.0: rank 1, line 6, to rank 0, line 3
-  2 match 2.0 0.0: rank 2, line 6, to rank 0, line 3
+  1: rank 1 sends 1, tag 0 (line 6); match 1.0 0.0
+  2: rank 2 sends 2, tag 0 (line 6); match 2.0 0.0
 > next 1
 7 match 1.0 0.0: rank 1, line 6, to rank 0, line 3
+the 5 steps that lay ahead are gone
 next: wake 0: line 3
     3    recv x from any tag 0;
 > deadlock
@@ -350,6 +356,7 @@ depth 8
 refused: no choice was made before
 > next 1
 9 match 2.0 0.0: rank 2, line 5, to rank 0, line 3
+the 6 steps that lay ahead are gone
 next: wake 0: line 3
     3    recv x from any tag 0;
 > quit
@@ -414,7 +421,7 @@ line 4, 0.0 irecv from 1 tag 3 free
   has no partner yet: for a send of rank 1 with tag 3
 > next 1000000
 3 steps, depth 6
-ended: deadlock 0.1 1.1
+ended: deadlock: rank 0 at line 5, rank 1 at line 8
   rank 0 waits at line 5, 0.1 wait 0: for request 0.0
     line 4, 0.0 irecv from 1 tag 3: for a send of rank 1 with tag 3
     nearest miss: line 7, 1.0 isend to 0 tag 4 value 7: another tag
@@ -438,7 +445,7 @@ line 7, 1.0 isend to 0 tag 4 value 7 free
     Dialogue('those that wait alone, and not one that has ended', AT_A_BARRIER, '''
 > run
 7 steps, depth 7
-ended: deadlock 0.0 1.0
+ended: deadlock: rank 0 at line 2, rank 1 at line 4
   rank 0 waits at line 2, 0.0 barrier: for all ranks at a barrier
     rank 1 is not there: it waits at line 4, 1.0 ssend to 2 tag 0 value 1
     rank 2 is not there: it has ended
@@ -455,7 +462,7 @@ line 4, 1.0 ssend to 2 tag 0 value 1 free
 '''),
     Dialogue('none that waits where one has trapped', 'trap.mpd', '''
 > trap
-trap 1 zero-divisor is 9 steps ahead
+trap is 9 steps ahead: rank 1 at line 10 (zero-divisor)
 9 ahead: local 0: line 5
     5  if rank == 0 {
 > deadlock
@@ -463,7 +470,7 @@ no deadlock from here: 1 run, and no more (1 trap)
 > redo 9
 depth 9
 rank 0 prints 5
-ended: trap 1 zero-divisor
+ended: trap: rank 1 at line 10 (zero-divisor)
   rank 1, line 10: trap zero-divisor, with x = 0
 > why
 no rank waits for a call
@@ -558,12 +565,13 @@ depth 9
     Dialogue('a trap that another order of a match and a wait for any comes to', 'order_decides.mpd', f'''
 > check
 1 choices 1 1: done
-2 choices 2 2: trap 0 assert
+2 choices 2 2: trap: rank 0 at line 11 (assert)
 2 runs, and no more (1 done, 1 trap)
+one run for all orders of steps that don't meet; diagnose counts each order
 > deadlock
 no deadlock from here: 3 runs, and no more (2 done, 1 trap)
 > trap
-trap 0 assert is 14 steps ahead
+trap is 14 steps ahead: rank 0 at line 11 (assert)
 14 ahead: local 0: line 7
     7  if rank == 0 {{
 > redo all
@@ -583,22 +591,24 @@ depth 10
     9    irecv r[1] x from any tag 0;
 > check
 1 choices 1 1: done
-2 choices 2 2: trap 0 assert
+2 choices 2 2: trap: rank 0 at line 11 (assert)
 2 runs, and no more (1 done, 1 trap)
+one run for all orders of steps that don't meet; diagnose counts each order
 > redo
 11 match 2.0 0.1: rank 2, line 13, to rank 0, line 9
 3 ahead: wake 2: line 13
    13    send rank to 0 tag 0;
 > check
 1 choices 1: done
-2 choices 2: trap 0 assert
+2 choices 2: trap: rank 0 at line 11 (assert)
 2 runs, and no more (1 done, 1 trap)
+one run for all orders of steps that don't meet; diagnose counts each order
 > follow 1
 run 1, done, is 3 steps ahead
 3 ahead: wake 2: line 13
    13    send rank to 0 tag 0;
 > follow 2
-run 2, trap 0 assert, is 3 steps ahead
+run 2, trap, is 3 steps ahead: rank 0 at line 11 (assert)
 3 ahead: wake 2: line 13
    13    send rank to 0 tag 0;
 > follow 3
@@ -619,7 +629,7 @@ stopped: behind the choice
 '''),
     Dialogue('a run, and a step, along those ahead, where a single candidate comes next that is another step', 'order_decides.mpd', f'''
 > trap
-trap 0 assert is 14 steps ahead
+trap is 14 steps ahead: rank 0 at line 11 (assert)
 14 ahead: local 0: line 7
     7  if rank == 0 {{
 > run
@@ -641,6 +651,7 @@ depth 10
     9    irecv r[1] x from any tag 0;
 > wakeany 0 0
 11 wakeany 0 0: line 10, by line 8, 0.0 irecv from 1 tag 0
+the 4 steps that lay ahead are gone
 next: local 0: line 11
    11    assert i == 0;
 > trap
@@ -648,21 +659,23 @@ no trap from here: 1 run, and no more (1 done)
 '''),
     Dialogue('a deadlock, and another end where a match gives a slot back', 'freed_slot.mpd', '''
 > check
-1 choices 1 1: deadlock 0.2
-2 choices 2: leftovers 0.1
+1 choices 1 1: deadlock: rank 0 at line 9
+2 choices 2: leftovers: rank 0 at line 8
 2 runs, and no more (1 leftovers, 1 deadlock)
+one run for all orders of steps that don't meet; diagnose counts each order
 > trap
 no trap from here: 2 runs, and no more (1 leftovers, 1 deadlock)
 > check 1
-1 choices 1 1: deadlock 0.2
+1 choices 1 1: deadlock: rank 0 at line 9
 1 run, and there are more (1 deadlock)
+one run for all orders of steps that don't meet; diagnose counts each order
 > deadlock
-deadlock 0.2 is 8 steps ahead
+deadlock is 8 steps ahead: rank 0 at line 9
 8 ahead: local 0: line 6
     6  if rank == 0 {
 > redo all
 depth 8
-ended: deadlock 0.2
+ended: deadlock: rank 0 at line 9
   rank 0 waits at line 9, 0.2 wait 1: for request 0.1
     line 8, 0.1 isend to 1 tag 1 value 2: for a receive of rank 1 from rank 0
         with tag 1
@@ -683,11 +696,12 @@ depth 4
 4 ahead: local 0: line 8
     8    isend r[1] 2 to 1 tag 1;
 > check
-1 choices 1 1: deadlock 0.2
-2 choices 2: leftovers 0.1
+1 choices 1 1: deadlock: rank 0 at line 9
+2 choices 2: leftovers: rank 0 at line 8
 2 runs, and no more (1 leftovers, 1 deadlock)
+one run for all orders of steps that don't meet; diagnose counts each order
 > follow 2
-run 2, leftovers 0.1, is 5 steps ahead
+run 2, leftovers, is 5 steps ahead: rank 0 at line 8
 5 ahead: match 0.0 1.0: rank 0, line 7, to rank 1, line 11
     7    isend r[0] 1 to 1 tag 0;
    11    recv x from 0 tag 0;
@@ -698,24 +712,27 @@ run 2, leftovers 0.1, is 5 steps ahead
 > deadlock
 no deadlock from here: 1 run, and no more (1 leftovers)
 > check
-1 no choice: leftovers 0.1
+1 no choice: leftovers: rank 0 at line 8
 1 run, and no more (1 leftovers)
+one run for all orders of steps that don't meet; diagnose counts each order
 > redo all
 depth 9
-ended: leftovers 0.1
+ended: leftovers: rank 0 at line 8
   left over: line 8, 0.1 isend to 1 tag 1 value 2
 ''', 'slots:1'),
     Dialogue('where no slot is, and where there is one for each send', 'freed_slot.mpd', '''
 > check
-1 no choice: deadlock 0.2
+1 no choice: deadlock: rank 0 at line 9
 1 run, and no more (1 deadlock)
+one run for all orders of steps that don't meet; diagnose counts each order
 > trap
 no trap from here: 1 run, and no more (1 deadlock)
 ''', 'slots:0'),
     Dialogue('a choice of one, which is told with its number', 'freed_slot.mpd', '''
 > check
-1 choices 1: leftovers 0.1
+1 choices 1: leftovers: rank 0 at line 8
 1 run, and no more (1 leftovers)
+one run for all orders of steps that don't meet; diagnose counts each order
 > deadlock
 no deadlock from here: 1 run, and no more (1 leftovers)
 > trap

@@ -157,9 +157,9 @@ line 5, 0.1 irecv from 1 tag 1 with 1.1 value 1
 line 6, 0.2 irecv from 2 tag any free
   can be matched with line 11, 2.1 send to 0 tag 2 value 2
 > enabled
-wake 1: line 11
-wakeany 0 0: line 8, by line 5, 0.1 irecv from 1 tag 1
-match 2.1 0.2: rank 2, line 11, to rank 0, line 6
+rank 1 goes on from line 11; wake 1
+request r[0], the receive of line 5 (value 1), for rank 0; wakeany 0 0
+rank 2 sends 2, tag 2 (line 11), to rank 0 (line 6); match 2.1 0.2
 > wakeany 0 0
 16 wakeany 0 0: line 8, by line 5, 0.1 irecv from 1 tag 1
 next: local 0: line 9
@@ -224,6 +224,7 @@ depth 9
 {STOLEN_CHOICE}
 > next 1
 10 match 1.0 0.0: rank 1, line 13, to rank 0, line 8
+the 2 steps that lay ahead are gone
 next: wake 1: line 13
 {SENDS}
 > back
@@ -268,8 +269,8 @@ no trap found from here: 1 run, and there are more (1 deadlock)
 stopped at a choice of rank 0, line 7; next N takes one:
     7  if rank == 0 { recv x from any tag any status who tag_of; recv x from 1
         tag any; } else { send rank to 0 tag 0; }
-  1 match 1.0 0.0: rank 1, line 7, to rank 0, line 7
-  2 match 2.0 0.0: rank 2, line 7, to rank 0, line 7
+  1: rank 1 sends 1, tag 0 (line 7); match 1.0 0.0
+  2: rank 2 sends 2, tag 0 (line 7); match 2.0 0.0
 > next 2
 7 match 2.0 0.0: rank 2, line 7, to rank 0, line 7
 next: wake 0: line 7

@@ -91,6 +91,8 @@ an empty line does the last word once more
 > help all
 next [N]                            takes the step that comes next
 run [N]                             goes on to a breakpoint, a choice or an end
+until LINE                          goes on until a rank comes to that line
+finish [P]                          goes on until a rank's call is over
 back [N]                            takes a step back, or so many
 run-back                            goes back to a breakpoint, or to the start
 undo-choice                         goes back to the last choice

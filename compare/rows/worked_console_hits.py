@@ -28,8 +28,8 @@ if rank == 0 {
 '''
 OF_ANY = '''stopped at a choice of rank 0, line 6; next N takes one:
     6    waitany r to i;
-  1 wakeany 0 0: line 6, by line 4, 0.0 irecv from 1 tag 1
-  2 wakeany 0 1: line 6, by line 5, 0.1 irecv from 1 tag 3'''
+  1: request r[0], the receive of line 4 (value 5); wakeany 0 0
+  2: request r[1], the receive of line 5 (value 7); wakeany 0 1'''
 SECOND_AHEAD = f'''ahead: wakeany 0 1: line 6, by line 5, 0.1 irecv from 1 tag 3
     6    waitany r to i;
 {OF_ANY}'''
@@ -95,6 +95,7 @@ depth 0
     5  if rank == 0 {
 > local 1
 1 local 1: line 5
+the 2 steps that lay ahead are gone
 next: local 0: line 5
     5  if rank == 0 {
 > local 0
@@ -244,12 +245,12 @@ breakpoint 1: change 0 x
 > local 0
 5 local 0: line 6
 breakpoint 1: change 0 x
-ended: leftovers 0.0 0.1
+ended: leftovers: rank 0 at line 4, rank 0 at line 5
   left over: line 4, 0.0 isend to 0 tag 0 value 1
   left over: line 5, 0.1 isend to 0 tag 1 value 2
 {LOST}
 > next
-ended: leftovers 0.0 0.1
+ended: leftovers: rank 0 at line 4, rank 0 at line 5
   left over: line 4, 0.0 isend to 0 tag 0 value 1
   left over: line 5, 0.1 isend to 0 tag 1 value 2
 {LOST}
@@ -408,6 +409,7 @@ refused: there is no such candidate
 2 {SECOND_AHEAD}
 > next 1
 10 wakeany 0 0: line 6, by line 4, 0.0 irecv from 1 tag 1
+the 2 steps that lay ahead are gone
 breakpoint 1: line 7
 next: local 0: line 7
     7    print i;
@@ -500,6 +502,7 @@ depth 9
 {THIRD_AHEAD}
 > match 2.0 0.0
 10 match 2.0 0.0: rank 2, line 4, to rank 0, line 3
+the step that lay ahead is gone
 breakpoint 0: match 4
 next: wake 0: line 3
 {TAKES_THREE}
@@ -515,8 +518,8 @@ if rank == 0 {
 '''
 ENDLESS_CHOICE = '''stopped at a choice of rank 0, line 3; next N takes one:
     3    recv x from any tag 0;
-  1 match 1.0 0.0: rank 1, line 6, to rank 0, line 3
-  2 match 2.0 0.0: rank 2, line 6, to rank 0, line 3'''
+  1: rank 1 sends 1, tag 0 (line 6); match 1.0 0.0
+  2: rank 2 sends 2, tag 0 (line 6); match 2.0 0.0'''
 
 NONE_FOUND = (
     Dialogue('a wait for any, of which all ways to end are looked at', 'waitany.mpd', '''
@@ -553,7 +556,7 @@ next: local 0: line 8
 > deadlock
 no deadlock from here: 3 runs, and no more (2 done, 1 trap)
 > trap
-trap 0 assert is 13 steps ahead
+trap is 13 steps ahead: rank 0 at line 11 (assert)
 13 ahead: local 0: line 8
     8    irecv r[0] x from 1 tag 0;
 ''', fuel=13),
@@ -587,10 +590,11 @@ no trap from here: 2 runs, and no more (2 done)
 > check
 1 choices 1 1: done
 1 run, and no more (1 done)
+one run for all orders of steps that don't meet; diagnose counts each order
 ''', 'slots:1'),
     Dialogue('sends without any slot', 'head_to_head.mpd', '''
 > deadlock
-deadlock 0.0 1.0 is 2 steps ahead
+deadlock is 2 steps ahead: rank 0 at line 5, rank 1 at line 5
 2 ahead: local 0: line 5
     5  send rank + 10 to 1 - rank tag 5;
 > trap
@@ -624,6 +628,7 @@ depth 6
 {ENDLESS_CHOICE}
 > next 2
 7 match 2.0 0.0: rank 2, line 6, to rank 0, line 3
+the step that lay ahead is gone
 next: wake 0: line 3
     3    recv x from any tag 0;
 > deadlock

@@ -7,7 +7,7 @@ LOOKS = (
     Dialogue('requests that are waited for, and near misses', WAITS, '''
 > run
 6 steps, depth 6
-ended: deadlock 0.1 1.1
+ended: deadlock: rank 0 at line 5, rank 1 at line 8
   rank 0 waits at line 5, 0.1 wait 0: for request 0.0
     line 4, 0.0 irecv from 1 tag 3: for a send of rank 1 with tag 3
     nearest miss: line 7, 1.0 isend to 0 tag 4 value 7: another tag
@@ -48,7 +48,7 @@ refused: there is no such call
     Dialogue('a near miss and what was taken, one below the other', NEARLY, '''
 > run
 9 steps, depth 9
-ended: deadlock 1.1
+ended: deadlock: rank 1 at line 7
   rank 1 waits at line 7, 1.1 recv from 0 tag 1: for a send of rank 0 with tag 1
     nearest miss: line 4, 0.1 isend to 1 tag 2 value 6: another tag
     the last that fits is taken: line 3, 0.0 send to 1 tag 1 value 5, by line 6,
@@ -81,7 +81,7 @@ line 2, 2.0 send to 0 tag 7 value 2 free
     Dialogue('a wait for any of two requests', ANY_OF_TWO, '''
 > run 9
 9 steps, depth 9
-ended: deadlock 0.2 1.0
+ended: deadlock: rank 0 at line 6, rank 1 at line 8
   rank 0 waits at line 6, 0.2 waitany 0 3: for one of these requests
     line 5, 0.1 issend to 2 tag 0 value 5: for a receive of rank 2 from rank 0
         with tag 0
@@ -116,15 +116,16 @@ next: match 1.0 0.0: rank 1, line 17, to rank 0, line 9
 4 steps, depth 13
 stopped at a choice of rank 0, line 12; next N takes one:
    12      waitany r to which;
-  1 wakeany 0 0: line 12, by line 9, 0.0 irecv from 1 tag 0
-  2 wakeany 0 1: line 12, by line 10, 0.1 irecv from 2 tag 0
+  1: request r[0], the receive of line 9 (value 10); wakeany 0 0
+  2: request r[1], the receive of line 10 (value 20); wakeany 0 1
 > enabled
-wakeany 0 0: line 12, by line 9, 0.0 irecv from 1 tag 0
-wakeany 0 1: line 12, by line 10, 0.1 irecv from 2 tag 0
+request r[0], the receive of line 9 (value 10), for rank 0; wakeany 0 0
+request r[1], the receive of line 10 (value 20), for rank 0; wakeany 0 1
 > check
 1 choices 1 1: done
 2 choices 2 1: done
 2 runs, and no more (2 done)
+one run for all orders of steps that don't meet; diagnose counts each order
 > why 0
 line 12, 0.2 waitany 0 2
 line 9, 0.0 irecv from 1 tag 0 with 1.0 value 10
@@ -149,6 +150,7 @@ line 17, 2.0 send to 0 tag 0 value 20 with 0.1
   the call is complete: rank 2 can go on
 > wakeany 0 0
 13 wakeany 0 0: line 12, by line 9, 0.0 irecv from 1 tag 0
+the step that lay ahead is gone
 next: local 0: line 13
    13      print answers[which];
 > why 0.2
@@ -162,7 +164,7 @@ stopped: as many steps as were asked for
 next: wakeany 0 1: line 12, by line 10, 0.1 irecv from 2 tag 0
    12      waitany r to which;
 > enabled
-wakeany 0 1: line 12, by line 10, 0.1 irecv from 2 tag 0
+request r[1], the receive of line 10 (value 20), for rank 0; wakeany 0 1
 > next
 19 wakeany 0 1: line 12, by line 10, 0.1 irecv from 2 tag 0
 next: local 0: line 13
@@ -180,7 +182,7 @@ rank 0 has printed 10 20
 no call
 > run
 7 steps, depth 7
-ended: deadlock 0.0 1.0
+ended: deadlock: rank 0 at line 2, rank 1 at line 4
   rank 0 waits at line 2, 0.0 barrier: for all ranks at a barrier
     rank 1 is not there: it waits at line 4, 1.0 ssend to 2 tag 0 value 1
     rank 2 is not there: it has ended
@@ -264,7 +266,7 @@ line 2, 0.0 barrier
     rank 2 is not there: it is at line 10
 > next
 14 local 2: line 10
-ended: trap 1 zero-divisor
+ended: trap: rank 1 at line 5 (zero-divisor)
   rank 1, line 5: trap zero-divisor, with x = 0
 > why
 line 2, 0.0 barrier
@@ -276,7 +278,7 @@ line 10, 2.1 barrier
 > run
 9 steps, depth 9
 rank 0 prints 5
-ended: trap 1 zero-divisor
+ended: trap: rank 1 at line 10 (zero-divisor)
   rank 1, line 10: trap zero-divisor, with x = 0
 > ranks
 rank 0 has ended
@@ -529,7 +531,7 @@ ended: done
     Dialogue('the same without buffers', 'head_to_head.mpd', '''
 > run
 2 steps, depth 2
-ended: deadlock 0.0 1.0
+ended: deadlock: rank 0 at line 5, rank 1 at line 5
   rank 0 waits at line 5, 0.0 send to 1 tag 5 value 10: for a receive of rank 1
         from rank 0 with tag 5
   rank 1 waits at line 5, 1.0 send to 0 tag 5 value 11: for a receive of rank 0
@@ -560,8 +562,8 @@ at the end: E ended, V can go on, ~ waits, ! blocked, X trapped
 stopped at a choice of rank 0, line 7; next N takes one:
     7  if rank == 0 { recv x from any tag any status who tag_of; recv x from 1
         tag any; } else { send rank to 0 tag 0; }
-  1 match 1.0 0.0: rank 1, line 7, to rank 0, line 7
-  2 match 2.0 0.0: rank 2, line 7, to rank 0, line 7
+  1: rank 1 sends 1, tag 0 (line 7); match 1.0 0.0
+  2: rank 2 sends 2, tag 0 (line 7); match 2.0 0.0
 > picture
 0 1 2  line: call
 R | |  7: 0.0 recv from any tag any free
@@ -577,7 +579,7 @@ next: wake 0: line 7
         tag any; } else { send rank to 0 tag 0; }
 > run 3
 3 steps, depth 10
-ended: deadlock 0.1 2.0
+ended: deadlock: rank 0 at line 7, rank 2 at line 7
   rank 0 waits at line 7, 0.1 recv from 1 tag any: for a send of rank 1 with any
         tag
     nearest miss: line 7, 2.0 send to 0 tag 0 value 2: another source
@@ -620,11 +622,11 @@ picture: draws the run so far
 5 steps, depth 5
 stopped at a choice of rank 0, line 6; next N takes one:
     6  waitany r to i;
-  1 wakeany 0 0: line 6, by line 4, 0.1 irecv from 0 tag 1
-  2 wakeany 0 1: line 6, by line 5, 0.2 isend to 0 tag 1 value 7
+  1: request r[0], the receive of line 4 (value 7); wakeany 0 0
+  2: request r[1], the send of line 5 (value 7); wakeany 0 1
 > next 2
 6 wakeany 0 1: line 6, by line 5, 0.2 isend to 0 tag 1 value 7
-ended: leftovers 0.0
+ended: leftovers: rank 0 at line 3
   left over: line 3, 0.0 isend to 0 tag 9 value 5
 '''),
     Dialogue('a wait for no request, and one for a request that is free', APART, '''
@@ -648,7 +650,7 @@ next: local 0: line 6
 line 5, 0.1 wait none
 > run
 2 steps, depth 6
-ended: leftovers 0.0
+ended: leftovers: rank 0 at line 4
   left over: line 4, 0.0 isend to 0 tag 0 value 1
 > why 0.2
 line 6, 0.2 wait 0

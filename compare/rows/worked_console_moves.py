@@ -6,7 +6,7 @@ from rows.worked_console_scripts import (LOOP, SEVEN_SENDERS, STOLEN_AHEAD, STOL
 
 # What is told where the deadlock of examples/stolen_message.mpd lies ahead from the start on.
 TO_STOLEN = f'''
-deadlock 0.1 2.0 is 11 steps ahead
+deadlock is 11 steps ahead: rank 0 at line 9, rank 2 at line 13
 11 ahead: local 0: line 7
     7  if rank == 0 {{
 > history
@@ -139,6 +139,7 @@ depth 1
     6    send 7 to 1 tag 0;
 > local 1
 2 local 1: line 5
+the 7 steps that lay ahead are gone
 next: local 0: line 6
     6    send 7 to 1 tag 0;
 > history
@@ -222,8 +223,8 @@ line 13, 1.0 send to 0 tag 7 value 42 free
   could be matched with line 9, 0.1 recv from 1 tag 7, but for line 8, 0.0 irecv
         from any tag any
 > enabled
-match 1.0 0.0: rank 1, line 13, to rank 0, line 8
-match 2.0 0.0: rank 2, line 13, to rank 0, line 8
+rank 1 sends 42, tag 7 (line 13), to rank 0 (line 8); match 1.0 0.0
+rank 2 sends 5, tag 1 (line 13), to rank 0 (line 8); match 2.0 0.0
 > queues
 pending 1 to 0: line 13, 1.0 send to 0 tag 7 value 42
 pending 2 to 0: line 13, 2.0 send to 0 tag 1 value 5
@@ -238,25 +239,29 @@ rank 2: r = no request
     6  req r;
     7  if rank == 0 {{
     8    irecv r note from any tag any;
-    9    recv result from 1 tag 7;  <- rank 0 blocked
+    9    recv result from 1 tag 7;  <- rank 0 waits
    10    wait r;
    11    print result;
    12  }} else {{
-   13    if rank == 1 {{ send 42 to 0 tag 7; }} else {{ send 5 to 0 tag 1; }}  <- rank 1 blocked, rank 2 blocked
+   13    if rank == 1 {{ send 42 to 0 tag 7; }} else {{ send 5 to 0 tag 1; }}  <- rank 1 waits, rank 2 waits
 > check
-1 choices 1: deadlock 0.1 2.0
+1 choices 1: deadlock: rank 0 at line 9, rank 2 at line 13
 2 choices 2: done
 2 runs, and no more (1 done, 1 deadlock)
+one run for all orders of steps that don't meet; diagnose counts each order
 > check 1
-1 choices 1: deadlock 0.1 2.0
+1 choices 1: deadlock: rank 0 at line 9, rank 2 at line 13
 1 run, and there are more (1 deadlock)
+one run for all orders of steps that don't meet; diagnose counts each order
 >
-1 choices 1: deadlock 0.1 2.0
+1 choices 1: deadlock: rank 0 at line 9, rank 2 at line 13
 1 run, and there are more (1 deadlock)
+one run for all orders of steps that don't meet; diagnose counts each order
 > check 2
-1 choices 1: deadlock 0.1 2.0
+1 choices 1: deadlock: rank 0 at line 9, rank 2 at line 13
 2 choices 2: done
 2 runs, and no more (1 done, 1 deadlock)
+one run for all orders of steps that don't meet; diagnose counts each order
 > next
 {STOLEN_CHOICE}
 > next 0
@@ -286,8 +291,9 @@ line 13, 1.0 send to 0 tag 7 value 42 with 0.0
 > enabled
 no step is enabled
 > check
-1 no choice: deadlock 0.1 2.0
+1 no choice: deadlock: rank 0 at line 9, rank 2 at line 13
 1 run, and no more (1 deadlock)
+one run for all orders of steps that don't meet; diagnose counts each order
 > run-back
 2 steps back, depth 9
 before breakpoint 0: match 8
@@ -297,6 +303,7 @@ before breakpoint 0: match 8
 {STOLEN_CHOICE}
 > next 2
 10 match 2.0 0.0: rank 2, line 13, to rank 0, line 8
+the 2 steps that lay ahead are gone
 breakpoint 0: match 8
 next: wake 2: line 13
    13    if rank == 1 {{ send 42 to 0 tag 7; }} else {{ send 5 to 0 tag 1; }}
@@ -331,7 +338,7 @@ rank 0: r = no request
 '''),
     Dialogue('a deadlock that is laid ahead, and gone to', 'stolen_message.mpd', f'''
 > deadlock
-deadlock 0.1 2.0 is 11 steps ahead
+deadlock is 11 steps ahead: rank 0 at line 9, rank 2 at line 13
 11 ahead: local 0: line 7
     7  if rank == 0 {{
 > run
@@ -348,7 +355,7 @@ deadlock 0.1 2.0 is 11 steps ahead
 1 step, depth 11
 {STOLEN_END}
 > deadlock
-deadlock 0.1 2.0 is 0 steps ahead
+deadlock is 0 steps ahead: rank 0 at line 9, rank 2 at line 13
 {STOLEN_END}
 > goto 9
 depth 9
@@ -357,7 +364,7 @@ depth 9
     8    irecv r note from any tag any;
 {STOLEN_CHOICE}
 > deadlock
-deadlock 0.1 2.0 is 2 steps ahead
+deadlock is 2 steps ahead: rank 0 at line 9, rank 2 at line 13
 2 ahead: match 1.0 0.0: rank 1, line 13, to rank 0, line 8
    13    if rank == 1 {{ send 42 to 0 tag 7; }} else {{ send 5 to 0 tag 1; }}
     8    irecv r note from any tag any;
@@ -370,7 +377,7 @@ depth 10
 1 ahead: wake 1: line 13
    13    if rank == 1 {{ send 42 to 0 tag 7; }} else {{ send 5 to 0 tag 1; }}
 > deadlock
-deadlock 0.1 2.0 is 1 step ahead
+deadlock is 1 step ahead: rank 0 at line 9, rank 2 at line 13
 1 ahead: wake 1: line 13
    13    if rank == 1 {{ send 42 to 0 tag 7; }} else {{ send 5 to 0 tag 1; }}
 > goto 0
@@ -406,6 +413,7 @@ depth 9
 {STOLEN_CHOICE}
 > next 2
 10 match 2.0 0.0: rank 2, line 13, to rank 0, line 8
+the 2 steps that lay ahead are gone
 next: wake 2: line 13
    13    if rank == 1 {{ send 42 to 0 tag 7; }} else {{ send 5 to 0 tag 1; }}
 > run 2
@@ -456,7 +464,7 @@ refused: no step is ahead
 stopped: as many steps as were asked for
 next: release: all ranks leave the barrier
 > enabled
-release: all ranks leave the barrier
+all ranks leave the barrier; release
 > why 1
 line 6, 1.0 barrier
 > next
@@ -503,7 +511,7 @@ deleted 0
 8 steps, depth 14
 rank 0 prints 2
 rank 1 prints 1
-ended: deadlock 0.1 1.1
+ended: deadlock: rank 0 at line 9, rank 1 at line 9
   rank 0 waits at line 9, 0.1 barrier: for all ranks at a barrier
     rank 2 is not there: it has ended
   rank 1 waits at line 9, 1.1 barrier: for all ranks at a barrier
@@ -576,6 +584,7 @@ refused: this step is not enabled
 > check
 1 no choice: cut
 1 run, and no more (1 cut)
+one run for all orders of steps that don't meet; diagnose counts each order
 > deadlock
 no deadlock found from here: 1 run, and no more (1 cut)
 > run 1
@@ -595,6 +604,7 @@ stopped: as many steps as were asked for
 > check
 1 no choice: cut
 1 run, and no more (1 cut)
+one run for all orders of steps that don't meet; diagnose counts each order
 > run 1
 1 step, depth 3
 stopped: no more than 1000000 steps are kept
@@ -605,6 +615,7 @@ next: local 0: line 2
 > check
 1 no choice: cut
 1 run, and no more (1 cut)
+one run for all orders of steps that don't meet; diagnose counts each order
 > run 4
 4 steps, depth 4
 stopped: as many steps as were asked for
@@ -613,6 +624,7 @@ next: local 0: line 7
 > check
 1 no choice: cut
 1 run, and no more (1 cut)
+one run for all orders of steps that don't meet; diagnose counts each order
 ''', limit=10),
     Dialogue('and where all are kept', 'loop.mpd', '''
 > run 3
@@ -623,6 +635,7 @@ next: local 0: line 6
 > check
 1 no choice: done
 1 run, and no more (1 done)
+one run for all orders of steps that don't meet; diagnose counts each order
 > deadlock
 no deadlock from here: 1 run, and no more (1 done)
 ''', limit=11),
@@ -631,6 +644,7 @@ no deadlock from here: 1 run, and no more (1 done)
 > check
 1 no choice: cut
 1 run, and no more (1 cut)
+one run for all orders of steps that don't meet; diagnose counts each order
 > deadlock
 no deadlock found from here: 1 run, and no more (1 cut)
 > next
@@ -640,6 +654,7 @@ next: local 0: line 2
 > check
 1 no choice: done
 1 run, and no more (1 done)
+one run for all orders of steps that don't meet; diagnose counts each order
 > deadlock
 no deadlock from here: 1 run, and no more (1 done)
 ''', fuel=10),
@@ -663,11 +678,12 @@ depth 1
 > words
 local 0
 > enabled
-local 0: line 6
-local 1: line 5
+rank 0 runs line 6; local 0
+rank 1 runs line 5; local 1
 > check
 1 no choice: done
 1 run, and no more (1 done)
+one run for all orders of steps that don't meet; diagnose counts each order
 > redo
 2 local 1: line 5
 1 ahead: local 1: line 8
@@ -686,12 +702,12 @@ stopped: as many steps as were asked for
 next: local 2: line 7
     7  if rank == 0 {
 > enabled
-local 2: line 7
-match 1.0 0.0: rank 1, line 13, to rank 0, line 8
+rank 2 runs line 7; local 2
+rank 1 sends 42, tag 7 (line 13), to rank 0 (line 8); match 1.0 0.0
 '''),
     Dialogue('the first of two deadlocks', 'missing_sender.mpd', '''
 > deadlock
-deadlock 0.2 is 21 steps ahead
+deadlock is 21 steps ahead: rank 0 at line 9
 21 ahead: local 0: line 7
     7  if rank == 0 {
 > redo 7
@@ -701,11 +717,13 @@ depth 7
     9      recv x from any tag 0;
 stopped at a choice of rank 0, line 9; next N takes one:
     9      recv x from any tag 0;
-  1 match 1.0 0.0: rank 1, line 15, to rank 0, line 9
-  2 match 2.0 0.0: rank 2, line 15, to rank 0, line 9
+  1: rank 1 sends 1, tag 0 (line 15); match 1.0 0.0
+  2: rank 2 sends 2, tag 0 (line 15); match 2.0 0.0
 '''))
+# The last line of `check`.
+ORDERS = "one run for all orders of steps that don't meet; diagnose counts each order"
 # What takes the model some seconds.
 FIRST_RUNS = (
     Dialogue('more runs than are listed where no number is said', SEVEN_SENDERS,
-             f'> check\n{first_orders(1000)}\n1000 runs, and there are more (1000 done)\n> check 1001\n{first_orders(1001)}\n'
-             '1001 runs, and there are more (1001 done)\n'),)
+             f'> check\n{first_orders(1000)}\n1000 runs, and there are more (1000 done)\n{ORDERS}\n> check 1001\n{first_orders(1001)}\n'
+             f'1001 runs, and there are more (1001 done)\n{ORDERS}\n'),)

@@ -234,9 +234,9 @@ PRINTS = 'mpd 1; ranks 1; print -7;\r\n\nprint 2;\t# 2\n#\r\r\n '
 # The choice of examples/stolen_message.mpd, its deadlock, and the way there.
 STOLEN_CHOICE = '''stopped at a choice of rank 0, line 8; next N takes one:
     8    irecv r note from any tag any;
-  1 match 1.0 0.0: rank 1, line 13, to rank 0, line 8
-  2 match 2.0 0.0: rank 2, line 13, to rank 0, line 8'''
-STOLEN_END = '''ended: deadlock 0.1 2.0
+  1: rank 1 sends 42, tag 7 (line 13); match 1.0 0.0
+  2: rank 2 sends 5, tag 1 (line 13); match 2.0 0.0'''
+STOLEN_END = '''ended: deadlock: rank 0 at line 9, rank 2 at line 13
   rank 0 waits at line 9, 0.1 recv from 1 tag 7: for a send of rank 1 with tag 7
     the last that fits is taken: line 13, 1.0 send to 0 tag 7 value 42, by line
         8, 0.0 irecv from any tag any
@@ -263,23 +263,23 @@ STOLEN_AHEAD = f'leaf 0 [0] deadlock 0.1 2.0\nwitness 0: {STOLEN_STEPS}\n'.repla
 # The choice of BESIDE_ANY_OF_TWO.
 ANY_CHOICE = '''stopped at a choice of rank 0, line 7; next N takes one:
     7    waitany r to i;
-  1 wakeany 0 0: line 7, by line 4, 0.0 irecv from 1 tag 1
-  2 wakeany 0 1: line 7, by line 5, 0.1 irecv from 1 tag 3'''
+  1: request r[0], the receive of line 4 (value 5); wakeany 0 0
+  2: request r[1], the receive of line 5 (value 7); wakeany 0 1'''
 # The line that receives in THREE_SENDERS, its first choice, and the one behind the message of rank 2.
 TAKES_THREE = '    3    while i < 3 { recv x from any tag 0; i = i + 1; }'
 OF_THREE = f'''stopped at a choice of rank 0, line 3; next N takes one:
 {TAKES_THREE}
-  1 match 1.0 0.0: rank 1, line 4, to rank 0, line 3
-  2 match 2.0 0.0: rank 2, line 4, to rank 0, line 3
-  3 match 3.0 0.0: rank 3, line 4, to rank 0, line 3'''
+  1: rank 1 sends 1, tag 0 (line 4); match 1.0 0.0
+  2: rank 2 sends 1, tag 0 (line 4); match 2.0 0.0
+  3: rank 3 sends 1, tag 0 (line 4); match 3.0 0.0'''
 OF_TWO = f'''stopped at a choice of rank 0, line 3; next N takes one:
 {TAKES_THREE}
-  1 match 1.0 0.1: rank 1, line 4, to rank 0, line 3
-  2 match 3.0 0.1: rank 3, line 4, to rank 0, line 3'''
+  1: rank 1 sends 1, tag 0 (line 4); match 1.0 0.1
+  2: rank 3 sends 1, tag 0 (line 4); match 3.0 0.1'''
 # The choice of TWO_RACES.
 BOTH_RACES = '''stopped at a choice; next N takes one:
-  1 match 2.0 0.0: rank 2, line 5, to rank 0, line 3
-  2 match 3.0 1.0: rank 3, line 5, to rank 1, line 3'''
+  1: rank 2 sends 7, tag 0 (line 5), to rank 0 (line 3); match 2.0 0.0
+  2: rank 3 sends 7, tag 0 (line 5), to rank 1 (line 3); match 3.0 1.0'''
 
 
 def first_orders(count):

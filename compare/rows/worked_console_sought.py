@@ -28,23 +28,25 @@ SOUGHT = (
     Dialogue('a deadlock beside messages whose order changes nothing', RARE, '''
 > check 7
 1 choices 1 1 1 1 1: done
-2 choices 2 1 1 1 1: deadlock 0.1 1.0
+2 choices 2 1 1 1 1: deadlock: rank 0 at line 3, rank 1 at line 3
 2 runs, and no more (1 done, 1 deadlock)
+one run for all orders of steps that don't meet; diagnose counts each order
 > check 1
 1 choices 1 1 1 1 1: done
 1 run, and there are more (1 done)
+one run for all orders of steps that don't meet; diagnose counts each order
 > follow 1
 run 1, done, is 68 steps ahead
 68 ahead: local 0: line 2
     2  if rank < 3 {
 > follow 2
-run 2, deadlock 0.1 1.0, is 65 steps ahead
+run 2, deadlock, is 65 steps ahead: rank 0 at line 3, rank 1 at line 3
 65 ahead: local 0: line 2
     2  if rank < 3 {
 > follow 3
 refused: there is no such run
 > deadlock
-deadlock 0.1 1.0 is 65 steps ahead
+deadlock is 65 steps ahead: rank 0 at line 3, rank 1 at line 3
 65 ahead: local 0: line 2
     2  if rank < 3 {
 '''),
@@ -54,8 +56,9 @@ deadlock 0.1 1.0 is 65 steps ahead
 no trap from here: 60 runs, and no more (30 done, 30 deadlock)
 > check
 1 choices 1 1 1 1 1: done
-2 choices 2 1 1 1 1: deadlock 0.1 1.0
+2 choices 2 1 1 1 1: deadlock: rank 0 at line 3, rank 1 at line 3
 2 runs, and no more (1 done, 1 deadlock)
+one run for all orders of steps that don't meet; diagnose counts each order
 '''),
     Dialogue('no more runs than are looked at, and the way to where a deadlock is decided', RARE, '''
 > trap
@@ -65,11 +68,11 @@ refused: there is no such run
 > check 3
 refused: 1 to 65536 runs can be asked for
 > follow 2
-run 2, deadlock 0.1 1.0, is 65 steps ahead
+run 2, deadlock, is 65 steps ahead: rank 0 at line 3, rank 1 at line 3
 65 ahead: local 0: line 2
     2  if rank < 3 {
 > deadlock
-deadlock 0.1 1.0 is 65 steps ahead
+deadlock is 65 steps ahead: rank 0 at line 3, rank 1 at line 3
 65 ahead: local 0: line 2
     2  if rank < 3 {
 > run 25
@@ -78,14 +81,14 @@ deadlock 0.1 1.0 is 65 steps ahead
     3    if rank == 0 { recv x from any tag 0; recv x from 2 tag 0; } else {
         send rank to 0 tag 0; }
 stopped at a choice; next N takes one:
-  1 match 1.0 0.0: rank 1, line 3, to rank 0, line 3
-  2 match 2.0 0.0: rank 2, line 3, to rank 0, line 3
-  3 match 5.0 3.0: rank 5, line 6, to rank 3, line 6
-  4 match 6.0 4.0: rank 6, line 6, to rank 4, line 6
+  1: rank 1 sends 1, tag 0 (line 3), to rank 0 (line 3); match 1.0 0.0
+  2: rank 2 sends 2, tag 0 (line 3), to rank 0 (line 3); match 2.0 0.0
+  3: rank 5 sends 5, tag 0 (line 6), to rank 3 (line 6); match 5.0 3.0
+  4: rank 6 sends 6, tag 0 (line 6), to rank 4 (line 6); match 6.0 4.0
 ''', runs=2, states=1),
     Dialogue('a trap beside messages whose order changes nothing', RARE_TRAP, '''
 > trap
-trap 0 zero-divisor is 65 steps ahead
+trap is 65 steps ahead: rank 0 at line 3 (zero-divisor)
 65 ahead: local 0: line 2
     2  if rank < 3 {
 > deadlock
@@ -93,7 +96,7 @@ no deadlock from here: 60 runs, and no more (30 done, 30 trap)
 ''', runs=2),
     Dialogue('a trap beside them, where each state is not looked at once', RARE_TRAP, '''
 > trap
-trap 0 zero-divisor is 65 steps ahead
+trap is 65 steps ahead: rank 0 at line 3 (zero-divisor)
 65 ahead: local 0: line 2
     2  if rank < 3 {
 > deadlock
@@ -113,10 +116,11 @@ refused: there is no such run
 ''', runs=1, states=1),
     Dialogue('several outcomes of one way, none of which is sought', ONE_IS_TAKEN, '''
 > check
-1 choices 1: deadlock 2.0 3.0
-2 choices 2: deadlock 1.0 3.0
-3 choices 3: deadlock 1.0 2.0
+1 choices 1: deadlock: rank 2 at line 2, rank 3 at line 2
+2 choices 2: deadlock: rank 1 at line 2, rank 3 at line 2
+3 choices 3: deadlock: rank 1 at line 2, rank 2 at line 2
 3 runs, and no more (3 deadlock)
+one run for all orders of steps that don't meet; diagnose counts each order
 > trap
 no trap from here: 3 runs, and no more (3 deadlock)
 '''),
@@ -124,7 +128,7 @@ no trap from here: 3 runs, and no more (3 deadlock)
 > deadlock
 no deadlock from here: 2 runs, and no more (1 done, 1 trap)
 > trap
-trap 0 assert is 14 steps ahead
+trap is 14 steps ahead: rank 0 at line 11 (assert)
 14 ahead: local 0: line 7
     7  if rank == 0 {
 ''', states=1),
@@ -149,11 +153,11 @@ ALL_RUNS = (
 > trap
 no trap from here: 1260 runs, and no more (630 done, 630 deadlock)
 > deadlock
-deadlock 0.1 1.0 is 91 steps ahead
+deadlock is 91 steps ahead: rank 0 at line 3, rank 1 at line 3
 91 ahead: local 0: line 2
     2  if rank < 3 {
 > follow 2
-run 2, deadlock 0.1 1.0, is 91 steps ahead
+run 2, deadlock, is 91 steps ahead: rank 0 at line 3, rank 1 at line 3
 91 ahead: local 0: line 2
     2  if rank < 3 {
 > follow 3
@@ -163,13 +167,13 @@ refused: there is no such run
 MANY_RUNS = (
     Dialogue('a deadlock beside many messages whose order changes nothing', RARER, '''
 > deadlock
-deadlock 0.1 1.0 is 143 steps ahead
+deadlock is 143 steps ahead: rank 0 at line 3, rank 1 at line 3
 143 ahead: local 0: line 2
     2  if rank < 3 {
 > trap
 no trap from here: 2494800 runs, and no more (1247400 done, 1247400 deadlock)
 > follow 2
-run 2, deadlock 0.1 1.0, is 143 steps ahead
+run 2, deadlock, is 143 steps ahead: rank 0 at line 3, rank 1 at line 3
 143 ahead: local 0: line 2
     2  if rank < 3 {
 > follow 3

@@ -41,6 +41,7 @@ refused: 1 to 65536 runs can be asked for
 > check 65536
 1 no choice: done
 1 run, and no more (1 done)
+one run for all orders of steps that don't meet; diagnose counts each order
 > follow 0
 refused: there is no such run
 > follow 65537
@@ -237,8 +238,8 @@ unknown word 'li': perhaps list
 unknown word 'dump': help all lists all
 > cont
 unknown word 'cont': perhaps continue
-> finish
-unknown word 'finish': help all lists all
+> finnish
+unknown word 'finnish': perhaps finish
 > stop
 unknown word 'stop': perhaps step
 > steps 2

@@ -187,8 +187,8 @@ depth 0
 stopped at a choice of rank 0, line 7; next N takes one:
     7  if rank == 0 { recv x from any tag any status who tag_of; recv x from 1
         tag any; } else { send rank to 0 tag 0; }
-  1 match 1.0 0.0: rank 1, line 7, to rank 0, line 7
-  2 match 2.0 0.0: rank 2, line 7, to rank 0, line 7
+  1: rank 1 sends 1, tag 0 (line 7); match 1.0 0.0
+  2: rank 2 sends 2, tag 0 (line 7); match 2.0 0.0
 > next 2
 7 match 2.0 0.0: rank 2, line 7, to rank 0, line 7
 next: wake 0: line 7
@@ -293,7 +293,7 @@ rank 0 has lost a request: line 4, 0.1 issend to 1 tag 0 value 2
 rank 1: x = 0, r = -, s = -
 > run
 10 steps, depth 14
-ended: deadlock 1.3
+ended: deadlock: rank 1 at line 11
   rank 1 waits at line 11, 1.3 recv from 0 tag 1: for a send of rank 0 with tag
         1
   rank 1 waits for rank 0 (ended)
@@ -355,7 +355,7 @@ rank 0: x = 0, i = 0, r = [0.4], h = 0.2
 rank 0 has lost a request: line 5, 0.3 isend to 0 tag 0 value 6
 > run
 2 steps, depth 9
-ended: leftovers 0.2
+ended: leftovers: rank 0 at line 4
   left over: line 4, 0.2 irecv from 0 tag 1
 > vars
 rank 0: x = 6, i = 0, r = [-], h = 0.2
@@ -389,7 +389,7 @@ rank 0 has lost a request: line 3, 0.1 irecv from 0 tag 0
     Dialogue('one that is free at the end, beside a wait for any', FREE_BESIDE_ANY, '''
 > run
 4 steps, depth 4
-ended: leftovers 0.0 0.1
+ended: leftovers: rank 0 at line 2, rank 0 at line 3
   left over: line 2, 0.0 irecv from 0 tag 3
   left over: line 3, 0.1 isend to 0 tag 0 value 3
 rank 0 has lost a request: line 2, 0.0 irecv from 0 tag 3
@@ -416,7 +416,7 @@ next: local 0: line 7
 >
 4 steps, depth 9
 breakpoint 0: change 0 r[0]
-ended: leftovers 0.2
+ended: leftovers: rank 0 at line 4
   left over: line 4, 0.2 irecv from 0 tag 1
 > break change 0 r[0]
 breakpoint 1: change 0 r[0]
@@ -439,7 +439,7 @@ rank 0: none = [], one = [0], some = [0, 0, 0, 0, 0, 0, 0, 0, 0, 0, 0, 0, 0, 0,
         [-, -, -, -, -, -, -, -, -, -, -, -, -, -, -, -, ..], q = [-]
 > run
 5 steps, depth 5
-ended: leftovers 0.0 0.1
+ended: leftovers: rank 0 at line 5, rank 0 at line 6
   left over: line 5, 0.0 isend to 0 tag 0 value 1
   left over: line 6, 0.1 isend to 0 tag 0 value 2
 > vars 0
@@ -467,7 +467,7 @@ rank 0: r = -, none = []
 > run
 2 steps, depth 2
 rank 0 prints -1
-ended: leftovers 0.0
+ended: leftovers: rank 0 at line 2
   left over: line 2, 0.0 isend to 0 tag 0 value 1
 > vars
 rank 0: r = 0.0, none = []
@@ -478,7 +478,7 @@ rank 0 has printed -1
 rank 0: r = -
 > run
 1 step, depth 1
-ended: leftovers 0.0
+ended: leftovers: rank 0 at line 2
   left over: line 2, 0.0 isend to 0 tag 0 value 1
 > vars
 rank 0: r = 0.0

@@ -249,7 +249,7 @@ next: wake 1: line 7
 > run
 2 steps, depth 19
 rank 1 prints 2
-ended: leftovers 0.0 0.1
+ended: leftovers: rank 0 at line 3, rank 0 at line 3
   left over: line 3, 0.0 isend to 1 tag 0 value 0
   left over: line 3, 0.1 isend to 1 tag 1 value 1
 {BOTH_LOST}
@@ -261,7 +261,7 @@ depth 5
 depth 19
 rank 0 prints 3
 rank 1 prints 2
-ended: leftovers 0.0 0.1
+ended: leftovers: rank 0 at line 3, rank 0 at line 3
   left over: line 3, 0.0 isend to 1 tag 0 value 0
   left over: line 3, 0.1 isend to 1 tag 1 value 1
 {BOTH_LOST}
@@ -282,7 +282,7 @@ next: local 0: line 3
     3  isend r 2 to 0 tag 1;
 >
 2 local 0: line 3
-ended: leftovers 0.0 0.1
+ended: leftovers: rank 0 at line 2, rank 0 at line 3
   left over: line 2, 0.0 isend to 0 tag 0 value 1
   left over: line 3, 0.1 isend to 0 tag 1 value 2
 rank 0 has lost a request: line 2, 0.0 isend to 0 tag 0 value 1
@@ -292,7 +292,7 @@ depth 1
     3  isend r 2 to 0 tag 1;
 > redo
 2 local 0: line 3
-ended: leftovers 0.0 0.1
+ended: leftovers: rank 0 at line 2, rank 0 at line 3
   left over: line 2, 0.0 isend to 0 tag 0 value 1
   left over: line 3, 0.1 isend to 0 tag 1 value 2
 rank 0 has lost a request: line 2, 0.0 isend to 0 tag 0 value 1
@@ -302,7 +302,7 @@ depth 0
     2  isend r 1 to 0 tag 0;
 > run
 2 steps, depth 2
-ended: leftovers 0.0 0.1
+ended: leftovers: rank 0 at line 2, rank 0 at line 3
   left over: line 2, 0.0 isend to 0 tag 0 value 1
   left over: line 3, 0.1 isend to 0 tag 1 value 2
 rank 0 has lost a request: line 2, 0.0 isend to 0 tag 0 value 1
@@ -318,7 +318,8 @@ stopped: as many steps as were asked for
 next: release: all ranks leave the barrier
 > next
 11 release: all ranks leave the barrier
-ended: leftovers 0.0 0.1 1.0 1.1
+ended: leftovers: rank 0 at line 3, rank 0 at line 4, rank 1 at line 3, rank 1
+        at line 4
   left over: line 3, 0.0 isend to 0 tag 0 value 1
   left over: line 4, 0.1 isend to 0 tag 1 value 2
   left over: line 3, 1.0 isend to 1 tag 0 value 1
@@ -404,6 +405,7 @@ refused: there is no such candidate
 {BOTH_RACES}
 > next 1
 9 match 2.0 0.0: rank 2, line 5, to rank 0, line 3
+the 6 steps that lay ahead are gone
 next: wake 0: line 3
     3    recv x from any tag 0;
 > back
@@ -494,7 +496,7 @@ ended: done
 '''),
     Dialogue('all that are ahead, through a choice', TRAP_THEN_HANG, f'''
 > deadlock
-deadlock 0.1 1.0 is 11 steps ahead
+deadlock is 11 steps ahead: rank 0 at line 5, rank 1 at line 6
 11 ahead: local 0: line 2
     2  if rank == 0 {{
 > redo all

@@ -50,7 +50,7 @@ HEAD_TO_HEAD = b'mpd 1; ranks 2; var x;\nsend rank to 1 - rank tag 5;\nrecv x fr
 # How that ends where sends are buffered, and where they aren't.
 PASSES = b'10 steps, depth 10\nended: done\n'
 WAITS = b'''2 steps, depth 2
-ended: deadlock 0.0 1.0
+ended: deadlock: rank 0 at line 2, rank 1 at line 2
   rank 0 waits at line 2, 0.0 send to 1 tag 5 value 0: for a receive of rank 1
         from rank 0 with tag 5
   rank 1 waits at line 2, 1.0 send to 0 tag 5 value 1: for a receive of rank 0

@@ -32,7 +32,7 @@ PIPE = 65536
 # The first message, word by word: what each is answered. It is read from a file.
 FIRST = b'mpd 1;\nranks 2;\nvar x;\nif rank == 0 { send 7 to 1 tag 0; } else { recv x from 0 tag 0; print x; }\n'
 WORDS = ('local 0', 'local 0', 'local 1', 'local 1', 'match 0.0 1.0', 'wake 0', 'wake 1', 'local 1', 'show')
-AHEAD = b'''deadlock 0.1 2.0 is 10 steps ahead
+AHEAD = b'''deadlock is 10 steps ahead: rank 0 at line 7, rank 2 at line 7
 10 ahead: local 0: line 7
     7  if rank == 0 { recv x from any tag any status who tag_of; recv x from 1
         tag any; } else { send rank to 0 tag 0; }

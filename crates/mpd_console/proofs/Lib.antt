@@ -1,5 +1,6 @@
 pub mod SaidLemmas
 pub mod BlamedLemmas
 pub mod OpeningLemmas
+pub mod OnwardLemmas
 pub mod MoveLemmas
 pub mod NewsLemmas

@@ -20,8 +20,8 @@ use Rattle.mpd_vocabulary.specs.declared.word.WordFault.{WordFault}
 use Rattle.mpd_vocabulary.specs.declared.read.Line.{Line}
 use Rattle.mpd_vocabulary.specs.declared.read.Line.TheVariants.{Blank, Comment, Says, Wrong}
 use Rattle.mpd_lines.specs.Folding.{folded}
-use Rattle.mpd_console.specs.News.{Known, known_for}
-use Rattle.mpd_console.specs.Moves.{doing_of, lead_text, reply_text}
+use Rattle.mpd_console.specs.News.{Known}
+use Rattle.mpd_console.specs.Moves.{doing_of, lead_text, reply_text, way_known}
 use Rattle.mpd_console.specs.Looks.{look_text}
 use Rattle.mpd_vocabulary.specs.Reading.{line_of}
 use Rattle.mpd_runs.specs.declared.counts.WayCounts.{WayCounts}
@@ -55,8 +55,8 @@ replied p script s d places x lead begun one lent text k r reached e pl b h l m 
 pub led : (s : Held) (d : DebuggerView) (x : Word) (text : List ℕ) → IsReached (standing_of d) → d.trail ≡ s.trail → text ≡ lead_text d.trail d.world x → text ≡ lead_said s x
 led s d x text reached e h = h ∙ told_at (λ t w. lead_text t w x) s d reached e
 
-pub known : (s : Held) (d : DebuggerView) (x : Word) (k : Known) → IsReached (standing_of d) → d.trail ≡ s.trail → k ≡ known_for d.trail d.world x → k ≡ known_in s x
-known s d x k reached e h = h ∙ ap (λ t. known_for t d.world x) e ∙ sym (ap (known_at s.trail x) (world_at s d reached e))
+pub known : (s : Held) (d : DebuggerView) (x : Word) (k : Known) → IsReached (standing_of d) → d.trail ≡ s.trail → k ≡ way_known d.trail d.world x → k ≡ known_in s x
+known s d x k reached e h = h ∙ ap (λ t. way_known t d.world x) e ∙ sym (ap (known_at s.trail x) (world_at s d reached e))
 
 pub looked : (p q : Bool) (script : List ℕ) (s : Held) (d : DebuggerView) (places : List (Option Break)) (x : Word) (begun one lent none two text : List ℕ) → IsReached (standing_of d) → d.trail ≡ s.trail → places ≡ s.breaks
     → q ≡ prompts_behind p x → begun ≡ [] → one ≡ begun ++ look_text d.trail d.world places script x → lent ≡ one → none ≡ [] → two ≡ none ++ laid_out x lent → text ≡ two ++ prompt q s → text ≡ look_said p script s x
@@ -65,11 +65,13 @@ looked p q script s d places x begun one lent none two text reached e pl is b h 
     k ∙ ap (λ z. z ++ prompt q s) (m ∙ ap (λ z. z ++ laid_out x lent) n) ∙ ap (λ z. laid_out x z ++ prompt q s) (l ∙ u ∙ told_at (λ t w. look_text t w s.breaks script x) s d reached e)
     ∙ ap (λ z. laid_out x (at_world (λ w. look_text s.trail w s.breaks script x) (world_of s.trail)) ++ prompt z s) is
 
-pub found : (p : Bool) (script : List ℕ) (s : Held) (d : DebuggerView) (number : Option ℕ) (e : Ending) (ahead : ℕ) (begun one two lent text : List ℕ) → IsReached (standing_of d) → d.trail ≡ s.trail
-    → begun ≡ [] → one ≡ begun ++ ahead_line number e ahead → two ≡ one ++ standing_text script d.trail d.world → lent ≡ two → text ≡ said p s lent → text ≡ laid_said p script s number e ahead
-found p script s d number e ahead begun one two lent text reached at b h k l m =
-    let u : one ≡ ahead_line number e ahead = h ∙ ap (λ z. z ++ ahead_line number e ahead) b in
-    let v : two ≡ ahead_line number e ahead ++ at_world (standing_text script s.trail) (world_of s.trail) = k ∙ ap (λ z. z ++ standing_text script d.trail d.world) u ∙ ap (λ z. ahead_line number e ahead ++ z) (told_at (standing_text script) s d reached at) in
+pub found : (p : Bool) (script : List ℕ) (s : Held) (d : DebuggerView) (lines : List ℕ) (number : Option ℕ) (e : Ending) (ahead : ℕ) (begun one two lent text : List ℕ) → IsReached (standing_of d) → d.trail ≡ s.trail
+    → lines ≡ d.trail.program.lines → begun ≡ [] → one ≡ begun ++ ahead_line lines number e ahead → two ≡ one ++ standing_text script d.trail d.world → lent ≡ two → text ≡ said p s lent
+    → text ≡ laid_said p script s number e ahead
+found p script s d lines number e ahead begun one two lent text reached at is b h k l m =
+    let own : List ℕ = ahead_line s.trail.program.lines number e ahead in
+    let u : one ≡ own = h ∙ ap (λ z. z ++ ahead_line lines number e ahead) b ∙ ap (λ z. ahead_line z number e ahead) is ∙ ap (λ (t : Trail). ahead_line t.program.lines number e ahead) at in
+    let v : two ≡ own ++ at_world (standing_text script s.trail) (world_of s.trail) = k ∙ ap (λ z. z ++ standing_text script d.trail d.world) u ∙ ap (λ z. own ++ z) (told_at (standing_text script) s d reached at) in
     m ∙ ap (said p s) (l ∙ v)
 
 -- what is told of nothing but what is given

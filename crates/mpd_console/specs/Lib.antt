@@ -3,4 +3,5 @@ pub mod Blamed
 pub mod Says
 pub mod Quitting
 pub mod News
+pub mod Onward
 pub mod Moves

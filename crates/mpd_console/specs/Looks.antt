@@ -21,6 +21,7 @@ use Rattle.mpd_picture.specs.Pictures.{picture_text}
 use Rattle.mpd_vocabulary.specs.declared.word.Word.{Word}
 use Rattle.mpd_vocabulary.specs.declared.word.Word.TheVariants as word
 use Rattle.mpd_console.specs.Moves.{break_line_of}
+use Rattle.mpd_console.specs.Onward.{finish_rank}
 use Rattle.mpd_runs.specs.Runs.{check_text}
 use Rattle.mpd_vocabulary.specs.Faults.{help_text}
 
@@ -76,6 +77,11 @@ why_call_text s w c = if is_some (call_at w.board c) then why_text s w c else no
 abbrev pub why_of_text : Program → World → Option ℕ → List ℕ
 why_of_text s w rank = of_ranks w rank (why_rank_text s w) (why_ranks_text s w)
 
+-- of `finish`, where it doesn't go on: the rank waits for no call, or none is named and the last step is of none
+abbrev pub unfinished_text : Program → World → Option ℕ → List ℕ
+unfinished_text s w None = line (codes "refused: the last step is of no rank; finish P names one")
+unfinished_text s w (Some p) = why_of_text s w (Some p)
+
 abbrev pub whole_text : Trail → World → List ℕ
 whole_text t w = show_text t.program w t.depth (length t.steps)
 
@@ -91,6 +97,7 @@ look_text t w places text (word.Calls rank) = calls_text t.program w rank
 look_text t w places text word.Queues = shown.queues_text t.program w.board
 look_text t w places text (word.WhyCall c) = why_call_text t.program w c
 look_text t w places text (word.WhyRank p) = why_of_text t.program w p
+look_text t w places text (word.Finish p) = unfinished_text t.program w (finish_rank t p)
 look_text t w places text (word.History n) = history_text t n
 look_text t w places text word.Picture = picture_text t w
 look_text t w places text (word.Check n) = check_text t w n

@@ -12,7 +12,9 @@ use Rattle.mpd_model.specs.declared.breakpoint.Cause.TheVariants as for
 use Rattle.mpd_model.specs.declared.breakpoint.Stop.{Stop}
 use Rattle.mpd_model.specs.script.Declaration.{Declared}
 use Rattle.mpd_model.specs.script.Program.{Program}
+use Rattle.mpd_model.specs.declared.limits.TheConstants.{STEPS_MAX}
 use Rattle.mpd_model.specs.steps.World.{World}
+use Rattle.mpd_model.specs.steps.Next.{waits}
 use Rattle.mpd_model.specs.runs.Decisions.{decision}
 use Rattle.mpd_model.specs.runs.Running.{all_applied}
 use Rattle.mpd_model.specs.runs.Trail.{Trail, step_eq, forgotten}
@@ -36,7 +38,8 @@ use Rattle.mpd_console.specs.declared.moves.Doing.{Doing}
 use Rattle.mpd_console.specs.declared.moves.Doing.TheVariants.{Asks, Undoes, Seeks, Follows, Blames, Looks}
 use Rattle.mpd_runs.specs.declared.way.Way.TheVariants as way
 use Rattle.mpd_runs.specs.Seek.{count_words}
-use Rattle.mpd_console.specs.News.{Known, news_text}
+use Rattle.mpd_console.specs.News.{Known, known_for, news_text}
+use Rattle.mpd_console.specs.Onward.{is_line, steps_to_line, steps_to_wake, finish_rank}
 use Rattle.mpd_vocabulary.specs.declared.word.Word.{Word}
 use Rattle.mpd_vocabulary.specs.declared.word.Word.TheVariants as word
 
@@ -105,11 +108,35 @@ redo_command t n = if nat_lt 0 (ahead_of t) && nat_lt (ahead_of t) n then comman
 abbrev pub goto_command : Trail → ℕ → Command
 goto_command t n = if nat_lt t.depth n && nat_le (n - t.depth) (ahead_of t) then command.Redo (n - t.depth) else command.Goto n
 
+-- a run on goes no further than so many steps; steps that lie ahead are taken all the same
+abbrev pub no_further : ℕ → Command → Command
+no_further n (command.RunOn m) = command.RunOn n
+no_further n other = other
+
+-- what goes on as `run` does, by so many steps at most
+unfoldable pub up_to : Trail → World → ℕ → Command
+up_to t w n = no_further n (run_command t w STEPS_MAX)
+
+-- up to where a rank comes to a line, as `run` goes on; what is no line is refused as a breakpoint on it is
+abbrev pub until_command : Trail → World → ℕ → Command
+until_command t w n = if is_line n then up_to t w (steps_to_line t w n) else command.Break (on.Line n)
+
+-- up to where a rank goes on that waits
+abbrev pub finish_command : Trail → World → ℕ → Command
+finish_command t w p = up_to t w (steps_to_wake t w p)
+
+-- one that doesn't wait is told of, as is that there is none
+abbrev pub finish_doing : Trail → World → Option ℕ → Doing
+finish_doing t w None = Looks
+finish_doing t w (Some p) = if waits (slice_get w.ranks p) then Asks (finish_command t w p) else Looks
+
 -- what a word does with a session: it asks for something that changes it, goes back to the last choice, lays a run ahead, the first that
 -- ends so or that of a number, goes to the step that decided, or changes nothing
 abbrev pub doing_of : Trail → World → Word → Doing
 doing_of t w (word.Next n) = Asks (next_command t w n)
 doing_of t w (word.Run n) = Asks (run_command t w n)
+doing_of t w (word.Until n) = Asks (until_command t w n)
+doing_of t w (word.Finish p) = finish_doing t w (finish_rank t p)
 doing_of t w (word.Back n) = Asks (command.Back n)
 doing_of t w word.RunBack = Asks command.RunBack
 doing_of t w word.UndoChoice = Undoes
@@ -152,10 +179,12 @@ abbrev pub redone_step : Trail → Command → Option Step
 redone_step t (command.Redo n) = if n == 1 then slice_get t.steps t.depth else None
 redone_step t other = None
 
--- of a step by hand, `next`, and where one step is taken again by `redo` or `run`
+-- of a step by hand, `next`, and where one step is taken again by `redo`, or by what goes on as `run` does
 abbrev pub step_for : Trail → World → Word → Option Step
 step_for t w (word.Next n) = picked (slice_get t.steps t.depth) n (decision w)
 step_for t w (word.Run n) = redone_step t (run_command t w n)
+step_for t w (word.Until n) = redone_step t (run_command t w STEPS_MAX)
+step_for t w (word.Finish p) = redone_step t (run_command t w STEPS_MAX)
 step_for t w (word.Redo n) = redone_step t (redo_command t n)
 step_for t w (word.Step a) = Some a
 step_for t w other = None
@@ -166,6 +195,20 @@ words_of s w (Some a) = step_words s w a
 
 abbrev pub lead_text : Trail → World → Word → List ℕ
 lead_text t w x = words_of t.program w (step_for t w x)
+
+-- ---- steps that lie ahead, and are gone by a word: it takes another step than the first of these
+
+abbrev pub leaves_way : Option Step → Option Step → Bool
+leaves_way (Some b) (Some a) = not (step_eq b a)
+leaves_way (Some b) None = false
+leaves_way None taken = false
+
+abbrev pub gone_by : Trail → Option Step → ℕ
+gone_by t taken = if leaves_way (slice_get t.steps t.depth) taken then ahead_of t else 0
+
+-- what is known before a word
+abbrev pub way_known : Trail → World → Word → Known
+way_known t w x = known_for t w x (gone_by t (step_for t w x))
 
 -- ---- what is told of a move
 
@@ -197,9 +240,14 @@ abbrev pub hit_line : List Declared → List (Option Break) → Option ℕ → L
 hit_line ds places None = []
 hit_line ds places (Some n) = break_line_of ds n (break_at places n)
 
--- `run` takes a single step only at a choice, and says so where that hits no breakpoint
+abbrev pub behind_choice : List ℕ
+behind_choice = line (codes "stopped: behind the choice")
+
+-- what goes on as `run` does takes a single step only at a choice, and says so where that hits no breakpoint
 abbrev pub along_line : Word → Option ℕ → List ℕ
-along_line (word.Run n) None = line (codes "stopped: behind the choice")
+along_line (word.Run n) None = behind_choice
+along_line (word.Until n) None = behind_choice
+along_line (word.Finish p) None = behind_choice
 along_line other hit = []
 
 abbrev pub hit_text : List Declared → List (Option Break) → Word → Option ℕ → List ℕ
@@ -228,11 +276,20 @@ abbrev pub break_cause : List Declared → Word → ℕ → Option Break → Lis
 break_cause ds x n None = []
 break_cause ds x n (Some b) = before_words x ++ break_line ds n b
 
+abbrev pub most_words : Word → List ℕ
+most_words (word.Finish p) = line (codes "stopped: that call is over")
+most_words other = line (codes "stopped: as many steps as were asked for")
+
+-- why it made no more steps than it was to make
+abbrev pub most_line : Word → List ℕ
+most_line (word.Until n) = line (codes "stopped: a rank is at line " ++ decimal n)
+most_line other = most_words other
+
 -- why a run stopped, where that isn't told by where it stands
 abbrev pub cause_line : List Declared → List (Option Break) → Word → Cause → List ℕ
 cause_line ds places x for.Leaf = []
 cause_line ds places x for.Choice = []
-cause_line ds places x for.Max = line (codes "stopped: as many steps as were asked for")
+cause_line ds places x for.Max = most_line x
 cause_line ds places x for.Full = line (codes "stopped: no more than 1000000 steps are kept")
 cause_line ds places x for.Start = line (codes "at the start")
 cause_line ds places x (for.Break n) = break_cause ds x n (break_at places n)
@@ -240,14 +297,24 @@ cause_line ds places x (for.Break n) = break_cause ds x n (break_at places n)
 abbrev pub ran_line : Word → ℕ → ℕ → List ℕ
 ran_line x depth count = line (count_words count ++ back_words x ++ codes ", depth " ++ decimal depth)
 
-abbrev pub run_text : List ℕ → Trail → World → List (Option Break) → Word → ℕ → Stop → Known → List ℕ
-run_text text t w places x depth stop k = ran_line x depth stop.steps ++ news_text k t w ++ cause_line t.program.decls places x stop.cause ++ standing_text text t w
-
--- ---- breakpoints
-
 -- `no statement begins at line 7`, where that is so
 abbrev pub statement_line : List ℕ → ℕ → List ℕ
 statement_line lines n = if list_any (λ l. l == n) lines then [] else line (codes "no statement begins at line " ++ decimal n)
+
+-- of the line that `until` goes on to
+abbrev pub until_note : List ℕ → Word → List ℕ
+until_note lines (word.Until n) = statement_line lines n
+until_note lines other = []
+
+-- why a run made no more steps, and before it that no statement stands on the line that was named
+abbrev pub stopped_text : Program → List (Option Break) → Word → Cause → List ℕ
+stopped_text p places x cause = until_note p.lines x ++ cause_line p.decls places x cause
+
+abbrev pub run_text : List ℕ → Trail → World → List (Option Break) → Word → ℕ → Stop → Known → List ℕ
+run_text text t w places x depth stop k =
+    ran_line x depth stop.steps ++ news_text k t w ++ stopped_text t.program places x stop.cause ++ standing_text text t w
+
+-- ---- breakpoints
 
 abbrev pub break_note : List ℕ → Break → List ℕ
 break_note lines (on.Line n) = statement_line lines n
@@ -272,6 +339,7 @@ break_range other = line (codes "refused: there is no such rank")
 
 abbrev pub range_line : Word → List ℕ
 range_line (word.Break b) = break_range b
+range_line (word.Until n) = break_range (on.Line n)
 range_line other = line (codes "refused: 1 to 1000000 steps can be asked for")
 
 -- `next` is answered with where it stands, and says why only where that doesn't tell

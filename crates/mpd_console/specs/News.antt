@@ -1,5 +1,5 @@
 -- What the steps of a word did: what ranks print by them, and the requests that are lost by them (docs/CONSOLE.md, "Answers").
-use Rattle.std.specs.Prelude.{ℕ, ℤ, Bool, true, false, nat_lt, if◌then◌else◌, List, [], ◌∷◌, ◌++◌, length, drop, get_or, slice_get, Option, Some, None, codes}
+use Rattle.std.specs.Prelude.{ℕ, ℤ, ◌==◌, Bool, true, false, nat_lt, if◌then◌else◌, List, [], ◌∷◌, ◌++◌, length, drop, get_or, slice_get, Option, Some, None, codes}
 use Rattle.std.specs.Fmt.{decimal, signed_decimal}
 use Rattle.std.specs.List.{flat_map}
 use Rattle.mpd_model.specs.declared.decision.Decision.{Decision}
@@ -14,24 +14,26 @@ use Rattle.mpd_vocabulary.specs.declared.word.Word.{Word}
 use Rattle.mpd_vocabulary.specs.declared.word.Word.TheVariants as word
 use Rattle.mpd_explain.specs.Lost.{lost_told, lost_calls}
 
--- what is known of a session before a word: how many steps are not undone, how many values each rank has printed, and which requests are lost
+-- what is known of a session before a word: how many steps are not undone, how many values each rank has printed, which requests are lost, and
+-- how many steps that lie ahead will be gone
 pub record Known : Type 0 where
   pub depth : ℕ
   pub printed : List ℕ
   pub lost : List CallId
+  pub gone : ℕ
 
 abbrev pub printed_count : Option RankWorld → ℕ
 printed_count None = 0
 printed_count (Some r) = length r.out
 
-abbrev pub told : ℕ → List ℕ → List CallId → Known
-told depth printed lost = record { depth = depth; printed = printed; lost = lost }
+abbrev pub told : ℕ → List ℕ → List CallId → ℕ → Known
+told depth printed lost gone = record { depth = depth; printed = printed; lost = lost; gone = gone }
 
 abbrev pub printed_counts : World → List ℕ
 printed_counts w = flat_map (λ p. printed_count (slice_get w.ranks p) ∷ []) (rank_numbers w.board)
 
-abbrev pub known_of : Trail → World → Known
-known_of t w = told t.depth (printed_counts w) (lost_calls w)
+abbrev pub known_of : Trail → World → ℕ → Known
+known_of t w gone = told t.depth (printed_counts w) (lost_calls w) gone
 
 -- Words that go back tell nothing of this, so nothing but the depth has to be known for them, and no memory is asked for.
 abbrev pub goes_back : Word → Bool
@@ -40,8 +42,8 @@ goes_back word.RunBack = true
 goes_back word.UndoChoice = true
 goes_back other = false
 
-abbrev pub known_for : Trail → World → Word → Known
-known_for t w x = if goes_back x then told t.depth [] [] else known_of t w
+abbrev pub known_for : Trail → World → Word → ℕ → Known
+known_for t w x gone = if goes_back x then told t.depth [] [] 0 else known_of t w gone
 
 -- ---- what ranks print
 
@@ -75,7 +77,16 @@ losses_by (Leaf o) s w before = []
 losses_by (Forced a) s w before = losses_text s w before
 losses_by (Choice steps) s w before = losses_text s w before
 
--- ---- both, where more steps are taken than before
+-- ---- steps that lay ahead
+
+-- `the 4 steps that lay ahead are gone`
+abbrev pub gone_words : ℕ → List ℕ
+gone_words n = if n == 1 then line (codes "the step that lay ahead is gone") else line (codes "the " ++ decimal n ++ codes " steps that lay ahead are gone")
+
+abbrev pub gone_line : ℕ → List ℕ
+gone_line n = if n == 0 then [] else gone_words n
+
+-- ---- all three, where more steps are taken than before
 
 abbrev pub news_text : Known → Trail → World → List ℕ
-news_text k t w = if nat_lt k.depth t.depth then prints_text k.printed w ++ losses_by (decision w) t.program w k.lost else []
+news_text k t w = if nat_lt k.depth t.depth then gone_line k.gone ++ prints_text k.printed w ++ losses_by (decision w) t.program w k.lost else []

@@ -28,8 +28,8 @@ use Rattle.mpd_vocabulary.specs.declared.read.Line.TheVariants.{Blank, Comment, 
 use Rattle.mpd_vocabulary.specs.Reading.{line_of}
 use Rattle.mpd_console.specs.declared.moves.Doing.{Doing}
 use Rattle.mpd_console.specs.declared.moves.Doing.TheVariants.{Asks, Undoes, Seeks, Follows, Blames, Looks}
-use Rattle.mpd_console.specs.News.{Known, told, known_for}
-use Rattle.mpd_console.specs.Moves.{doing_of, goto_command, lead_text, reply_text}
+use Rattle.mpd_console.specs.News.{Known, told}
+use Rattle.mpd_console.specs.Moves.{doing_of, goto_command, lead_text, reply_text, way_known}
 use Rattle.mpd_blame.specs.declared.back.Blame.{Blame}
 use Rattle.mpd_blame.specs.declared.back.Blame.TheVariants as blame_is
 use Rattle.mpd_console.specs.Blamed.{TellsBlame}
@@ -77,8 +77,8 @@ lead_said s x = at_world (λ w. lead_text s.trail w x) (world_of s.trail)
 
 -- what is known of a session before a word
 abbrev pub known_at : Trail → Word → Option World → Known
-known_at t x None = told t.depth [] []
-known_at t x (Some w) = known_for t w x
+known_at t x None = told t.depth [] [] 0
+known_at t x (Some w) = way_known t w x
 
 abbrev pub known_in : Held → Word → Known
 known_in s x = known_at s.trail x (world_of s.trail)
@@ -104,7 +104,7 @@ look_said p script s x = laid_out x (at_world (λ w. look_text s.trail w s.break
 
 -- of a run that lies ahead, which ends so and has so many steps more than are taken; of the run of a number this, too
 abbrev pub laid_said : Bool → List ℕ → Held → Option ℕ → Ending → ℕ → List ℕ
-laid_said p script s number e ahead = said p s (ahead_line number e ahead ++ at_world (λ w. standing_text script s.trail w) (world_of s.trail))
+laid_said p script s number e ahead = said p s (ahead_line s.trail.program.lines number e ahead ++ at_world (λ w. standing_text script s.trail w) (world_of s.trail))
 
 -- of steps that lie ahead from the start of a script: how the run ends that they make
 abbrev pub AlongSaid : Program → Mode → Bool → List ℕ → List Step → List ℕ → Type 0

@@ -96,7 +96,7 @@ fn reply_text(
     hit: Option<usize>,
 ) -> Result<Vec<u8>, AllocError>
     requires hit { hit ≡ told_hit session.now.breaks session.now.trail (string_bytes lead.now.text) }
-    ensures { IfOk result (λ t. t.items ≡ spec.reply_said screen.entry.is_prompting screen.entry.script.now session.now lead.now.word (string_bytes lead.now.text) (told lead.now.known.depth lead.now.known.printed.items lead.now.known.lost.items) reply.now) }
+    ensures { IfOk result (λ t. t.items ≡ spec.reply_said screen.entry.is_prompting screen.entry.script.now session.now lead.now.word (string_bytes lead.now.text) (told lead.now.known.depth lead.now.known.printed.items lead.now.known.lost.items lead.now.known.gone) reply.now) }
 {
     let mut told = String::new(alloc);
     let debugger = session.debugger();
@@ -120,7 +120,7 @@ fn told_text(
     lead: &Lead,
     reply: &Reply,
 ) -> Result<Vec<u8>, AllocError>
-    ensures text { IfOk result (λ t. t.items ≡ spec.reply_said screen.entry.is_prompting screen.entry.script.now session.old lead.now.word (string_bytes lead.now.text) (told lead.now.known.depth lead.now.known.printed.items lead.now.known.lost.items) reply.now) }
+    ensures text { IfOk result (λ t. t.items ≡ spec.reply_said screen.entry.is_prompting screen.entry.script.now session.old lead.now.word (string_bytes lead.now.text) (told lead.now.known.depth lead.now.known.printed.items lead.now.known.lost.items lead.now.known.gone) reply.now) }
     ensures held { session.new ≡ session.old }
 {
     let hit = hit_told(session, lead.text.as_str())?;
@@ -138,7 +138,7 @@ fn tell_reply(
     out: &mut Vec<u8>,
 )
     requires room { vec_len out.old + ROOM ≤ vec_capacity out.old }
-    ensures told { Adds (Told (spec.reply_said screen.entry.is_prompting screen.entry.script.now session.old lead.now.word (string_bytes lead.now.text) (told lead.now.known.depth lead.now.known.printed.items lead.now.known.lost.items) reply.now)) out.old.items out.new.items }
+    ensures told { Adds (Told (spec.reply_said screen.entry.is_prompting screen.entry.script.now session.old lead.now.word (string_bytes lead.now.text) (told lead.now.known.depth lead.now.known.printed.items lead.now.known.lost.items lead.now.known.gone) reply.now)) out.old.items out.new.items }
     ensures held { session.new ≡ session.old }
     ensures capacity { vec_capacity out.old ≤ vec_capacity out.new }
 {
@@ -153,7 +153,7 @@ fn tell_reply(
 fn lead_in(alloc: Global, session: &Session<'_>, word: Word) -> Result<Lead, AllocError>
     ensures word { IfOk result (λ l. l.word ≡ word) }
     ensures text { IfOk result (λ l. string_bytes l.text ≡ spec.lead_said session.now word) }
-    ensures known { IfOk result (λ l. told l.known.depth l.known.printed.items l.known.lost.items ≡ spec.known_in session.now word) }
+    ensures known { IfOk result (λ l. told l.known.depth l.known.printed.items l.known.lost.items l.known.gone ≡ spec.known_in session.now word) }
 {
     let debugger = session.debugger();
     debugger.state_is_reached();
@@ -249,7 +249,8 @@ pub(crate) fn laid_text(
     let mut told = String::new(alloc);
     let debugger = session.debugger();
     debugger.state_is_reached();
-    push_ahead(alloc, &mut told, run.number, run.ending, run.steps)?;
+    let lines = debugger.core().code().lines();
+    push_ahead(&mut told, lines, run.number, run.ending, run.steps)?;
     let decided = decide(alloc, debugger.core())?;
     push_standing(alloc, debugger, screen.script, &mut told, decided)?;
     said(alloc, session, screen.is_prompting, &told)

@@ -6,6 +6,7 @@ pub mod desk;
 mod looks;
 pub mod moves;
 pub mod news;
+mod onward;
 pub mod opening;
 mod prompts;
 pub mod quit;
@@ -13,7 +14,7 @@ pub mod run;
 mod standing;
 
 pub use desk::{ConsoleDesk, Screen};
-pub use moves::{Doing, doing_of, goto_command, lead_of, lead_text, push_break_line, push_reply};
+pub use moves::{Doing, doing_of, goto_command, lead_of, push_break_line, push_reply};
 pub use news::{Known, Lead, known_for};
 pub use opening::{OpenFault, Opened, open, open_along, open_with};
 pub use quit::UntilQuit;

@@ -7,6 +7,7 @@ ghost use Rattle.mpd_names.specs.Held.{named_line};
 ghost use Rattle.mpd_console.specs.Looks as spec;
 
 use crate::moves::push_break_line;
+use crate::onward::finish_rank;
 use mpd_core::{Core, Debugger};
 use mpd_explain::{
     push_calls, push_enabled, push_history, push_lost, push_queues, push_ranks, push_why,
@@ -185,6 +186,21 @@ fn push_why_of(
     }
 }
 
+/// Adds why `finish` doesn't go on: the rank waits for no call, or none is named and the last step is of none.
+fn push_unfinished(
+    alloc: Global,
+    core: &Core<'_>,
+    out: &mut String,
+    rank: Option<usize>,
+) -> Result<(), AllocError>
+    ensures { OnOk result (string_bytes out.new ≡ string_bytes out.old ++ spec.unfinished_text core.now.program core.now.world rank) }
+{
+    match rank {
+        None => out.push_str("refused: the last step is of no rank; finish P names one\n"),
+        Some(rank) => push_why_of(alloc, core, out, Some(rank)),
+    }
+}
+
 /// Adds the whole state.
 fn push_show(alloc: Global, debugger: &Debugger<'_>, out: &mut String) -> Result<(), AllocError>
     ensures { OnOk result (string_bytes out.new ≡ string_bytes out.old ++ spec.whole_text debugger.now.trail debugger.now.world) }
@@ -216,6 +232,7 @@ pub(crate) fn push_look(
         Word::Queues => push_queues(core, out),
         Word::WhyCall(call) => push_why_call(alloc, core, out, call),
         Word::WhyRank(rank) => push_why_of(alloc, core, out, rank),
+        Word::Finish(rank) => push_unfinished(alloc, core, out, finish_rank(debugger, rank)),
         Word::History(count) => push_history(debugger, out, count),
         Word::Picture => push_picture(debugger, out),
         Word::Check(runs) => push_runs(alloc, debugger, out, runs),
@@ -225,6 +242,7 @@ pub(crate) fn push_look(
         Word::Help(topic) => push_help(out, topic),
         Word::Next(_)
         | Word::Run(_)
+        | Word::Until(_)
         | Word::Back(_)
         | Word::RunBack
         | Word::UndoChoice

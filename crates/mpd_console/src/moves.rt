@@ -7,15 +7,16 @@ ghost use Rattle.mpd_policy.specs.Single.{single};
 ghost use Rattle.mpd_names.specs.Called.{break_text};
 ghost use Rattle.mpd_explain.specs.Steps.{step_words};
 ghost use Rattle.mpd_explain.specs.Standing.{standing_text};
-ghost use Rattle.mpd_console.specs.News.{told, known_for};
+ghost use Rattle.mpd_console.specs.News.{told};
 ghost use Rattle.mpd_console.specs.Moves as spec;
 
 use crate::news::{Lead, known_for, push_news};
+use crate::onward::{finish_doing, finish_rank, until_command};
 use crate::standing::{Scene, standing_of};
 use mpd_code::Code;
 use mpd_core::{Core, Debugger};
 use mpd_explain::{push_standing, push_step};
-use mpd_model::{Break, Cause, Decision, Decl, Step, Stop};
+use mpd_model::{Break, Cause, Decision, Decl, STEPS_MAX, Step, Stop};
 use mpd_names::push_break;
 use mpd_policy::{Breaks, decide, only_step, run_on, sole};
 use mpd_runs::{Way, push_count};
@@ -195,7 +196,11 @@ fn next_command(
 }
 
 /// What `run` asks for: at a choice the step that lies ahead, where one does, and the steps that lie ahead where a run on would leave them.
-fn run_command(alloc: Global, debugger: &Debugger<'_>, max: usize) -> Result<Command, AllocError>
+pub(crate) fn run_command(
+    alloc: Global,
+    debugger: &Debugger<'_>,
+    max: usize,
+) -> Result<Command, AllocError>
     ensures { IfOk result (λ c. c ≡ spec.run_command debugger.now.trail debugger.now.world max) }
 {
     if max > 0 && goes_along(alloc, debugger)? {
@@ -233,6 +238,8 @@ pub fn doing_of(alloc: Global, debugger: &Debugger<'_>, word: Word) -> Result<Do
     match word {
         Word::Next(number) => Ok(Doing::Asks(next_command(alloc, debugger, number)?)),
         Word::Run(max) => Ok(Doing::Asks(run_command(alloc, debugger, max)?)),
+        Word::Until(line) => Ok(Doing::Asks(until_command(alloc, debugger, line)?)),
+        Word::Finish(rank) => finish_doing(alloc, debugger, finish_rank(debugger, rank)),
         Word::Back(count) => Ok(Doing::Asks(Command::Back(count))),
         Word::RunBack => Ok(Doing::Asks(Command::RunBack)),
         Word::UndoChoice => Ok(Doing::Undoes),
@@ -324,33 +331,64 @@ fn step_of(alloc: Global, debugger: &Debugger<'_>, word: Word) -> Result<Option<
     match word {
         Word::Next(number) => next_step(alloc, debugger, number),
         Word::Run(max) => Ok(redone_step(debugger, run_command(alloc, debugger, max)?)),
+        Word::Until(_) | Word::Finish(_) => Ok(redone_step(
+            debugger,
+            run_command(alloc, debugger, STEPS_MAX)?,
+        )),
         Word::Redo(count) => Ok(redone_step(debugger, redo_command(debugger, count))),
         Word::Step(step) => Ok(Some(step)),
         _ => Ok(None),
     }
 }
 
-/// The step that a word takes, in words, before it is taken; empty where it takes none, or several. An `Err` is want of memory.
-pub fn lead_text(alloc: Global, debugger: &Debugger<'_>, word: Word) -> Result<String, AllocError>
-    ensures { IfOk result (λ t. string_bytes t ≡ spec.lead_text debugger.now.trail debugger.now.world word) }
+/// A step that a word takes, in words, before it is taken; empty where it takes none, or several.
+fn words_of(
+    alloc: Global,
+    debugger: &Debugger<'_>,
+    step: Option<Step>,
+) -> Result<String, AllocError>
+    ensures { IfOk result (λ t. string_bytes t ≡ spec.words_of debugger.now.trail.program debugger.now.world step) }
 {
     let mut out = String::new(alloc);
-    if let Some(step) = step_of(alloc, debugger, word)? {
+    if let Some(step) = step {
         push_step(debugger.core(), &mut out, step)?;
     }
     Ok(out)
+}
+
+/// Whether a step is taken in the place of the one that lies ahead.
+fn leaves_way(ahead: Option<Step>, taken: Option<Step>) -> bool
+    ensures { result ≡ spec.leaves_way ahead taken }
+{
+    match (ahead, taken) {
+        (Some(ahead), Some(taken)) => ahead != taken,
+        _ => false,
+    }
+}
+
+/// How many steps that lie ahead are gone by a step.
+fn gone_by(debugger: &Debugger<'_>, taken: Option<Step>) -> usize
+    ensures { result ≡ spec.gone_by debugger.now.trail taken }
+{
+    if leaves_way(debugger.next_undone(), taken) {
+        ahead_of(debugger)
+    } else {
+        0
+    }
 }
 
 /// A word, and what is told and known before it is done. An `Err` is want of memory.
 pub fn lead_of(alloc: Global, debugger: &Debugger<'_>, word: Word) -> Result<Lead, AllocError>
     ensures word { IfOk result (λ l. l.word ≡ word) }
     ensures text { IfOk result (λ l. string_bytes l.text ≡ spec.lead_text debugger.now.trail debugger.now.world word) }
-    ensures known { IfOk result (λ l. told l.known.depth l.known.printed.items l.known.lost.items ≡ known_for debugger.now.trail debugger.now.world word) }
+    ensures known { IfOk result (λ l. told l.known.depth l.known.printed.items l.known.lost.items l.known.gone ≡ spec.way_known debugger.now.trail debugger.now.world word) }
 {
+    let step = step_of(alloc, debugger, word)?;
+    let gone = gone_by(debugger, step);
     Ok(Lead {
         word,
-        text: lead_text(alloc, debugger, word)?,
-        known: known_for(alloc, debugger, word)?,
+        text: words_of(alloc, debugger, step)?,
+        known: known_for(alloc, debugger, word, gone)?,
     })
 }
 
@@ -421,6 +459,26 @@ fn push_break_cause(
     push_break_line(out, decls, number, stop)
 }
 
+/// Why a run made no more steps than it was to make, where that is no line.
+fn most_words(word: Word) -> &'static str
+    ensures { result.now ≡ spec.most_words word }
+{
+    match word {
+        Word::Finish(_) => "stopped: that call is over\n",
+        _ => "stopped: as many steps as were asked for\n",
+    }
+}
+
+/// Adds why a run made no more steps than it was to make.
+fn push_most(out: &mut String, word: Word) -> Result<(), AllocError>
+    ensures { OnOk result (string_bytes out.new ≡ string_bytes out.old ++ spec.most_line word) }
+{
+    match word {
+        Word::Until(line) => write!(out, "stopped: a rank is at line {line}\n"),
+        _ => out.push_str(most_words(word)),
+    }
+}
+
 /// Adds why a run stopped, where that isn't told by where it stands.
 fn push_cause(
     out: &mut String,
@@ -433,7 +491,7 @@ fn push_cause(
 {
     match cause {
         Cause::Leaf | Cause::Choice => Ok(()),
-        Cause::Max => out.push_str("stopped: as many steps as were asked for\n"),
+        Cause::Max => push_most(out, word),
         Cause::Full => out.push_str("stopped: no more than 1000000 steps are kept\n"),
         Cause::Start => out.push_str("at the start\n"),
         Cause::Break(number) => push_break_cause(out, decls, word, number, breaks.get(number)),
@@ -466,6 +524,16 @@ fn push_statement(out: &mut String, lines: &[usize], line: usize) -> Result<(), 
         return Ok(());
     }
     write!(out, "no statement begins at line {line}\n")
+}
+
+/// Adds that of the line that `until` goes on to.
+fn push_until_note(out: &mut String, lines: &[usize], word: Word) -> Result<(), AllocError>
+    ensures { OnOk result (string_bytes out.new ≡ string_bytes out.old ++ spec.until_note lines.now word) }
+{
+    match word {
+        Word::Until(line) => push_statement(out, lines, line),
+        _ => Ok(()),
+    }
 }
 
 /// Adds that to a breakpoint of a line or of a match.
@@ -525,7 +593,9 @@ fn range_line(word: Word) -> &'static str
     ensures { result.now ≡ spec.range_line word }
 {
     match word {
-        Word::Break(Break::Line(_) | Break::Match(_)) => "refused: lines are 1 to 65537\n",
+        Word::Break(Break::Line(_) | Break::Match(_)) | Word::Until(_) => {
+            "refused: lines are 1 to 65537\n"
+        }
         Word::Break(_) => "refused: there is no such rank\n",
         _ => "refused: 1 to 1000000 steps can be asked for\n",
     }
@@ -570,6 +640,21 @@ fn push_refused(
     Ok(())
 }
 
+/// Adds that no statement stands on the line that was named, if none does, and why a run made no more steps.
+fn push_stopped(
+    out: &mut String,
+    debugger: &Debugger<'_>,
+    breaks: &Breaks,
+    word: Word,
+    cause: Cause,
+) -> Result<(), AllocError>
+    ensures { OnOk result (string_bytes out.new ≡ string_bytes out.old ++ spec.stopped_text debugger.now.trail.program breaks.now word cause) }
+{
+    let code = debugger.core().code();
+    push_until_note(out, code.lines(), word)?;
+    push_cause(out, code.decls(), breaks, word, cause)
+}
+
 /// Adds what is told of a run.
 fn push_run(
     alloc: Global,
@@ -579,7 +664,7 @@ fn push_run(
     depth: usize,
     stop: Stop,
 ) -> Result<(), AllocError>
-    ensures { OnOk result (string_bytes out.new ≡ string_bytes out.old ++ spec.run_text scene.entry.text.now scene.entry.debugger.now.trail scene.entry.debugger.now.world scene.entry.breaks.now lead.now.word depth stop (told lead.now.known.depth lead.now.known.printed.items lead.now.known.lost.items)) }
+    ensures { OnOk result (string_bytes out.new ≡ string_bytes out.old ++ spec.run_text scene.entry.text.now scene.entry.debugger.now.trail scene.entry.debugger.now.world scene.entry.breaks.now lead.now.word depth stop (told lead.now.known.depth lead.now.known.printed.items lead.now.known.lost.items lead.now.known.gone)) }
 {
     let Scene {
         debugger,
@@ -588,10 +673,9 @@ fn push_run(
         ..
     } = scene;
     let standing = standing_of(alloc, debugger, &lead.known)?;
-    let decls = debugger.core().code().decls();
     push_ran(out, lead.word, depth, stop.steps)?;
     push_news(debugger, out, &lead.known, &standing)?;
-    push_cause(out, decls, breaks, lead.word, stop.cause)?;
+    push_stopped(out, debugger, breaks, lead.word, stop.cause)?;
     push_standing(alloc, debugger, text, out, standing.decision)
 }
 
@@ -618,7 +702,7 @@ fn along_line(word: Word, hit: Option<usize>) -> &'static str
     ensures { result.now ≡ spec.along_line word hit }
 {
     match (word, hit) {
-        (Word::Run(_), None) => "stopped: behind the choice\n",
+        (Word::Run(_) | Word::Until(_) | Word::Finish(_), None) => "stopped: behind the choice\n",
         _ => "",
     }
 }
@@ -655,7 +739,7 @@ fn push_move(
     depth: usize,
 ) -> Result<(), AllocError>
     requires hit { scene.hit ≡ spec.told_hit scene.breaks.now scene.debugger.now.trail (string_bytes lead.now.text) }
-    ensures { OnOk result (string_bytes out.new ≡ string_bytes out.old ++ spec.move_text scene.entry.text.now scene.entry.debugger.now.trail scene.entry.debugger.now.world scene.entry.breaks.now lead.now.word depth (string_bytes lead.now.text) (told lead.now.known.depth lead.now.known.printed.items lead.now.known.lost.items)) }
+    ensures { OnOk result (string_bytes out.new ≡ string_bytes out.old ++ spec.move_text scene.entry.text.now scene.entry.debugger.now.trail scene.entry.debugger.now.world scene.entry.breaks.now lead.now.word depth (string_bytes lead.now.text) (told lead.now.known.depth lead.now.known.printed.items lead.now.known.lost.items lead.now.known.gone)) }
 {
     let standing = standing_of(alloc, scene.debugger, &lead.known)?;
     let step = lead.text.as_str();
@@ -675,7 +759,7 @@ pub fn push_reply(
     reply: &Reply,
 ) -> Result<(), AllocError>
     requires hit { scene.hit ≡ spec.told_hit scene.breaks.now scene.debugger.now.trail (string_bytes lead.now.text) }
-    ensures { OnOk result (string_bytes out.new ≡ string_bytes out.old ++ spec.reply_text scene.entry.text.now scene.entry.debugger.now.trail scene.entry.debugger.now.world scene.entry.breaks.now lead.now.word (string_bytes lead.now.text) (told lead.now.known.depth lead.now.known.printed.items lead.now.known.lost.items) reply.now) }
+    ensures { OnOk result (string_bytes out.new ≡ string_bytes out.old ++ spec.reply_text scene.entry.text.now scene.entry.debugger.now.trail scene.entry.debugger.now.world scene.entry.breaks.now lead.now.word (string_bytes lead.now.text) (told lead.now.known.depth lead.now.known.printed.items lead.now.known.lost.items lead.now.known.gone) reply.now) }
 {
     let Scene { debugger, text, .. } = scene;
     let word = lead.word;

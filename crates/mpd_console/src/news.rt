@@ -22,6 +22,8 @@ pub struct Known {
     printed: Vec<usize>,
     /// The requests that are lost.
     lost: Vec<CallId>,
+    /// How many steps that lie ahead will be gone.
+    pub(crate) gone: usize,
 }
 
 /// A word, and what is told and known before it is done.
@@ -57,15 +59,16 @@ fn printed_counts(alloc: Global, core: &Core<'_>) -> Result<Vec<usize>, AllocErr
     Ok(counts)
 }
 
-/// What is known of a session. An `Err` is want of memory.
-fn known_of(alloc: Global, debugger: &Debugger<'_>) -> Result<Known, AllocError>
-    ensures { IfOk result (λ k. spec.told k.depth k.printed.items k.lost.items ≡ spec.known_of debugger.now.trail debugger.now.world) }
+/// What is known of a session, given how many steps that lie ahead will be gone. An `Err` is want of memory.
+fn known_of(alloc: Global, debugger: &Debugger<'_>, gone: usize) -> Result<Known, AllocError>
+    ensures { IfOk result (λ k. spec.told k.depth k.printed.items k.lost.items k.gone ≡ spec.known_of debugger.now.trail debugger.now.world gone) }
 {
     let core = debugger.core();
     Ok(Known {
         depth: debugger.depth(),
         printed: printed_counts(alloc, core)?,
         lost: lost_calls(alloc, core)?,
+        gone,
     })
 }
 
@@ -76,9 +79,15 @@ fn goes_back(word: Word) -> bool
     matches!(word, Word::Back(_) | Word::RunBack | Word::UndoChoice)
 }
 
-/// What is known before a word is done: of one that goes back the depth alone, which takes no memory. An `Err` is want of memory.
-pub fn known_for(alloc: Global, debugger: &Debugger<'_>, word: Word) -> Result<Known, AllocError>
-    ensures known { IfOk result (λ k. spec.told k.depth k.printed.items k.lost.items ≡ spec.known_for debugger.now.trail debugger.now.world word) }
+/// What is known before a word is done, given how many steps that lie ahead will be gone by it: of one that goes back the depth alone, which
+/// takes no memory. An `Err` is want of memory.
+pub fn known_for(
+    alloc: Global,
+    debugger: &Debugger<'_>,
+    word: Word,
+    gone: usize,
+) -> Result<Known, AllocError>
+    ensures known { IfOk result (λ k. spec.told k.depth k.printed.items k.lost.items k.gone ≡ spec.known_for debugger.now.trail debugger.now.world word gone) }
     ensures memory { OnErr result (spec.goes_back word ≡ false) }
 {
     if goes_back(word) {
@@ -86,9 +95,10 @@ pub fn known_for(alloc: Global, debugger: &Debugger<'_>, word: Word) -> Result<K
             depth: debugger.depth(),
             printed: Vec::new(alloc),
             lost: Vec::new(alloc),
+            gone: 0,
         });
     }
-    known_of(alloc, debugger)
+    known_of(alloc, debugger, gone)
 }
 
 /// Adds the line of values that a rank prints.
@@ -168,6 +178,19 @@ fn push_losses(
     }
 }
 
+/// Adds that steps are gone which lay ahead, where any are.
+fn push_gone(out: &mut String, count: usize) -> Result<(), AllocError>
+    ensures { OnOk result (string_bytes out.new ≡ string_bytes out.old ++ spec.gone_line count) }
+{
+    if count == 0 {
+        return Ok(());
+    }
+    if count == 1 {
+        return out.push_str("the step that lay ahead is gone\n");
+    }
+    write!(out, "the {count} steps that lay ahead are gone\n")
+}
+
 /// Adds what the steps of a word did, where more are taken than before it, by where the session stands after it. An `Err` is want of memory.
 #[tactic(auto, using(crate::proofs::NewsLemmas::lost_here))]
 pub(crate) fn push_news(
@@ -177,13 +200,14 @@ pub(crate) fn push_news(
     standing: &Standing,
 ) -> Result<(), AllocError>
     requires decision { standing.now.decision ≡ decision debugger.now.world }
-    requires lost { standing.now.lost.items ≡ spec.lost_after (spec.told known.now.depth known.now.printed.items known.now.lost.items) debugger.now.trail debugger.now.world }
-    ensures { OnOk result (string_bytes out.new ≡ string_bytes out.old ++ spec.news_text (spec.told known.now.depth known.now.printed.items known.now.lost.items) debugger.now.trail debugger.now.world) }
+    requires lost { standing.now.lost.items ≡ spec.lost_after (spec.told known.now.depth known.now.printed.items known.now.lost.items known.now.gone) debugger.now.trail debugger.now.world }
+    ensures { OnOk result (string_bytes out.new ≡ string_bytes out.old ++ spec.news_text (spec.told known.now.depth known.now.printed.items known.now.lost.items known.now.gone) debugger.now.trail debugger.now.world) }
 {
     if known.depth >= debugger.depth() {
         return Ok(());
     }
     let core = debugger.core();
+    push_gone(out, known.gone)?;
     push_prints(core, out, &known.printed)?;
     push_losses(core, out, &known.lost, standing)
 }

@@ -39,7 +39,7 @@ fn lost_after(
     debugger: &Debugger<'_>,
     known: &Known,
 ) -> Result<Vec<CallId>, AllocError>
-    ensures { IfOk result (λ calls. calls.items ≡ lost_after (told known.now.depth known.now.printed.items known.now.lost.items) debugger.now.trail debugger.now.world) }
+    ensures { IfOk result (λ calls. calls.items ≡ lost_after (told known.now.depth known.now.printed.items known.now.lost.items known.now.gone) debugger.now.trail debugger.now.world) }
 {
     if known.depth >= debugger.depth() {
         return Ok(Vec::new(alloc));
@@ -54,7 +54,7 @@ pub(crate) fn standing_of(
     known: &Known,
 ) -> Result<Standing, AllocError>
     ensures decision { IfOk result (λ standing. standing.decision ≡ decision debugger.now.world) }
-    ensures lost { IfOk result (λ standing. standing.lost.items ≡ lost_after (told known.now.depth known.now.printed.items known.now.lost.items) debugger.now.trail debugger.now.world) }
+    ensures lost { IfOk result (λ standing. standing.lost.items ≡ lost_after (told known.now.depth known.now.printed.items known.now.lost.items known.now.gone) debugger.now.trail debugger.now.world) }
 {
     let lost = lost_after(alloc, debugger, known)?;
     Ok(Standing {

@@ -290,11 +290,13 @@ fn push_can(
 ) -> Result<(), AllocError>
     ensures { OnOk result (string_bytes out.new ≡ string_bytes out.old ++ spec.can_line does.now mode count counts) }
 {
-    if is_count(count, 0) {
+    let is_none = is_count(count, 0);
+    if is_none {
         return Ok(());
     }
+    let WayCounts { total, more, .. } = counts;
     push_does(out, does, mode)?;
-    push_share(out, count, counts.total, counts.more)?;
+    push_share(out, count, total, more)?;
     out.push('\n')
 }
 

@@ -10,6 +10,7 @@ pub mod ExplainedRows
 pub mod KindRows
 pub mod CallLaws
 pub mod Steps
+pub mod Candidates
 pub mod Standing
 pub mod Shown
 pub mod Whys

@@ -13,7 +13,8 @@ use Rattle.mpd_model.specs.steps.Next.{enabled, can_wake}
 use Rattle.mpd_model.specs.steps.Outcomes.{has_ended}
 use Rattle.mpd_model.specs.texts.Texts.{line, id_text, call_text, trap_name}
 use Rattle.mpd_names.specs.Placed.{placed}
-use Rattle.mpd_explain.specs.Steps.{line_of, call_line_of, step_line}
+use Rattle.mpd_explain.specs.Steps.{line_of, call_line_of}
+use Rattle.mpd_explain.specs.Candidates.{enabled_line}
 
 -- lines, or one that says that there are none
 abbrev pub or_none : List ℕ → List ℕ → List ℕ
@@ -106,7 +107,7 @@ queues_text s b = or_none (codes "no free call") (free_lines s b)
 -- ---- enabled steps
 
 abbrev pub enabled_lines : Program → World → List ℕ
-enabled_lines s w = flat_map (step_line s w) (enabled w)
+enabled_lines s w = flat_map (enabled_line s w) (enabled w)
 
 abbrev pub enabled_text : Program → World → List ℕ
 enabled_text s w = or_none (codes "no step is enabled") (enabled_lines s w)

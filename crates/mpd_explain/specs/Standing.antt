@@ -1,5 +1,5 @@
 -- Where it stands: what is told behind each word that moves (docs/CONSOLE.md, "Where it stands").
-use Rattle.std.specs.Prelude.{ℕ, suc, ◌+◌, ◌-◌, ◌==◌, Bool, false, if◌then◌else◌, List, [], ◌∷◌, ◌++◌, length, slice_get, Option, Some, None, codes}
+use Rattle.std.specs.Prelude.{ℕ, suc, ◌+◌, ◌-◌, ◌==◌, Bool, false, if◌then◌else◌, List, [], ◌∷◌, ◌++◌, length, slice_get, Option, Some, None, is_some, codes}
 use Rattle.std.specs.Fmt.{decimal}
 use Rattle.std.specs.List.{list_all}
 use Rattle.mpd_model.specs.declared.step.CallId.{CallId}
@@ -11,14 +11,16 @@ use Rattle.mpd_model.specs.declared.outcome.Outcome.{Outcome}
 use Rattle.mpd_model.specs.script.Program.{Program}
 use Rattle.mpd_model.specs.steps.World.{World, Board, last_call, id_eq}
 use Rattle.mpd_model.specs.runs.Decisions.{decision}
-use Rattle.mpd_model.specs.texts.Texts.{line, outcome_text}
+use Rattle.mpd_model.specs.texts.Texts.{line}
 use Rattle.mpd_model.specs.runs.Trail.{Trail}
 use Rattle.mpd_policy.specs.declared.ending.Ending.TheVariants.{Ended}
 use Rattle.mpd_explain.specs.Explained.{told}
 use Rattle.mpd_policy.specs.Single.{sole}
 use Rattle.mpd_names.specs.Sources.{source}
+use Rattle.mpd_names.specs.Ends.{end_words}
 use Rattle.mpd_explain.specs.Lost.{lost_lines}
 use Rattle.mpd_explain.specs.Steps.{issued, line_of, call_line_of, step_words}
+use Rattle.mpd_explain.specs.Candidates.{candidate_words}
 
 -- ---- the lines of the script that a step is about
 
@@ -74,26 +76,30 @@ abbrev pub choice_head : List ℕ → Program → Board → Option CallId → Li
 choice_head text s b None = line (codes "stopped at a choice; next N takes one:")
 choice_head text s b (Some c) = chooser_line s b c ++ source text (call_line_of s b c)
 
--- `  1 match 0.0 1.0: ..`, where so many candidates stand before it
-abbrev pub candidate_line : Program → World → ℕ → Step → List ℕ
-candidate_line s w place a = line (codes "  " ++ decimal (place + 1) ++ codes " " ++ step_words s w a)
+-- `  1: rank 1 sends 42, tag 7 (line 13); match 1.0 0.0`, where so many candidates stand before it
+abbrev pub candidate_line : Program → World → Bool → ℕ → Step → List ℕ
+candidate_line s w one place a = line (codes "  " ++ decimal (place + 1) ++ codes ": " ++ candidate_words s w one a)
 
-abbrev pub candidate_lines : Program → World → ℕ → List Step → List ℕ
-candidate_lines s w place [] = []
-candidate_lines s w place (a ∷ steps) = candidate_line s w place a ++ candidate_lines s w (suc place) steps
+abbrev pub candidate_lines : Program → World → Bool → ℕ → List Step → List ℕ
+candidate_lines s w one place [] = []
+candidate_lines s w one place (a ∷ steps) = candidate_line s w one place a ++ candidate_lines s w one (suc place) steps
+
+-- the call that all candidates are for is told once, above them
+abbrev pub choice_by : List ℕ → Program → World → List Step → Option CallId → List ℕ
+choice_by text s w steps call = choice_head text s w.board call ++ candidate_lines s w (is_some call) 0 steps
 
 abbrev pub choice_text : List ℕ → Program → World → List Step → List ℕ
-choice_text text s w steps = choice_head text s w.board (one_chooser w.board steps) ++ candidate_lines s w 0 steps
+choice_text text s w steps = choice_by text s w steps (one_chooser w.board steps)
 
 -- ---- the end, and the step that comes next
 
--- `ended: deadlock 0.0 1.0`
-abbrev pub outcome_line : Outcome → List ℕ
-outcome_line o = line (codes "ended: " ++ outcome_text o)
+-- `ended: deadlock: rank 0 at line 9, rank 2 at line 13`
+abbrev pub outcome_line : List ℕ → Outcome → List ℕ
+outcome_line lines o = line (codes "ended: " ++ end_words lines o)
 
 -- that, what is told of it, and the requests that are lost
 abbrev pub ended_text : Program → World → Outcome → List ℕ
-ended_text s w o = outcome_line o ++ told s w (Ended o) ++ lost_lines s w
+ended_text s w o = outcome_line s.lines o ++ told s w (Ended o) ++ lost_lines s w
 
 -- `next: local 1: line 5`
 abbrev pub next_line : Program → World → Step → List ℕ

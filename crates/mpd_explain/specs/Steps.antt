@@ -7,7 +7,7 @@ use Rattle.mpd_model.specs.declared.step.Step.TheVariants.{Local, Match, Wake, W
 use Rattle.mpd_model.specs.script.Program.{Program}
 use Rattle.mpd_model.specs.steps.World.{World, Board, call_at, last_call}
 use Rattle.mpd_model.specs.steps.Next.{any_call}
-use Rattle.mpd_model.specs.texts.Texts.{line, step_text}
+use Rattle.mpd_model.specs.texts.Texts.{step_text}
 use Rattle.mpd_names.specs.Placed.{issue_line, rank_line, placed, issuer}
 
 -- the line that a rank stands at, and that of the call which it issued last
@@ -44,7 +44,3 @@ step_words s w (Match c d) = match_words s w.board c d
 step_words s w (Wake p) = at_line (Wake p) (call_line_of s w.board (last_call w.board p))
 step_words s w (WakeAny p i) = any_words s w p i
 step_words s w Release = codes "release: all ranks leave the barrier"
-
--- a step in words, on a line of its own
-abbrev pub step_line : Program → World → Step → List ℕ
-step_line s w a = line (step_words s w a)

@@ -2,6 +2,7 @@
 //! run ended in a deadlock or a trap and what it left over; and reports with what is told, or grouped by ends.
 #![tactic(auto)]
 
+pub mod candidates;
 pub mod explanation;
 pub mod grouped;
 mod groups;
@@ -20,6 +21,7 @@ pub mod steps;
 mod waits;
 pub mod why;
 
+pub use candidates::push_candidate;
 pub use explanation::{explain, explain_all};
 pub use grouped::{Beside, explanation_at, print_grouped};
 pub use history::{push_history, push_words};
@@ -30,5 +32,5 @@ pub use place::push_standing;
 pub use print::{firsts, print_explained, push_behind, text_at};
 pub use request_calls::requests;
 pub use sentences::{push_all_absent, push_helps, push_told, push_wish};
-pub use steps::{push_step, push_step_line};
+pub use steps::push_step;
 pub use why::{push_why, push_why_rank, push_why_ranks};

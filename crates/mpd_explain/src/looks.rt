@@ -3,14 +3,14 @@
 ghost use Rattle.std.specs.Prelude.{◌≡◌, ◌++◌, ◌<◌, [], if◌then◌else◌, OnOk, slice_get, string_bytes};
 ghost use Rattle.std.specs.List.{flat_map};
 ghost use Rattle.mpd_model.specs.steps.World.{is_pending as pending_on, is_posted as posted_on};
-ghost use Rattle.mpd_explain.specs.Steps.{line_of, step_line};
+ghost use Rattle.mpd_explain.specs.Steps.{line_of};
+ghost use Rattle.mpd_explain.specs.Candidates.{enabled_line};
 ghost use Rattle.mpd_explain.specs.Shown as shown;
 
-use crate::steps::push_step_line;
-use crate::why::can_wake;
+use crate::candidates::push_enabled_line;
 use mpd_core::Core;
 use mpd_model::{Activity, CallId, CallKind, Step, Trap};
-use mpd_names::{issue_line, push_placed, rank_line};
+use mpd_names::{can_wake, issue_line, push_placed, rank_line};
 use std::alloc::{AllocError, Global};
 
 /// Adds lines, or one that says that there are none.
@@ -299,12 +299,12 @@ pub fn push_queues(core: &Core<'_>, out: &mut String) -> Result<(), AllocError>
     push_or_none(out, "no free call", &lines)
 }
 
-/// Adds steps in words, a line each.
+/// Adds steps that are enabled, a line each.
 fn push_steps(core: &Core<'_>, out: &mut String, steps: &[Step]) -> Result<(), AllocError>
-    ensures { OnOk result (string_bytes out.new ≡ string_bytes out.old ++ flat_map (step_line core.now.program core.now.world) steps.now) }
+    ensures { OnOk result (string_bytes out.new ≡ string_bytes out.old ++ flat_map (enabled_line core.now.program core.now.world) steps.now) }
 {
     for step in steps {
-        push_step_line(core, out, *step)?;
+        push_enabled_line(core, out, *step)?;
     }
     Ok(())
 }

@@ -5,13 +5,14 @@ ghost use Rattle.std.specs.List.{list_all};
 ghost use Rattle.mpd_model.specs.runs.Decisions.{decision};
 ghost use Rattle.mpd_explain.specs.Standing as standing;
 
+use crate::candidates::push_candidate;
 use crate::lost::push_all_lost;
 use crate::sentences::push_told;
 use crate::steps::{push_issued, push_step};
 use mpd_core::{Core, Debugger};
 use mpd_explore::Ending;
-use mpd_model::{CallId, Decision, Outcome, Step, print_outcome};
-use mpd_names::{issue_line, push_source, rank_line};
+use mpd_model::{CallId, Decision, Outcome, Step};
+use mpd_names::{issue_line, push_end, push_source, rank_line};
 use mpd_policy::sole;
 use std::alloc::{AllocError, Global};
 
@@ -149,28 +150,34 @@ fn push_choice_head(
 }
 
 /// Adds a candidate, where so many stand before it.
-fn push_candidate(
+fn push_numbered(
     core: &Core<'_>,
     out: &mut String,
+    is_one: bool,
     place: usize,
     step: Step,
 ) -> Result<(), AllocError>
     requires { place < 9223372036854775808 }
-    ensures { OnOk result (string_bytes out.new ≡ string_bytes out.old ++ standing.candidate_line core.now.program core.now.world place step) }
+    ensures { OnOk result (string_bytes out.new ≡ string_bytes out.old ++ standing.candidate_line core.now.program core.now.world is_one place step) }
 {
     let number = place + 1;
-    write!(out, "  {number} ")?;
-    push_step(core, out, step)?;
+    write!(out, "  {number}: ")?;
+    push_candidate(core, out, is_one, step)?;
     out.push('\n')
 }
 
 /// Adds the candidates of a choice, numbered from 1.
-fn push_candidates(core: &Core<'_>, out: &mut String, steps: &[Step]) -> Result<(), AllocError>
-    ensures { OnOk result (string_bytes out.new ≡ string_bytes out.old ++ standing.candidate_lines core.now.program core.now.world 0 steps.now) }
+fn push_candidates(
+    core: &Core<'_>,
+    out: &mut String,
+    is_one: bool,
+    steps: &[Step],
+) -> Result<(), AllocError>
+    ensures { OnOk result (string_bytes out.new ≡ string_bytes out.old ++ standing.candidate_lines core.now.program core.now.world is_one 0 steps.now) }
 {
     let mut place = 0;
     for step in steps {
-        push_candidate(core, out, place, *step)?;
+        push_numbered(core, out, is_one, place, *step)?;
         place += 1;
     }
     Ok(())
@@ -185,16 +192,18 @@ fn push_choice(
 ) -> Result<(), AllocError>
     ensures { OnOk result (string_bytes out.new ≡ string_bytes out.old ++ standing.choice_text text.now core.now.program core.now.world steps.now) }
 {
-    push_choice_head(core, text, out, one_chooser(core, steps))?;
-    push_candidates(core, out, steps)
+    let call = one_chooser(core, steps);
+    push_choice_head(core, text, out, call)?;
+    push_candidates(core, out, call.is_some(), steps)
 }
 
 /// Adds the line of how the run has ended.
-fn push_outcome(alloc: Global, out: &mut String, outcome: &Outcome) -> Result<(), AllocError>
-    ensures { OnOk result (string_bytes out.new ≡ string_bytes out.old ++ standing.outcome_line outcome.now) }
+fn push_outcome(out: &mut String, lines: &[usize], outcome: &Outcome) -> Result<(), AllocError>
+    ensures { OnOk result (string_bytes out.new ≡ string_bytes out.old ++ standing.outcome_line lines.now outcome.now) }
 {
-    let text = print_outcome(alloc, outcome)?;
-    write!(out, "ended: {text}\n")
+    out.push_str("ended: ")?;
+    push_end(out, lines, outcome)?;
+    out.push('\n')
 }
 
 /// Adds how the run has ended, what is told of that, and the requests that are lost.
@@ -206,7 +215,7 @@ fn push_ended(
 ) -> Result<(), AllocError>
     ensures { OnOk result (string_bytes out.new ≡ string_bytes out.old ++ standing.ended_text core.now.program core.now.world outcome) }
 {
-    push_outcome(alloc, out, &outcome)?;
+    push_outcome(out, core.code().lines(), &outcome)?;
     push_told(alloc, core, out, &Ending::Ended(outcome))?;
     push_all_lost(core, out)
 }

@@ -87,11 +87,3 @@ pub fn push_step(core: &Core<'_>, out: &mut String, step: Step) -> Result<(), Al
         Step::Release => out.push_str("release: all ranks leave the barrier"),
     }
 }
-
-/// Adds a step in words, on a line of its own.
-pub fn push_step_line(core: &Core<'_>, out: &mut String, step: Step) -> Result<(), AllocError>
-    ensures { OnOk result (string_bytes out.new ≡ string_bytes out.old ++ words.step_line core.now.program core.now.world step) }
-{
-    push_step(core, out, step)?;
-    out.push('\n')
-}

@@ -1,16 +1,15 @@
 //! Why a call, or the call that a rank waits for, isn't matched (docs/CONSOLE.md, "Looks").
 
-ghost use Rattle.std.specs.Prelude.{◌≡◌, ◌++◌, OnOk, slice_get, string_bytes};
+ghost use Rattle.std.specs.Prelude.{◌≡◌, ◌++◌, OnOk, string_bytes};
 ghost use Rattle.std.specs.List.{flat_map};
-ghost use Rattle.mpd_model.specs.steps.Next.{waits, can_wake};
 ghost use Rattle.mpd_explain.specs.Whys as whys;
 
 use crate::looks::{push_call, push_or_none};
 use crate::request_calls::requests;
 use crate::sentences::{push_all_absent, push_helps, push_wish};
 use mpd_core::Core;
-use mpd_model::{Activity, CallId, CallKind};
-use mpd_names::push_placed;
+use mpd_model::{CallId, CallKind};
+use mpd_names::{can_wake, is_blocked, push_placed};
 use std::alloc::{AllocError, Global};
 
 /// Adds the call that holds a match back, where one does.
@@ -157,23 +156,6 @@ fn push_requests(
 {
     let calls = requests(alloc, core, call.rank, kind)?;
     push_matches(alloc, core, out, &calls)
-}
-
-/// Whether a rank is blocked.
-fn is_blocked(core: &Core<'_>, rank: usize) -> bool
-    ensures { result ≡ waits (slice_get core.now.world.ranks rank) }
-{
-    match core.activity(rank) {
-        None | Some(Activity::Running) | Some(Activity::Trapped(_)) => false,
-        Some(Activity::Blocked) => true,
-    }
-}
-
-/// Whether a rank waits for a call that is complete.
-pub(crate) fn can_wake(core: &Core<'_>, rank: usize) -> bool
-    ensures { result ≡ can_wake core.now.world rank }
-{
-    is_blocked(core, rank) && core.board().is_complete(core.board().last_call(rank))
 }
 
 /// Whether a rank waits in this call.

@@ -7,6 +7,8 @@ pub mod Reads
 pub mod Stand
 pub mod Listed
 pub mod Sources
+pub mod Ends
 pub mod NameRows
 pub mod ReadRows
 pub mod ListRows
+pub mod EndRows

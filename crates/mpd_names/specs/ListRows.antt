@@ -11,7 +11,8 @@ use Rattle.mpd_model.specs.declared.call.Trap.TheVariants.{ZeroDivisor}
 use Rattle.mpd_model.specs.declared.stmt.Simple.TheVariants as st
 use Rattle.mpd_model.specs.script.Tree.{Tree, simple}
 use Rattle.mpd_model.specs.script.Program.{Program}
-use Rattle.mpd_model.specs.steps.World.{RankWorld, World}
+use Rattle.mpd_model.specs.declared.call.MatchSet.TheVariants.{Pair}
+use Rattle.mpd_model.specs.steps.World.{RankWorld, World, call_id}
 use Rattle.mpd_model.specs.texts.Texts.{line}
 use Rattle.mpd_names.specs.NameRows.{five}
 use Rattle.mpd_names.specs.Held.{short_request, short_cells, variables_text}
@@ -69,11 +70,19 @@ abbrev text : List ℕ
 text = codes "a" ++ 13 ∷ 10 ∷ codes "b" ++ 10 ∷ codes "c" ++ 10 ∷ []
 
 abbrev three : List ℕ
-three = flat_map line (codes "    1  a" ∷ codes "    2  b  <- rank 1 blocked" ∷ codes "    3  c  <- rank 0, rank 3 trapped" ∷ [])
+three = flat_map line (codes "    1  a" ∷ codes "    2  b  <- rank 1 waits" ∷ codes "    3  c  <- rank 0, rank 3 trapped" ∷ [])
 
 pub row_list : list_text script here text ≡ three ++ line (codes "ended: rank 2")
 unfolding digits
 row_list = refl
+
+-- a send of rank 0 was paired with the call of rank 1, which can go on
+abbrev paired : World
+paired = record here { board = record here.board { sets = Pair (call_id 0 0) (call_id 1 0) ∷ [] } }
+
+pub row_paired : list_text script paired text ≡ flat_map line (codes "    1  a" ∷ codes "    2  b  <- rank 1 can go on" ∷ codes "    3  c  <- rank 0, rank 3 trapped" ∷ codes "ended: rank 2" ∷ [])
+unfolding digits
+row_paired = refl
 
 pub row_about : map {B = List ℕ} (about_text script here text) (1 ∷ 2 ∷ 4 ∷ []) ≡ three ∷ line (codes "rank 2 has ended") ∷ [] ∷ []
 unfolding digits

@@ -1,5 +1,5 @@
 -- The script, and which ranks stand at its lines.
-use Rattle.std.specs.Prelude.{ℕ, ◌+◌, ◌-◌, Bool, true, nat_lt, nat_le, if◌then◌else◌, List, [], ◌∷◌, ◌++◌, length, map, replicate, slice_get, Option, Some, None, codes}
+use Rattle.std.specs.Prelude.{ℕ, ◌+◌, ◌-◌, Bool, true, false, nat_lt, nat_le, if◌then◌else◌, List, [], ◌∷◌, ◌++◌, length, map, replicate, slice_get, Option, Some, None, codes}
 use Rattle.std.specs.Fmt.{decimal}
 use Rattle.std.specs.Option.{option_map}
 use Rattle.std.specs.List.{flat_map, list_any}
@@ -7,6 +7,7 @@ use Rattle.mpd_model.specs.declared.call.Activity.{Activity}
 use Rattle.mpd_model.specs.declared.call.Activity.TheVariants.{Running, Blocked, Trapped}
 use Rattle.mpd_model.specs.script.Program.{Program}
 use Rattle.mpd_model.specs.steps.World.{RankWorld, World, rank_numbers}
+use Rattle.mpd_model.specs.steps.Next.{can_wake}
 use Rattle.mpd_model.specs.runs.Breakpoints.{is_number}
 use Rattle.mpd_model.specs.texts.Lines.{lines_of}
 use Rattle.mpd_model.specs.texts.Texts.{line}
@@ -15,22 +16,30 @@ use Rattle.mpd_names.specs.Stand.{rank_ended, stand}
 
 -- ---- ranks at a line
 
--- what is said of a rank that doesn't run
-abbrev pub activity_note : Option Activity → List ℕ
-activity_note None = []
-activity_note (Some Running) = []
-activity_note (Some Blocked) = codes " blocked"
-activity_note (Some (Trapped t)) = codes " trapped"
+-- what is said of a rank that is blocked, where its call is complete or not
+abbrev pub blocked_note : Bool → List ℕ
+blocked_note true = codes " can go on"
+blocked_note false = codes " waits"
 
--- `rank 0 blocked`
+-- what is said of a rank that doesn't run
+abbrev pub note_by : World → ℕ → Option Activity → List ℕ
+note_by w p None = []
+note_by w p (Some Running) = []
+note_by w p (Some Blocked) = blocked_note (can_wake w p)
+note_by w p (Some (Trapped t)) = codes " trapped"
+
+abbrev pub activity_note : World → ℕ → List ℕ
+activity_note w p = note_by w p (option_map (λ (r : RankWorld). r.activity) (slice_get w.ranks p))
+
+-- `rank 0 waits`
 abbrev pub named_rank : World → ℕ → List ℕ
-named_rank w p = codes "rank " ++ decimal p ++ activity_note (option_map (λ (r : RankWorld). r.activity) (slice_get w.ranks p))
+named_rank w p = codes "rank " ++ decimal p ++ activity_note w p
 
 -- that, where the rank stands at line n
 abbrev pub rank_at_line : Program → World → ℕ → ℕ → List (List ℕ)
 rank_at_line s w n p = if is_number (stand s w p) n then named_rank w p ∷ [] else []
 
--- `  <- rank 0, rank 1 blocked`
+-- `  <- rank 0, rank 1 waits`
 abbrev pub ranks_at_line : Program → World → ℕ → List ℕ
 ranks_at_line s w n = begun (codes "  <- ") (flat_map (rank_at_line s w n) (rank_numbers w.board))
 

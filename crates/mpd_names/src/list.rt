@@ -8,19 +8,26 @@ ghost use Rattle.mpd_names.specs.Held.{begun};
 ghost use Rattle.mpd_names.specs.Stand.{rank_ended};
 ghost use Rattle.mpd_names.specs.Listed as listed;
 
-use crate::stand::{has_ended, stand};
+use crate::stand::{can_wake, has_ended, stand};
 use mpd_core::Core;
 use mpd_model::{Activity, bare_line, cut_line};
 use std::alloc::AllocError;
 
-/// What is said of a rank that doesn't run.
-fn activity_note(activity: Option<Activity>) -> &'static str
-    ensures { result.now ≡ listed.activity_note activity }
+/// What is said of a rank that is blocked, where its call is complete or not.
+fn blocked_note(can_wake: bool) -> &'static str
+    ensures { result.now ≡ listed.blocked_note can_wake }
 {
-    match activity {
+    if can_wake { " can go on" } else { " waits" }
+}
+
+/// What is said of a rank that doesn't run.
+fn activity_note(core: &Core<'_>, rank: usize) -> &'static str
+    ensures { result.now ≡ listed.activity_note core.now.world rank }
+{
+    match core.activity(rank) {
         None => "",
         Some(Activity::Running) => "",
-        Some(Activity::Blocked) => " blocked",
+        Some(Activity::Blocked) => blocked_note(can_wake(core, rank)),
         Some(Activity::Trapped(_)) => " trapped",
     }
 }
@@ -35,7 +42,7 @@ fn push_named_rank(
     ensures { OnOk result (string_bytes out.new ≡ string_bytes out.old ++ (before.now ++ listed.named_rank core.now.world rank)) }
 {
     out.push_str(before)?;
-    let activity_note = activity_note(core.activity(rank));
+    let activity_note = activity_note(core, rank);
     write!(out, "rank {rank}{activity_note}")
 }
 

@@ -9,7 +9,7 @@ use mpd_model::CallId;
 use std::alloc::AllocError;
 
 /// The line of a statement, 0 where there is none.
-fn statement_line(lines: &[usize], number: Option<usize>) -> usize
+pub(crate) fn statement_line(lines: &[usize], number: Option<usize>) -> usize
     ensures { result ≡ spec.statement_line lines.now number }
 {
     match number {

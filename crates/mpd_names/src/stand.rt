@@ -1,11 +1,29 @@
 //! Where ranks stand in a script.
 
 ghost use Rattle.std.specs.Prelude.{◌≡◌, slice_get};
+ghost use Rattle.mpd_model.specs.steps.Next.{waits, can_wake};
 ghost use Rattle.mpd_names.specs.Stand as standing;
 
 use crate::placed::{issue_line, rank_line};
 use mpd_core::Core;
 use mpd_model::Activity;
+
+/// Whether a rank is blocked.
+pub fn is_blocked(core: &Core<'_>, rank: usize) -> bool
+    ensures { result ≡ waits (slice_get core.now.world.ranks rank) }
+{
+    match core.activity(rank) {
+        None | Some(Activity::Running) | Some(Activity::Trapped(_)) => false,
+        Some(Activity::Blocked) => true,
+    }
+}
+
+/// Whether a rank waits for a call that is complete.
+pub fn can_wake(core: &Core<'_>, rank: usize) -> bool
+    ensures { result ≡ can_wake core.now.world rank }
+{
+    is_blocked(core, rank) && core.board().is_complete(core.board().last_call(rank))
+}
 
 /// Whether a rank is there, and has ended.
 #[tactic(auto, using(crate::proofs::StandLemmas::absent))]

@@ -6,10 +6,12 @@ use Rattle.mpd_model.specs.declared.limits.TheConstants.{STEPS_MAX, RUNS_MAX}
 use Rattle.mpd_model.specs.steps.World.{World}
 use Rattle.mpd_model.specs.runs.Trail.{Trail}
 use Rattle.mpd_model.specs.texts.Texts.{line, spaced}
+use Rattle.mpd_policy.specs.declared.ending.Ending.{Ending}
+use Rattle.mpd_policy.specs.declared.ending.Ending.TheVariants.{Ended, Cut}
 use Rattle.mpd_explore.specs.declared.report.Leaf.{Leaf}
 use Rattle.mpd_explore.specs.Sleeping.{walk_by}
 use Rattle.mpd_explore.specs.Report.{shown}
-use Rattle.mpd_explore.specs.ReportText.{ending_text}
+use Rattle.mpd_names.specs.Ends.{end_name, end_places}
 use Rattle.mpd_outcomes.specs.declared.report.Count.{Count}
 use Rattle.mpd_outcomes.specs.CountText.{count_text}
 use Rattle.mpd_runs.specs.declared.counts.WayCounts.{WayCounts}
@@ -48,13 +50,26 @@ abbrev pub choices_words : List ℕ → List ℕ
 choices_words [] = codes "no choice"
 choices_words (c ∷ cs) = codes "choices" ++ spaced from_zero (c ∷ cs)
 
--- `3 choices 1 2: deadlock 0.1 2.0`, where so many runs stand before it
-abbrev pub leaf_line : ℕ → Leaf → List ℕ
-leaf_line place l = line (decimal (place + 1) ++ 32 ∷ choices_words l.choices ++ codes ": " ++ ending_text l.ending)
+-- how a run ends, in a word
+abbrev pub ending_name : Ending → List ℕ
+ending_name Cut = codes "cut"
+ending_name (Ended o) = end_name o
 
-abbrev pub leaf_lines : ℕ → List Leaf → List ℕ
-leaf_lines place [] = []
-leaf_lines place (l ∷ ls) = leaf_line place l ++ leaf_lines (suc place) ls
+-- where it has ended, given the line of each statement
+abbrev pub ending_places : List ℕ → Ending → List ℕ
+ending_places lines Cut = []
+ending_places lines (Ended o) = end_places lines o
+
+abbrev pub ending_words : List ℕ → Ending → List ℕ
+ending_words lines e = ending_name e ++ ending_places lines e
+
+-- `3 choices 1 2: deadlock: rank 0 at line 9, rank 2 at line 13`, where so many runs stand before it
+abbrev pub leaf_line : List ℕ → ℕ → Leaf → List ℕ
+leaf_line lines place l = line (decimal (place + 1) ++ 32 ∷ choices_words l.choices ++ codes ": " ++ ending_words lines l.ending)
+
+abbrev pub leaf_lines : List ℕ → ℕ → List Leaf → List ℕ
+leaf_lines lines place [] = []
+leaf_lines lines place (l ∷ ls) = leaf_line lines place l ++ leaf_lines lines (suc place) ls
 
 abbrev pub runs_words : Count → List ℕ
 runs_words c = if is_count 1 c then codes "1 run" else count_text c ++ codes " runs"
@@ -84,15 +99,19 @@ tally first counts (x ∷ xs) = way_words first (count_of counts x) x ++ tally (
 abbrev pub total_line : WayCounts → List ℕ
 total_line counts = line (runs_words counts.total ++ more_words counts.more ++ tally true counts ways ++ codes ")")
 
-abbrev pub report_text : List Leaf → Bool → List ℕ
-report_text leaves more = leaf_lines 0 leaves ++ total_line (counts_of leaves more)
+-- which runs are listed: others may count more
+abbrev pub orders_line : List ℕ
+orders_line = line (codes "one run for all orders of steps that don't meet; diagnose counts each order")
+
+abbrev pub report_text : List ℕ → List Leaf → Bool → List ℕ
+report_text lines leaves more = leaf_lines lines 0 leaves ++ total_line (counts_of leaves more) ++ orders_line
 
 abbrev pub no_number_line : List ℕ
 no_number_line = line (codes "refused: 1 to 65536 runs can be asked for")
 
 -- the first so many runs from where a trail stands that leads to a world
 abbrev pub check_text : Trail → World → ℕ → List ℕ
-check_text t w n = if is_number n then report_text (first_runs n (fuel_at t.depth) w) (are_more n (fuel_at t.depth) w) else no_number_line
+check_text t w n = if is_number n then report_text t.program.lines (first_runs n (fuel_at t.depth) w) (are_more n (fuel_at t.depth) w) else no_number_line
 
 -- whether some runs have all ways to end: there are no more, and none is cut
 abbrev pub sees_all : WayCounts → Bool

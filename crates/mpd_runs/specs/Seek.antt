@@ -14,7 +14,6 @@ use Rattle.mpd_policy.specs.declared.ending.Ending.TheVariants.{Ended, Cut}
 use Rattle.mpd_explore.specs.declared.report.Leaf.{Leaf}
 use Rattle.mpd_policy.specs.Walk.{run_by, steps_by}
 use Rattle.mpd_explore.specs.Report.{any_bad}
-use Rattle.mpd_explore.specs.ReportText.{ending_text}
 use Rattle.mpd_explore.specs.Witness.{WitnessBy}
 use Rattle.mpd_model.specs.declared.limits.TheConstants.{RUNS_MAX}
 use Rattle.mpd_outcomes.specs.declared.report.Goal.{Goal}
@@ -34,7 +33,7 @@ use Rattle.mpd_runs.specs.declared.way.Way.{Way}
 use Rattle.mpd_runs.specs.declared.way.Way.TheVariants as way
 use Rattle.mpd_runs.specs.Ways.{first_in}
 use Rattle.mpd_runs.specs.Counts.{counts_of}
-use Rattle.mpd_runs.specs.Runs.{fuel_at, all_runs, first_runs, are_more, is_number, none_line}
+use Rattle.mpd_runs.specs.Runs.{fuel_at, all_runs, first_runs, are_more, is_number, none_line, ending_name, ending_places}
 
 -- ---- the first run that ends so
 
@@ -149,10 +148,14 @@ pub record StatesTell (x : Way) (before : List Step) (fuel : ℕ) (w : World) (b
 abbrev pub count_words : ℕ → List ℕ
 count_words n = if n == 1 then codes "1 step" else decimal n ++ codes " steps"
 
--- `deadlock 0.1 2.0 is 12 steps ahead`, or of the run of a number `run 3, done, is 1 step ahead`
-abbrev pub ahead_line : Option ℕ → Ending → ℕ → List ℕ
-ahead_line None e ahead = line (ending_text e ++ codes " is " ++ count_words ahead ++ codes " ahead")
-ahead_line (Some n) e ahead = line (codes "run " ++ decimal n ++ codes ", " ++ ending_text e ++ codes ", is " ++ count_words ahead ++ codes " ahead")
+-- `deadlock is`, or of the run of a number `run 3, deadlock, is`
+abbrev pub ahead_words : Option ℕ → Ending → List ℕ
+ahead_words None e = ending_name e ++ codes " is "
+ahead_words (Some n) e = codes "run " ++ decimal n ++ codes ", " ++ ending_name e ++ codes ", is "
+
+-- `deadlock is 12 steps ahead: rank 0 at line 9, rank 2 at line 13`, or `run 3, done, is 1 step ahead`, given the line of each statement
+abbrev pub ahead_line : List ℕ → Option ℕ → Ending → ℕ → List ℕ
+ahead_line lines number e ahead = line (ahead_words number e ++ count_words ahead ++ codes " ahead" ++ ending_places lines e)
 
 abbrev pub no_run_line : List ℕ
 no_run_line = line (codes "refused: there is no such run")

@@ -17,7 +17,8 @@ use Rattle.mpd_model.specs.steps.World.{World, call_id, start}
 use Rattle.mpd_model.specs.steps.Outcomes.{issued_by}
 use Rattle.mpd_model.specs.texts.Texts.{line}
 use Rattle.mpd_policy.specs.Wide.{wide_decision}
-use Rattle.mpd_policy.specs.declared.ending.Ending.TheVariants.{Ended}
+use Rattle.mpd_policy.specs.declared.ending.Ending.{Ending}
+use Rattle.mpd_policy.specs.declared.ending.Ending.TheVariants.{Ended, Cut}
 use Rattle.mpd_outcomes.specs.declared.report.Count.TheVariants.{Exactly, More}
 use Rattle.mpd_policy.specs.Walk.{run_by}
 use Rattle.mpd_explore.specs.Sleeping.{awake_by}
@@ -28,7 +29,7 @@ use Rattle.mpd_runs.specs.Ways.{first_in}
 use Rattle.mpd_runs.specs.declared.counts.WayCounts.{WayCounts}
 use Rattle.mpd_runs.specs.Counts.{counts_of}
 use Rattle.mpd_runs.specs.Runs.{first_runs, are_more, report_text, none_line}
-use Rattle.mpd_runs.specs.Seek.{whole_run}
+use Rattle.mpd_runs.specs.Seek.{whole_run, ahead_line}
 
 abbrev n : ℕ → Term
 n k = lit (pos k)
@@ -70,10 +71,18 @@ pub row_found : map {B = Option WholeRun} (λ (x : Way). option_map (whole_run [
 unfolding awake_by wide_decision run_by
 row_found = refl
 
--- both are listed, the one that takes the second send first
-pub row_listed : report_text (first_runs 9 9 begun) (are_more 9 9 begun) ≡ line (codes "1 choices 1 1: deadlock 0.1") ++ line (codes "2 choices 2: leftovers 0.1") ++ line (codes "2 runs, and no more (1 leftovers, 1 deadlock)")
+-- both are listed, the one that takes the second send first, with the line of that send
+pub row_listed : report_text (2 ∷ 3 ∷ 4 ∷ 5 ∷ []) (first_runs 9 9 begun) (are_more 9 9 begun) ≡ line (codes "1 choices 1 1: deadlock: rank 0 at line 4") ++ line (codes "2 choices 2: leftovers: rank 0 at line 4") ++ line (codes "2 runs, and no more (1 leftovers, 1 deadlock)")
+    ++ line (codes "one run for all orders of steps that don't meet; diagnose counts each order")
 unfolding awake_by wide_decision digits
 row_listed = refl
+
+-- what is told of each where it lies ahead, by its number or without one, and of a run that is cut
+pub row_ahead : map {B = List ℕ} (λ (q : (Option ℕ × Ending) × ℕ). ahead_line (2 ∷ 3 ∷ 4 ∷ 5 ∷ []) q.0.0 q.0.1 q.1) (((None, stuck.ending), 8) ∷ ((Some 2, left_over.ending), 1) ∷ ((Some 3, Ended o.Done), 0) ∷ ((None, Cut), 7) ∷ [])
+    ≡ line (codes "deadlock is 8 steps ahead: rank 0 at line 4") ∷ line (codes "run 2, leftovers, is 1 step ahead: rank 0 at line 4") ∷ line (codes "run 3, done, is 0 steps ahead")
+    ∷ line (codes "cut is 7 steps ahead") ∷ []
+unfolding digits
+row_ahead = refl
 
 -- so many runs at most, and so much fuel: it is told of all of them, of one where there are more, and of one that is cut where the choice is
 abbrev none_of : ℕ × ℕ → List ℕ

@@ -6,7 +6,6 @@ ghost use Rattle.mpd_model.specs.runs.Trail.{done_steps};
 ghost use Rattle.mpd_core.specs.DebuggerViews.{AsFound, standing_of};
 ghost use Rattle.mpd_model.specs.texts.Texts.{spaced};
 ghost use Rattle.mpd_explore.specs.Report.{ended_by, left_out};
-ghost use Rattle.mpd_explore.specs.ReportText.{ending_text};
 ghost use Rattle.mpd_explore.specs.Witness.{HasWitness};
 ghost use Rattle.mpd_policy.specs.Wide.{wide_decision};
 ghost use Rattle.mpd_runs.specs.Runs as spec;
@@ -15,7 +14,8 @@ use crate::counts::{WayCounts, counts_of, is_count};
 use crate::way::{WAYS, Way};
 use mpd_core::Debugger;
 use mpd_explore::{Ending, Leaf, Limits, Report, Unwatched, explore};
-use mpd_model::{RUNS_MAX, STEPS_MAX, print_outcome};
+use mpd_model::{RUNS_MAX, STEPS_MAX};
+use mpd_names::{end_name, push_end_places};
 use mpd_outcomes::{Count, push_count};
 use std::alloc::{AllocError, Global};
 
@@ -100,43 +100,58 @@ fn push_choices_words(out: &mut String, choices: &[usize]) -> Result<(), AllocEr
     push_choices(out, choices)
 }
 
-/// Adds how a run ends.
-pub(crate) fn push_ending(
-    alloc: Global,
-    out: &mut String,
-    ending: &Ending,
-) -> Result<(), AllocError>
-    ensures { OnOk result (string_bytes out.new ≡ string_bytes out.old ++ ending_text ending.now) }
+/// How a run ends, in a word.
+pub(crate) fn ending_name(ending: &Ending) -> &'static str
+    ensures { result.now ≡ spec.ending_name ending.now }
 {
     match ending {
-        Ending::Cut => out.push_str("cut"),
-        Ending::Ended(outcome) => {
-            let text = print_outcome(alloc, outcome)?;
-            out.push_str(&text)
-        }
+        Ending::Cut => "cut",
+        Ending::Ended(outcome) => end_name(outcome),
     }
 }
 
+/// Adds where it has ended, given the line of each statement.
+pub(crate) fn push_ending_places(
+    out: &mut String,
+    lines: &[usize],
+    ending: &Ending,
+) -> Result<(), AllocError>
+    ensures { OnOk result (string_bytes out.new ≡ string_bytes out.old ++ spec.ending_places lines.now ending.now) }
+{
+    match ending {
+        Ending::Cut => Ok(()),
+        Ending::Ended(outcome) => push_end_places(out, lines, outcome),
+    }
+}
+
+/// Adds how a run ends, and where.
+fn push_ending(out: &mut String, lines: &[usize], ending: &Ending) -> Result<(), AllocError>
+    ensures { OnOk result (string_bytes out.new ≡ string_bytes out.old ++ spec.ending_words lines.now ending.now) }
+{
+    out.push_str(ending_name(ending))?;
+    push_ending_places(out, lines, ending)
+}
+
 /// Adds the line of a run, where so many stand before it.
-fn push_leaf(alloc: Global, out: &mut String, place: usize, leaf: &Leaf) -> Result<(), AllocError>
+fn push_leaf(out: &mut String, lines: &[usize], place: usize, leaf: &Leaf) -> Result<(), AllocError>
     requires { place < 9223372036854775808 }
-    ensures { OnOk result (string_bytes out.new ≡ string_bytes out.old ++ spec.leaf_line place leaf.now) }
+    ensures { OnOk result (string_bytes out.new ≡ string_bytes out.old ++ spec.leaf_line lines.now place leaf.now) }
 {
     let number = place + 1;
     write!(out, "{number} ")?;
     push_choices_words(out, &leaf.choices.items)?;
     out.push_str(": ")?;
-    push_ending(alloc, out, &leaf.ending)?;
+    push_ending(out, lines, &leaf.ending)?;
     out.push('\n')
 }
 
 /// Adds the lines of runs, numbered from 1.
-fn push_leaves(alloc: Global, out: &mut String, leaves: &[Leaf]) -> Result<(), AllocError>
-    ensures { OnOk result (string_bytes out.new ≡ string_bytes out.old ++ spec.leaf_lines 0 leaves.now) }
+fn push_leaves(out: &mut String, lines: &[usize], leaves: &[Leaf]) -> Result<(), AllocError>
+    ensures { OnOk result (string_bytes out.new ≡ string_bytes out.old ++ spec.leaf_lines lines.now 0 leaves.now) }
 {
     let mut place = 0;
     for leaf in leaves {
-        push_leaf(alloc, out, place, leaf)?;
+        push_leaf(out, lines, place, leaf)?;
         place += 1;
     }
     Ok(())
@@ -214,6 +229,13 @@ fn push_total(out: &mut String, counts: WayCounts) -> Result<(), AllocError>
     out.push_str(")\n")
 }
 
+/// Adds which runs are listed.
+fn push_orders(out: &mut String) -> Result<(), AllocError>
+    ensures { OnOk result (string_bytes out.new ≡ string_bytes out.old ++ spec.orders_line) }
+{
+    out.push_str("one run for all orders of steps that don't meet; diagnose counts each order\n")
+}
+
 /// Adds the first runs from where a debugger stands, so many at most, or which numbers there are. An `Err` is want of memory.
 pub fn push_runs(
     alloc: Global,
@@ -227,8 +249,9 @@ pub fn push_runs(
         return out.push_str("refused: 1 to 65536 runs can be asked for\n");
     }
     let report = runs_from(alloc, debugger, runs)?;
-    push_leaves(alloc, out, &report.leaves)?;
-    push_total(out, counts_of(&report.leaves, report.more))
+    push_leaves(out, debugger.core().code().lines(), &report.leaves)?;
+    push_total(out, counts_of(&report.leaves, report.more))?;
+    push_orders(out)
 }
 
 /// Whether some runs have all ways to end: there are no more, and none is cut.

@@ -16,7 +16,7 @@ ghost use Rattle.mpd_runs.specs.declared.search.Scope.TheVariants as scope_is;
 
 use crate::by_choices::steps_by_choices;
 use crate::counts::{WayCounts, counts_of};
-use crate::listing::{first_runs, fuel_at, is_number, push_ending};
+use crate::listing::{ending_name, first_runs, fuel_at, is_number, push_ending_places};
 use crate::states::{ByStates, STATES_VISITED, by_states};
 use crate::way::{Way, first_in};
 use mpd_core::Debugger;
@@ -336,29 +336,37 @@ pub fn push_count(out: &mut String, count: usize) -> Result<(), AllocError>
     write!(out, "{count} steps")
 }
 
-/// Adds how the run ends that lies ahead, and by how many steps; of the run of a number this number, too. An `Err` is want of memory.
-pub fn push_ahead(
-    alloc: Global,
+/// Adds how a run ends; of the run of a number this number, too.
+fn push_ahead_words(
     out: &mut String,
+    number: Option<usize>,
+    ending: &Ending,
+) -> Result<(), AllocError>
+    ensures { OnOk result (string_bytes out.new ≡ string_bytes out.old ++ spec.ahead_words number ending.now) }
+{
+    let name = ending_name(ending);
+    match number {
+        None => write!(out, "{name} is "),
+        Some(number) => write!(out, "run {number}, {name}, is "),
+    }
+}
+
+/// Adds how the run ends that lies ahead, by how many steps, and where, given the line of each statement; of the run of a number this number,
+/// too. An `Err` is want of memory.
+pub fn push_ahead(
+    out: &mut String,
+    lines: &[usize],
     number: Option<usize>,
     ending: &Ending,
     ahead: usize,
 ) -> Result<(), AllocError>
-    ensures { OnOk result (string_bytes out.new ≡ string_bytes out.old ++ spec.ahead_line number ending.now ahead) }
+    ensures { OnOk result (string_bytes out.new ≡ string_bytes out.old ++ spec.ahead_line lines.now number ending.now ahead) }
 {
-    match number {
-        None => {
-            push_ending(alloc, out, ending)?;
-            out.push_str(" is ")?;
-        }
-        Some(number) => {
-            write!(out, "run {number}, ")?;
-            push_ending(alloc, out, ending)?;
-            out.push_str(", is ")?;
-        }
-    }
+    push_ahead_words(out, number, ending)?;
     push_count(out, ahead)?;
-    out.push_str(" ahead\n")
+    out.push_str(" ahead")?;
+    push_ending_places(out, lines, ending)?;
+    out.push('\n')
 }
 
 /// Adds that there is no run of a number. An `Err` is want of memory.

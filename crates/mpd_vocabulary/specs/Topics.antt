@@ -45,6 +45,8 @@ texts t = (t.0.now, t.1.now, t.2.now, t.3.now)
 abbrev pub told_of : Topic → List ℕ × List ℕ × List ℕ × List ℕ
 told_of topic.Next = texts told.NEXT
 told_of topic.Run = texts told.RUN
+told_of topic.Until = texts told.UNTIL
+told_of topic.Finish = texts told.FINISH
 told_of topic.Back = texts told.BACK
 told_of topic.RunBack = texts told.RUN_BACK
 told_of topic.UndoChoice = texts told.UNDO_CHOICE

@@ -288,6 +288,8 @@ fn word_with(code: &Code, topic: Topic, line: &[u8], rest: &[u8]) -> Result<Word
         Topic::Help => help_in(rest),
         Topic::Next => fitting(topic, optional_number(rest).map(Word::Next)),
         Topic::Run => fitting(topic, number_or(STEPS_MAX, rest).map(Word::Run)),
+        Topic::Until => fitting(topic, only_number(rest).map(Word::Until)),
+        Topic::Finish => fitting(topic, optional_number(rest).map(Word::Finish)),
         Topic::Back => fitting(topic, number_or(1, rest).map(Word::Back)),
         Topic::RunBack => fitting(topic, alone(Word::RunBack, rest)),
         Topic::UndoChoice => fitting(topic, alone(Word::UndoChoice, rest)),

@@ -8,6 +8,8 @@ ghost use Rattle.mpd_vocabulary.specs.Topics as spec;
 pub enum Topic {
     Next,
     Run,
+    Until,
+    Finish,
     Back,
     RunBack,
     UndoChoice,
@@ -46,7 +48,7 @@ pub enum Topic {
 }
 
 /// What the words are called, in the order of the table, the whole name of each before its short forms.
-pub const NAMES: [(&str, Topic); 65] = [
+pub const NAMES: [(&str, Topic); 67] = [
     ("next", Topic::Next),
     ("n", Topic::Next),
     ("step", Topic::Next),
@@ -55,6 +57,8 @@ pub const NAMES: [(&str, Topic); 65] = [
     ("r", Topic::Run),
     ("continue", Topic::Run),
     ("c", Topic::Run),
+    ("until", Topic::Until),
+    ("finish", Topic::Finish),
     ("back", Topic::Back),
     ("bk", Topic::Back),
     ("undo", Topic::Back),
@@ -115,9 +119,11 @@ pub const NAMES: [(&str, Topic); 65] = [
 ];
 
 /// A word of each line of `help all`, in the order of the table.
-pub const TOPICS: [Topic; 33] = [
+pub const TOPICS: [Topic; 35] = [
     Topic::Next,
     Topic::Run,
+    Topic::Until,
+    Topic::Finish,
     Topic::Back,
     Topic::RunBack,
     Topic::UndoChoice,
@@ -262,6 +268,20 @@ pub const RUN: Told = (
     "goes on to a breakpoint, a choice or an end",
     "; or so many steps at most",
     "r, continue, c",
+);
+
+pub const UNTIL: Told = (
+    "until LINE",
+    "goes on until a rank comes to that line",
+    "; as run does to a breakpoint there",
+    "",
+);
+
+pub const FINISH: Told = (
+    "finish [P]",
+    "goes on until a rank's call is over",
+    "; the one that rank P waits in, or the rank of the last step",
+    "",
 );
 
 pub const BACK: Told = (
@@ -461,6 +481,8 @@ fn told_of(topic: Topic) -> Told
     match topic {
         Topic::Next => NEXT,
         Topic::Run => RUN,
+        Topic::Until => UNTIL,
+        Topic::Finish => FINISH,
         Topic::Back => BACK,
         Topic::RunBack => RUN_BACK,
         Topic::UndoChoice => UNDO_CHOICE,

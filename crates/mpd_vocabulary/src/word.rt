@@ -12,6 +12,10 @@ pub enum Word {
     Next(Option<usize>),
     /// Go on to a breakpoint, a choice or the end, by so many steps at most.
     Run(usize),
+    /// Go on until a rank comes to this line.
+    Until(usize),
+    /// Go on until the call is over that this rank waits in, or the rank of the last step.
+    Finish(Option<usize>),
     /// Take so many steps back.
     Back(usize),
     /// Go back to a breakpoint, or to the start.

@@ -1,0 +1,151 @@
+"""Worked dialogues of the console about `until` and `finish`, which go on to a line and to the end of a call (console_worked.py)."""
+
+from rows.worked_console_hits import LATER
+from rows.worked_console_scripts import STOLEN_CHOICE, STOLEN_END, Dialogue
+
+# Line 13 of examples/stolen_message.mpd.
+SENDS = '   13    if rank == 1 { send 42 to 0 tag 7; } else { send 5 to 0 tag 1; }'
+SECOND_AHEAD = f'''4 ahead: match 2.0 0.0: rank 2, line 13, to rank 0, line 8
+{SENDS}
+    8    irecv r note from any tag any;
+{STOLEN_CHOICE}'''
+SECOND_TAKEN = f'''10 match 2.0 0.0: rank 2, line 13, to rank 0, line 8
+stopped: behind the choice
+3 ahead: wake 2: line 13
+{SENDS}'''
+
+ONWARD = (
+    Dialogue('to a line and to the end of a call, of the first message', 'first_message.mpd', '''
+> finish
+refused: the last step is of no rank; finish P names one
+> finish 1
+rank 1 waits for no call
+> finish 2
+refused: there is no such rank
+> until 8
+3 steps, depth 3
+stopped: a rank is at line 8
+next: local 1: line 8
+    8    recv x from 0 tag 0;
+> finish
+rank 1 waits for no call
+> finish 0
+3 steps, depth 6
+stopped: that call is over
+next: wake 1: line 8
+    8    recv x from 0 tag 0;
+> finish
+rank 0 waits for no call
+> finish 1
+1 step, depth 7
+stopped: that call is over
+next: local 1: line 9
+    9    print x;
+> until 9
+1 step, depth 8
+rank 1 prints 7
+ended: done
+>
+0 steps, depth 8
+ended: done
+> until 0
+refused: lines are 1 to 65537
+> until 65538
+refused: lines are 1 to 65537
+> until 10
+0 steps, depth 8
+no statement begins at line 10
+ended: done
+> restart
+depth 0
+8 ahead: local 0: line 5
+    5  if rank == 0 {
+> until 9
+7 steps, depth 7
+stopped: a rank is at line 9
+1 ahead: local 1: line 9
+    9    print x;
+> restart
+depth 0
+8 ahead: local 0: line 5
+    5  if rank == 0 {
+> break match 6
+breakpoint 0: match 6
+> until 9
+5 steps, depth 5
+breakpoint 0: match 6
+3 ahead: wake 0: line 6
+    6    send 7 to 1 tag 0;
+> breaks
+breakpoint 0: match 6
+> finish 1
+2 steps, depth 7
+stopped: that call is over
+1 ahead: local 1: line 9
+    9    print x;
+> until
+usage: until LINE
+> until x
+usage: until LINE
+> finish 1 2
+usage: finish [P]
+'''),
+    Dialogue('a choice on the way, and one that was made before', 'stolen_message.mpd', f'''
+> until 10
+9 steps, depth 9
+{STOLEN_CHOICE}
+> finish 0
+0 steps, depth 9
+{STOLEN_CHOICE}
+> next 2
+10 match 2.0 0.0: rank 2, line 13, to rank 0, line 8
+next: wake 2: line 13
+{SENDS}
+> finish
+3 steps, depth 13
+stopped: that call is over
+next: local 0: line 10
+   10    wait r;
+> undo-choice
+depth 9
+{SECOND_AHEAD}
+> until 10
+{SECOND_TAKEN}
+> back
+depth 9
+{SECOND_AHEAD}
+> finish 0
+{SECOND_TAKEN}
+> back
+depth 9
+{SECOND_AHEAD}
+> next 1
+10 match 1.0 0.0: rank 1, line 13, to rank 0, line 8
+the 4 steps that lay ahead are gone
+next: wake 1: line 13
+{SENDS}
+> finish 1
+1 step, depth 11
+{STOLEN_END}
+'''),
+    Dialogue('a barrier that all leave', LATER, '''
+> until 3
+1 step, depth 1
+stopped: a rank is at line 3
+next: local 0: line 3
+    3  barrier;
+> next
+2 local 0: line 3
+next: local 1: line 2
+    2  if rank == 1 { print 1; }
+> finish
+4 steps, depth 6
+rank 1 prints 1
+stopped: that call is over
+next: local 0: line 4
+    4  print rank;
+> finish
+refused: the last step is of no rank; finish P names one
+> finish 1
+rank 1 waits for no call
+'''))

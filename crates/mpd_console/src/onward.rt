@@ -1,0 +1,216 @@
+//! What `until` and `finish` ask for: how far they go on (docs/CONSOLE.md, "Words that move").
+
+ghost use Rattle.std.specs.Prelude.{◌≡◌, ◌≤◌, ◌<◌, IfOk, IfSome, drop, length};
+ghost use Rattle.std.specs.List.{position};
+ghost use Rattle.mpd_console.specs.Onward as spec;
+ghost use Rattle.mpd_console.specs.Moves as moves;
+
+use crate::moves::{Doing, run_command};
+use mpd_core::Debugger;
+use mpd_model::{Break, Cause, STEPS_MAX, Step, Stop};
+use mpd_names::is_blocked;
+use mpd_policy::{Breaks, run_on};
+use mpd_session::Command;
+use std::alloc::{AllocError, Global};
+
+/// The last line that a breakpoint may be on.
+const LAST_LINE: usize = 65_537;
+
+/// Whether a breakpoint may be on a line.
+fn is_line(line: usize) -> bool
+    ensures { result ≡ spec.is_line line }
+{
+    1 <= line && line <= LAST_LINE
+}
+
+/// A breakpoint on a line, and no other.
+#[tactic(auto, using(crate::proofs::OnwardLemmas::added_alone))]
+fn alone(line: usize) -> Breaks
+    ensures { result ≡ spec.alone line }
+{
+    let mut breaks = Breaks::new();
+    let _ = breaks.add(Break::Line(line));
+    breaks
+}
+
+/// As many steps as a run made that stopped for a breakpoint; else as many as there can be.
+fn steps_by(stop: Stop) -> usize
+    ensures { result ≡ spec.steps_by stop }
+{
+    match stop.cause {
+        Cause::Break(_) => stop.steps,
+        _ => STEPS_MAX,
+    }
+}
+
+/// How many steps a run on takes to where a rank comes to a line. A copy of the debugger runs. An `Err` is want of memory.
+fn steps_to_line(alloc: Global, debugger: &Debugger<'_>, line: usize) -> Result<usize, AllocError>
+    ensures { IfOk result (λ n. n ≡ spec.steps_to_line debugger.now.trail debugger.now.world line) }
+{
+    debugger.state_is_reached();
+    let mut copy = debugger.copy()?;
+    match run_on(alloc, &mut copy, &alone(line), STEPS_MAX) {
+        Ok(stop) => {
+            drop(copy);
+            Ok(steps_by(stop))
+        }
+        Err(fault) => {
+            drop(copy);
+            Err(fault)
+        }
+    }
+}
+
+/// Whether by a step a rank goes on that waited.
+fn frees(rank: usize, step: Step) -> bool
+    ensures { result ≡ spec.frees rank step }
+{
+    match step {
+        Step::Wake(other) => other == rank,
+        Step::WakeAny { rank: other, .. } => other == rank,
+        Step::Release => true,
+        Step::Local(_) | Step::Match(_, _) => false,
+    }
+}
+
+/// The place of the first step by which a rank goes on.
+fn place_of_wake(rank: usize, steps: &[Step]) -> Option<usize>
+    ensures place { result ≡ position (spec.frees rank) steps.now }
+    ensures small { IfSome result (λ place. place < length steps.now) }
+{
+    steps.iter().position(|step| frees(rank, *step))
+}
+
+/// How many steps there are up to that place, with it; as many as there can be where no rank goes on.
+fn count_to_wake(rank: usize, steps: &[Step]) -> usize
+    ensures { result ≡ spec.steps_with (position (spec.frees rank) steps.now) }
+{
+    match place_of_wake(rank, steps) {
+        None => STEPS_MAX,
+        Some(place) => place + 1,
+    }
+}
+
+/// The steps that a copy of a debugger has taken since.
+fn steps_since<'d>(debugger: &Debugger<'_>, copy: &'d Debugger<'_>) -> &'d [Step]
+    requires { debugger.now.trail.depth ≤ length copy.now.trail.steps }
+    ensures { result.now ≡ drop debugger.now.trail.depth copy.now.trail.steps }
+{
+    let (_, since) = copy.steps().split_at(debugger.depth());
+    since
+}
+
+/// How many steps a run on takes to where a rank goes on that waits. A copy of the debugger runs. An `Err` is want of memory.
+fn steps_to_wake(alloc: Global, debugger: &Debugger<'_>, rank: usize) -> Result<usize, AllocError>
+    ensures { IfOk result (λ n. n ≡ spec.steps_to_wake debugger.now.trail debugger.now.world rank) }
+{
+    debugger.state_is_reached();
+    let mut copy = debugger.copy()?;
+    match run_on(alloc, &mut copy, &Breaks::new(), STEPS_MAX) {
+        Ok(_) => {
+            let count = count_to_wake(rank, steps_since(debugger, &copy));
+            drop(copy);
+            Ok(count)
+        }
+        Err(fault) => {
+            drop(copy);
+            Err(fault)
+        }
+    }
+}
+
+/// The rank of a step: of a match that of its receive.
+fn rank_of(step: Step) -> Option<usize>
+    ensures { result ≡ spec.rank_of step }
+{
+    match step {
+        Step::Local(rank) | Step::Wake(rank) => Some(rank),
+        Step::WakeAny { rank, .. } => Some(rank),
+        Step::Match(_, recv) => Some(recv.rank),
+        Step::Release => None,
+    }
+}
+
+/// That of the last of so many steps.
+fn rank_behind(steps: &[Step], depth: usize) -> Option<usize>
+    ensures { result ≡ spec.rank_behind steps.now depth }
+{
+    if depth == 0 {
+        return None;
+    }
+    let step = steps.get(depth - 1).copied()?;
+    rank_of(step)
+}
+
+/// The rank that is named, or that of the last step.
+pub(crate) fn finish_rank(debugger: &Debugger<'_>, rank: Option<usize>) -> Option<usize>
+    ensures { result ≡ spec.finish_rank debugger.now.trail rank }
+{
+    match rank {
+        None => rank_behind(debugger.steps(), debugger.depth()),
+        Some(rank) => Some(rank),
+    }
+}
+
+/// A command that runs on by so many steps at most; one that takes steps that lie ahead is as it was.
+fn no_further(max: usize, command: Command) -> Command
+    ensures { result ≡ moves.no_further max command }
+{
+    match command {
+        Command::RunOn(_) => Command::RunOn(max),
+        _ => command,
+    }
+}
+
+/// What goes on as `run` does asks for, by so many steps at most.
+#[tactic(auto, unfolding(crate::specs::Moves::up_to))]
+fn up_to(alloc: Global, debugger: &Debugger<'_>, max: usize) -> Result<Command, AllocError>
+    ensures { IfOk result (λ c. c ≡ moves.up_to debugger.now.trail debugger.now.world max) }
+{
+    let command = run_command(alloc, debugger, STEPS_MAX)?;
+    Ok(no_further(max, command))
+}
+
+/// What `until` asks for: to go on to where a rank comes to a line.
+pub(crate) fn until_command(
+    alloc: Global,
+    debugger: &Debugger<'_>,
+    line: usize,
+) -> Result<Command, AllocError>
+    ensures { IfOk result (λ c. c ≡ moves.until_command debugger.now.trail debugger.now.world line) }
+{
+    if !is_line(line) {
+        return Ok(Command::Break(Break::Line(line)));
+    }
+    let max = steps_to_line(alloc, debugger, line)?;
+    up_to(alloc, debugger, max)
+}
+
+/// What `finish` asks for: to go on to where a rank goes on that waits.
+fn finish_command(
+    alloc: Global,
+    debugger: &Debugger<'_>,
+    rank: usize,
+) -> Result<Command, AllocError>
+    ensures { IfOk result (λ c. c ≡ moves.finish_command debugger.now.trail debugger.now.world rank) }
+{
+    let max = steps_to_wake(alloc, debugger, rank)?;
+    up_to(alloc, debugger, max)
+}
+
+/// What `finish` does of a rank: where it waits it goes on.
+pub(crate) fn finish_doing(
+    alloc: Global,
+    debugger: &Debugger<'_>,
+    rank: Option<usize>,
+) -> Result<Doing, AllocError>
+    ensures { IfOk result (λ doing. doing ≡ moves.finish_doing debugger.now.trail debugger.now.world rank) }
+{
+    let Some(rank) = rank else {
+        return Ok(Doing::Looks);
+    };
+    if !is_blocked(debugger.core(), rank) {
+        return Ok(Doing::Looks);
+    }
+    Ok(Doing::Asks(finish_command(alloc, debugger, rank)?))
+}
