@@ -331,6 +331,16 @@ class Talk:
         rank = self.random.choice(going)
         return self.random.choice([['ranks'], ['why'], ['why', str(rank)], ['why', str(last_call(self.world, rank))]])
 
+    def look_at_release(self):
+        """What lists a release, now and then where one is enabled; None elsewhere."""
+        return ['enabled'] if any(step.kind == 'release' for step in enabled_steps(self.world)) and self.chance(0.5) else None
+
+    def leave_one(self):
+        """A step by hand in the place of the only one that is ahead, now and then where there is another; None elsewhere."""
+        others = [step for step in enabled_steps(self.world) if [step] != self.console.ahead]
+        is_left = len(self.console.ahead) == 1 and bool(others) and self.chance(0.15)
+        return step_text(self.random.choice(others)).split() if is_left else None
+
     def history(self):
         return ['history', *self.maybe(lambda: self.edge(0, 1, 3, 10, self.walked.depth), 0.6)]
 
@@ -407,7 +417,7 @@ class Talk:
             return self.random.choice([b'', b'', b' ', b'\t', b' \t '])
         words, going = self.habits.words, self.going()
         is_look = bool(going) and self.chance(0.15)
-        parts = self.behind_break()
+        parts = self.behind_break() or self.look_at_release() or self.leave_one()
         if parts is None:
             parts = self.look_at(going) if is_look else self.parts(self.random.choices(list(words), list(words.values()))[0])
         parts[0] = self.shortened(parts[0])
@@ -591,12 +601,15 @@ def with_carriage_returns(random, script):
 
 
 def with_news(random, script):
-    """The script, whose ranks now and then print more at their ends, and lose a request there, where they have a name for one."""
+    """The script, whose ranks now and then print more at their ends, and lose a request there, where they have a name for one; or come to a
+    barrier."""
     draw, found = random.random(), REQUEST.search(script)
     if draw < 0.2 and found:
         name = found[1] if found[2] is None else found[1] + b'[0]'
         return script + b'print rank;\nisend %b 1 to rank tag 0;\nprint -2;\nissend %b 2 to rank tag 1;\nprint 3;\n' % (name, name)
-    return script + b'print rank;\nprint -2;\n' if draw < 0.35 else script
+    if draw < 0.35:
+        return script + b'print rank;\nprint -2;\n'
+    return script + b'barrier;\n' if draw < 0.5 else script
 
 
 def is_turn_of_blaming(number):

@@ -117,7 +117,7 @@ OF_LINES = {'a line that goes on': r'\n {8}\S', 'a line that goes on twice': r'\
             'lost at an end': r'\nended: .*\n(  .*\n)*rank \d+ has lost',
             'printed in a step': r'\n\d+ local \d+: .*\nrank \d+ prints ', 'printed in a run': r'\n\d+ steps?, depth \d+\nrank \d+ prints ',
             'printed in steps that are taken again': r'\ndepth \d+\nrank \d+ prints ',
-            'decided at an end': r'\nended: (.*\n)+decided at depth \d', 'decided along steps ahead': r' steps ahead\n(.*\n){1,9}decided at depth \d',
+            'decided at an end': r'\nended: (.*\n)+decided at depth \d', 'decided along steps ahead': r' steps ahead(: rank .*)?\n(.*\n){1,9}decided at depth \d',
             'printed on the way to where it was decided': r'\ndecided at .*\n( {8}.*\n)*(to try that: .*\n)?depth \d+\nrank \d+ prints ',
             'decided at a choice': r'\ndecided at .*\n( {8}.*\n)*(to try that: .*\n)?depth \d+\n(rank .*\n)*\d+ ahead: .*\n( .*\n)*stopped at a choice',
             'printed by several ranks': r'\nrank \d+ prints .*\nrank \d+ prints ',

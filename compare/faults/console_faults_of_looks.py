@@ -116,8 +116,8 @@ def look_faults():
             'what is kept is what is taken': lambda self: [f'depth {self.debugger.depth} of {self.debugger.depth}', *SOUND['show'](self)[1:]]}),
         *named('enabled', {
             'nothing where there is none': changed('enabled', without('no step')),
-            'as trace words': changed('enabled', lambda lines, self: [line.partition(':')[0] for line in lines]),
-            'matches first': changed('enabled', lambda lines, self: sorted(lines, key=lambda line: not line.startswith('match')))}),
+            'as trace words': changed('enabled', lambda lines, self: [line.rpartition('; ')[2] for line in lines]),
+            'matches first': changed('enabled', lambda lines, self: sorted(lines, key=lambda line: '; match ' not in line))}),
         *named('calls', {
             'nothing where there is none': changed('calls', without('no call')),
             'those of all ranks': lambda self, number=None: SOUND['calls'](self)}),

@@ -48,11 +48,6 @@ def all_wide(self):
     return wide.wide_walk(self.world, self.fuel())
 
 
-def from_the_start(self):
-    """The runs from the start of the script, and not from here."""
-    return explorer.walk_of_ends(Run(self.debugger.worlds[0], self.fuel()))
-
-
 def by_awake(self):
     """The runs whose choices are numbered among the candidates that are awake."""
     for leaf in SOUND['walk'](self):
@@ -90,6 +85,18 @@ def by_other_walks(method):
 
 
 # ---- runs by number
+
+def at_the_start(method):
+    """What a method does at the start of the script, and not here."""
+    def other(self, *given):
+        worlds = self.debugger.worlds
+        self.debugger.worlds = worlds[:1]
+        try:
+            return SOUND[method](self, *given)
+        finally:
+            self.debugger.worlds = worlds
+    return other
+
 
 def numbered_run(at, number, leaf):
     """What tells the candidates of a run from 0."""
@@ -168,7 +175,7 @@ def number_faults():
     return [
         *named('check', {
             **by_other_walks('check'),
-            'from the start': with_walk('check', from_the_start),
+            'from the start': at_the_start('check'),
             'candidates numbered among those that are awake': with_walk('check', by_awake),
             'one run': lambda self, runs=1: SOUND['check'](self, runs),
             '999 runs': lambda self, runs=999: SOUND['check'](self, runs),
@@ -296,7 +303,8 @@ def seek_faults():
         *named('walk', OTHER_WALKS),
         *named('seek', {
             **{name: by_listing(walk) for name, walk in (('along decisions', along_decisions), ('ends along decisions', ends_along_decisions),
-                                                         ('the ends that are listed', SOUND['walk']), ('from the start', from_the_start))},
+                                                         ('the ends that are listed', SOUND['walk']))},
+            'from the start': at_the_start('seek'),
             'along decisions first': first_along_decisions,
             'what is bad in any way': bad_too,
             'up to what is bad in any way': ends_at_bad,

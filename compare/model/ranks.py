@@ -65,13 +65,13 @@ IN_SHORT = {'hang': '{} hang', 'trap': '{} trap', 'none': 'none hangs or traps',
 
 
 # Where every run fails one line tells what else two tell.
-BOTH = re.compile(rf'it always fails in \S+: it hangs in ({COUNT} of ({COUNT} runs?)) and traps in {COUNT}')
+BOTH = re.compile(rf'it always fails in (\S+): it hangs in ({COUNT} of ({COUNT} runs?)) and traps in {COUNT}')
 
 
 def unfolded(text):
     """A text whose long lines go on in no further lines, with a line each for how many runs hang and trap, and a number of runs in each, of all."""
     lines = '\n'.join(line if line.startswith(' ') else with_numbers(line).replace(' the first ', ' ') for line in re.sub(r'\n {8}(?=\S)', ' ', text).split('\n'))
-    return BOTH.sub(r'it can hang: \1\nit can trap: \5 of \3', lines)
+    return BOTH.sub(r'it can hang in \1: \2\nit can trap in \1: \6 of \4', lines)
 
 
 def counts_in(lines, forms):

@@ -52,6 +52,9 @@ LEFT_OUT = {
         **dict.fromkeys(('full_command', 'ranks_line'), 'called by the program with --ranks'),
         **dict.fromkeys(('closing_of', 'diagnose_mode', 'first_of', 'modes_up_to', 'worst_of'), 'called by the program with --modes')},
     'mpd_picture': {'arrows_are_pairs': 'a law'},
+    'mpd_page': {
+        'make_page': 'called by the program, which is refused memory whole',
+        **dict.fromkeys(('states_are_shown', 'texts_tell_changes', 'parents_come_first', 'data_has_no_markup'), 'a law')},
     'mpd_vocabulary': dict.fromkeys(('line_of', 'push_fault', 'push_help'), BY_WORDS),
     'mpd_console': {
         'has_quit': 'called by the program behind a console',

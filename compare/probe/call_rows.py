@@ -431,8 +431,9 @@ def programs():
                         ('serve a --port 80 --clients 2', 'serve a rendezvous 80 2'), ('verify a b', 'verify a b rendezvous'),
                         ('verify a b --leaf 7', 'verify a b rendezvous 7'), ('words a --choices 3 --fuel 9', 'words a 3 rendezvous 9 false'),
                         ('words a --choices 3 --ends', 'words a 3 rendezvous 100000 true'), ('c a', 'c a'),
-                        ('picture a', 'picture a rendezvous - - - 100000 false'), ('picture a --ends', 'picture a rendezvous - - - 100000 true'),
-                        ('picture a --choices 1 --witness 2 --words 3 --fuel 4 --mode 5', 'picture a 5 1 2 3 4 false'),
+                        ('picture a', 'picture a rendezvous - - - 100000 false false'), ('picture a --ends', 'picture a rendezvous - - - 100000 true false'),
+                        ('picture a --plain', 'picture a rendezvous - - - 100000 false true'), ('page a --runs 7 --hide', 'page a rendezvous - - - 7 100000 false true'),
+                        ('picture a --choices 1 --witness 2 --words 3 --fuel 4 --mode 5', 'picture a 5 1 2 3 4 false false'),
                         ('run a', 'run a rendezvous'), ('check a --witness', 'check a rendezvous 1000 100000 1 4 true'),
                         ('check a --runs 0', 'usage false 2'), ('fly', 'usage false 2'), ('--help', 'usage true 0')):
         yield Row('read_options', argument=words, by_hand=no_state(told + '\n'))

@@ -50,6 +50,18 @@ isend r[0] 6 to 0 tag 0;
 irecv r[0] x from 0 tag 0;
 waitany r to i;
 '''
+# A request that rank 0 has lost and that is complete; the wait for any is of rank 1.
+LOST_BESIDE_OTHERS = '''mpd 2; ranks 2; var x; var i; req r[1];
+if rank == 0 {
+  irecv r[0] x from 1 tag 1;
+  irecv r[0] x from 1 tag 2;
+  wait r[0];
+} else {
+  isend r[0] 5 to 0 tag 1;
+  waitany r to i;
+  send 6 to 0 tag 2;
+}
+'''
 FREE_BESIDE_ANY = '''mpd 2; ranks 1; var x; var i; req r;
 irecv r x from 0 tag 3;
 isend r 3 to 0 tag 0;
@@ -386,6 +398,12 @@ next: match 0.0 0.1: rank 0, line 2, to rank 0, line 3
 rank 0: x = 0, i = 0, r = [0.4], h = 0.2
 rank 0 has lost a request: line 3, 0.1 irecv from 0 tag 0
 ''', BUFFERED),
+    Dialogue('one that is complete, beside a wait for any of another rank', LOST_BESIDE_OTHERS, '''
+> run
+13 steps, depth 13
+ended: done
+rank 0 has lost a request: line 3, 0.0 irecv from 1 tag 1
+'''),
     Dialogue('one that is free at the end, beside a wait for any', FREE_BESIDE_ANY, '''
 > run
 4 steps, depth 4

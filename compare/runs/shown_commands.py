@@ -69,12 +69,12 @@ done
 '''
 # What tells of a deadlock or a trap, in a report, grouped or of modes, or in a diagnosis.
 IS_BAD = re.compile(r'^(?:leaf|outcome) .*\] (?:deadlock|trap) |^end .* first \d+ (?:deadlock|trap) |'
-                    r'^\S+ leaves \d+ (?:deadlocks [1-9]|deadlocks 0 traps [1-9])|^it (?:can (?:hang|trap): |always (?:hangs|traps|fails) )'
+                    r'^\S+ leaves \d+ (?:deadlocks [1-9]|deadlocks 0 traps [1-9])|^it (?:can (?:hang|trap)|always (?:hangs|traps|fails)) in '
                     r'|^\S+: \d+ runs?(?: and more)?, \d+ (?:hang|trap)'
                     r'|^\d+ ranks?: .*, \d+ (?:hang|trap)\b', re.M)
 # What the examples of help answer, each in its turn.
 STUCK = '  rank {0} waits at line 4, {0}.0 send to {1} tag 5 value {0}: for a receive of rank {1} from rank {0} with tag 5\n'
-CANDIDATE = '  {0} match {0}.0 0.0: rank {0}, line 7, to rank 0, line 7\n'
+CANDIDATE = '  {0}: rank {0} sends {0}, tag 0 (line 7); match {0}.0 0.0\n'
 SOURCE = ('    7  if rank == 0 { recv x from any tag any status who tag_of; recv x from 1\n'
           '        tag any; } else { send rank to 0 tag 0; }\n')
 HELP = {'--help': ['first.stdout'], 'trace --help': ['ok 1\n'], 'verify --help': ['accepted\n'],
@@ -383,6 +383,14 @@ def make_copy(copy, program):
     subprocess.run(['bash', '-c', MAKING], cwd=copy, check=True)
 
 
+def other_pages(copy):
+    """Which pages for the class differ from those that the commands of the lab have made, and which are missing or too many."""
+    ready, made = ({os.path.basename(path): read(path) for path in glob.glob(f'{folder}/*.html')} for folder in (f'{TOP}/examples/pages', f'{copy}/pages'))
+    for name in sorted({*ready, *made}):
+        if ready.get(name) != made.get(name):
+            yield f'examples/pages/{name} is not what its command in docs/COURSE.md makes'
+
+
 def main():
     if len(sys.argv) != 2:
         sys.exit(__doc__)
@@ -399,6 +407,7 @@ def main():
             problem = wrong_talk(copy, shown) if shown.talk else problem_of(shown, run(copy, shown.command))
             if problem:
                 problems.append(f'{shown.where}: {shown.command}: {problem}')
+        problems += other_pages(copy)
     for problem in problems:
         print(problem)
     for shown in skipped:

@@ -5,11 +5,12 @@ ghost use Rattle.std.specs.Prelude.{◌≤◌};
 use crate::diagnose::said_of;
 use crate::picture::{Asked, steps_of_asked};
 use crate::tell::Fault;
-use mpd_code::Subject;
+use mpd_code::{Code, Subject};
 use mpd_core::Debugger;
 use mpd_explore::{Leaf, Limits, Report, Unwatched, explore};
 use mpd_lines::{EngineFault, Sink, write_all};
-use mpd_model::{STEPS_MAX, StepList, bare_line, cut_line};
+use mpd_model::{Mode, STEPS_MAX, StepList, bare_line, cut_line};
+use mpd_options::PageOptions;
 use mpd_outcomes::{Count, Goal, Outcomes, StateLimits, explore_outcomes};
 use mpd_page::{PageFault, Title, Walk, make_page};
 use mpd_policy::{Plain, Wide};
@@ -40,15 +41,24 @@ pub(crate) enum Wanted<'a> {
 
 /// The script of a page, and how it is named.
 #[derive(Clone, Copy)]
-pub(crate) struct PageScript<'s> {
-    pub(crate) subject: Subject<'s>,
-    pub(crate) text: &'s [u8],
-    pub(crate) file: &'s str,
-    pub(crate) ranks: Option<usize>,
+struct PageScript<'s> {
+    code: &'s Code,
+    mode: Mode,
+    text: &'s [u8],
+    file: &'s str,
+    ranks: Option<usize>,
     /// How many steps a run has at most.
-    pub(crate) fuel: usize,
+    fuel: usize,
     /// Whether how runs end is covered at first.
-    pub(crate) hide: bool,
+    hide: bool,
+}
+
+/// What is run of it.
+fn subject_of<'s>(script: PageScript<'s>) -> Subject<'s> {
+    Subject {
+        code: script.code,
+        mode: script.mode,
+    }
 }
 
 /// The runs that are shown.
@@ -318,7 +328,8 @@ fn said_first<'a>(alloc: Global, text: &[u8]) -> Result<Vec<u8>, Fault<'a>> {
 fn both<'a>(alloc: Global, script: PageScript<'_>, ends: bool) -> Result<Found, Fault<'a>>
     requires { script.fuel ≤ STEPS_MAX }
 {
-    let PageScript { subject, fuel, .. } = script;
+    let subject = subject_of(script);
+    let fuel = script.fuel;
     let wide = ends || !subject.code.has_no_waitany() || subject.mode.is_limited();
     let limits = StateLimits {
         fuel,
@@ -348,7 +359,8 @@ fn found_runs<'a>(
 ) -> Result<Found, Fault<'a>>
     requires { script.fuel ≤ STEPS_MAX }
 {
-    let PageScript { subject, fuel, .. } = script;
+    let subject = subject_of(script);
+    let fuel = script.fuel;
     match wanted {
         Wanted::Choices { asked, ends } => given(alloc, subject, asked, walk_of(ends), fuel),
         Wanted::Steps(asked) => given(alloc, subject, asked, Walk::Words, fuel),
@@ -377,8 +389,7 @@ fn page_of<'a>(alloc: Global, script: PageScript<'_>, found: &Found) -> Result<V
         said: &found.said,
         more: found.more,
     };
-    let Subject { code, mode } = script.subject;
-    match make_page(alloc, code, mode, title, &found.runs) {
+    match make_page(alloc, script.code, script.mode, title, &found.runs) {
         Ok(page) => Ok(page),
         Err(PageFault::TooMany) => Err(Fault::LongPage),
         Err(PageFault::Memory) => Err(Fault::from(EngineFault::Memory)),
@@ -386,7 +397,7 @@ fn page_of<'a>(alloc: Global, script: PageScript<'_>, found: &Found) -> Result<V
 }
 
 /// Writes the page of the runs that are wanted.
-pub(crate) fn write_page<'a, W: Sink>(
+fn write_page<'a, W: Sink>(
     alloc: Global,
     script: PageScript<'_>,
     wanted: Wanted<'a>,
@@ -401,4 +412,45 @@ pub(crate) fn write_page<'a, W: Sink>(
         return Err(Fault::from(EngineFault::WriteFailed));
     }
     Ok(())
+}
+
+/// Refuses runs that are told in two ways at once.
+pub(crate) fn runs_alone<'a>(page: PageOptions<'a>) -> Result<(), Fault<'a>> {
+    if page.runs.is_none() {
+        return Ok(());
+    }
+    if page.choices.is_some() {
+        return Err(Fault::Clash("--choices", "--runs"));
+    }
+    if page.witness.is_some() {
+        return Err(Fault::Clash("--witness", "--runs"));
+    }
+    if page.words.is_some() {
+        return Err(Fault::Clash("--words", "--runs"));
+    }
+    Ok(())
+}
+
+/// Writes a page of the runs that are wanted of a script.
+pub(crate) fn page_script<'a, W: Sink>(
+    alloc: Global,
+    subject: Subject<'_>,
+    text: &[u8],
+    page: PageOptions<'a>,
+    wanted: (Wanted<'a>, Option<usize>),
+    sink: &mut W,
+) -> Result<(), Fault<'a>>
+    requires fuel { page.fuel ≤ STEPS_MAX }
+{
+    let (runs, ranks) = wanted;
+    let shown = PageScript {
+        code: subject.code,
+        mode: subject.mode,
+        text,
+        file: page.file,
+        ranks,
+        fuel: page.fuel,
+        hide: page.hide,
+    };
+    write_page(alloc, shown, runs, sink)
 }
