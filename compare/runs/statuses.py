@@ -428,6 +428,31 @@ def hinted_rows(program):
         yield f'a hint, {text}', (lines[0], behind, result.status), (first, [f'  {told}'] if told else [], 2)
 
 
+# Words of a page of a script that goes on and on, and why it is refused. A run of 20,000 steps has one state more than a page may have.
+REFUSED_PAGES = (
+    ((), 'page of more than 20000 states'), (('--fuel', '20000'), 'page of more than 20000 states'), (('--runs', '2', '--fuel', '20000'), 'page of more than 20000 states'),
+    (('--mode', 'slots'), 'bad mode'), (('--choices', 'x'), 'bad choices'), (('--choices', '7'), 'bad choices at 0'),
+    *((words, f'{words[0]} and {words[2]} can\'t stand together') for words in (
+        ('--choices', '1', '--witness', 'w'), ('--choices', '1', '--words', 'w'), ('--witness', 'w', '--words', 'w'), ('--choices', '1', '--runs', '2'),
+        ('--witness', 'w', '--runs', '2'), ('--words', 'w', '--runs', '2'))))
+
+
+def page_rows(program):
+    """What pages are refused, with nothing written, and that one of as many states as there may be is not."""
+    def paged(*words):
+        return subprocess.run([program, 'page', script, *words], capture_output=True, timeout=120, check=False)
+
+    with tempfile.TemporaryDirectory() as folder:
+        script = os.path.join(folder, 'script.mpd')
+        with open(script, 'wb') as file:
+            file.write(b'mpd 1; ranks 1;\nwhile 1 { }\n')
+        for words, told in REFUSED_PAGES:
+            done = paged(*words)
+            yield f'a page, {" ".join(words)}', Result(done.stdout, done.stderr, done.returncode), Result(b'', f'mpdbg: {told}\n'.encode(), 2)
+        done = paged('--fuel', '19999')
+        yield 'a page of 20,000 states', (done.stdout.count(b'\n{"s":'), done.stderr, done.returncode), (20000, b'', 0)
+
+
 def why_rows(program):
     """At a terminal a fault of a device tells which file and why, and one of a mode which modes there are."""
     def why(what):
@@ -745,7 +770,7 @@ def much_rows(program):
     yield f'much to show with {MUCH_MIB} MiB', result, wanted
 
 
-ROWS = (ended_rows, example_rows, refused_rows, device_rows, usage_rows, trace_rows, terminal_rows, found_rows, hinted_rows, why_rows, progress_rows, summed_rows, most_rows,
+ROWS = (ended_rows, example_rows, refused_rows, device_rows, usage_rows, trace_rows, terminal_rows, found_rows, hinted_rows, page_rows, why_rows, progress_rows, summed_rows, most_rows,
         hint_rows, interrupted_rows, talk_rows, stack_rows, much_rows, full_rows, turns_rows, lesson_rows, *WORKED_ROWS, *PART_ROWS, *SESSION_ROWS,
         *CONSOLE_ROWS, *DEVICE_ROWS, *CONNECTION_ROWS)
 
