@@ -1,10 +1,29 @@
 //! Breakpoints, and where a run that goes by itself stops.
 
-/// What a run stops behind (docs/DEFINITIONS.md, "Breakpoints").
+use crate::comparison::Comparison;
+
+/// What a cell of a rank is compared with.
+#[derive(Clone, Copy, Debug, PartialEq, Eq)]
+pub struct Condition {
+    /// Which cell of the rank, from 0.
+    pub cell: usize,
+    pub comparison: Comparison,
+    /// The number to the right.
+    pub value: i64,
+}
+
+/// What a run stops after (docs/DEFINITIONS.md, "Breakpoints").
 #[derive(Clone, Copy, Debug, PartialEq, Eq)]
 pub enum Break {
-    /// A rank comes to a statement of this line, from 1.
-    Line(usize),
+    /// A rank comes to a statement of a line.
+    Line {
+        /// Which line, from 1.
+        line: usize,
+        /// Which rank, from 0; any where none is given.
+        of: Option<usize>,
+        /// What holds of a cell of the rank that comes there, if something must.
+        when: Option<Condition>,
+    },
     /// A cell of a rank changes.
     Change {
         /// Which rank, from 0.
@@ -19,8 +38,15 @@ pub enum Break {
         /// Which of its handles, from 0.
         handle: usize,
     },
-    /// A call is matched that a statement of this line, from 1, has issued.
-    Match(usize),
+    /// A call is matched that a statement of a line has issued.
+    Match {
+        /// Which line, from 1.
+        line: usize,
+        /// Which rank has issued the call, from 0; any where none is given.
+        of: Option<usize>,
+    },
+    /// This rank, from 0, has taken a step, or goes on, and isn't blocked then.
+    Rank(usize),
 }
 
 /// Why a run stops.

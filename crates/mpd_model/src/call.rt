@@ -9,9 +9,10 @@ pub enum Mode {
     Rendezvous,
     /// Every standard send is complete as it is issued, and still matches later. A synchronous send is complete once it is paired.
     Buffered,
-    /// Each rank has so many slots, 0 to `SLOTS_MAX` where a word says it. A standard send that is issued while its rank holds fewer is
-    /// complete as it is issued, and holds one until it is paired; another is complete once it is paired, for good. A synchronous
-    /// send takes none.
+    /// Each rank has this many slots: 0 to `SLOTS_MAX` if the number comes from a mode's word. A
+    /// standard send that is issued while its rank holds fewer slots is complete at once, and holds
+    /// one until it is paired. Any other standard send is complete once it is paired, even if a
+    /// slot becomes free before that. A synchronous send takes no slot.
     Slots(usize),
 }
 
@@ -36,7 +37,8 @@ pub struct SendCall {
     pub synchronous: bool,
     /// Whether its rank waits for it: `send` and `ssend` do, `isend` and `issend` don't.
     pub blocks: bool,
-    /// Whether it is done as it is issued. The board says so then, by the mode, and for good; a statement's own call isn't yet.
+    /// Whether the send is buffered, so that it is done as it is issued. The board decides this
+    /// once, by the mode, as the call is issued; the call that a statement makes isn't marked yet.
     pub buffered: bool,
 }
 
@@ -50,13 +52,13 @@ pub struct StatusCells {
 /// A receive.
 #[derive(Clone, Copy)]
 pub struct RecvCall {
-    /// Its source, 0 to 15; none is any.
+    /// Its source, 0 to 15; `None` is any source.
     pub from: Option<usize>,
-    /// Its tag, 0 to 32,767; none is any.
+    /// Its tag, 0 to 32,767; `None` is any tag.
     pub tag: Option<usize>,
     /// The cell that its value goes to.
     pub cell: usize,
-    /// The cells that the source and the tag go to, where there are some.
+    /// The cells that the source and the tag go to, if there are some.
     pub status: Option<StatusCells>,
     /// Whether its rank waits for it: `recv` does, `irecv` doesn't.
     pub blocks: bool,

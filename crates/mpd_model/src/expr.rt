@@ -11,9 +11,9 @@ use std::marker::Model;
 /// An operator between two operands (docs/LANGUAGE.md, "Expressions").
 #[derive(Clone, Copy)]
 pub enum BinaryOp {
-    /// `||`, which leaves its right side where the left isn't 0.
+    /// `||`, which doesn't evaluate its right side if the left isn't 0.
     Or,
-    /// `&&`, which leaves its right side where the left is 0.
+    /// `&&`, which doesn't evaluate its right side if the left is 0.
     And,
     Equal,
     NotEqual,
@@ -103,7 +103,7 @@ impl Model for Expr {
 }
 
 impl Expr {
-    /// What an array holds at an index. An `Err` is want of memory.
+    /// What an array holds at an index. `Err` means that memory was refused.
     pub fn element(alloc: Global, place: Place, index: Expr) -> Result<Expr, AllocError>
         ensures { IfOk result (λ t. t ≡ element place index) }
     {
@@ -112,7 +112,7 @@ impl Expr {
         })
     }
 
-    /// An operand with an operator before it. An `Err` is want of memory.
+    /// An operand with an operator before it. `Err` means that memory was refused.
     pub fn unary(alloc: Global, op: UnaryOp, operand: Expr) -> Result<Expr, AllocError>
         ensures { IfOk result (λ t. t ≡ op1 op operand) }
     {
@@ -121,7 +121,7 @@ impl Expr {
         })
     }
 
-    /// Two operands with an operator between them. An `Err` is want of memory.
+    /// Two operands with an operator between them. `Err` means that memory was refused.
     pub fn binary(alloc: Global, op: BinaryOp, left: Expr, right: Expr) -> Result<Expr, AllocError>
         ensures { IfOk result (λ t. t ≡ op2 op left right) }
     {

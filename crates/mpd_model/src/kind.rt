@@ -6,7 +6,8 @@ ghost use Rattle.mpd_model.specs.steps.Next.{blocks};
 
 use crate::call::CallKind;
 
-/// Whether a rank that issues a call of this kind waits for it.
+/// Whether a rank that issues a call of this kind waits for it: `send`, `ssend`, `recv`, a wait and
+/// a barrier, but no nonblocking call (MPI 4.0, section 3.7).
 pub fn blocks(kind: CallKind) -> bool
     ensures { result ≡ blocks kind }
 {

@@ -3,6 +3,7 @@
 
 pub mod breakpoint;
 pub mod call;
+pub mod comparison;
 pub mod decision;
 pub mod expr;
 pub mod kind;
@@ -20,11 +21,12 @@ pub mod text;
 pub mod token;
 pub mod words;
 
-pub use breakpoint::{Break, Cause, Stop};
+pub use breakpoint::{Break, Cause, Condition, Stop};
 pub use call::{
     Activity, Call, CallKind, Issue, MatchSet, Message, Mode, RecvCall, SendCall, StatusCells,
     Trap, WaitCall, WaitanyCall,
 };
+pub use comparison::{Comparison, comparison_of};
 pub use decision::{Decision, StepList};
 pub use expr::{BinaryOp, Expr, ExprNode, UnaryOp};
 pub use kind::{blocks, is_barrier};
@@ -44,6 +46,6 @@ pub use stmt::{
     AssignStmt, IrecvStmt, IsendStmt, RecvStmt, SendStmt, Simple, StatusStmt, Stmt, StmtNode,
     Target, WaitanyStmt,
 };
-pub use text::{print_outcome, print_step, recv_word, send_word};
+pub use text::{print_outcome, print_step, push_compared, push_meant, recv_word, send_word};
 pub use token::{Class, RESERVED, Symbol, Token};
 pub use words::{TraceWord, call_of, has_word, next_word, number_of, step_of, trace_word_of};

@@ -33,7 +33,7 @@ pub fn cut_line(text: &[u8]) -> Option<(&[u8], &[u8])>
     Some(text.split_at(line_len(text)))
 }
 
-/// A line without one carriage return at its end, which a line feed followed.
+/// A line that a line feed followed, without the carriage return at its end, if it has one.
 #[tactic(auto, using(crate::proofs::LineLemmas::baring))]
 pub fn without_return(line: &[u8]) -> &[u8]
     ensures { result.now ≡ bare (line.now ++ 10 ∷ []) }
@@ -46,7 +46,7 @@ pub fn without_return(line: &[u8]) -> &[u8]
     line
 }
 
-/// A line without its line feed, and without one carriage return right before that.
+/// A line without its line feed, and without a carriage return right before that.
 #[tactic(auto, using(crate::proofs::LineLemmas::baring))]
 pub fn bare_line(line: &[u8]) -> &[u8]
     ensures { result.now ≡ bare line.now }

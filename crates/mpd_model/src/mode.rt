@@ -25,7 +25,7 @@ impl fmt::Display for Mode {
 }
 
 impl Mode {
-    /// Whether its buffers run out.
+    /// Whether the mode has a limited number of buffers, so that they can run out.
     pub fn is_limited(self) -> bool
         ensures { result ≡ is_limited self }
     {
@@ -33,8 +33,8 @@ impl Mode {
     }
 }
 
-/// Reads a mode: `rendezvous`, `buffered`, or `slots:` and a number of 1 to 5 digits, at most 65,536 (MPI 4.0, section 3.4). `None`
-/// where the text is none of these. It takes no memory.
+/// Reads a mode: `rendezvous`, `buffered`, or `slots:` and a number of 1 to 5 digits, at most
+/// 65,536 (MPI 4.0, section 3.4). `None` if the text is none of these. Takes no memory.
 pub fn mode_of(text: &str) -> Option<Mode>
     ensures { result ≡ mode_of text.now }
 {
@@ -45,7 +45,7 @@ pub fn mode_of(text: &str) -> Option<Mode>
     }
 }
 
-/// Reads the number of slots behind `slots:`.
+/// Reads the number of slots after `slots:`.
 fn limited_of(text: &[u8]) -> Option<Mode>
     ensures { result ≡ limited_of text.now }
 {

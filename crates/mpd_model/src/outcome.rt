@@ -66,7 +66,7 @@ fn ids_of(alloc: Global, calls: &[IssuedCall]) -> Result<Vec<CallId>, AllocError
 }
 
 impl IssuedList {
-    /// The calls alone. An `Err` is want of memory, and comes only where there is one.
+    /// The calls alone. `Err` means that memory was refused, which happens only if there is one.
     pub fn ids(&self, alloc: Global) -> Result<CallList, AllocError>
         ensures ok { IfOk result (λ ids. ids ≡ ids_of self.now) }
         ensures memory { OnErr result (0 < length self.now) }
@@ -91,7 +91,7 @@ impl Model for TrapList {
     ghost view = { λ l. l.items.items };
 }
 
-/// What a state is in which no step is enabled (docs/DEFINITIONS.md, "Outcomes").
+/// The outcome of a state in which no step is enabled (docs/DEFINITIONS.md, "Outcomes").
 #[derive(Drop)]
 pub enum Outcome {
     /// Every rank has ended, and no call is free.

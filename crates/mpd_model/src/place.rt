@@ -19,7 +19,7 @@ pub struct Decl {
     pub kind: DeclKind,
     /// At most 64 bytes.
     pub name: String,
-    /// How many cells an array has; `None` where one name is one cell.
+    /// How many cells an array has; `None` if one name is one cell.
     pub size: Option<usize>,
 }
 
@@ -41,6 +41,6 @@ pub struct Place {
     pub declaration: usize,
     /// The number of its first cell among those of its kind, 0 to 1024.
     pub first: u32,
-    /// How many cells it has, 0 to 1024; 1 where it is no array.
+    /// How many cells it has, 0 to 1024; 1 if it is no array.
     pub cells: u32,
 }

@@ -25,18 +25,18 @@ pub enum FaultCode {
     Twice,
     /// The 65th open block, or the 65th bracket or operator of one expression.
     TooDeep,
-    /// Statement 4,097, or more cells than 1,024 variables and 256 handles.
+    /// Statement 4,097, or more than 1,024 cells of variables, or more than 256 handles.
     TooMany,
     /// The number of ranks isn't 1 to 16.
     BadRanks,
-    /// What this version of the language hasn't.
+    /// Something that this version of the language doesn't have.
     NotInVersion,
     /// Memory was refused; the text may be a script.
     Memory,
 }
 
 impl FaultCode {
-    /// Its number, 1 to 11.
+    /// Its number, 1 to 11 (docs/LANGUAGE.md, "Faults").
     pub fn number(self) -> u8
         ensures { result ≡ fault_number self }
     {
@@ -91,7 +91,7 @@ impl Error for FaultCode {}
 #[derive(Clone, Copy, Debug, PartialEq, Eq)]
 pub struct ReadFault {
     pub code: FaultCode,
-    /// A byte of the text, from 0, or the text's length for its end; 0 where memory was refused.
+    /// A byte of the text, from 0, or the text's length for its end; 0 if memory was refused.
     pub place: usize,
 }
 

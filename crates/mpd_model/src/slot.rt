@@ -10,6 +10,6 @@ pub struct Slot {
     pub declaration: usize,
     /// The number of its first cell among those of its kind.
     pub first: u32,
-    /// How many cells an array has; `None` where one name is one cell.
+    /// How many cells an array has; `None` if one name is one cell.
     pub size: Option<u32>,
 }

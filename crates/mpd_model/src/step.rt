@@ -16,7 +16,8 @@ pub enum Step {
     Local(usize),
     /// A send, the first, is paired with a receive (MPI 4.0, section 3.5).
     Match(CallId, CallId),
-    /// A rank that is blocked on a complete call goes on. A barrier never is complete, nor is a waitany for a request.
+    /// A rank that is blocked on a complete call goes on. A barrier is never complete, and neither
+    /// is a waitany for a request.
     Wake(usize),
     /// A rank that is blocked on a waitany goes on by one of its requests that are complete (MPI 4.0, section 3.7.5).
     WakeAny {

@@ -8,7 +8,7 @@ use std::marker::Model;
 #[derive(Drop)]
 pub struct Target {
     pub place: Place,
-    /// The index, where the place is an array.
+    /// The index, if the place is an array.
     pub index: Option<Expr>,
 }
 
@@ -51,9 +51,9 @@ pub struct StatusStmt {
 pub struct RecvStmt {
     /// The place that the value is written to.
     pub into: Target,
-    /// The source; none is any.
+    /// The source; `None` is any source.
     pub from: Option<Expr>,
-    /// The tag; none is any.
+    /// The tag; `None` is any tag.
     pub tag: Option<Expr>,
     pub status: Option<StatusStmt>,
 }

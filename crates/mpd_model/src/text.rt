@@ -2,9 +2,10 @@
 
 ghost use Rattle.std.specs.Prelude.{◌≡◌, ◌++◌, IfOk, OnOk, string_bytes, codes};
 ghost use Rattle.mpd_model.specs.steps.Outcomes.{ids_of};
-ghost use Rattle.mpd_model.specs.texts.Texts.{id_text, step_text, send_word, recv_word, kind_text, any_text, trap_name, set_text, trapped_text, outcome_text, spaced};
+ghost use Rattle.mpd_model.specs.texts.Texts.{id_text, step_text, send_word, recv_word, kind_text, any_text, trap_name, set_text, trapped_text, outcome_text, spaced, meant_text, compared_text};
 
 use crate::call::{CallKind, MatchSet, Trap};
+use crate::comparison::Comparison;
 use crate::outcome::{IssuedCall, Outcome, TrappedRank};
 use crate::step::{CallId, Step};
 use std::alloc::{AllocError, Global};
@@ -36,8 +37,8 @@ impl fmt::Display for Step {
     }
 }
 
-/// A step as trace words write it, `step_of` of which is the step where its numbers have at most nine digits. An `Err` is want of
-/// memory.
+/// A step as trace words write it. `step_of` reads it back if its numbers have at most nine digits.
+/// `Err` means that memory was refused.
 pub fn print_step(alloc: Global, step: Step) -> Result<String, AllocError>
     ensures { IfOk result (λ t. string_bytes t ≡ step_text step) }
 {
@@ -58,7 +59,7 @@ pub fn send_word(synchronous: bool, blocks: bool) -> &'static str
     }
 }
 
-/// The word of a receive: whether its rank waits for it.
+/// The word of a receive: `recv` if its rank waits for it, else `irecv`.
 pub fn recv_word(blocks: bool) -> &'static str
     ensures { result.now ≡ recv_word blocks }
 {
@@ -132,7 +133,7 @@ impl fmt::Display for MatchSet {
 }
 
 impl Trap {
-    /// The name that outcomes and states show.
+    /// The name that outcomes and states show, such as `zero-divisor` (docs/LANGUAGE.md, "Traps").
     pub fn name(self) -> &'static str
         ensures { result.now ≡ trap_name self }
     {
@@ -147,7 +148,7 @@ impl Trap {
     }
 }
 
-/// How a run has ended, in one line without its end. An `Err` is want of memory.
+/// How a run has ended, in one line without its end. `Err` means that memory was refused.
 pub fn print_outcome(alloc: Global, outcome: &Outcome) -> Result<String, AllocError>
     ensures { IfOk result (λ t. string_bytes t ≡ outcome_text outcome.now) }
 {
@@ -184,4 +185,22 @@ fn push_traps(out: &mut String, traps: &[TrappedRank]) -> Result<(), AllocError>
         write!(out, " {rank} {name}")?;
     }
     Ok(())
+}
+
+/// Adds which rank is meant, ` rank 1`, and nothing where none is. An `Err` is want of memory.
+pub fn push_meant(out: &mut String, of: Option<usize>) -> Result<(), AllocError>
+    ensures { OnOk result (string_bytes out.new ≡ string_bytes out.old ++ meant_text of) }
+{
+    match of {
+        None => Ok(()),
+        Some(rank) => write!(out, " rank {rank}"),
+    }
+}
+
+/// Adds an operator and a number, ` == 3`. An `Err` is want of memory.
+pub fn push_compared(out: &mut String, comparison: Comparison, value: i64) -> Result<(), AllocError>
+    ensures { OnOk result (string_bytes out.new ≡ string_bytes out.old ++ compared_text comparison value) }
+{
+    let operator = comparison.text();
+    write!(out, " {operator} {value}")
 }

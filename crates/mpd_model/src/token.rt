@@ -70,7 +70,7 @@ pub enum Token {
 #[derive(Clone, Copy)]
 pub enum Class {
     Digit,
-    /// What may stand in a name behind its first byte.
+    /// What may stand in a name after its first byte.
     Name,
     Comment,
 }

@@ -14,7 +14,7 @@ pub enum TraceWord {
     Back,
     /// Take the step again that was undone last.
     Redo,
-    /// Undo steps until so many are left.
+    /// Undo steps until this many are left.
     Goto(usize),
     /// List the enabled steps.
     Enabled,
@@ -22,7 +22,8 @@ pub enum TraceWord {
     Show,
 }
 
-/// Reads a step: `local P`, `match S R`, `wake P`, `wakeany P I` or `release`. `None` where the text is none of these.
+/// Reads a step: `local P`, `match S R`, `wake P`, `wakeany P I` or `release`. `None` if the text
+/// is none of these.
 pub fn step_of(text: &str) -> Option<Step>
     ensures { result ≡ step_of text.now }
 {
@@ -30,7 +31,8 @@ pub fn step_of(text: &str) -> Option<Step>
     step_named(name, rest)
 }
 
-/// Reads a line without its end: a step, `back`, `redo`, `goto N`, `enabled` or `show`. `None` where it is none of these.
+/// Reads a line without its end: a step, `back`, `redo`, `goto N`, `enabled` or `show`. `None` if
+/// it is none of these.
 pub fn trace_word_of(line: &[u8]) -> Option<TraceWord>
     ensures { result ≡ trace_word_of line.now }
 {
@@ -38,7 +40,7 @@ pub fn trace_word_of(line: &[u8]) -> Option<TraceWord>
     trace_word_named(name, rest)
 }
 
-/// Whether a line has a word at all.
+/// Whether a line has a word, that is a byte that is no blank.
 pub fn has_word(line: &[u8]) -> bool
     ensures { result ≡ has_word line.now }
 {
@@ -165,7 +167,7 @@ fn two_numbers(rest: &[u8]) -> Option<(usize, usize)>
     Some((number_of(first)?, number_of(second)?))
 }
 
-/// The step of a name and the words behind it.
+/// The step that a name and the words after it make, if they make one.
 fn step_named(name: &[u8], rest: &[u8]) -> Option<Step>
     ensures { result ≡ step_named name.now (words rest.now) }
 {
@@ -189,7 +191,7 @@ fn step_named(name: &[u8], rest: &[u8]) -> Option<Step>
     None
 }
 
-/// The command, where no word is left.
+/// The command, if no word is left.
 fn alone(command: TraceWord, rest: &[u8]) -> Option<TraceWord>
     ensures { result ≡ alone command (words rest.now) }
 {
@@ -199,7 +201,7 @@ fn alone(command: TraceWord, rest: &[u8]) -> Option<TraceWord>
     Some(command)
 }
 
-/// The command of a name and the words behind it.
+/// The command that a name and the words after it make, if they make one.
 fn trace_word_named(name: &[u8], rest: &[u8]) -> Option<TraceWord>
     ensures { result ≡ trace_word_named name.now (words rest.now) }
 {

@@ -1,8 +1,9 @@
 -- Worked rows of names. What is wanted was worked out by hand.
-use Rattle.std.specs.Prelude.{◌≡◌, ℕ, map, List, [], ◌∷◌, Option, Some, None, Result, Ok, Err, codes, refl}
+use Rattle.std.specs.Prelude.{◌≡◌, ℕ, pos, negsuc, map, List, [], ◌∷◌, Option, Some, None, Result, Ok, Err, codes, refl}
 use Rattle.std.specs.Fmt.{digits}
 use Rattle.mpd_model.specs.declared.place.DeclKind.{DeclKind}
 use Rattle.mpd_model.specs.declared.place.DeclKind.TheVariants.{Variable, Handle}
+use Rattle.mpd_model.specs.declared.comparison.Comparison.TheVariants.{Equal, AtMost}
 use Rattle.mpd_model.specs.declared.breakpoint.Break.{Break}
 use Rattle.mpd_model.specs.declared.breakpoint.Break.TheVariants as on
 use Rattle.mpd_model.specs.script.Declaration.{Declared}
@@ -46,7 +47,10 @@ unfolding digits
 row_names = refl
 
 abbrev stops : List (Break × List ℕ)
-stops = (on.Line 9, codes "line 9") ∷ (on.Match 12, codes "match 12") ∷ (on.Change 1 0, codes "change 1 x") ∷ (on.Change 1 2, codes "change 1 a[1]") ∷ (on.Handle 0 0, codes "change 0 r") ∷ []
+stops =
+    (on.Line 9 None None, codes "line 9") ∷ (on.Line 9 (Some 1) None, codes "line 9 rank 1") ∷ (on.Line 9 None (Some (record { cell = 2; comparison = AtMost; value = negsuc 11 })), codes "line 9 if a[1] <= -12")
+    ∷ (on.Line 10 (Some 0) (Some (record { cell = 0; comparison = Equal; value = pos 3 })), codes "line 10 rank 0 if x == 3") ∷ (on.Match 12 None, codes "match 12") ∷ (on.Match 12 (Some 3), codes "match 12 rank 3") ∷ (on.Rank 2, codes "rank 2")
+    ∷ (on.Change 1 0, codes "change 1 x") ∷ (on.Change 1 2, codes "change 1 a[1]") ∷ (on.Handle 0 0, codes "change 0 r") ∷ []
 
 pub row_stops : map {B = List ℕ} (λ q. break_text five q.0) stops ≡ map {B = List ℕ} (λ q. q.1) stops
 unfolding digits

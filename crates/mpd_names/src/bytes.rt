@@ -30,7 +30,7 @@ fn digit_len(text: &[u8]) -> usize
     text.len()
 }
 
-/// The digits of an index, where digits and `]` alone stand behind its `[`.
+/// The digits of an index, if only digits and `]` stand after its `[`.
 pub(crate) fn digits_of(text: &[u8]) -> Option<&[u8]>
     ensures { MatchOption result (names.digits_of text.now ≡ None) (λ q. names.digits_of text.now ≡ Some q.now) }
 {

@@ -8,7 +8,7 @@ use crate::placed::statement_line;
 use mpd_model::{IssuedCall, Outcome, TrappedRank};
 use std::alloc::AllocError;
 
-/// Adds a rank, and the line of its statement of a number, behind this.
+/// Adds a rank, and the line of its statement of a number, after `before`.
 fn push_at(
     out: &mut String,
     lines: &[usize],
@@ -22,7 +22,7 @@ fn push_at(
     write!(out, "{before}rank {rank} at line {line}")
 }
 
-/// Adds where a rank is trapped, and why, behind this.
+/// Adds where a rank is trapped, and why, after `before`.
 fn push_trapped(
     out: &mut String,
     lines: &[usize],
@@ -60,7 +60,7 @@ fn push_traps(out: &mut String, lines: &[usize], traps: &[TrappedRank]) -> Resul
     Ok(())
 }
 
-/// How a run has ended, in a word.
+/// How a run has ended, in a word: `done`, `leftovers`, `deadlock` or `trap`.
 pub fn end_name(outcome: &Outcome) -> &'static str
     ensures { result.now ≡ ends.end_name outcome.now }
 {
@@ -72,7 +72,8 @@ pub fn end_name(outcome: &Outcome) -> &'static str
     }
 }
 
-/// Adds which ranks that is about, and their lines, given the line of each statement. An `Err` is want of memory.
+/// Adds which ranks that is about, and their lines, given the line of each statement. `Err` means
+/// that memory was refused.
 pub fn push_end_places(
     out: &mut String,
     lines: &[usize],
@@ -89,7 +90,7 @@ pub fn push_end_places(
     }
 }
 
-/// Adds how a run has ended, and where. An `Err` is want of memory.
+/// Adds how a run has ended, and where. `Err` means that memory was refused.
 pub fn push_end(out: &mut String, lines: &[usize], outcome: &Outcome) -> Result<(), AllocError>
     ensures { OnOk result (string_bytes out.new ≡ string_bytes out.old ++ ends.end_words lines.now outcome.now) }
 {

@@ -10,7 +10,7 @@ use crate::name::{NameFault, Named};
 use mpd_code::Code;
 use mpd_model::{CELLS_MAX, Decl, number_of};
 
-/// The number of the declaration of a name, where there is one.
+/// The number of the declaration of a name, if there is one.
 fn declaration_of(decls: &[Decl], name: &[u8]) -> Option<usize>
     ensures { result ≡ names.declaration_from 0 decls.now name.now }
 {
@@ -45,7 +45,7 @@ fn element(all: Named, size: Option<usize>, index: Option<usize>) -> Result<Name
     }
 }
 
-/// What a name means with what stands behind it.
+/// What a name means with what stands after it.
 fn meant_by(all: Named, size: Option<usize>, behind: &[u8]) -> Result<Named, NameFault>
     requires { all.first + cells_of size ≤ CELLS_MAX }
     ensures { result ≡ names.meant_by all size behind.now }
@@ -59,7 +59,7 @@ fn meant_by(all: Named, size: Option<usize>, behind: &[u8]) -> Result<Named, Nam
     }
 }
 
-/// What the name of the declaration of a number means with what stands behind it.
+/// What the name of the declaration of a number means with what stands after it.
 fn meant(code: &Code, number: usize, behind: &[u8]) -> Result<Named, NameFault>
     ensures { result ≡ names.meant code.now.program.decls number behind.now (slice_get code.now.program.decls number) }
 {
@@ -69,8 +69,8 @@ fn meant(code: &Code, number: usize, behind: &[u8]) -> Result<Named, NameFault>
     }
 }
 
-/// What a word means, `NAME` or `NAME[INDEX]`: all cells of a declaration, or one of an array. Where what stands behind the name is no
-/// index, no such name is declared.
+/// What a word means, `NAME` or `NAME[INDEX]`: all cells of a declaration, or one of an array. If
+/// what stands after the name is no index, the name counts as not declared.
 pub fn find_named(code: &Code, word: &[u8]) -> Result<Named, NameFault>
     ensures { result ≡ names.named code.now.program.decls word.now }
 {

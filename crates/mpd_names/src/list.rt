@@ -13,7 +13,7 @@ use mpd_core::Core;
 use mpd_model::{Activity, bare_line, cut_line};
 use std::alloc::AllocError;
 
-/// What is said of a rank that is blocked, where its call is complete or not.
+/// What is said of a blocked rank, by whether its call is complete.
 fn blocked_note(can_wake: bool) -> &'static str
     ensures { result.now ≡ listed.blocked_note can_wake }
 {
@@ -32,7 +32,7 @@ fn activity_note(core: &Core<'_>, rank: usize) -> &'static str
     }
 }
 
-/// Adds a rank, and whether it runs, behind this.
+/// Adds a rank, and whether it runs, after `before`.
 fn push_named_rank(
     core: &Core<'_>,
     out: &mut String,
@@ -46,7 +46,8 @@ fn push_named_rank(
     write!(out, "rank {rank}{activity_note}")
 }
 
-/// Adds a rank that stands at a line, behind this, and nothing where it doesn't. It answers what stands before the next.
+/// Adds a rank that stands at a line, after `before`, and nothing if it doesn't. Returns what
+/// stands before the next.
 #[tactic(auto, using(crate::proofs::ListLemmas::beginning))]
 fn push_rank_at(
     core: &Core<'_>,
@@ -127,7 +128,7 @@ fn is_shown(about: Option<usize>, number: usize) -> bool
     }
 }
 
-/// Adds a line of the script, where it is shown.
+/// Adds a line of the script, if it is shown.
 fn push_line_if(
     core: &Core<'_>,
     out: &mut String,
@@ -164,7 +165,8 @@ fn push_lines(
     Ok(())
 }
 
-/// Adds a rank that has ended, behind this, and nothing where it hasn't. It answers what stands before the next.
+/// Adds a rank that has ended, after `before`, and nothing if it hasn't. Returns what stands before
+/// the next.
 #[tactic(auto, using(crate::proofs::ListLemmas::beginning))]
 fn push_ended_at(
     core: &Core<'_>,
@@ -207,7 +209,7 @@ fn some_ended(core: &Core<'_>) -> bool
     false
 }
 
-/// Adds the line of the ranks that have ended, where some have.
+/// Adds the line of the ranks that have ended, if some have.
 fn push_ended(core: &Core<'_>, out: &mut String) -> Result<(), AllocError>
     ensures { OnOk result (string_bytes out.new ≡ string_bytes out.old ++ listed.ended_line core.now.world) }
 {
@@ -226,7 +228,8 @@ pub fn push_list(core: &Core<'_>, out: &mut String, text: &[u8]) -> Result<(), A
     push_ended(core, out)
 }
 
-/// Adds the lines of a script about the one where a rank stands, or that it has ended, and nothing where there is no such rank.
+/// Adds the lines of a script about the one where a rank stands, or that it has ended, and nothing
+/// if there is no such rank.
 pub fn push_list_about(
     core: &Core<'_>,
     out: &mut String,

@@ -17,7 +17,7 @@ pub struct Named {
 /// Why a name means nothing.
 #[derive(Clone, Copy)]
 pub enum NameFault {
-    /// No such name is declared, or what stands behind it is no index.
+    /// No such name is declared, or what stands after it is no index.
     Unknown,
     /// It has an index, and no such cell.
     NoSuchCell,

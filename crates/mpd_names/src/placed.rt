@@ -8,7 +8,7 @@ use mpd_core::Core;
 use mpd_model::CallId;
 use std::alloc::AllocError;
 
-/// The line of a statement, 0 where there is none.
+/// The line of a statement, 0 if there is none.
 pub(crate) fn statement_line(lines: &[usize], number: Option<usize>) -> usize
     ensures { result ≡ spec.statement_line lines.now number }
 {
@@ -18,7 +18,7 @@ pub(crate) fn statement_line(lines: &[usize], number: Option<usize>) -> usize
     }
 }
 
-/// The line of the statement that issued a call.
+/// The line, from 1, of the statement that issued a call; 0 if there is no such call.
 pub fn issue_line(core: &Core<'_>, call: CallId) -> usize
     ensures { result ≡ spec.issue_line core.now.program.lines (call_at core.now.world.board call) }
 {
@@ -28,7 +28,8 @@ pub fn issue_line(core: &Core<'_>, call: CallId) -> usize
     }
 }
 
-/// The line of the statement that a rank has not got past.
+/// The line, from 1, of the statement that a rank has not got past; 0 if it has none left or there
+/// is no such rank.
 #[tactic(auto, using(crate::proofs::PlacedLemmas::no_line))]
 pub fn rank_line(core: &Core<'_>, rank: usize) -> usize
     ensures { result ≡ spec.rank_line core.now.program.lines (slice_get core.now.world.ranks rank) }
@@ -39,7 +40,7 @@ pub fn rank_line(core: &Core<'_>, rank: usize) -> usize
     statement_line(core.code().lines(), core.next_statement(rank))
 }
 
-/// Adds where a call was issued, and what it is.
+/// Adds where a call was issued, its number, and what it is. `Err` means that memory was refused.
 pub fn push_placed(core: &Core<'_>, out: &mut String, call: CallId) -> Result<(), AllocError>
     ensures { OnOk result (string_bytes out.new ≡ string_bytes out.old ++ spec.placed core.now.program core.now.world.board call) }
 {
@@ -51,7 +52,7 @@ pub fn push_placed(core: &Core<'_>, out: &mut String, call: CallId) -> Result<()
     Ok(())
 }
 
-/// Adds the rank of a call, and its line.
+/// Adds the rank of a call, and its line, as `rank 1, line 5`. `Err` means that memory was refused.
 pub fn push_issuer(core: &Core<'_>, out: &mut String, call: CallId) -> Result<(), AllocError>
     ensures { OnOk result (string_bytes out.new ≡ string_bytes out.old ++ spec.issuer core.now.program core.now.world.board call) }
 {

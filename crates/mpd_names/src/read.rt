@@ -108,7 +108,8 @@ fn action_reads(action: &Action, declaration: usize) -> bool
     }
 }
 
-/// Adds what a rank holds in the declaration of a number, after this, where there is one. It answers what stands before the next.
+/// Adds what a rank holds in the declaration of a number, after `before`, if there is one. Returns
+/// what stands before the next.
 #[tactic(auto, using(crate::proofs::ReadLemmas::declaring))]
 fn push_declared(
     core: &Core<'_>,
@@ -127,7 +128,7 @@ fn push_declared(
     Ok(", ")
 }
 
-/// Adds that, where what a node does reads it. It answers what stands before the next.
+/// Adds that, if what a node does reads it. Returns what stands before the next.
 #[tactic(auto, using(crate::proofs::ReadLemmas::choosing))]
 fn push_if_read(
     core: &Core<'_>,
@@ -164,7 +165,8 @@ fn push_all_read(
     Ok(())
 }
 
-/// Adds what a rank holds in the variables that its next statement reads, and nothing where it has none, or there is no such rank.
+/// Adds what a rank holds in the variables that its next statement reads, and nothing if it has
+/// none, or there is no such rank.
 #[tactic(auto, using(crate::proofs::ReadLemmas::standing))]
 pub fn push_read(core: &Core<'_>, out: &mut String, rank: usize) -> Result<(), AllocError>
     ensures { OnOk result (string_bytes out.new ≡ string_bytes out.old ++ spec.read_text core.now.program core.now.world rank (slice_get core.now.world.ranks rank)) }

@@ -8,7 +8,7 @@ use crate::list::{push_column, push_shown};
 use mpd_model::{bare_line, cut_line};
 use std::alloc::AllocError;
 
-/// The line of a text behind so many others, without what ends it, where there is one.
+/// The line of a text after `above` others, without its line end, if there is one.
 #[tactic(auto, using(crate::proofs::SourceLemmas::passing))]
 fn line_behind(text: &[u8], above: usize) -> Option<&[u8]>
     ensures { MatchOption result (slice_get (lines_of text.now) above ≡ None) (λ l. slice_get (lines_of text.now) above ≡ Some l.now) }
@@ -36,7 +36,8 @@ fn push_source_line(out: &mut String, number: usize, line: &[u8]) -> Result<(), 
     out.push('\n')
 }
 
-/// Adds the line of a number of a text, and nothing where there is none. An `Err` is want of memory.
+/// Adds the line of a number of a text, and nothing if there is none. `Err` means that memory was
+/// refused.
 #[tactic(auto, using(crate::proofs::SourceLemmas::numbering))]
 pub fn push_source(out: &mut String, text: &[u8], number: usize) -> Result<(), AllocError>
     ensures { OnOk result (string_bytes out.new ≡ string_bytes out.old ++ spec.source text.now number) }

@@ -8,7 +8,7 @@ use crate::placed::{issue_line, rank_line};
 use mpd_core::Core;
 use mpd_model::Activity;
 
-/// Whether a rank is blocked.
+/// Whether a rank exists and is blocked.
 pub fn is_blocked(core: &Core<'_>, rank: usize) -> bool
     ensures { result ≡ waits (slice_get core.now.world.ranks rank) }
 {
@@ -36,7 +36,8 @@ pub(crate) fn has_ended(core: &Core<'_>, rank: usize) -> bool
     core.rank(rank).has_ended(core.code())
 }
 
-/// The line of a rank that has not ended: that of its next statement, or where it is blocked that of the call that it waits in.
+/// The line of a rank that has not ended: that of its next statement, or if it is blocked that of
+/// the call that it waits in.
 fn line_of(core: &Core<'_>, rank: usize) -> Option<usize>
     ensures { result ≡ standing.line_at core.now.program.lines core.now.world.board rank (slice_get core.now.world.ranks rank) }
 {
@@ -48,7 +49,7 @@ fn line_of(core: &Core<'_>, rank: usize) -> Option<usize>
     }
 }
 
-/// The line where a rank stands, where it stands at one.
+/// The line where a rank stands, if it stands at one.
 pub(crate) fn stand(core: &Core<'_>, rank: usize) -> Option<usize>
     ensures { result ≡ standing.stand core.now.program core.now.world rank }
 {

@@ -4,10 +4,10 @@ ghost use Rattle.std.specs.Prelude.{◌≡◌, ◌++◌, OnOk, string_bytes};
 ghost use Rattle.mpd_names.specs.Called as called;
 
 use crate::cells::kind_cells;
-use mpd_model::{Break, Decl, DeclKind};
+use mpd_model::{Break, Condition, Decl, DeclKind, push_compared, push_meant};
 use std::alloc::AllocError;
 
-/// Adds the name of a cell of a declaration, with its index where it is an array.
+/// Adds the name of a cell of a declaration, with its index if it is an array.
 fn push_element_name(out: &mut String, decl: &Decl, index: usize) -> Result<(), AllocError>
     ensures { OnOk result (string_bytes out.new ≡ string_bytes out.old ++ called.element_name decl.now.name decl.now.size index) }
 {
@@ -18,7 +18,7 @@ fn push_element_name(out: &mut String, decl: &Decl, index: usize) -> Result<(), 
     }
 }
 
-/// Adds the name of a cell among those of a kind, and nothing where there is no such cell.
+/// Adds the name of a cell among those of a kind, and nothing if there is no such cell.
 pub fn push_cell_name(
     out: &mut String,
     decls: &[Decl],
@@ -38,13 +38,40 @@ pub fn push_cell_name(
     Ok(())
 }
 
+/// Adds a condition, with its cell by name.
+fn push_condition(out: &mut String, decls: &[Decl], condition: Condition) -> Result<(), AllocError>
+    ensures { OnOk result (string_bytes out.new ≡ string_bytes out.old ++ called.condition_text decls.now condition) }
+{
+    out.push_str(" if ")?;
+    push_cell_name(out, decls, DeclKind::Variable, condition.cell)?;
+    push_compared(out, condition.comparison, condition.value)
+}
+
+/// Adds what must hold, where something must.
+fn push_when(out: &mut String, decls: &[Decl], when: Option<Condition>) -> Result<(), AllocError>
+    ensures { OnOk result (string_bytes out.new ≡ string_bytes out.old ++ called.when_text decls.now when) }
+{
+    match when {
+        None => Ok(()),
+        Some(condition) => push_condition(out, decls, condition),
+    }
+}
+
 /// Adds a breakpoint, as it was set.
 pub fn push_break(out: &mut String, decls: &[Decl], stop: Break) -> Result<(), AllocError>
     ensures { OnOk result (string_bytes out.new ≡ string_bytes out.old ++ called.break_text decls.now stop) }
 {
     match stop {
-        Break::Line(line) => write!(out, "line {line}"),
-        Break::Match(line) => write!(out, "match {line}"),
+        Break::Line { line, of, when } => {
+            write!(out, "line {line}")?;
+            push_meant(out, of)?;
+            push_when(out, decls, when)
+        }
+        Break::Match { line, of } => {
+            write!(out, "match {line}")?;
+            push_meant(out, of)
+        }
+        Break::Rank(rank) => write!(out, "rank {rank}"),
         Break::Change { rank, cell } => {
             write!(out, "change {rank} ")?;
             push_cell_name(out, decls, DeclKind::Variable, cell)

@@ -26,7 +26,7 @@ fn own<T>(all: &[T], named: Named) -> &[T]
     own
 }
 
-/// Adds a variable with what it holds, behind this.
+/// Adds a variable with what it holds, after `before`.
 fn push_value(
     out: &mut String,
     before: &str,
@@ -76,7 +76,7 @@ fn push_request(
     }
 }
 
-/// Adds a handle with what it has, behind this.
+/// Adds a handle with what it has, after `before`.
 fn push_handle(
     core: &Core<'_>,
     out: &mut String,
@@ -114,7 +114,7 @@ fn push_handles(
     Ok(())
 }
 
-/// Adds the name of a declaration, where there is one.
+/// Adds the name of a declaration, if there is one.
 fn push_declared_name(
     out: &mut String,
     decls: &[Decl],
@@ -213,7 +213,7 @@ fn push_held(core: &Core<'_>, out: &mut String, rank: usize, named: Named) -> Re
     Ok(())
 }
 
-/// Adds that line, and nothing where there is no such rank.
+/// Adds that line, and nothing if there is no such rank.
 pub fn push_named(
     core: &Core<'_>,
     out: &mut String,
@@ -228,7 +228,7 @@ pub fn push_named(
     push_held(core, out, rank, named)
 }
 
-/// Adds values, each with a space before it.
+/// Adds values, each with a space before it. `Err` means that memory was refused.
 pub fn push_spaced(out: &mut String, values: &[i64]) -> Result<(), AllocError>
     ensures { OnOk result (string_bytes out.new ≡ string_bytes out.old ++ spaced signed_decimal values.now) }
 {
@@ -249,7 +249,7 @@ fn push_printed_values(out: &mut String, rank: usize, values: &[i64]) -> Result<
     Ok(())
 }
 
-/// Adds that line, where it has printed.
+/// Adds that line, if it has printed.
 fn push_output(out: &mut String, rank: usize, values: &[i64]) -> Result<(), AllocError>
     ensures { OnOk result (string_bytes out.new ≡ string_bytes out.old ++ held.printed_by rank values.now) }
 {
@@ -259,7 +259,7 @@ fn push_output(out: &mut String, rank: usize, values: &[i64]) -> Result<(), Allo
     }
 }
 
-/// Adds that line for a rank, and nothing where there is no such rank.
+/// Adds that line for a rank, and nothing if there is no such rank.
 #[tactic(auto, using(crate::proofs::HeldLemmas::absent))]
 fn push_printed(core: &Core<'_>, out: &mut String, rank: usize) -> Result<(), AllocError>
     ensures { OnOk result (string_bytes out.new ≡ string_bytes out.old ++ held.printed_line rank (slice_get core.now.world.ranks rank)) }
@@ -278,7 +278,7 @@ fn short<T>(cells: &[T]) -> &[T]
     short
 }
 
-/// What is told behind these, of so many cells.
+/// What follows these, by the number of cells.
 fn more_cells(count: usize) -> &'static str
     ensures { result.now ≡ held.more_cells count }
 {
@@ -310,7 +310,7 @@ fn push_value_cells(out: &mut String, size: Option<usize>, values: &[i64]) -> Re
     write!(out, "{more}]")
 }
 
-/// Adds the call that a handle has, behind this.
+/// Adds the call that a handle has, after `before`.
 fn push_short_request(
     out: &mut String,
     before: &str,
@@ -378,7 +378,8 @@ fn push_short_held(
     }
 }
 
-/// Adds the name of a declaration, whose number this is, with what a rank holds in it, behind this.
+/// Adds the name of a declaration, whose number this is, with what a rank holds in it, after
+/// `before`.
 pub(crate) fn push_short_text(
     core: &Core<'_>,
     out: &mut String,
@@ -435,7 +436,7 @@ fn push_short_line(core: &Core<'_>, out: &mut String, rank: usize) -> Result<(),
     out.push('\n')
 }
 
-/// Adds that line, and nothing where there is no such rank.
+/// Adds that line, and nothing if there is no such rank.
 fn push_names(core: &Core<'_>, out: &mut String, rank: usize) -> Result<(), AllocError>
     ensures { OnOk result (string_bytes out.new ≡ string_bytes out.old ++ held.names_line core.now.program core.now.world rank) }
 {
@@ -445,7 +446,8 @@ fn push_names(core: &Core<'_>, out: &mut String, rank: usize) -> Result<(), Allo
     push_short_line(core, out, rank)
 }
 
-/// Adds all that a rank holds, in a line, and what it has printed.
+/// Adds all that a rank holds, in a line, and what it has printed. `Err` means that memory was
+/// refused.
 pub fn push_variables(core: &Core<'_>, out: &mut String, rank: usize) -> Result<(), AllocError>
     ensures { OnOk result (string_bytes out.new ≡ string_bytes out.old ++ held.variables_text core.now.program core.now.world rank) }
 {

@@ -5,7 +5,7 @@ use Rattle.std.proofs.lemmas.Bool.Decides.{eqb_tells}
 use Rattle.std.proofs.lemmas.Cmp.{int_eq_equiv}
 use Rattle.std.specs.Option.{option_map}
 use Rattle.mpd_model.specs.declared.breakpoint.Break.{Break}
-use Rattle.mpd_model.specs.declared.breakpoint.Break.TheVariants.{Line, Change, Handle, Match}
+use Rattle.mpd_model.specs.declared.breakpoint.Break.TheVariants.{Line, Change, Handle, Match, Rank}
 use Rattle.mpd_model.specs.declared.call.Activity.{Activity}
 use Rattle.mpd_model.specs.declared.call.Activity.TheVariants.{Running, Blocked, Trapped}
 use Rattle.mpd_model.specs.declared.step.Step.{Step}
@@ -14,7 +14,7 @@ use Rattle.mpd_model.specs.declared.call.Call.{Call}
 use Rattle.mpd_model.specs.script.Program.{Program}
 use Rattle.mpd_model.specs.steps.World.{World, RankWorld, Board, call_at}
 use Rattle.mpd_model.specs.steps.Outcomes.{first_number}
-use Rattle.mpd_model.specs.runs.Breakpoints.{is_number, on_line, is_running, comes_at, held_at, cell_at, same_value, call_held, handle_at, same_number, issued_on, line_hits, match_hits, hit_by, break_at, lowest_hit}
+use Rattle.mpd_model.specs.runs.Breakpoints.{is_number, on_line, is_running, comes_at, held_at, cell_at, same_value, call_held, handle_at, same_number, issued_on, line_hits, match_hits, rank_hits, hit_by, break_at, lowest_hit}
 use Rattle.mpd_match.proofs.Matches.{any_from, any_on, any_now}
 use Rattle.mpd_rank.specs.Views.{RankView, rank_of}
 use Rattle.mpd_policy.specs.declared.hits.Watched.{Watched}
@@ -141,10 +141,11 @@ call_same (Some m) None = refl
 call_same (Some m) (Some n) = refl
 
 hit_split : (s : Program) (place : Option Break) (old : World) (a : Step) (new : World) → hit_by s place old a new ≡ (told_by s place a new || changed_by (watched_at old place) place new)
-hit_split s (Some (Line line)) old a new = or_no (line_hits s line a new)
+hit_split s (Some (Line line of when)) old a new = or_no (line_hits s line of when a new)
 hit_split s (Some (Change p c)) old a new = ap not (value_same (cell_at old p c) (cell_at new p c))
 hit_split s (Some (Handle p h)) old a new = ap not (call_same (handle_at old p h) (handle_at new p h))
-hit_split s (Some (Match line)) old a new = or_no (match_hits s line a new)
+hit_split s (Some (Match line of)) old a new = or_no (match_hits s line of a new)
+hit_split s (Some (Rank p)) old a new = or_no (rank_hits p a new)
 hit_split s None old a new = refl
 
 number_turned : (m n : ℕ) → (m == n) ≡ (n == m)

@@ -5,11 +5,11 @@ use Rattle.std.specs.Ordering.{int_eq}
 use Rattle.mpd_model.specs.declared.limits.TheConstants.{BREAKS_MAX}
 use Rattle.mpd_model.specs.declared.step.Step.{Step}
 use Rattle.mpd_model.specs.declared.breakpoint.Break.{Break}
-use Rattle.mpd_model.specs.declared.breakpoint.Break.TheVariants.{Line, Change, Handle, Match}
+use Rattle.mpd_model.specs.declared.breakpoint.Break.TheVariants.{Line, Change, Handle, Match, Rank}
 use Rattle.mpd_model.specs.script.Program.{Program}
 use Rattle.mpd_model.specs.steps.World.{World}
 use Rattle.mpd_model.specs.steps.Why.{first_in}
-use Rattle.mpd_model.specs.runs.Breakpoints.{break_at, cell_at, handle_at, line_hits, match_hits}
+use Rattle.mpd_model.specs.runs.Breakpoints.{break_at, cell_at, handle_at, line_hits, match_hits, rank_hits}
 use Rattle.mpd_policy.specs.declared.hits.Watched.{Watched}
 use Rattle.mpd_policy.specs.declared.hits.Watched.TheVariants.{Nothing, Value, Call}
 
@@ -19,12 +19,13 @@ pub record Uses (places : List (Option Break)) (used : ℕ) : Type 0 where
   pub within : used ≤ BREAKS_MAX
   pub free : (n : ℕ) → used ≤ n → break_at places n ≡ None
 
--- a breakpoint of a line or of a match
+-- a breakpoint of a line, of a match or of a rank
 abbrev pub told_by : Program → Option Break → Step → World → Bool
-told_by s (Some (Line line)) a w = line_hits s line a w
+told_by s (Some (Line line of when)) a w = line_hits s line of when a w
 told_by s (Some (Change p c)) a w = false
 told_by s (Some (Handle p h)) a w = false
-told_by s (Some (Match line)) a w = match_hits s line a w
+told_by s (Some (Match line of)) a w = match_hits s line of a w
+told_by s (Some (Rank p)) a w = rank_hits p a w
 told_by s None a w = false
 
 -- what a breakpoint watches: what its cell holds, or the call of its handle
@@ -37,10 +38,11 @@ of_call None = Nothing
 of_call (Some n) = Call n
 
 abbrev pub watched_by : World → Break → Watched
-watched_by w (Line line) = Nothing
+watched_by w (Line line of when) = Nothing
 watched_by w (Change p c) = of_value (cell_at w p c)
 watched_by w (Handle p h) = of_call (handle_at w p h)
-watched_by w (Match line) = Nothing
+watched_by w (Match line of) = Nothing
+watched_by w (Rank p) = Nothing
 
 abbrev pub watched_at : World → Option Break → Watched
 watched_at w None = Nothing

@@ -36,7 +36,7 @@ impl Stop {
     }
 }
 
-/// Goes on by one step, or says why not. The chooser is told of a step that nobody has to choose before it is taken.
+/// Goes on by one step, or says why not. The chooser is told of a forced step before it is taken.
 fn go_on<S: Schedule, C: Chooser>(
     alloc: Global,
     schedule: &S,
@@ -66,9 +66,9 @@ fn go_on<S: Schedule, C: Chooser>(
     }
 }
 
-/// Leads a debugger along decisions, up to a depth, and says why it stops: by each step that nobody has to choose, of which the chooser is
-/// told before it is taken, and at each choice by the candidate that is chosen. An `Err` is want of memory; the debugger then stands
-/// somewhere on that way.
+/// Leads a debugger along decisions, up to a depth, and returns why it stops. The chooser is told
+/// of each forced step before it is taken; at each choice the candidate is taken that it chooses.
+/// `Err` means that memory was refused; the debugger is then somewhere on that way.
 pub fn walk<S: Schedule, C: Chooser>(
     alloc: Global,
     schedule: &S,
@@ -91,8 +91,9 @@ pub fn walk<S: Schedule, C: Chooser>(
     Ok(Stop::Fuel)
 }
 
-/// Leads a debugger along the run that some choices tell from where it stands, to its end or to the fuel, which counts from here. An `Err` is
-/// want of memory; the debugger then stands somewhere on that run.
+/// Leads a debugger along the run that some choices describe from its state, to the end of the run
+/// or of its fuel, which counts from here. `Err` means that memory was refused; the debugger is
+/// then somewhere on that run.
 pub fn follow<S: Schedule>(
     alloc: Global,
     schedule: &S,
@@ -114,7 +115,7 @@ pub fn follow<S: Schedule>(
     Ok(())
 }
 
-/// How a run ends where the fuel is used up.
+/// How a run ends if its fuel is used up here.
 fn ending_here<S: Schedule>(
     alloc: Global,
     schedule: &S,
@@ -129,8 +130,9 @@ fn ending_here<S: Schedule>(
     }
 }
 
-/// How the run ends where a walk has stopped, and its debugger stands; none where it stopped at a choice. An `Err` is want of memory, and
-/// comes only at the limit, where the schedule is asked once more.
+/// How the run ends at the state in which a walk has stopped; none if it stopped at a choice. `Err`
+/// means that memory was refused, which happens only at the limit, where the schedule is asked once
+/// more.
 pub fn ending_of<S: Schedule>(
     alloc: Global,
     schedule: &S,
@@ -150,8 +152,8 @@ pub fn ending_of<S: Schedule>(
     }
 }
 
-/// Takes steps back down to a depth, and keeps no undone step. A debugger that stood at this depth with no undone step, and has gone on
-/// from there, is then as it was.
+/// Takes steps back down to a depth, and keeps no undone step. A debugger that was at this depth
+/// with no undone step, and has gone on from there, is then as it was.
 pub fn put_back(debugger: &mut Debugger<'_>, base: usize)
     requires { base ≤ debugger.old.trail.depth }
     ensures trail { debugger.new.trail ≡ forgotten (gone_back debugger.old.trail base) }

@@ -13,17 +13,19 @@ pub trait Chooser {
     ghost use Rattle.mpd_model.specs.declared.step.Step.{Step};
     ghost use Rattle.mpd_model.specs.steps.World.{World};
 
-    /// The chooser before, the depth and the world where the choice is, its candidates, the number of the one that is taken, and the
-    /// chooser after.
+    /// The chooser before, the depth and the world of the choice, its candidates, the number of the
+    /// one that is taken, and the chooser after.
     ghost takes: { Self → ℕ → World → List Step → ℕ → Self → Type 0 };
 
-    /// The same where none is taken.
+    /// The same if none is taken.
     ghost leaves: { Self → ℕ → World → List Step → Self → Type 0 };
 
-    /// The chooser before, the depth and the world where a step is taken that nobody has to choose, that step, and the chooser after.
+    /// The chooser before, the depth and the world in which a forced step is taken, that step, and
+    /// the chooser after.
     ghost passes: { Self → ℕ → World → Step → Self → Type 0 };
 
-    /// Chooses a candidate where a debugger stands at a choice, or none. An `Err` is want of memory.
+    /// Chooses one of the candidates of the debugger's choice, or none. `Err` means that memory was
+    /// refused.
     fn choose(
         &mut self,
         debugger: &Debugger<'_>,
@@ -32,7 +34,7 @@ pub trait Chooser {
         requires some { 0 < length candidates }
         ensures chose { IfOk result (λ o. Chose takes leaves self.old debugger.now.trail.depth debugger.now.world candidates o self.new) };
 
-    /// Is told of a step that nobody has to choose, before it is taken. An `Err` is want of memory.
+    /// Is told of a forced step before it is taken. `Err` means that memory was refused.
     fn pass(&mut self, debugger: &Debugger<'_>, step: Step) -> Result<(), AllocError>
         ensures passed { OnOk result (passes self.old debugger.now.trail.depth debugger.now.world step self.new) };
 }

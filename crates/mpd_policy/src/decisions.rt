@@ -28,7 +28,7 @@ fn first_local(core: &Core<'_>) -> Option<Step>
     None
 }
 
-/// The release, where it is enabled.
+/// The release, if it is enabled.
 #[tactic(auto, using(crate::proofs::StepKinds::releasing))]
 pub(crate) fn release(core: &Core<'_>) -> Option<Step>
     ensures { result ≡ first_enabled core.now.world is_release }
@@ -61,7 +61,8 @@ fn first_named_match(core: &Core<'_>) -> Option<Step>
     core.board().first_named_match()
 }
 
-/// The step that nobody has to choose, where there is one (docs/DEFINITIONS.md, "Decisions"). It takes no memory.
+/// The forced step, which nobody has to choose, if there is one (docs/DEFINITIONS.md, "Decisions").
+/// Takes no memory.
 #[inline(always)]
 #[tactic(auto, using(crate::proofs::StepKinds::first_of_four))]
 pub fn forced_step(core: &Core<'_>) -> Option<Step>
@@ -99,8 +100,9 @@ fn push_any_choices(core: &Core<'_>, steps: &mut Vec<Step>) -> Result<(), AllocE
     Ok(())
 }
 
-/// The candidates of a choice: the steps of one rank's waitany, else the matches of receives of any source, by receiver, receive and
-/// sender. An `Err` is want of memory for the list, and comes only where it has an entry.
+/// The candidates of a choice: the steps of one rank's waitany, else the matches of receives of any
+/// source, by receiver, receive and sender. `Err` means that memory for the list was refused, which
+/// happens only if it has an entry.
 #[tactic(auto, using(crate::proofs::StepKinds::opening))]
 fn choices(alloc: Global, core: &Core<'_>) -> Result<Vec<Step>, AllocError>
     ensures ok { IfOk result (λ steps. steps.items ≡ decisions.choices core.now.world) }
@@ -115,9 +117,10 @@ fn choices(alloc: Global, core: &Core<'_>) -> Result<Vec<Step>, AllocError>
     Ok(steps)
 }
 
-/// What comes next in a state (docs/DEFINITIONS.md, "Decisions"): the step that nobody has to choose, or the steps of which
-/// somebody has to choose one, or how the run has ended. It reads the state, and lists of free calls, and lists no enabled step but
-/// those of a choice. An `Err` is want of memory for that list or the list of an outcome, and comes only where it has an entry.
+/// What comes next in a state (docs/DEFINITIONS.md, "Decisions"): the forced step, or the
+/// candidates of a choice, or how the run has ended. It reads the state, and lists of free calls,
+/// and lists no enabled step but those of a choice. `Err` means that memory for that list or the
+/// list of an outcome was refused, which happens only if it has an entry.
 #[tactic(auto, using(crate::proofs::StepKinds::deciding))]
 pub fn decide(alloc: Global, core: &Core<'_>) -> Result<Decision, AllocError>
     ensures ok { IfOk result (λ d. d ≡ decision core.now.world) }
@@ -145,8 +148,9 @@ pub fn sole(steps: &[Step]) -> Option<Step>
     None
 }
 
-/// The step that comes next where a single candidate is no choice: the step that nobody has to choose, or the one candidate of a
-/// choice. An `Err` is want of memory for the candidates, and comes only where no step is forced and there is a candidate.
+/// The step that comes next if a single candidate counts as no choice: the forced step, or the only
+/// candidate of a choice. `Err` means that memory for the candidates was refused, which happens
+/// only if no step is forced and there is a candidate.
 #[tactic(auto, using(crate::proofs::SingleLemmas::only))]
 pub fn only_step(alloc: Global, core: &Core<'_>) -> Result<Option<Step>, AllocError>
     ensures ok { IfOk result (λ step. step ≡ singles.only_step core.now.world) }
@@ -160,8 +164,8 @@ pub fn only_step(alloc: Global, core: &Core<'_>) -> Result<Option<Step>, AllocEr
     Ok(sole(&steps))
 }
 
-/// A law: in every world a forced step is enabled, and so are all candidates of a choice, of which there is one at least; and the
-/// run has ended exactly where no step is enabled.
+/// A law: in every world a forced step is enabled, and so are all candidates of a choice, of which
+/// there is one at least; and the run has ended exactly if no step is enabled.
 #[tactic(auto, using(crate::proofs::Followed::following))]
 pub fn decisions_can_be_followed()
     ensures follow { (w : World) → CanFollow w (decision w) }

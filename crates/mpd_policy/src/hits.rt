@@ -2,14 +2,14 @@
 
 ghost use Rattle.std.specs.Prelude.{◌≡◌, ℕ, slice_get, slice_index_or, not};
 ghost use Rattle.mpd_model.specs.runs.Breakpoints as points;
-ghost use Rattle.mpd_model.specs.runs.Breakpoints.{break_at, comes_at, cell_at, handle_at, line_hits, match_hits};
+ghost use Rattle.mpd_model.specs.runs.Breakpoints.{break_at, comes_at, cell_at, handle_at, line_hits, match_hits, rank_hits};
 ghost use Rattle.mpd_policy.specs.Places.{of_value, of_call, watched_by, watched_at, same_watched, told_by, changed_by, lowest_told, lowest_changed, lower};
 ghost use Rattle.mpd_policy.specs.declared.hits.Watched.TheVariants.{Nothing};
 
 use crate::breaks::Breaks;
 use mpd_code::Code;
 use mpd_core::Core;
-use mpd_model::{Activity, BREAKS_MAX, Break, CallId, Step};
+use mpd_model::{Activity, BREAKS_MAX, Break, CallId, Condition, Step};
 
 /// What a breakpoint watches.
 #[derive(Clone, Copy)]
@@ -65,29 +65,90 @@ fn comes_to(core: &Core<'_>, line: usize, rank: usize) -> bool
     }
 }
 
-/// Whether some rank runs, with its next statement on a line.
+/// What a cell of a rank holds, where there is one.
+#[tactic(auto, using(crate::proofs::HitLemmas::holding))]
+fn cell(core: &Core<'_>, rank: usize, cell: usize) -> Option<i64>
+    ensures { result ≡ cell_at core.now.world rank cell }
+{
+    if rank >= core.rank_count() {
+        return None;
+    }
+    let vars = core.rank(rank).variables();
+    value_at(vars, cell)
+}
+
+/// Whether a rank is the one that is meant, where one is.
+fn is_meant(of: Option<usize>, rank: usize) -> bool
+    ensures { result ≡ points.is_meant of rank }
+{
+    match of {
+        None => true,
+        Some(own) => own == rank,
+    }
+}
+
+/// Whether a condition holds of a value, where there is one.
+fn value_holds(condition: Condition, value: Option<i64>) -> bool
+    ensures { result ≡ points.value_holds condition value }
+{
+    match value {
+        None => false,
+        Some(value) => condition.comparison.holds(value, condition.value),
+    }
+}
+
+/// Whether what must hold of a cell of a rank holds, where something must.
+fn condition_holds(core: &Core<'_>, when: Option<Condition>, rank: usize) -> bool
+    ensures { result ≡ points.condition_holds when core.now.world rank }
+{
+    match when {
+        None => true,
+        Some(condition) => value_holds(condition, cell(core, rank, condition.cell)),
+    }
+}
+
+/// Whether a rank that is meant runs, with its next statement on a line, and what must hold there holds.
+fn arrives(
+    core: &Core<'_>,
+    line: usize,
+    of: Option<usize>,
+    when: Option<Condition>,
+    rank: usize,
+) -> bool
+    ensures { result ≡ points.arrives core.now.program line of when core.now.world rank }
+{
+    comes_to(core, line, rank) && (is_meant(of, rank) && condition_holds(core, when, rank))
+}
+
+/// Whether some rank does.
 #[tactic(auto, using(crate::proofs::HitLemmas::some_rank))]
-fn some_comes_to(core: &Core<'_>, line: usize) -> bool
-    ensures { result ≡ points.some_comes core.now.program line core.now.world }
+fn some_arrives(core: &Core<'_>, line: usize, of: Option<usize>, when: Option<Condition>) -> bool
+    ensures { result ≡ points.some_arrives core.now.program line of when core.now.world }
 {
     let count = core.rank_count();
     for rank in 0..count {
-        if comes_to(core, line, rank) {
+        if arrives(core, line, of, when, rank) {
             return true;
         }
     }
     false
 }
 
-/// Whether a step hits the breakpoint of a line, told by the state behind it.
-fn line_hits_step(core: &Core<'_>, line: usize, step: Step) -> bool
-    ensures { result ≡ line_hits core.now.program line step core.now.world }
+/// Whether a step hits the breakpoint of a line, told by the state after it.
+fn line_hits_step(
+    core: &Core<'_>,
+    line: usize,
+    of: Option<usize>,
+    when: Option<Condition>,
+    step: Step,
+) -> bool
+    ensures { result ≡ line_hits core.now.program line of when step core.now.world }
 {
     match step {
         Step::Local(rank) | Step::Wake(rank) | Step::WakeAny { rank, .. } => {
-            comes_to(core, line, rank)
+            arrives(core, line, of, when, rank)
         }
-        Step::Release => some_comes_to(core, line),
+        Step::Release => some_arrives(core, line, of, when),
         _ => false,
     }
 }
@@ -103,28 +164,51 @@ fn is_issued_on(core: &Core<'_>, line: usize, id: CallId) -> bool
     }
 }
 
-/// Whether a step is a match of a call that a statement of a line has issued, told by the state behind it.
-fn match_hits_step(core: &Core<'_>, line: usize, step: Step) -> bool
-    ensures { result ≡ match_hits core.now.program line step core.now.world }
+/// Whether a rank that is meant has issued a call by a statement of a line.
+fn is_issued_by(core: &Core<'_>, line: usize, of: Option<usize>, id: CallId) -> bool
+    ensures { result ≡ points.issued_by core.now.program line of core.now.world.board id }
+{
+    is_meant(of, id.rank) && is_issued_on(core, line, id)
+}
+
+/// Whether a step is a match of such a call, told by the state after it.
+fn match_hits_step(core: &Core<'_>, line: usize, of: Option<usize>, step: Step) -> bool
+    ensures { result ≡ match_hits core.now.program line of step core.now.world }
 {
     match step {
         Step::Match(send, recv) => {
-            is_issued_on(core, line, send) || is_issued_on(core, line, recv)
+            is_issued_by(core, line, of, send) || is_issued_by(core, line, of, recv)
         }
         _ => false,
     }
 }
 
-/// What a cell of a rank holds, where there is one.
-#[tactic(auto, using(crate::proofs::HitLemmas::holding))]
-fn cell(core: &Core<'_>, rank: usize, cell: usize) -> Option<i64>
-    ensures { result ≡ cell_at core.now.world rank cell }
+/// Whether a step is a rank's own, or a release.
+fn is_step_of(rank: usize, step: Step) -> bool
+    ensures { result ≡ points.is_step_of rank step }
 {
-    if rank >= core.rank_count() {
-        return None;
+    match step {
+        Step::Local(own) | Step::Wake(own) | Step::WakeAny { rank: own, .. } => own == rank,
+        Step::Release => true,
+        Step::Match(_, _) => false,
     }
-    let vars = core.rank(rank).variables();
-    value_at(vars, cell)
+}
+
+/// Whether a rank is there, and isn't blocked.
+fn is_unblocked(core: &Core<'_>, rank: usize) -> bool
+    ensures { result ≡ points.is_unblocked (slice_get core.now.world.ranks rank) }
+{
+    match core.activity(rank) {
+        None | Some(Activity::Blocked) => false,
+        Some(Activity::Running) | Some(Activity::Trapped(_)) => true,
+    }
+}
+
+/// Whether a step hits the breakpoint of a rank, told by the state after it.
+fn rank_hits_step(core: &Core<'_>, rank: usize, step: Step) -> bool
+    ensures { result ≡ rank_hits rank step core.now.world }
+{
+    is_step_of(rank, step) && is_unblocked(core, rank)
 }
 
 /// The call that a handle of a rank holds, if any.
@@ -138,13 +222,14 @@ fn held_call(core: &Core<'_>, rank: usize, handle: usize) -> Option<usize>
     core.rank(rank).held_call(handle)
 }
 
-/// Whether a step hits a breakpoint of a line or of a match, told by the state behind it.
+/// Whether a step hits a breakpoint of a line, of a match or of a rank, told by the state after it.
 fn is_told(core: &Core<'_>, place: Option<Break>, step: Step) -> bool
     ensures { result ≡ told_by core.now.program place step core.now.world }
 {
     match place {
-        Some(Break::Line(line)) => line_hits_step(core, line, step),
-        Some(Break::Match(line)) => match_hits_step(core, line, step),
+        Some(Break::Line { line, of, when }) => line_hits_step(core, line, of, when, step),
+        Some(Break::Match { line, of }) => match_hits_step(core, line, of, step),
+        Some(Break::Rank(rank)) => rank_hits_step(core, rank, step),
         Some(Break::Change { .. }) | Some(Break::Handle { .. }) | None => false,
     }
 }
@@ -176,7 +261,7 @@ fn watched_by(core: &Core<'_>, stop: Break) -> Watched
     match stop {
         Break::Change { rank, cell: number } => of_value(cell(core, rank, number)),
         Break::Handle { rank, handle } => of_call(held_call(core, rank, handle)),
-        Break::Line(_) | Break::Match(_) => Watched::Nothing,
+        Break::Line { .. } | Break::Match { .. } | Break::Rank(_) => Watched::Nothing,
     }
 }
 
@@ -226,7 +311,7 @@ impl Breaks {
         values
     }
 
-    /// The lowest number of a breakpoint of a line or of a match that a step hits, told by the state behind it.
+    /// The lowest number of a breakpoint of a line, of a match or of a rank that a step hits, told by the state after it.
     #[tactic(auto, using(crate::proofs::NumberLemmas::numbering))]
     pub(crate) fn lowest_told(&self, core: &Core<'_>, step: Step) -> Option<usize>
         ensures { result ≡ lowest_told core.now.program self.now step core.now.world }

@@ -56,7 +56,7 @@ fn is_full(mode: Mode, held: usize) -> bool
     }
 }
 
-/// Whether the local step of a rank issues a standard send; not where there is none.
+/// Whether the local step of a rank issues a standard send; not if there is none.
 pub(crate) fn issues_standard(core: &Core<'_>, rank: usize) -> bool
     ensures { result ≡ wide.issues_standard (local_at core.now.world rank) }
 {
@@ -126,7 +126,7 @@ fn first_quiet_local(core: &Core<'_>) -> Option<Step>
     None
 }
 
-/// The match of a receive with a send of that rank, where one is enabled and quiet.
+/// The match of a receive with a send of that rank, if one is enabled and quiet.
 #[tactic(auto, using(crate::proofs::QuietLemmas::from_one))]
 fn quiet_match_from(core: &Core<'_>, sender: usize, recv: CallId) -> Option<Step>
     requires { sender < length core.now.world.board.calls }
@@ -221,8 +221,8 @@ fn first_quiet_by_kind(core: &Core<'_>) -> Option<Step>
     quiet_match_among(core)
 }
 
-/// The first quiet step that is enabled: a local step, else the release, else a wake, else a match. Where buffers never run out it is the
-/// step that nobody has to choose. It takes no memory.
+/// The first quiet step that is enabled: a local step, else the release, else a wake, else a match.
+/// If buffers never run out, it is the forced step. Takes no memory.
 #[tactic(auto, using(crate::proofs::QuietLemmas::where_ample))]
 pub fn first_quiet(core: &Core<'_>) -> Option<Step>
     ensures { result ≡ first_enabled core.now.world (wide.is_quiet core.now.world) }

@@ -1,4 +1,4 @@
-//! What says what comes next in a state, and which steps that are asleep still are after a step.
+//! Schedules: what comes next in a state, and which steps stay in the sleep set after a step.
 
 ghost use Rattle.std.specs.Prelude.{◌≡◌, [], IfOk};
 ghost use Rattle.mpd_model.specs.runs.Decisions.{CanFollow};
@@ -9,8 +9,9 @@ use mpd_core::{Core, Debugger};
 use mpd_model::{Decision, Step, StepList};
 use std::alloc::{AllocError, Global};
 
-/// What says what comes next in a state: a step that nobody has to choose, or steps of which one is chosen, or how the run has ended. A
-/// search with sleep sets asks it as well which candidates are asleep, and which steps stay so.
+/// A schedule says what comes next in a state: a forced step, or the candidates of a choice, or how
+/// the run has ended. A search with sleep sets also asks it which candidates are asleep, and which
+/// steps stay in the sleep set.
 pub trait Schedule {
     ghost use Rattle.std.specs.Prelude.{Bool, List};
     ghost use Rattle.mpd_model.specs.declared.decision.Decision.{Decision};
@@ -23,10 +24,11 @@ pub trait Schedule {
     /// Whether a candidate is a step that is asleep.
     ghost same: { Step → Step → Bool };
 
-    /// The state where a step is taken, that step, the steps that are asleep there, and those of them that still are after it.
+    /// The state before a step, that step, the sleep set there, and the sleep set after the step.
     ghost keeps: { World → Step → List Step → List Step };
 
-    /// What comes next in a state. An `Err` is want of memory for the steps of a choice or the list of an outcome.
+    /// What comes next in a state. `Err` means that memory for the steps of a choice or the list of
+    /// an outcome was refused.
     fn decide(&self, alloc: Global, core: &Core<'_>) -> Result<Decision, AllocError>
         ensures ok { IfOk result (λ d. d ≡ decides core.now.world) };
 
@@ -34,12 +36,13 @@ pub trait Schedule {
     fn is_same(&self, candidate: Step, asleep: Step) -> bool
         ensures { result ≡ same candidate asleep };
 
-    /// Leaves of the steps that are asleep where a debugger stands those that still are after a step, which is forced or chosen there.
+    /// Reduces the sleep set of the debugger's state to the steps that stay asleep after a step,
+    /// which is forced or chosen there.
     fn keep_asleep(&self, debugger: &Debugger<'_>, step: Step, asleep: &mut StepList)
         ensures kept { asleep.new ≡ keeps debugger.now.world step asleep.old };
 
-    /// What holds of it in every state: what it says can be followed, and no step is asleep after one where none was before. A call does
-    /// nothing.
+    /// A law of every schedule and state: what it says can be followed, and an empty sleep set
+    /// stays empty. A call does nothing.
     fn can_be_followed(&self)
         ensures follow { (w : World) → CanFollow w (decides w) }
         ensures none { (w : World) (a : Step) → keeps w a [] ≡ [] };

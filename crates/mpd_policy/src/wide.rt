@@ -1,4 +1,5 @@
-//! What comes next in a state along the wide walk, which steps conflict there, and what sleeps on after one.
+//! What comes next in a state along the wide walk, which steps conflict there, and the sleep set
+//! after a step.
 
 ghost use Rattle.std.specs.Prelude.{◌≡◌, ◌<◌, ◌&&◌, ◌==◌, [], None, length, IfOk, OnOk, OnErr};
 ghost use Rattle.std.specs.List.{filter, list_any};
@@ -27,8 +28,9 @@ fn push_any_wakes(core: &Core<'_>, steps: &mut Vec<Step>) -> Result<(), AllocErr
     Ok(())
 }
 
-/// The enabled steps where none is quiet. Where buffers never run out only steps of waitanys and matches are left, and no rank is asked for
-/// another. An `Err` is want of memory for the list, and comes only where it has an entry.
+/// The enabled steps, if none of them is quiet. If buffers never run out, only steps of waitanys
+/// and matches are left, and no rank is asked for another. `Err` means that memory for the list was
+/// refused, which happens only if it has an entry.
 fn wide_choices(alloc: Global, core: &Core<'_>) -> Result<Vec<Step>, AllocError>
     requires { first_enabled core.now.world (wide.is_quiet core.now.world) ≡ None }
     ensures ok { IfOk result (λ steps. steps.items ≡ enabled core.now.world) }
@@ -44,9 +46,10 @@ fn wide_choices(alloc: Global, core: &Core<'_>) -> Result<Vec<Step>, AllocError>
     Ok(steps)
 }
 
-/// What comes next in a state along the wide walk (docs/DEFINITIONS.md, "The wide walk"): the first quiet step that is enabled, or
-/// where there is none all steps that are enabled, of which somebody has to choose one, or how the run has ended. It lists no step
-/// but those of a choice. An `Err` is want of memory for that list or the list of an outcome, and comes only where it has an entry.
+/// What comes next in a state along the wide walk (docs/DEFINITIONS.md, "The wide walk"): the first
+/// quiet step that is enabled; if there is none, all enabled steps, of which one must be chosen; or
+/// how the run has ended. It lists no step but those of a choice. `Err` means that memory for that
+/// list or the list of an outcome was refused, which happens only if it has an entry.
 #[tactic(auto, using(crate::proofs::WideLemmas::deciding))]
 pub fn wide_decide(alloc: Global, core: &Core<'_>) -> Result<Decision, AllocError>
     ensures ok { IfOk result (λ d. d ≡ wide.wide_decision core.now.world) }
@@ -72,7 +75,8 @@ fn waits_for_slot(core: &Core<'_>, rank: usize, send: CallId) -> bool
     issues_standard(core, rank) && (rank == send.rank && is_buffered(core.board().kind(send)))
 }
 
-/// Whether a rank lacks the slot that a send holds. Only where a rank holds all its slots is more to be asked.
+/// Whether a rank lacks the slot that a send holds. More is asked only if the rank holds all its
+/// slots.
 fn gives_slot(core: &Core<'_>, rank: usize, send: CallId) -> bool
     ensures { result ≡ wide.gives_slot core.now.world rank send }
 {
@@ -89,7 +93,7 @@ fn mover(step: Step) -> Option<usize>
     }
 }
 
-/// Whether two steps are of one rank, where a step of no rank in particular is of all.
+/// Whether two steps are of one rank. A step of no particular rank counts as of all.
 fn of_one_rank(one: Option<usize>, other: Option<usize>) -> bool
     ensures { result ≡ wide.of_one_rank one other }
 {
@@ -111,8 +115,9 @@ fn match_conflicts(core: &Core<'_>, send: CallId, recv: CallId, other: Step) -> 
     }
 }
 
-/// Whether two steps conflict: in which order they are taken may matter, or the one may end the other
-/// (docs/DEFINITIONS.md, "The wide walk"). It is a part of each loop that asks it, which then looks at the kind of the one step once.
+/// Whether two steps conflict: the order in which they are taken may matter, or one may disable the
+/// other (docs/DEFINITIONS.md, "The wide walk"). It is inlined into each loop that asks it, which
+/// then looks at the kind of the one step once.
 #[inline(always)]
 pub fn conflict(core: &Core<'_>, a: Step, b: Step) -> bool
     ensures { result ≡ wide.conflict core.now.world a b }
@@ -137,7 +142,8 @@ fn conflicts_with_any(core: &Core<'_>, step: Step, others: &[Step]) -> bool
     false
 }
 
-/// Leaves of some steps, in order, those that don't conflict with another. Most steps conflict with none, and don't come here.
+/// Keeps those of some steps, in order, that don't conflict with another. Most steps conflict with
+/// none, and don't come here.
 #[inline(never)]
 fn leave_others(core: &Core<'_>, step: Step, others: &mut Vec<Step>)
     ensures { others.new.items ≡ wide.sleeps_on core.now.world step others.old.items }
@@ -150,8 +156,8 @@ fn leave_others(core: &Core<'_>, step: Step, others: &mut Vec<Step>)
     }
 }
 
-/// Leaves of the steps that are asleep in this state, in order, those that sleep on after a step that is taken there: all that don't
-/// conflict with it. It takes no memory.
+/// Reduces the sleep set of this state, in order, to the steps that stay asleep after a step that
+/// is taken there: all that don't conflict with it. Takes no memory.
 pub fn wake(core: &Core<'_>, step: Step, asleep: &mut Vec<Step>)
     ensures { asleep.new.items ≡ wide.sleeps_on core.now.world step asleep.old.items }
 {

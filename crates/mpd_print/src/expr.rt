@@ -46,7 +46,7 @@ fn sign_name(op: UnaryOp) -> &'static str
     }
 }
 
-/// Adds the name that a place was declared with, and nothing where there is no such declaration.
+/// Adds the name that a place was declared with, and nothing if there is no such declaration.
 pub(crate) fn push_name(out: &mut String, decls: &[Decl], place: Place) -> Result<(), AllocError>
     ensures { OnOk result (string_bytes out.new ≡ string_bytes out.old ++ name_text decls.now place) }
 {
@@ -56,7 +56,7 @@ pub(crate) fn push_name(out: &mut String, decls: &[Decl], place: Place) -> Resul
     Ok(())
 }
 
-/// Adds an expression where one of a level is read, in parentheses if it is looser.
+/// Adds an expression in a place for one of a level, in parentheses if it is looser.
 fn push_term(out: &mut String, decls: &[Decl], level: u32, expr: &Expr) -> Result<(), AllocError>
     ensures { OnOk result (string_bytes out.new ≡ string_bytes out.old ++ term_text decls.now level expr.now) }
 {
@@ -92,8 +92,8 @@ fn push_term(out: &mut String, decls: &[Decl], level: u32, expr: &Expr) -> Resul
     }
 }
 
-/// Adds an expression that stands in no other.
-pub(crate) fn push_expr(out: &mut String, decls: &[Decl], expr: &Expr) -> Result<(), AllocError>
+/// Adds an expression that stands in no other. An `Err` is want of memory.
+pub fn push_expr(out: &mut String, decls: &[Decl], expr: &Expr) -> Result<(), AllocError>
     ensures { OnOk result (string_bytes out.new ≡ string_bytes out.old ++ whole_text decls.now expr.now) }
 {
     push_term(out, decls, LOOSEST, expr)

@@ -6,4 +6,5 @@ mod script;
 mod simple;
 mod stmt;
 
+pub use expr::push_expr;
 pub use script::print;

@@ -8,7 +8,7 @@ use crate::stmt::push_stmts;
 use mpd_model::{Decl, DeclKind, Script};
 use std::alloc::{AllocError, Global};
 
-/// The canonical text of a script. An `Err` is want of memory.
+/// The canonical text of a script. `Err` means that memory was refused.
 pub fn print(alloc: Global, script: &Script) -> Result<String, AllocError>
     ensures { IfOk result (λ t. string_bytes t ≡ canonical script.now) }
 {
@@ -43,7 +43,7 @@ fn push_decl(out: &mut String, decl: &Decl) -> Result<(), AllocError>
     out.push_str(";\n")
 }
 
-/// The word that begins a declaration, and the space behind it.
+/// The word that begins a declaration, and the space after it.
 fn kind_name(kind: DeclKind) -> &'static str
     ensures { result.now ≡ kind_word kind }
 {

@@ -12,7 +12,7 @@ use mpd_model::{
 };
 use std::alloc::AllocError;
 
-/// Adds a statement that holds no other, without the `;` behind it.
+/// Adds a statement that holds no other, without the `;` after it.
 pub(crate) fn push_simple(
     out: &mut String,
     decls: &[Decl],
@@ -39,7 +39,7 @@ pub(crate) fn push_simple(
     }
 }
 
-/// Adds a word or a sign with its spaces, and the expression behind it.
+/// Adds a word or a sign with its spaces, and the expression after it.
 fn push_behind(out: &mut String, decls: &[Decl], word: &str, value: &Expr) -> Result<(), AllocError>
     ensures { OnOk result (string_bytes out.new ≡ string_bytes out.old ++ (word.now ++ whole_text decls.now value.now)) }
 {
@@ -138,7 +138,7 @@ fn push_source(out: &mut String, decls: &[Decl], source: &Option<Expr>) -> Resul
     }
 }
 
-/// Adds a status behind a space: the places that the source and the tag are written to.
+/// Adds a status after a space: the places that the source and the tag are written to.
 fn push_status(out: &mut String, decls: &[Decl], status: &StatusStmt) -> Result<(), AllocError>
     ensures { OnOk result (string_bytes out.new ≡ string_bytes out.old ++ (codes " " ++ parts_text decls.now (status_parts (Some status.now) []))) }
 {

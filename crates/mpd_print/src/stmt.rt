@@ -20,7 +20,7 @@ fn push_indent(out: &mut String, depth: usize) -> Result<(), AllocError>
     Ok(())
 }
 
-/// Adds statements that stand in so many open blocks.
+/// Adds statements inside `depth` open blocks.
 #[tactic(auto, using(crate::proofs::PrintLemmas::statements_at))]
 #[cycle(trees)]
 pub(crate) fn push_stmts(
@@ -89,7 +89,7 @@ fn push_block(
     out.push_str("}")
 }
 
-/// Adds the second block of an `if` behind the first, and nothing if it is empty.
+/// Adds the second block of an `if` after the first, and nothing if it is empty.
 #[tactic(auto, using(crate::proofs::PrintLemmas::else_some))]
 #[cycle(trees)]
 fn push_else(

@@ -1,5 +1,5 @@
 -- What one more declaration changes of what names stand for.
-use Rattle.std.proofs.Common.{Bor, ◌≡◌, ℕ, ◌+◌, Bool, true, false, cond, List, [], ◌∷◌, ◌++◌, length, Option, Some, None, refl, ap, sym, ◌∙◌, arith}
+use Rattle.std.proofs.Common.{Bor, ◌≡◌, ℕ, ◌+◌, Bool, true, false, cond, List, [], ◌∷◌, ◌++◌, length, Option, Some, None, IsSome, refl, ap, sym, ◌∙◌, arith, subst}
 use Rattle.std.proofs.lemmas.Map.Text.{btree_map_updates_str}
 use Rattle.std.specs.BTreeMap.{BTreeMap, Updates, get_by}
 use Rattle.std.specs.Cmp.Lexicographic.{slice_cmp}
@@ -10,13 +10,10 @@ use Rattle.mpd_model.specs.declared.place.DeclKind.{DeclKind}
 use Rattle.mpd_model.specs.declared.slot.Slot.{Slot}
 use Rattle.mpd_model.specs.script.Declaration.{Declared, variable_cells, handle_cells, variables_in, handles_in}
 use Rattle.mpd_model.specs.grammar.Input.{first_of, slot_from, slot_in}
+use Rattle.mpd_script.specs.Cursor.{found_in, or_else, IsPutNew}
 
 abbrev slot_of : ℕ → ℕ → ℕ → Declared → Slot
 slot_of n v h d = record { kind = d.kind; declaration = n; first = first_of d.kind v h; size = d.size }
-
-abbrev or_else : Option Slot → Option Slot → Option Slot
-or_else (Some s) o = Some s
-or_else None o = o
 
 or_cond : (b : Bool) (s : Slot) (x y : Option Slot) → cond b (Some s) (or_else x y) ≡ or_else (cond b (Some s) x) y
 or_cond true s x y = refl
@@ -45,16 +42,21 @@ put_case true s old h = rw (h refl) refl
 put_case false s None h = refl
 put_case false s (Some t) h = refl
 
--- a new name stands for what its declaration says, and every other for what it did
-pub slot_put : (ds : List Declared) (d : Declared) (s : Slot) (name : List ℕ) → slot_in ds d.name ≡ None
-    → s ≡ slot_of (length ds) (variables_in ds) (handles_in ds) d → slot_in (ds ++ d ∷ []) name ≡ cond (bytes_eq d.name name) (Some s) (slot_in ds name)
+-- a name stands for what it did, or else for what the last declaration says
+slot_last : (ds : List Declared) (d : Declared) (name : List ℕ) → slot_in (ds ++ d ∷ []) name ≡ or_else (slot_in ds name) (last (length ds) (variables_in ds) (handles_in ds) d name)
 unfolding slot_in
-slot_put ds d s name new is =
-    rw is (slot_more 0 0 0 ds d name
+slot_last ds d name =
+    slot_more 0 0 0 ds d name
     ∙ ap (λ r. or_else (slot_from 0 0 0 ds name) r) (last_same (0 + length ds) (length ds) (0 + variables_in ds) (variables_in ds) (0 + handles_in ds) (handles_in ds) d name
     (omega arith) (omega arith) (omega arith))
-    ∙ put_case (bytes_eq d.name name) (slot_of (length ds) (variables_in ds) (handles_in ds) d) (slot_from 0 0 0 ds name)
-    (λ e. ap (λ t. slot_from 0 0 0 ds t) (sym ((bytes_eq-Decides d.name name).0 e)) ∙ new))
+
+none_is_none : {A : Type 0} → IsSome {T = Slot} None → A
+none_is_none h = absurd (let no : ⊥ = cc in no)
+
+kept_case : (b : Bool) (s : Slot) (old : Option Slot) → (b ≡ true → IsSome old) → old ≡ or_else old (cond b (Some s) None)
+kept_case b s (Some t) h = refl
+kept_case true s None h = none_is_none (h refl)
+kept_case false s None h = refl
 
 -- ---- maps keyed by names
 
@@ -69,19 +71,30 @@ slot_is : (k : DeclKind) (size : Option ℕ) (n m f v w h g : ℕ) → n ≡ m �
     → record_slot k n f size ≡ record_slot k m (first_of k w g) size
 slot_is k size n m f v w h g a b c d = rw (a, b, c, d) refl
 
-abbrev found_in : BTreeMap (Bor (List ℕ)) Slot → List ℕ → Option Slot
-found_in m name = get_by (λ k. slice_cmp nat_cmp name k.now) m
+-- where the name stands for something, nothing is put
+pub put_kept : (key : Bor (List ℕ)) (m : BTreeMap (Bor (List ℕ)) Slot) (slot : Slot) → IsSome (found_in m key.now) → IsPutNew key.now slot m m
+put_kept key m slot some w = kept_case (bytes_eq key.now w) slot (found_in m w) (λ e. subst (λ t. IsSome (found_in m t)) ((bytes_eq-Decides key.now w).0 e) some)
+
+-- where it stands for nothing, the slot is put in
+pub put_added : (key : Bor (List ℕ)) (m n : BTreeMap (Bor (List ℕ)) Slot) (slot : Slot) → found_in m key.now ≡ None
+    → Updates (λ x y. slice_cmp nat_cmp x.now y.now) m n key (Some slot) → IsPutNew key.now slot m n
+put_added key m n slot none put w =
+    btree_map_updates_str key.now m n (Some slot) put w
+    ∙ sym (put_case (bytes_eq key.now w) slot (found_in m w) (λ e. ap (found_in m) (sym ((bytes_eq-Decides key.now w).0 e)) ∙ none))
+
+pub ruleset putting = (put_kept, put_added)
 
 -- a map that shows what names stand for shows it with one more declaration too, once its slot is put in
-pub found_put : (key : Bor (List ℕ)) (m n : BTreeMap (Bor (List ℕ)) Slot) (ds es : List Declared) (d : Declared) (number first v h : ℕ)
-    → ((name : List ℕ) → found_in m name ≡ slot_in ds name) → slot_in ds key.now ≡ None → d.name ≡ key.now
+pub found_put : (key : List ℕ) (m n : BTreeMap (Bor (List ℕ)) Slot) (ds es : List Declared) (d : Declared) (number first v h : ℕ)
+    → ((name : List ℕ) → found_in m name ≡ slot_in ds name) → d.name ≡ key
     → number ≡ length ds → first ≡ first_of d.kind v h → v ≡ variables_in ds → h ≡ handles_in ds
-    → Updates (λ x y. slice_cmp nat_cmp x.now y.now) m n key (Some (record_slot d.kind number first d.size))
+    → IsPutNew key (record_slot d.kind number first d.size) m n
     → es ≡ ds ++ d ∷ [] → (name : List ℕ) → found_in n name ≡ slot_in es name
-found_put key m n ds es d number first v h old new same a b c e put is name =
+found_put key m n ds es d number first v h old same a b c e put is name =
     let s = slot_is d.kind d.size number (length ds) first v (variables_in ds) h (handles_in ds) a b c e in
-    btree_map_updates_str key.now m n (Some (record_slot d.kind number first d.size)) put name
-    ∙ ap (λ o. cond (bytes_eq key.now name) (Some (record_slot d.kind number first d.size)) o) (old name)
-    ∙ ap (λ k. cond (bytes_eq k name) (Some (record_slot d.kind number first d.size)) (slot_in ds name)) (sym same)
-    ∙ sym (slot_put ds d (record_slot d.kind number first d.size) name (ap (slot_in ds) same ∙ new) s)
+    put name
+    ∙ ap (λ o. or_else o (cond (bytes_eq key name) (Some (record_slot d.kind number first d.size)) None)) (old name)
+    ∙ ap (λ k. or_else (slot_in ds name) (cond (bytes_eq k name) (Some (record_slot d.kind number first d.size)) None)) (sym same)
+    ∙ ap (λ t. or_else (slot_in ds name) (cond (bytes_eq d.name name) (Some t) None)) s
+    ∙ sym (slot_last ds d name)
     ∙ ap (λ r. slot_in r name) (sym is)

@@ -1,6 +1,6 @@
 //! A cursor over the tokens of a text, which cuts each as it is reached.
 
-ghost use Rattle.std.specs.Prelude.{◌≡◌, ◌≢◌, ◌+◌, ◌<◌, ◌≤◌, ◌^◌, ◌∷◌, ◌++◌, IfSome, IsAscii, None, Ok, OnOk, [], length, vec_capacity, vec_len};
+ghost use Rattle.std.specs.Prelude.{◌≡◌, ◌≢◌, ◌+◌, ◌<◌, ◌≤◌, ◌^◌, ◌∷◌, ◌++◌, IfSome, IsAscii, None, Ok, OnErr, OnOk, [], length, vec_capacity, vec_len};
 ghost use Rattle.mpd_model.specs.declared.limits.TheConstants.{CELLS_MAX, HANDLES_MAX, STATEMENTS_MAX};
 ghost use Rattle.mpd_model.specs.declared.read_fault.FaultCode.TheVariants.{Memory};
 ghost use Rattle.mpd_model.specs.script.Declaration.{handle_cells, handles_in, variable_cells, variables_in};
@@ -8,14 +8,14 @@ ghost use Rattle.mpd_model.specs.grammar.Faults.{fault};
 ghost use Rattle.mpd_model.specs.grammar.Grammar.{written_in};
 ghost use Rattle.mpd_model.specs.grammar.Input as spec;
 ghost use Rattle.mpd_model.specs.grammar.Input.{Reads, first_line};
-ghost use Rattle.mpd_script.specs.Cursor.{first};
+ghost use Rattle.mpd_script.specs.Cursor.{DeclaredBy, IsPutNew, first};
 
 use crate::lex;
 use mpd_model::{
     CELLS_MAX, Decl, DeclKind, FaultCode, HANDLES_MAX, NESTING_MAX, ReadFault, STATEMENTS_MAX,
     Slot, Symbol, Token,
 };
-use std::alloc::Global;
+use std::alloc::{AllocError, Global};
 use std::collections::BTreeMap;
 use std::marker::Model;
 use std::str;
@@ -307,20 +307,50 @@ impl<'a> Tokens<'a> {
                 place,
             });
         }
-        let slot = Slot {
-            kind,
-            declaration: self.decls.len(),
-            first: first_of(kind, self.variables, self.handles) as u32,
-            size: narrow(size),
-        };
         let text = String::from_str(*self.decls.allocator(), str::from_utf8(name).unwrap())?;
-        self.decls.reserve(1)?;
-        self.slots.insert(name, slot)?;
-        let decl = Decl {
-            kind,
-            name: text,
-            size,
+        self.put(
+            name,
+            Decl {
+                kind,
+                name: text,
+                size,
+            },
+        )
+    }
+
+    /// Declares what is declared before the text. Of two declarations of a name the first counts.
+    pub(crate) fn declare(&mut self, decl: &'a Decl) -> Result<(), ReadFault>
+        requires variables { variables_in self.old.decls + variable_cells decl.now.kind decl.now.size ≤ CELLS_MAX }
+        requires handles { handles_in self.old.decls + handle_cells decl.now.kind decl.now.size ≤ HANDLES_MAX }
+        ensures { DeclaredBy self.old decl.now result self.new }
+    {
+        let text = String::from_str(*self.decls.allocator(), &decl.name)?;
+        self.put(
+            decl.name.as_bytes(),
+            Decl {
+                kind: decl.kind,
+                name: text,
+                size: decl.size,
+            },
+        )
+    }
+
+    /// Adds a declaration, and what its name stands for.
+    fn put(&mut self, name: &'a [u8], decl: Decl) -> Result<(), ReadFault>
+        requires named { decl.name ≡ name.now }
+        requires variables { variables_in self.old.decls + variable_cells decl.kind decl.size ≤ CELLS_MAX }
+        requires handles { handles_in self.old.decls + handle_cells decl.kind decl.size ≤ HANDLES_MAX }
+        ensures { DeclaredBy self.old decl result self.new }
+    {
+        let (variables, handles) = cells(decl.kind, decl.size);
+        let slot = Slot {
+            kind: decl.kind,
+            declaration: self.decls.len(),
+            first: first_of(decl.kind, self.variables, self.handles) as u32,
+            size: narrow(decl.size),
         };
+        self.decls.reserve(1)?;
+        put_new(&mut self.slots, name, slot)?;
         push_kept(&mut self.decls, decl);
         self.variables += variables;
         self.handles += handles;
@@ -337,6 +367,23 @@ impl<'a> Tokens<'a> {
     {
         (self.decls, self.lines)
     }
+}
+
+/// Says what a name stands for, if nothing says it yet.
+#[tactic(auto, using(crate::proofs::Slots::putting))]
+fn put_new<'a>(
+    slots: &mut BTreeMap<&'a [u8], Slot>,
+    name: &'a [u8],
+    slot: Slot,
+) -> Result<(), AllocError>
+    ensures put { OnOk result (IsPutNew name.now slot slots.old slots.new) }
+    ensures same { OnErr result (slots.new.entries ≡ slots.old.entries) }
+{
+    if slots.get(name).is_some() {
+        return Ok(());
+    }
+    slots.insert(name, slot)?;
+    Ok(())
 }
 
 /// Pushes where room was kept.

@@ -1,6 +1,7 @@
 //! Reads the text of a script, and prints it (docs/LANGUAGE.md).
 #![tactic(auto)]
 
+mod asked;
 mod canonical;
 mod cursor;
 mod expr;
@@ -10,5 +11,6 @@ mod script;
 mod simple;
 mod stmt;
 
+pub use asked::{Asked, read_expression};
 pub use canonical::print;
 pub use script::read;

@@ -80,7 +80,7 @@ fn ranks(tokens: &mut Tokens<'_>) -> Result<usize, ReadFault>
 }
 
 /// A number that is no less than 0.
-fn natural(value: i64) -> Option<usize>
+pub(crate) fn natural(value: i64) -> Option<usize>
     ensures { result ≡ spec.natural value }
 {
     if value < 0 {
@@ -227,7 +227,7 @@ fn is_text(b: u8) -> bool
 }
 
 /// How many bytes at the front may stand in a text.
-fn text_len(text: &[u8]) -> usize
+pub(crate) fn text_len(text: &[u8]) -> usize
     ensures value { result ≡ prefix_len spec.is_text text.now }
     ensures within { result ≤ length text.now }
     ensures ascii { result ≡ length text.now → IsAscii text.now }

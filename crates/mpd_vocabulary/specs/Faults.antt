@@ -5,10 +5,11 @@ use Rattle.mpd_model.specs.texts.Words.{words}
 use Rattle.mpd_model.specs.texts.Texts.{line}
 use Rattle.mpd_vocabulary.specs.declared.topic.Topic.{Topic}
 use Rattle.mpd_vocabulary.specs.declared.word.WordFault.{WordFault}
-use Rattle.mpd_vocabulary.specs.declared.word.WordFault.TheVariants.{Unknown, Usage, NoName, NoSuchIndex, NoIndex}
+use Rattle.mpd_vocabulary.specs.declared.word.WordFault.TheVariants.{Unknown, Usage, NoName, NoSuchIndex, NoIndex, NoNameIn, NoValue}
 use Rattle.mpd_vocabulary.specs.declared.faults.TheConstants.{AFTER_FIRST, AFTER_ALL, CHOICE}
 use Rattle.mpd_vocabulary.specs.declared.word.HelpOn.{HelpOn}
 use Rattle.mpd_vocabulary.specs.declared.word.HelpOn.TheVariants as help_on
+use Rattle.mpd_vocabulary.specs.Conditions.{first_piece}
 use Rattle.mpd_vocabulary.specs.Topics.{topics, first_topics, nearest, usage_of, forms_of, purpose_of, details_of, shorts_of}
 
 abbrev pub word_at : List (List ℕ) → ℕ → List ℕ
@@ -39,6 +40,9 @@ no_such_index_line = line (codes "refused: there is no such index")
 unfoldable pub no_index_line : List ℕ
 no_index_line = line (codes "refused: an array needs an index here")
 
+unfoldable pub no_value_line : List ℕ
+no_value_line = line (codes "refused: a request has no value to compare")
+
 abbrev pub usage_line : Topic → List ℕ
 usage_line t = line (codes "usage: " ++ usage_of t)
 
@@ -49,6 +53,8 @@ fault_text z (Usage t) = usage_line t
 fault_text z (NoName n) = no_name_line (word_at (words z) n)
 fault_text z NoSuchIndex = no_such_index_line
 fault_text z NoIndex = no_index_line
+fault_text z (NoNameIn n) = no_name_line (first_piece (word_at (words z) n))
+fault_text z NoValue = no_value_line
 
 -- ---- help
 

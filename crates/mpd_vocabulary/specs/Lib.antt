@@ -1,3 +1,4 @@
 pub mod Topics
 pub mod Reading
 pub mod Faults
+pub mod Conditions

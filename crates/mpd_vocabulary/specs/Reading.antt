@@ -1,6 +1,8 @@
 -- What a line of the console asks for (docs/CONSOLE.md, "Words").
-use Rattle.std.specs.Prelude.{ℕ, ◌==◌, Bool, false, bytes_eq, if◌then◌else◌, List, [], ◌∷◌, Option, Some, None, option_map, Result, Ok, Err, codes}
+use Rattle.std.specs.Prelude.{ℕ, ◌+◌, ◌==◌, Bool, true, false, bytes_eq, if◌then◌else◌, List, [], ◌∷◌, drop, Option, Some, None, option_map, Result, Ok, Err, codes}
+use Rattle.std.specs.List.{position}
 use Rattle.mpd_model.specs.declared.limits.TheConstants.{STEPS_MAX}
+use Rattle.mpd_model.specs.declared.breakpoint.Condition.{Condition}
 use Rattle.mpd_model.specs.declared.breakpoint.Break.{Break}
 use Rattle.mpd_model.specs.declared.breakpoint.Break.TheVariants as on
 use Rattle.mpd_model.specs.declared.place.DeclKind.{DeclKind}
@@ -9,7 +11,7 @@ use Rattle.mpd_model.specs.declared.words.TraceWord.{TraceWord}
 use Rattle.mpd_model.specs.declared.words.TraceWord.TheVariants as trace_word
 use Rattle.mpd_model.specs.declared.step.CallId.{CallId}
 use Rattle.mpd_model.specs.script.Declaration.{Declared}
-use Rattle.mpd_model.specs.texts.Words.{words, number_of, call_of, trace_word_of}
+use Rattle.mpd_model.specs.texts.Words.{words, number_of, call_of, trace_word_of, is_blank, is_no_blank}
 use Rattle.mpd_names.specs.declared.name.Named.{Named}
 use Rattle.mpd_names.specs.declared.name.NameFault.{NameFault}
 use Rattle.mpd_names.specs.declared.name.NameFault.TheVariants as name
@@ -22,8 +24,9 @@ use Rattle.mpd_vocabulary.specs.declared.word.HelpOn.TheVariants as help_on
 use Rattle.mpd_vocabulary.specs.declared.word.WordFault.{WordFault}
 use Rattle.mpd_vocabulary.specs.declared.word.WordFault.TheVariants.{Unknown, Usage, NoName, NoSuchIndex, NoIndex}
 use Rattle.mpd_vocabulary.specs.declared.read.Line.{Line}
-use Rattle.mpd_vocabulary.specs.declared.read.Line.TheVariants.{Blank, Comment, Says, Wrong}
+use Rattle.mpd_vocabulary.specs.declared.read.Line.TheVariants.{Blank, Comment, Says, Evaluates, Wrong}
 use Rattle.mpd_vocabulary.specs.Topics.{topic_of}
+use Rattle.mpd_vocabulary.specs.Conditions.{pieces_of, condition_in}
 
 -- ---- what stands behind a word: some words
 
@@ -107,12 +110,62 @@ watch_in ds (a ∷ []) = Err (Usage topic.Watch)
 watch_in ds (a ∷ b ∷ []) = change_at topic.Watch (number_of b) 1 (named ds a)
 watch_in ds (a ∷ b ∷ c ∷ more) = Err (Usage topic.Watch)
 
+-- a line of a rank or of any, with what must hold
+abbrev pub with_condition : ℕ → Option ℕ → Result Condition WordFault → Result Word WordFault
+with_condition n of (Err f) = Err f
+with_condition n of (Ok c) = Ok (word.Break (on.Line n of (Some c)))
+
+-- what stands after that: `if` and a condition, or nothing; the first word has this number in its line
+abbrev pub conditioned : List Declared → ℕ → Option ℕ → ℕ → List (List ℕ) → Result Word WordFault
+conditioned ds n of place [] = Ok (word.Break (on.Line n of None))
+conditioned ds n of place (a ∷ rest) = if bytes_eq a (codes "if") then with_condition n of (condition_in ds (place + 1) (pieces_of [] rest)) else Err (Usage topic.Break)
+
+abbrev pub ranked_by : List Declared → ℕ → ℕ → Option ℕ → List (List ℕ) → Result Word WordFault
+ranked_by ds n place None rest = Err (Usage topic.Break)
+ranked_by ds n place (Some p) rest = conditioned ds n (Some p) (place + 1) rest
+
+abbrev pub ranked : List Declared → ℕ → ℕ → List (List ℕ) → Result Word WordFault
+ranked ds n place [] = Err (Usage topic.Break)
+ranked ds n place (a ∷ rest) = ranked_by ds n place (number_of a) rest
+
+-- what stands after a line: a rank, or none, and what must hold
+abbrev pub line_with : List Declared → ℕ → ℕ → List (List ℕ) → Result Word WordFault
+line_with ds n place [] = conditioned ds n None place []
+line_with ds n place (a ∷ rest) = if bytes_eq a (codes "rank") then ranked ds n (place + 1) rest else conditioned ds n None place (a ∷ rest)
+
+abbrev pub line_by_number : List Declared → ℕ → Option ℕ → List (List ℕ) → Result Word WordFault
+line_by_number ds place None rest = Err (Usage topic.Break)
+line_by_number ds place (Some n) rest = line_with ds n (place + 1) rest
+
+abbrev pub line_in : List Declared → ℕ → List (List ℕ) → Result Word WordFault
+line_in ds place [] = Err (Usage topic.Break)
+line_in ds place (a ∷ rest) = line_by_number ds place (number_of a) rest
+
+-- `rank` and a rank, or nothing
+abbrev pub meant_in : List (List ℕ) → Option (Option ℕ)
+meant_in [] = Some None
+meant_in (a ∷ rest) = if bytes_eq a (codes "rank") then option_map Some (only_number rest) else None
+
+abbrev pub match_of : Option ℕ → Option (Option ℕ) → Option Word
+match_of None of = None
+match_of (Some n) None = None
+match_of (Some n) (Some of) = Some (word.Break (on.Match n of))
+
+abbrev pub match_in : List (List ℕ) → Option Word
+match_in [] = None
+match_in (a ∷ rest) = match_of (number_of a) (meant_in rest)
+
+abbrev pub rank_in : List (List ℕ) → Option Word
+rank_in rest = option_map (λ p. word.Break (on.Rank p)) (only_number rest)
+
+-- a line may have its word before it, or not
 abbrev pub break_in : List Declared → List (List ℕ) → Result Word WordFault
 break_in ds [] = Err (Usage topic.Break)
 break_in ds (kind ∷ rest) =
-    if bytes_eq kind (codes "line") then fitting topic.Break (option_map (λ n. word.Break (on.Line n)) (only_number rest))
-    else (if bytes_eq kind (codes "match") then fitting topic.Break (option_map (λ n. word.Break (on.Match n)) (only_number rest))
-    else (if bytes_eq kind (codes "change") then change_in ds rest else fitting topic.Break (option_map (λ n. word.Break (on.Line n)) (only_number (kind ∷ rest)))))
+    if bytes_eq kind (codes "line") then line_in ds 2 rest
+    else (if bytes_eq kind (codes "match") then fitting topic.Break (match_in rest)
+    else (if bytes_eq kind (codes "rank") then fitting topic.Break (rank_in rest)
+    else (if bytes_eq kind (codes "change") then change_in ds rest else line_in ds 1 (kind ∷ rest))))
 
 -- ---- names, calls and words
 
@@ -220,6 +273,37 @@ word_by ds (Some t) z rest = word_with ds t z rest
 abbrev pub word_named : List Declared → List ℕ → List ℕ → List (List ℕ) → Result Word WordFault
 word_named ds z a rest = word_by ds (topic_of a) z rest
 
+-- ---- expressions: what stands behind `print` and is no name with the number of a rank or none
+
+abbrev pub names_nothing : Result Named NameFault → Bool
+names_nothing (Ok n) = false
+names_nothing (Err name.Unknown) = true
+names_nothing (Err name.NoSuchCell) = false
+
+abbrev pub is_value_by : Result Named NameFault → Option (Option ℕ) → Bool
+is_value_by n None = true
+is_value_by n (Some rank) = names_nothing n
+
+abbrev pub is_value : List Declared → List (List ℕ) → Bool
+is_value ds [] = false
+is_value ds (a ∷ rest) = is_value_by (named ds a) (optional_number rest)
+
+abbrev pub asks_value : List Declared → Option Topic → List (List ℕ) → Bool
+asks_value ds (Some topic.Print) rest = is_value ds rest
+asks_value ds other rest = false
+
+-- what stands from the first byte on that passes a test
+abbrev pub from_place : Option ℕ → List ℕ → List ℕ
+from_place None z = []
+from_place (Some n) z = drop n z
+
+abbrev pub from_first : (ℕ → Bool) → List ℕ → List ℕ
+from_first test z = from_place (position test z) z
+
+-- what stands behind the first word of a line
+abbrev pub behind_word : List ℕ → List ℕ
+behind_word z = from_first is_blank (from_first is_no_blank z)
+
 -- ---- lines
 
 abbrev pub says : Result Word WordFault → Line
@@ -233,7 +317,7 @@ begins_comment (b ∷ a) = b == 35
 
 abbrev pub line_by : List Declared → List ℕ → List (List ℕ) → Line
 line_by ds z [] = Blank
-line_by ds z (a ∷ rest) = if begins_comment a then Comment else says (word_named ds z a rest)
+line_by ds z (a ∷ rest) = if begins_comment a then Comment else (if asks_value ds (topic_of a) rest then Evaluates else says (word_named ds z a rest))
 
 abbrev pub line_of : List Declared → List ℕ → Line
 line_of ds z = line_by ds z (words z)

@@ -6,6 +6,7 @@ ghost use Rattle.mpd_model.specs.texts.Words.{words};
 ghost use Rattle.mpd_model.specs.texts.Texts.{line};
 ghost use Rattle.mpd_vocabulary.specs.Faults as spec;
 
+use crate::condition::first_piece;
 use crate::topic::{FIRST, TOPICS, Topic, entry_of, forms_of, nearest};
 use crate::word::{HelpOn, WordFault};
 use mpd_model::next_word;
@@ -67,8 +68,8 @@ fn push_shown(out: &mut String, word: &[u8]) -> Result<(), AllocError>
     Ok(())
 }
 
-/// Adds a text and a word.
-fn push_quoted(out: &mut String, begun: &str, word: &[u8]) -> Result<(), AllocError>
+/// Adds a text and a word, with a question mark in the place of each byte that is no printable ASCII. An `Err` is want of memory.
+pub fn push_quoted(out: &mut String, begun: &str, word: &[u8]) -> Result<(), AllocError>
     ensures { OnOk result (string_bytes out.new ≡ string_bytes out.old ++ (begun.now ++ map spec.shown_byte word.now)) }
 {
     out.push_str(begun)?;
@@ -111,9 +112,9 @@ fn push_missing(out: &mut String, begun: &str, name: &[u8]) -> Result<(), AllocE
     out.push_str("'\n")
 }
 
-/// Adds what is told of a name that isn't declared.
+/// Adds what is told of a name that isn't declared. An `Err` is want of memory.
 #[tactic(auto, unfolding(crate::specs::Faults::no_name_line))]
-fn push_no_name(out: &mut String, name: &[u8]) -> Result<(), AllocError>
+pub fn push_no_name(out: &mut String, name: &[u8]) -> Result<(), AllocError>
     ensures { OnOk result (string_bytes out.new ≡ string_bytes out.old ++ spec.no_name_line name.now) }
 {
     push_missing(out, "no variable or request is called '", name)
@@ -135,6 +136,14 @@ fn push_no_index(out: &mut String) -> Result<(), AllocError>
     out.push_str("refused: an array needs an index here\n")
 }
 
+/// Adds that a request is compared.
+#[tactic(auto, unfolding(crate::specs::Faults::no_value_line))]
+fn push_no_value(out: &mut String) -> Result<(), AllocError>
+    ensures { OnOk result (string_bytes out.new ≡ string_bytes out.old ++ spec.no_value_line) }
+{
+    out.push_str("refused: a request has no value to compare\n")
+}
+
 /// Adds the forms of a word.
 fn push_usage(out: &mut String, topic: Topic) -> Result<(), AllocError>
     ensures { OnOk result (string_bytes out.new ≡ string_bytes out.old ++ spec.usage_line topic) }
@@ -152,6 +161,8 @@ pub fn push_fault(out: &mut String, line: &[u8], fault: WordFault) -> Result<(),
         WordFault::NoName(number) => push_no_name(out, word_at(line, number)),
         WordFault::NoSuchIndex => push_no_such_index(out),
         WordFault::NoIndex => push_no_index(out),
+        WordFault::NoNameIn(number) => push_no_name(out, first_piece(word_at(line, number))),
+        WordFault::NoValue => push_no_value(out),
     }
 }
 

@@ -2,12 +2,15 @@
 //! (docs/CONSOLE.md).
 #![tactic(auto)]
 
+mod condition;
 pub mod faults;
 pub mod read;
 pub mod topic;
+pub mod value;
 pub mod word;
 
-pub use faults::{push_fault, push_help};
+pub use faults::{push_fault, push_help, push_no_name, push_quoted};
 pub use read::{Line, line_of};
 pub use topic::{FIRST, NAMES, TOPICS, Topic};
+pub use value::behind_word;
 pub use word::{HelpOn, Word, WordFault};

@@ -1,10 +1,12 @@
 //! Reads a line of the console (docs/CONSOLE.md, "Words").
 
-ghost use Rattle.std.specs.Prelude.{◌≡◌, ◌≤◌, ◌∷◌, [], length, MatchOption};
+ghost use Rattle.std.specs.Prelude.{◌≡◌, ◌≤◌, ◌<◌, ◌∷◌, [], length, MatchOption};
 ghost use Rattle.mpd_model.specs.texts.Words.{words, number_of, call_of};
 ghost use Rattle.mpd_vocabulary.specs.Reading as spec;
 
+use crate::condition::condition_in;
 use crate::topic::{Topic, topic_of};
+use crate::value::asks_value;
 use crate::word::{HelpOn, Word, WordFault};
 use mpd_code::Code;
 use mpd_model::{
@@ -32,7 +34,7 @@ fn only_number(rest: &[u8]) -> Option<usize>
 }
 
 /// The number that is the only word left, or none where no word is.
-fn optional_number(rest: &[u8]) -> Option<Option<usize>>
+pub(crate) fn optional_number(rest: &[u8]) -> Option<Option<usize>>
     ensures { result ≡ spec.optional_number (words rest.now) }
 {
     if !has_word(rest) {
@@ -179,6 +181,111 @@ fn info_in(rest: &[u8]) -> Option<Word>
     None
 }
 
+/// The breakpoint of a line, with what must hold, where anything is left; its first word has this number in its line.
+fn conditioned(
+    code: &Code,
+    line: usize,
+    of: Option<usize>,
+    place: usize,
+    rest: &[u8],
+) -> Result<Word, WordFault>
+    requires { place < 10 }
+    ensures { result ≡ spec.conditioned code.now.program.decls line of place (words rest.now) }
+{
+    let Some((word, behind)) = next_word(rest) else {
+        return Ok(Word::Break(Break::Line {
+            line,
+            of,
+            when: None,
+        }));
+    };
+    if word == b"if".as_slice() {
+        return match condition_in(code, place + 1, behind) {
+            Err(fault) => Err(fault),
+            Ok(condition) => Ok(Word::Break(Break::Line {
+                line,
+                of,
+                when: Some(condition),
+            })),
+        };
+    }
+    Err(WordFault::Usage(Topic::Break))
+}
+
+/// The breakpoint of a line and of a rank, which is the first word left, with what must hold.
+fn ranked(code: &Code, line: usize, place: usize, rest: &[u8]) -> Result<Word, WordFault>
+    requires { place < 8 }
+    ensures { result ≡ spec.ranked code.now.program.decls line place (words rest.now) }
+{
+    let Some((rank, behind)) = next_word(rest) else {
+        return Err(WordFault::Usage(Topic::Break));
+    };
+    match number_of(rank) {
+        None => Err(WordFault::Usage(Topic::Break)),
+        Some(rank) => conditioned(code, line, Some(rank), place + 1, behind),
+    }
+}
+
+/// The breakpoint of a line, with the rank that is meant and what must hold, where they are left.
+fn line_with(code: &Code, line: usize, place: usize, rest: &[u8]) -> Result<Word, WordFault>
+    requires { place < 7 }
+    ensures { result ≡ spec.line_with code.now.program.decls line place (words rest.now) }
+{
+    if let Some((word, behind)) = next_word(rest) {
+        if word == b"rank".as_slice() {
+            return ranked(code, line, place + 1, behind);
+        }
+    }
+    conditioned(code, line, None, place, rest)
+}
+
+/// The breakpoint of a line; its number is the first word left, and has this number in its line.
+fn line_in(code: &Code, place: usize, rest: &[u8]) -> Result<Word, WordFault>
+    requires { place < 6 }
+    ensures { result ≡ spec.line_in code.now.program.decls place (words rest.now) }
+{
+    let Some((line, behind)) = next_word(rest) else {
+        return Err(WordFault::Usage(Topic::Break));
+    };
+    match number_of(line) {
+        None => Err(WordFault::Usage(Topic::Break)),
+        Some(line) => line_with(code, line, place + 1, behind),
+    }
+}
+
+/// The rank that is meant, which is the word after `rank`, or none where no word is left.
+fn meant_in(rest: &[u8]) -> Option<Option<usize>>
+    ensures { result ≡ spec.meant_in (words rest.now) }
+{
+    let Some((word, behind)) = next_word(rest) else {
+        return Some(None);
+    };
+    if word == b"rank".as_slice() {
+        return only_number(behind).map(Some);
+    }
+    None
+}
+
+/// The breakpoint of a match: a line, and a rank where one is meant.
+fn match_in(rest: &[u8]) -> Option<Word>
+    ensures { result ≡ spec.match_in (words rest.now) }
+{
+    let (line, behind) = next_word(rest)?;
+    let line = number_of(line)?;
+    let of = meant_in(behind)?;
+    Some(Word::Break(Break::Match { line, of }))
+}
+
+/// The breakpoint of a rank.
+fn rank_in(rest: &[u8]) -> Option<Word>
+    ensures { result ≡ spec.rank_in (words rest.now) }
+{
+    match only_number(rest) {
+        None => None,
+        Some(rank) => Some(Word::Break(Break::Rank(rank))),
+    }
+}
+
 /// The breakpoint that some words tell.
 fn break_in(code: &Code, rest: &[u8]) -> Result<Word, WordFault>
     ensures { result ≡ spec.break_in code.now.program.decls (words rest.now) }
@@ -187,24 +294,18 @@ fn break_in(code: &Code, rest: &[u8]) -> Result<Word, WordFault>
         return Err(WordFault::Usage(Topic::Break));
     };
     if kind == b"line".as_slice() {
-        return fitting(
-            Topic::Break,
-            only_number(behind).map(|line| Word::Break(Break::Line(line))),
-        );
+        return line_in(code, 2, behind);
     }
     if kind == b"match".as_slice() {
-        return fitting(
-            Topic::Break,
-            only_number(behind).map(|line| Word::Break(Break::Match(line))),
-        );
+        return fitting(Topic::Break, match_in(behind));
+    }
+    if kind == b"rank".as_slice() {
+        return fitting(Topic::Break, rank_in(behind));
     }
     if kind == b"change".as_slice() {
         return change_in(code, behind);
     }
-    fitting(
-        Topic::Break,
-        only_number(rest).map(|line| Word::Break(Break::Line(line))),
-    )
+    line_in(code, 1, rest)
 }
 
 /// What a name stands for, of all ranks or of one.
@@ -351,6 +452,8 @@ pub enum Line {
     Comment,
     /// A word.
     Says(Word),
+    /// `print`, and behind it what is to be read as an expression (`behind_word`).
+    Evaluates,
     /// Nothing that can be done.
     Wrong(WordFault),
 }
@@ -364,6 +467,9 @@ pub fn line_of(code: &Code, line: &[u8]) -> Line
     };
     if begins_comment(name) {
         return Line::Comment;
+    }
+    if asks_value(code, topic_of(name), rest) {
+        return Line::Evaluates;
     }
     match word_of(code, line, name, rest) {
         Ok(word) => Line::Says(word),

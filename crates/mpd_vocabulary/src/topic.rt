@@ -337,9 +337,9 @@ pub const WAKE_ANY: Told = ("wakeany P I", "takes this step", STEP_DETAILS, "");
 pub const RELEASE: Told = ("release", "takes this step", STEP_DETAILS, "");
 
 pub const BREAK: Told = (
-    "break LINE, break match LINE, break change P NAME",
+    "break LINE [rank P] [if NAME OP N], break match LINE [rank P], break rank P, break change P NAME",
     "sets a breakpoint",
-    "; after a step by which a rank comes to that line, after a match of a call of that line, after a change of that variable or request of rank P",
+    "; after a step by which a rank, or rank P, comes to that line, if its variable compares so with N, OP being ==, !=, <, <=, > or >=; after a match of a call of that line, or of one of rank P; after each step of rank P after which it isn't blocked; after a change of that variable or request of rank P",
     "b, br",
 );
 
@@ -369,8 +369,8 @@ pub const LIST: Told = (
 );
 
 pub const PRINT: Told = (
-    "print NAME [P]",
-    "shows a variable or a request",
+    "print EXPR [P]",
+    "shows a variable, a request or an expression",
     "; of all ranks, or of rank P",
     "p",
 );

@@ -102,4 +102,8 @@ pub enum WordFault {
     NoSuchIndex,
     /// An array has no index where one cell is meant.
     NoIndex,
+    /// This word of the line begins with no name of a variable or a request, up to an operator.
+    NoNameIn(usize),
+    /// A request stands where a variable is compared.
+    NoValue,
 }

@@ -9,12 +9,15 @@ use Rattle.mpd_model.specs.declared.call.Activity.TheVariants.{Running, Blocked,
 use Rattle.mpd_model.specs.declared.step.CallId.{CallId}
 use Rattle.mpd_model.specs.declared.step.Step.{Step}
 use Rattle.mpd_model.specs.declared.step.Step.TheVariants.{Local, Match, Wake, WakeAny, Release}
+use Rattle.mpd_model.specs.declared.breakpoint.Condition.{Condition}
 use Rattle.mpd_model.specs.declared.breakpoint.Break.{Break}
 use Rattle.mpd_model.specs.declared.breakpoint.Break.TheVariants as on
 use Rattle.mpd_model.specs.script.Program.{Program}
 use Rattle.mpd_model.specs.steps.World.{RankWorld, World, Board, rank_numbers, call_at}
+use Rattle.mpd_model.specs.steps.Next.{is_blocked}
 use Rattle.mpd_model.specs.steps.Outcomes.{first_number}
 use Rattle.mpd_model.specs.steps.Why.{first_in}
+use Rattle.mpd_model.specs.runs.Comparisons.{holds}
 
 -- ---- what hits a breakpoint
 
@@ -38,9 +41,6 @@ comes_to s line r = is_running r.activity && on_line s line (first_number r.rest
 abbrev pub comes_at : Program → ℕ → Option RankWorld → Bool
 comes_at s line None = false
 comes_at s line (Some r) = comes_to s line r
-
-abbrev pub some_comes : Program → ℕ → World → Bool
-some_comes s line w = list_any (λ p. comes_at s line (slice_get w.ranks p)) (rank_numbers w.board)
 
 -- what a cell of a rank holds, where there is one
 abbrev pub held_at : Option RankWorld → ℕ → Option ℤ
@@ -74,25 +74,69 @@ same_number (Some m) (Some n) = m == n
 abbrev pub issued_on : Program → ℕ → Board → CallId → Bool
 issued_on s line b c = on_line s line (option_map (λ call. call.statement) (call_at b c))
 
--- a line is hit by a local step or a wake, by a waitany or not, behind which its rank comes to the line, and by a release behind which some rank does
-abbrev pub line_hits : Program → ℕ → Step → World → Bool
-line_hits s line (Local p) new = comes_at s line (slice_get new.ranks p)
-line_hits s line (Wake p) new = comes_at s line (slice_get new.ranks p)
-line_hits s line (WakeAny p i) new = comes_at s line (slice_get new.ranks p)
-line_hits s line Release new = some_comes s line new
-line_hits s line a new = false
+-- a rank is the one that is meant, where one is
+abbrev pub is_meant : Option ℕ → ℕ → Bool
+is_meant None p = true
+is_meant (Some own) p = own == p
 
--- a match of a call that was issued on a line
-abbrev pub match_hits : Program → ℕ → Step → World → Bool
-match_hits s line (Match u v) new = issued_on s line new.board u || issued_on s line new.board v
-match_hits s line a new = false
+-- a comparison of a value that is there
+abbrev pub value_holds : Condition → Option ℤ → Bool
+value_holds c None = false
+value_holds c (Some x) = holds c.comparison x c.value
+
+-- what must hold of a cell of a rank, where something must
+abbrev pub condition_holds : Option Condition → World → ℕ → Bool
+condition_holds None w p = true
+condition_holds (Some c) w p = value_holds c (cell_at w p c.cell)
+
+-- a rank that is meant comes to a line, and what must hold there holds
+abbrev pub arrives : Program → ℕ → Option ℕ → Option Condition → World → ℕ → Bool
+arrives s line of when w p = comes_at s line (slice_get w.ranks p) && (is_meant of p && condition_holds when w p)
+
+abbrev pub some_arrives : Program → ℕ → Option ℕ → Option Condition → World → Bool
+some_arrives s line of when w = list_any (arrives s line of when w) (rank_numbers w.board)
+
+-- a line is hit by a local step or a wake, by a waitany or not, after which its rank arrives there, and by a release after which some rank does
+abbrev pub line_hits : Program → ℕ → Option ℕ → Option Condition → Step → World → Bool
+line_hits s line of when (Local p) new = arrives s line of when new p
+line_hits s line of when (Wake p) new = arrives s line of when new p
+line_hits s line of when (WakeAny p i) new = arrives s line of when new p
+line_hits s line of when Release new = some_arrives s line of when new
+line_hits s line of when a new = false
+
+-- a call of a rank that is meant, which a statement of a line has issued
+abbrev pub issued_by : Program → ℕ → Option ℕ → Board → CallId → Bool
+issued_by s line of b c = is_meant of c.rank && issued_on s line b c
+
+-- a match of such a call
+abbrev pub match_hits : Program → ℕ → Option ℕ → Step → World → Bool
+match_hits s line of (Match u v) new = issued_by s line of new.board u || issued_by s line of new.board v
+match_hits s line of a new = false
+
+-- a step that is a rank's own, or a release, which lets all ranks go on
+abbrev pub is_step_of : ℕ → Step → Bool
+is_step_of p (Local own) = own == p
+is_step_of p (Wake own) = own == p
+is_step_of p (WakeAny own i) = own == p
+is_step_of p Release = true
+is_step_of p a = false
+
+-- a rank that is there, and isn't blocked
+abbrev pub is_unblocked : Option RankWorld → Bool
+is_unblocked None = false
+is_unblocked (Some r) = not (is_blocked r.activity)
+
+-- a rank is hit by such a step after which it isn't blocked
+abbrev pub rank_hits : ℕ → Step → World → Bool
+rank_hits p a new = is_step_of p a && is_unblocked (slice_get new.ranks p)
 
 -- whether a breakpoint is hit by the step that led from one world to the next
 abbrev pub is_hit : Program → Break → World → Step → World → Bool
-is_hit s (on.Line line) old a new = line_hits s line a new
+is_hit s (on.Line line of when) old a new = line_hits s line of when a new
 is_hit s (on.Change p c) old a new = not (same_value (cell_at old p c) (cell_at new p c))
 is_hit s (on.Handle p h) old a new = not (same_number (handle_at old p h) (handle_at new p h))
-is_hit s (on.Match line) old a new = match_hits s line a new
+is_hit s (on.Match line of) old a new = match_hits s line of a new
+is_hit s (on.Rank p) old a new = rank_hits p a new
 
 -- ---- numbered places, each for a breakpoint
 

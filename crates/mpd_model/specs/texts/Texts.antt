@@ -19,9 +19,11 @@ use Rattle.mpd_model.specs.declared.call.MatchSet.TheVariants as set
 use Rattle.mpd_model.specs.declared.outcome.TrappedRank.{TrappedRank}
 use Rattle.mpd_model.specs.declared.outcome.Outcome.{Outcome}
 use Rattle.mpd_model.specs.declared.outcome.Outcome.TheVariants as ending
+use Rattle.mpd_model.specs.declared.comparison.Comparison.{Comparison}
 use Rattle.mpd_model.specs.script.Program.{Program}
 use Rattle.mpd_model.specs.steps.World.{RankWorld, World, Board, call_id, rank_numbers, call_numbers, kind_at, partner, is_free, is_buffered, is_limited, buffer, last_call, pending, posted}
 use Rattle.mpd_model.specs.steps.Outcomes.{first_number, ids_of, outcome}
+use Rattle.mpd_model.specs.runs.Comparisons.{text_of}
 
 -- ---- lists of values: one space before each
 
@@ -213,3 +215,14 @@ show_text s w depth all =
     ++ flat_map set_line w.board.sets
     ++ outcome_line (outcome w)
     ++ line (codes "end")
+
+-- ---- breakpoints
+
+-- ` rank 1`, where a rank is meant
+abbrev pub meant_text : Option ℕ → List ℕ
+meant_text None = []
+meant_text (Some p) = codes " rank " ++ decimal p
+
+-- ` == 3`
+abbrev pub compared_text : Comparison → ℤ → List ℕ
+compared_text k v = 32 ∷ text_of k ++ 32 ∷ signed_decimal v
