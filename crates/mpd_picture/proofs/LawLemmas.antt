@@ -15,12 +15,14 @@ use Rattle.mpd_model.specs.declared.call.MatchSet.TheVariants.{Pair, Woke}
 use Rattle.mpd_model.specs.declared.call.MatchSet.TheVariants as set
 use Rattle.mpd_model.specs.steps.World.{World, Board, call_id, rank_numbers, start, last_call, eligible, is_free, kind_at}
 use Rattle.mpd_model.specs.steps.Next.{Ran, next, fold, local_at, stepped, with_issued, with_set, can_wake, can_wake_any, can_release, woken, woken_any, released, waits, any_call}
+use Rattle.mpd_picture.specs.declared.glyph.Deed.{Deed}
 use Rattle.mpd_picture.specs.declared.glyph.Glyph.{Glyph}
+use Rattle.mpd_picture.specs.declared.glyphs.Before.{Before}
 use Rattle.mpd_picture.specs.declared.glyph.Mark.{Mark}
 use Rattle.mpd_picture.specs.declared.glyph.Event.{Event}
-use Rattle.mpd_picture.specs.declared.glyph.Event.TheVariants.{Issued, Paired, WentOn, Released}
+use Rattle.mpd_picture.specs.declared.glyph.Event.TheVariants.{Issued, Paired, WentOn, Released, Noted}
 use Rattle.mpd_picture.specs.declared.shape.Shape.{Shape}
-use Rattle.mpd_picture.specs.Glyphs.{glyph, issues, calls_before, step_glyphs, row_behind, led, glyphs_behind, glyphs_of, went_on}
+use Rattle.mpd_picture.specs.Glyphs.{glyph, issues, before_step, deed_of, noted, step_glyphs, row_behind, led, glyphs_behind, glyphs_of, went_on}
 use Rattle.mpd_picture.specs.Marks.{rows_of, mark_after, marks_from, marks_of}
 use Rattle.mpd_picture.specs.Shapes.{request_shapes, candidate_shapes, candidates_from, candidates, free_shapes, event_shapes, mark_shapes, lane_shapes, end_shapes, shapes_of}
 use Rattle.mpd_picture.specs.PictureLaws.{set_of_shape, is_drawn, ArrowsArePairs}
@@ -45,6 +47,7 @@ set_of_event (Paired s r) = Pair s r ∷ []
 set_of_event Released = set.Barrier ∷ []
 set_of_event (Issued c) = []
 set_of_event (WentOn c) = []
+set_of_event (Noted n) = []
 
 abbrev set_of_glyph : Glyph → List MatchSet
 set_of_glyph m = set_of_event m.event
@@ -60,15 +63,20 @@ issued_sets : (b : Board) (p : ℕ) (o : Option Call) → (with_issued b p o).se
 issued_sets b p None = refl
 issued_sets b p (Some c) = refl
 
-issue_shows : (b : Bool) (m : Glyph) → set_of_glyph m ≡ [] → flat_map set_of_glyph (cond b (m ∷ []) []) ≡ []
-issue_shows true m h = ap (λ ys. ys ++ []) h
-issue_shows false m h = refl
+note_shows : (line row p : ℕ) (o : Option Deed) → flat_map set_of_glyph (noted line row p o) ≡ []
+note_shows line row p None = refl
+note_shows line row p (Some d) = refl
 
-local_adds : (w v : World) (p before row : ℕ) (o : Option Ran) → option_map (stepped w p) o ≡ Some v → Adds w v (step_glyphs before v.board row (Local p))
+issue_shows : (b : Bool) (m : Glyph) (others : List Glyph) → set_of_glyph m ≡ [] → flat_map set_of_glyph others ≡ [] → flat_map set_of_glyph (cond b (m ∷ []) others) ≡ []
+issue_shows true m others h k = ap (λ ys. ys ++ []) h
+issue_shows false m others h k = k
+
+local_adds : (w v : World) (p : ℕ) (before : Before) (row : ℕ) (o : Option Ran) → option_map (stepped w p) o ≡ Some v → Adds w v (step_glyphs before v row (Local p))
 local_adds w v p before row None h = cc
 local_adds w v p before row (Some done) h =
     let same : v.board.sets ≡ w.board.sets = ap (λ (u : World). u.board.sets) (sym (some_world (stepped w p done) v h)) ∙ issued_sets w.board p done.call in
-    ap (filter is_drawn) same ∙ sym (ap (λ ys. drawn w ++ ys) (issue_shows (issues before v.board p) (glyph row (Issued (call_id p before))) refl) ∙ append-nil (drawn w))
+    ap (filter is_drawn) same ∙ sym (ap (λ ys. drawn w ++ ys) (issue_shows (issues before.calls v.board p) (glyph row (Issued (call_id p before.calls)))
+    (noted before.line row p (deed_of before.printed (slice_get v.ranks p))) refl (note_shows before.line row p (deed_of before.printed (slice_get v.ranks p)))) ∙ append-nil (drawn w))
 
 joins : (w v : World) (m : MatchSet) (b : Bool) (u : World) → u.board.sets ≡ w.board.sets ++ m ∷ [] → cond b (Some u) None ≡ Some v → drawn v ≡ drawn w ++ filter is_drawn (m ∷ [])
 joins w v m false u e h = cc
@@ -79,30 +87,30 @@ joins w v m true u e h =
 gone_on_shows : (b : Board) (row : ℕ) (ranks : List ℕ) → flat_map set_of_glyph (flat_map (went_on b row) ranks) ≡ []
 gone_on_shows b row ranks = none_given set_of_glyph (went_on b row) ranks (λ p. refl)
 
-step_adds : (w v : World) (row : ℕ) (a : Step) → next w a ≡ Some v → Adds w v (step_glyphs (calls_before w a) v.board row a)
-step_adds w v row (Local p) h = local_adds w v p (calls_before w (Local p)) row (local_at w p) h
-step_adds w v row (Match s r) h = joins w v (Pair s r) (eligible w.board s r) (record w { board = with_set w.board (Pair s r) }) refl h
-step_adds w v row (Wake p) h = joins w v (Woke (last_call w.board p)) (can_wake w p) (woken w p) refl h
-step_adds w v row (WakeAny p i) h = joins w v (Woke (last_call w.board p)) (can_wake_any w p i) (woken_any w p i) refl h
-step_adds w v row Release h =
+step_adds : (lines : List ℕ) (w v : World) (row : ℕ) (a : Step) → next w a ≡ Some v → Adds w v (step_glyphs (before_step lines w a) v row a)
+step_adds lines w v row (Local p) h = local_adds w v p (before_step lines w (Local p)) row (local_at w p) h
+step_adds lines w v row (Match s r) h = joins w v (Pair s r) (eligible w.board s r) (record w { board = with_set w.board (Pair s r) }) refl h
+step_adds lines w v row (Wake p) h = joins w v (Woke (last_call w.board p)) (can_wake w p) (woken w p) refl h
+step_adds lines w v row (WakeAny p i) h = joins w v (Woke (last_call w.board p)) (can_wake_any w p i) (woken_any w p i) refl h
+step_adds lines w v row Release h =
     joins w v set.Barrier (can_release w) (released w) refl h ∙ sym (ap (λ ys. drawn w ++ (set.Barrier ∷ ys)) (gone_on_shows v.board row (rank_numbers v.board)))
 
 -- ---- what steps show
 
-led_adds : (w u : World) (row : ℕ) (a : Step) (steps : List Step) (o : Option World) → next w a ≡ o → option_and_then (λ v. fold v steps) o ≡ Some u
-    → ((v : World) (k : ℕ) → fold v steps ≡ Some u → Adds v u (glyphs_behind v k steps))
-    → Adds w u (led (λ v. step_glyphs (calls_before w a) v.board row a ++ glyphs_behind v (row_behind (calls_before w a) v.board row a) steps) o)
-led_adds w u row a steps None e h more = cc
-led_adds w u row a steps (Some v) e h more =
-    let first : List Glyph = step_glyphs (calls_before w a) v.board row a in
-    let k : ℕ = row_behind (calls_before w a) v.board row a in
-    let rest : List Glyph = glyphs_behind v k steps in
-    more v k h ∙ ap (λ ys. ys ++ flat_map set_of_glyph rest) (step_adds w v row a e) ∙ append_assoc (drawn w) (flat_map set_of_glyph first) (flat_map set_of_glyph rest)
+led_adds : (lines : List ℕ) (w u : World) (row : ℕ) (a : Step) (steps : List Step) (o : Option World) → next w a ≡ o → option_and_then (λ v. fold v steps) o ≡ Some u
+    → ((v : World) (k : ℕ) → fold v steps ≡ Some u → Adds v u (glyphs_behind lines v k steps))
+    → Adds w u (led (λ v. step_glyphs (before_step lines w a) v row a ++ glyphs_behind lines v (row_behind (before_step lines w a) v row a) steps) o)
+led_adds lines w u row a steps None e h more = cc
+led_adds lines w u row a steps (Some v) e h more =
+    let first : List Glyph = step_glyphs (before_step lines w a) v row a in
+    let k : ℕ = row_behind (before_step lines w a) v row a in
+    let rest : List Glyph = glyphs_behind lines v k steps in
+    more v k h ∙ ap (λ ys. ys ++ flat_map set_of_glyph rest) (step_adds lines w v row a e) ∙ append_assoc (drawn w) (flat_map set_of_glyph first) (flat_map set_of_glyph rest)
     ∙ ap (λ ys. drawn w ++ ys) (sym (flat_map-append set_of_glyph first rest))
 
-steps_add : (w u : World) (row : ℕ) (steps : List Step) → fold w steps ≡ Some u → Adds w u (glyphs_behind w row steps)
-steps_add w u row [] h = ap drawn (sym (some_world w u h)) ∙ sym (append-nil (drawn w))
-steps_add w u row (a ∷ steps) h = led_adds w u row a steps (next w a) refl h (λ v k e. steps_add v u k steps e)
+steps_add : (lines : List ℕ) (w u : World) (row : ℕ) (steps : List Step) → fold w steps ≡ Some u → Adds w u (glyphs_behind lines w row steps)
+steps_add lines w u row [] h = ap drawn (sym (some_world w u h)) ∙ sym (append-nil (drawn w))
+steps_add lines w u row (a ∷ steps) h = led_adds lines w u row a steps (next w a) refl h (λ v k e. steps_add lines v u k steps e)
 
 -- ---- what shapes are drawn for
 
@@ -123,6 +131,7 @@ event_drawn b marks rows row place (Issued c) = front_drawn (is_free b c) (free_
 event_drawn b marks rows row place (Paired s r) = refl
 event_drawn b marks rows row place (WentOn c) = refl
 event_drawn b marks rows row place Released = refl
+event_drawn b marks rows row place (Noted n) = refl
 
 end_drawn : (w : World) (marks : List Mark) (rows p : ℕ) → flat_map set_of_shape (end_shapes w marks rows p) ≡ []
 end_drawn w marks rows p = front_drawn (waits (slice_get w.ranks p)) _ _ refl refl
@@ -177,4 +186,4 @@ marks_drawn marks (m ∷ glyphs) =
 
 pub arrows : ArrowsArePairs
 arrows s mode steps w h =
-    shapes_drawn w (marks_of (glyphs_of s mode steps)) ∙ marks_drawn [] (glyphs_of s mode steps) ∙ sym (steps_add (start s mode) w 0 steps h)
+    shapes_drawn w (marks_of (glyphs_of s mode steps)) ∙ marks_drawn [] (glyphs_of s mode steps) ∙ sym (steps_add s.lines (start s mode) w 0 steps h)

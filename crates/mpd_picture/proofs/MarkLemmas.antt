@@ -1,5 +1,5 @@
 -- Rows by logical time, mark by mark.
-use Rattle.std.proofs.Common.{◌≡◌, ℕ, zero, suc, ◌+◌, ◌<◌, max, if◌then◌else◌, List, [], ◌∷◌, ◌++◌, length, drop, get_or, sym, ap, ◌∙◌, append_assoc}
+use Rattle.std.proofs.Common.{◌≡◌, ℕ, zero, suc, ◌+◌, ◌<◌, max, List, [], ◌∷◌, ◌++◌, length, drop, get_or, sym, ap, ◌∙◌, append_assoc}
 use Rattle.std.proofs.Math.Nat.{max-zero, zero-max, suc-max-suc}
 use Rattle.std.proofs.lemmas.List.{drop_more}
 use Rattle.mpd_model.specs.declared.step.Step.{Step}
@@ -8,43 +8,15 @@ use Rattle.mpd_picture.specs.declared.glyph.Glyph.{Glyph}
 use Rattle.mpd_picture.specs.declared.glyph.Mark.{Mark}
 use Rattle.mpd_picture.specs.declared.shape.Shape.{Shape}
 use Rattle.mpd_picture.specs.Shapes.{candidate_shapes, candidates_from}
-use Rattle.mpd_picture.specs.Marks.{is_row, stands_in, sends_in, below, rows_of, next_row, sent_row, mark_after, marks_from}
+use Rattle.mpd_picture.specs.Marks.{mark_after, marks_from}
 
-max_joined : (a b c : ℕ) → max (max a b) c ≡ max a (max b c)
+pub max_joined : (a b c : ℕ) → max (max a b) c ≡ max a (max b c)
 max_joined zero b c = ap (λ k. max k c) (zero-max b) ∙ sym (zero-max (max b c))
 max_joined (suc a) zero c = ap (λ k. max k c) (max-zero (suc a)) ∙ ap (max (suc a)) (sym (zero-max c))
 max_joined (suc a) (suc b) zero = max-zero (max (suc a) (suc b)) ∙ ap (max (suc a)) (sym (max-zero (suc b)))
 max_joined (suc a) (suc b) (suc c) =
     ap (λ k. max k (suc c)) (suc-max-suc a b) ∙ suc-max-suc (max a b) c ∙ ap suc (max_joined a b c) ∙ sym (suc-max-suc a (max b c))
     ∙ ap (max (suc a)) (sym (suc-max-suc b c))
-
--- the greatest of what was before, and one more
-max_more : (before one now rest whole : ℕ) → now ≡ max before one → max before (max one rest) ≡ whole → max now rest ≡ whole
-max_more before one now rest whole e h = ap (λ k. max k rest) e ∙ max_joined before one rest ∙ h
-
--- one mark more of the rows
-pub rows_more : (marks : List Mark) (i : ℕ) (d : Mark) (before one now whole : ℕ) → i < length marks
-    → one ≡ (if is_row (get_or marks i d).event then below (get_or marks i d) else 0) → now ≡ max before one
-    → max before (rows_of (drop i marks)) ≡ whole → max now (rows_of (drop (i + 1) marks)) ≡ whole
-rows_more marks i d before one now whole within is e h =
-    max_more before one now (rows_of (drop (i + 1) marks)) whole e
-    (ap (λ k. max before (max k (rows_of (drop (i + 1) marks)))) is ∙ ap (λ xs. max before (rows_of xs)) (sym (drop_more marks i d within)) ∙ h)
-
--- one mark more of the next row of a rank
-pub next_more : (marks : List Mark) (i p : ℕ) (d : Mark) (before one now whole : ℕ) → i < length marks
-    → one ≡ (if stands_in p (get_or marks i d).event then below (get_or marks i d) else 0) → now ≡ max before one
-    → max before (next_row (drop i marks) p) ≡ whole → max now (next_row (drop (i + 1) marks) p) ≡ whole
-next_more marks i p d before one now whole within is e h =
-    max_more before one now (next_row (drop (i + 1) marks) p) whole e
-    (ap (λ k. max before (max k (next_row (drop (i + 1) marks) p))) is ∙ ap (λ xs. max before (next_row xs p)) (sym (drop_more marks i d within)) ∙ h)
-
--- one mark more of the last match of a rank's sends
-pub sent_more : (marks : List Mark) (i p : ℕ) (d : Mark) (before one now whole : ℕ) → i < length marks
-    → one ≡ (if sends_in p (get_or marks i d).event then (get_or marks i d).row else 0) → now ≡ max before one
-    → max before (sent_row (drop i marks) p) ≡ whole → max now (sent_row (drop (i + 1) marks) p) ≡ whole
-sent_more marks i p d before one now whole within is e h =
-    max_more before one now (sent_row (drop (i + 1) marks) p) whole e
-    (ap (λ k. max before (max k (sent_row (drop (i + 1) marks) p))) is ∙ ap (λ xs. max before (sent_row xs p)) (sym (drop_more marks i d within)) ∙ h)
 
 -- the mark of one glyph more
 pub marks_more : (glyphs : List Glyph) (i : ℕ) (d : Glyph) (so_far now total : List Mark) → i < length glyphs

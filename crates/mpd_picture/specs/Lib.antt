@@ -1,5 +1,6 @@
 pub mod Glyphs
 pub mod Marks
+pub mod MarkTable
 pub mod Shapes
 pub mod Svg
 pub mod Rows

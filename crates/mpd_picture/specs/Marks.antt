@@ -5,19 +5,20 @@ use Rattle.mpd_model.specs.steps.World.{id_eq}
 use Rattle.mpd_picture.specs.declared.glyph.Glyph.{Glyph}
 use Rattle.mpd_picture.specs.declared.glyph.Mark.{Mark}
 use Rattle.mpd_picture.specs.declared.glyph.Event.{Event}
-use Rattle.mpd_picture.specs.declared.glyph.Event.TheVariants.{Issued, Paired, WentOn, Released}
+use Rattle.mpd_picture.specs.declared.glyph.Event.TheVariants.{Issued, Paired, WentOn, Released, Noted}
 
 -- what a rank that goes on shows takes no row
 abbrev pub is_row : Event → Bool
 is_row (WentOn c) = false
 is_row e = true
 
--- A call stands in its rank, a match in the rank of the receive, a release in all, and so does a rank that goes on in its own.
+-- A call stands in its rank, a match in the rank of the receive, a release in all, and so does in its own a rank that goes on, or a note.
 abbrev pub stands_in : ℕ → Event → Bool
 stands_in p (Issued c) = p == c.rank
 stands_in p (Paired s r) = p == r.rank
 stands_in p (WentOn c) = p == c.rank
 stands_in p Released = true
+stands_in p (Noted n) = p == n.rank
 
 -- whether a send of a rank is matched there
 abbrev pub sends_in : ℕ → Event → Bool
@@ -62,6 +63,7 @@ event_row marks (Issued c) = next_row marks c.rank
 event_row marks (Paired s r) = max (under (row_of marks s)) (next_row marks r.rank)
 event_row marks (WentOn c) = max (next_row marks c.rank - 1) (sent_row marks c.rank)
 event_row marks Released = rows_of marks
+event_row marks (Noted n) = next_row marks n.rank
 
 abbrev pub mark_after : List Mark → Glyph → Mark
 mark_after marks m = record { row = event_row marks m.event; place = m.row; event = m.event }

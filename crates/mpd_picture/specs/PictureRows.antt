@@ -62,8 +62,8 @@ row_want_depths = refl
 pub row_widths : width_by look.Full (start_board 2 Buffered) ∷ width_by look.Plain (start_board 2 Buffered) ∷ width_by look.Plain (start_board 16 Buffered) ∷ [] ≡ 1180 ∷ 620 ∷ 2692 ∷ []
 row_widths = refl
 
--- of 3 rows: with the legend below them, with a list of 40 that is lower, and plain
-pub row_ends : height_by look.Full 3 5 ∷ height_by look.Full 3 40 ∷ height_by look.Plain 3 40 ∷ [] ≡ 462 ∷ 704 ∷ 322 ∷ []
+-- of 3 rows: with the legend below them, with a list of 40 that is lower, and plain; and lower of 16 ranks
+pub row_ends : height_by look.Full 2 3 5 ∷ height_by look.Full 6 3 40 ∷ height_by look.Plain 6 3 40 ∷ height_by look.Full 16 3 5 ∷ height_by look.Plain 16 3 40 ∷ [] ≡ 462 ∷ 704 ∷ 322 ∷ 542 ∷ 402 ∷ []
 row_ends = refl
 
 -- ---- words

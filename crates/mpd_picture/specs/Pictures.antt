@@ -18,7 +18,7 @@ use Rattle.mpd_picture.specs.declared.drawing.Look.TheVariants as look
 use Rattle.mpd_picture.specs.Glyphs.{glyphs_of}
 use Rattle.mpd_picture.specs.Marks.{rows_of, marks_of}
 use Rattle.mpd_picture.specs.Shapes.{places_of, shapes_of}
-use Rattle.mpd_picture.specs.Svg.{column_x, row_y, told_y, attribute, text_element, opened, shape_elements, listed_elements}
+use Rattle.mpd_picture.specs.Svg.{column_x, row_y, told_y, tracks_height, attribute, text_element, opened, shape_elements, listed_elements}
 use Rattle.mpd_picture.specs.Rows.{rows_text}
 
 -- ---- the title
@@ -61,9 +61,9 @@ legend_text = LEGEND.now
 unfoldable pub head_elements : ℕ → ℕ → List ℕ → List ℕ
 head_elements width height title = opened_text ++ size_attributes width height ++ box_attribute width height ++ title_element title ++ style_text ++ paper_element width height ++ text_element (codes "head") 12 24 title
 
--- Below the rows stands the legend, and beside both the list of what is told.
-abbrev pub height_of : ℕ → ℕ → ℕ
-height_of rows places = max (row_y rows + 274) (told_y places + 12)
+-- Below the rows of n ranks stands the legend, and beside both the list of what is told.
+abbrev pub height_of : ℕ → ℕ → ℕ → ℕ
+height_of n rows places = max (row_y rows + 274 + tracks_height n) (told_y places + 12)
 
 unfoldable pub legend_elements : ℕ → List ℕ
 legend_elements y = codes "<g transform=\"translate(12 " ++ decimal y ++ codes ")\">\n" ++ legend_text
@@ -76,12 +76,12 @@ abbrev pub width_by : Look → Board → ℕ
 width_by look.Full b = column_x b + 560
 width_by look.Plain b = column_x b
 
-abbrev pub height_by : Look → ℕ → ℕ → ℕ
-height_by look.Full rows places = height_of rows places
-height_by look.Plain rows places = row_y rows + 134
+abbrev pub height_by : Look → ℕ → ℕ → ℕ → ℕ
+height_by look.Full n rows places = height_of n rows places
+height_by look.Plain n rows places = row_y rows + 134 + tracks_height n
 
 unfoldable pub list_and_legend : Program → Board → ℕ → List Shape → List ℕ
-list_and_legend s b rows shapes = flat_map (listed_elements s b) shapes ++ legend_elements (row_y rows + 140)
+list_and_legend s b rows shapes = flat_map (listed_elements s b) shapes ++ legend_elements (row_y rows + 140 + tracks_height (length b.calls))
 
 abbrev pub tail_by : Look → Program → Board → ℕ → List Shape → List ℕ
 tail_by look.Full s b rows shapes = list_and_legend s b rows shapes
@@ -89,7 +89,7 @@ tail_by look.Plain s b rows shapes = ended_text
 
 unfoldable pub svg_by : Look → Program → World → ℕ → ℕ → ℕ → List Shape → List ℕ
 svg_by l s w rows places depth shapes =
-    head_elements (width_by l w.board) (height_by l rows places) (title_of w.board depth (outcome w)) ++ flat_map (shape_elements s w) shapes ++ tail_by l s w.board rows shapes
+    head_elements (width_by l w.board) (height_by l (length w.board.calls) rows places) (title_of w.board depth (outcome w)) ++ flat_map (shape_elements s w) shapes ++ tail_by l s w.board rows shapes
 
 abbrev pub svg_of : Look → Program → World → ℕ → List Glyph → List ℕ
 svg_of l s w depth glyphs = svg_by l s w (rows_of (marks_of glyphs)) (places_of glyphs) depth (shapes_of w (marks_of glyphs))

@@ -10,13 +10,16 @@ use Rattle.mpd_model.specs.steps.World.{World, Board, call_at, kind_at, is_free,
 use Rattle.mpd_model.specs.steps.Outcomes.{is_stuck}
 use Rattle.mpd_model.specs.texts.Texts.{line, id_text, kind_text}
 use Rattle.mpd_names.specs.Placed.{issue_line}
+use Rattle.mpd_picture.specs.declared.glyph.Deed.{Deed}
+use Rattle.mpd_picture.specs.declared.glyph.Deed.TheVariants as deed
+use Rattle.mpd_picture.specs.declared.glyph.Note.{Note}
 use Rattle.mpd_picture.specs.declared.shape.Shape.{Shape}
 use Rattle.mpd_picture.specs.declared.shape.Shape.TheVariants.{Arrow, Bar}
 use Rattle.mpd_picture.specs.declared.shape.Shape.TheVariants as shape
 use Rattle.mpd_picture.specs.declared.svg.Finish.{Finish}
 use Rattle.mpd_picture.specs.declared.svg.Finish.TheVariants as finish
 use Rattle.mpd_picture.specs.declared.style.TheConstants.{LETTERS}
-use Rattle.mpd_picture.specs.Svg.{word_of, value_text, finish_of}
+use Rattle.mpd_picture.specs.Svg.{word_of, value_text, deed_told, finish_of}
 
 -- ---- the sign in each lane, two columns wide
 
@@ -46,6 +49,13 @@ arrow_sign p r q = if q == r then tip_sign p r else (if q == p then tail_sign p 
 
 abbrev pub bar_sign : ℕ → List ℕ
 bar_sign q = codes "=="
+
+abbrev pub deed_sign : Deed → List ℕ
+deed_sign (deed.Printed v) = codes "P "
+deed_sign (deed.Trapped t) = codes "X "
+
+abbrev pub note_sign : Note → ℕ → List ℕ
+note_sign n q = if q == n.rank then deed_sign n.deed else codes "| "
 
 abbrev pub finish_sign : Finish → List ℕ
 finish_sign finish.Ended = codes "E "
@@ -87,10 +97,15 @@ call_words s b c = decimal (issue_line s.lines (call_at b c)) ++ codes ": " ++ i
 unfoldable pub arrow_words : Board → CallId → CallId → List ℕ
 arrow_words b s r = id_text s ++ codes " to " ++ id_text r ++ codes ": " ++ value_text (kind_at b s)
 
+-- `7: rank 0 prints 42`
+unfoldable pub note_words : Note → List ℕ
+note_words n = decimal n.line ++ codes ": " ++ deed_told n
+
 abbrev pub shape_row : Program → Board → Shape → List ℕ
 shape_row s b (shape.Call c row place) = told_behind (call_sign b c) b (call_words s b c)
 shape_row s b (Arrow c from d to place) = told_behind (arrow_sign c.rank d.rank) b (arrow_words b c d)
 shape_row s b (Bar row place) = told_behind bar_sign b (codes "release")
+shape_row s b (shape.Note n row place) = told_behind (note_sign n) b (note_words n)
 shape_row s b shape = []
 
 -- ---- the whole

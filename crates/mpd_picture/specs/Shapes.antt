@@ -12,7 +12,7 @@ use Rattle.mpd_model.specs.runs.Decisions.{takes_any}
 use Rattle.mpd_picture.specs.declared.glyph.Glyph.{Glyph}
 use Rattle.mpd_picture.specs.declared.glyph.Mark.{Mark}
 use Rattle.mpd_picture.specs.declared.glyph.Event.{Event}
-use Rattle.mpd_picture.specs.declared.glyph.Event.TheVariants.{Issued, Paired, WentOn, Released}
+use Rattle.mpd_picture.specs.declared.glyph.Event.TheVariants.{Issued, Paired, WentOn, Released, Noted}
 use Rattle.mpd_picture.specs.declared.shape.Shape.{Shape}
 use Rattle.mpd_picture.specs.declared.shape.Shape.TheVariants.{Lane, Waiting, Posted, Arrow, Bar, Stub, Candidate, Request, End}
 use Rattle.mpd_picture.specs.declared.shape.Shape.TheVariants as shape
@@ -46,6 +46,7 @@ event_shapes b marks rows row place (Issued c) = call_shapes b rows c row place
 event_shapes b marks rows row place (Paired s r) = pair_shapes marks s r row place
 event_shapes b marks rows row place (WentOn c) = Waiting c.rank (row_of marks c) row ∷ []
 event_shapes b marks rows row place Released = Bar row place ∷ []
+event_shapes b marks rows row place (Noted n) = shape.Note n row place ∷ []
 
 abbrev pub mark_shapes : Board → List Mark → ℕ → Mark → List Shape
 mark_shapes b marks rows m = event_shapes b marks rows m.row m.place m.event

@@ -14,6 +14,9 @@ use Rattle.mpd_model.specs.steps.Next.{is_at_barrier}
 use Rattle.mpd_model.specs.steps.Outcomes.{has_ended, is_stuck}
 use Rattle.mpd_model.specs.texts.Texts.{id_text, send_word, recv_word, call_text, trap_name}
 use Rattle.mpd_names.specs.Placed.{issue_line, rank_line}
+use Rattle.mpd_picture.specs.declared.glyph.Deed.{Deed}
+use Rattle.mpd_picture.specs.declared.glyph.Deed.TheVariants as deed
+use Rattle.mpd_picture.specs.declared.glyph.Note.{Note}
 use Rattle.mpd_picture.specs.declared.shape.Shape.{Shape}
 use Rattle.mpd_picture.specs.declared.shape.Shape.TheVariants.{Lane, Waiting, Posted, Arrow, Bar, Stub, Candidate, Request, End}
 use Rattle.mpd_picture.specs.declared.shape.Shape.TheVariants as shape
@@ -138,7 +141,7 @@ unfoldable pub message_label : Option CallKind → List ℕ
 message_label (Some (Send s)) = signed_decimal s.value ++ codes " tag " ++ decimal s.tag
 message_label kind = []
 
--- what stands beside a match has 16 characters at most: a longer one has no tag, and of a longer value it is left to the list
+-- what stands beside a match or a note has 16 characters at most: a longer one is the value alone, and a longer value is left to the list
 abbrev pub short_by : List ℕ → List ℕ → List ℕ
 short_by whole value = if nat_le (length whole) 16 then whole else (if nat_le (length value) 16 then value else codes "..")
 
@@ -236,6 +239,45 @@ candidate_elements b s from r to number = candidate_by (lane_x s.rank) (row_y fr
 -- a request of a waitany, which is told as the call is
 unfoldable pub request_elements : Program → Board → CallId → ℕ → ℕ → ℕ → List ℕ
 request_elements s b c from to number = candidate_by (lane_x c.rank) (row_y from) number (bow (lane_x c.rank) (row_y from) (row_y to)) (call_told s b c)
+
+-- ---- what a rank does by itself
+
+abbrev pub deed_text : Deed → List ℕ
+deed_text (deed.Printed v) = codes "prints " ++ signed_decimal v
+deed_text (deed.Trapped t) = codes "is trapped: " ++ trap_name t
+
+-- `rank 0 prints 42`
+unfoldable pub deed_told : Note → List ℕ
+deed_told n = rank_name n.rank ++ codes " " ++ deed_text n.deed
+
+-- `line 7, rank 0 prints 42`
+unfoldable pub note_told : Note → List ℕ
+note_told n = codes "line " ++ decimal n.line ++ codes ", " ++ deed_told n
+
+-- `7 print 42`, and `9 zero-divisor`
+abbrev pub deed_label : ℕ → Deed → List ℕ
+deed_label line (deed.Printed v) = decimal line ++ codes " print " ++ signed_decimal v
+deed_label line (deed.Trapped t) = decimal line ++ codes " " ++ trap_name t
+
+abbrev pub deed_short : Deed → List ℕ
+deed_short (deed.Printed v) = signed_decimal v
+deed_short (deed.Trapped t) = trap_name t
+
+abbrev pub note_label : Note → List ℕ
+note_label n = short_by (deed_label n.line n.deed) (deed_short n.deed)
+
+abbrev pub deed_class : Deed → List ℕ
+deed_class (deed.Printed v) = codes "print"
+deed_class (deed.Trapped t) = codes "trapped"
+
+abbrev pub deed_path : Deed → List ℕ
+deed_path (deed.Printed v) = codes "m0 -5l5 5l-5 5l-5 -5z"
+deed_path (deed.Trapped t) = codes "m-5 -5l10 10m0 -10l-10 10"
+
+unfoldable pub note_elements : Note → ℕ → List ℕ
+note_elements n row =
+    group_begun (note_told n) ++ path_element (deed_class n.deed) (lane_x n.rank) (row_y row) (deed_path n.deed)
+    ++ side_element false (lane_x n.rank) (row_y row) (note_label n) ++ group_ended
 
 -- ---- how a rank is at the end
 
@@ -341,37 +383,53 @@ wanted_text kind (Some q) = for_rank q
 abbrev pub want_depth : ℕ → ℕ → ℕ
 want_depth p q = if nat_lt q p then 52 else 36
 
-unfoldable pub want_path : ℕ → ℕ → ℕ → List ℕ
-want_path p q y = hanging (lane_x p + 12) (y + want_depth p q) (lane_x q - 12) (y + want_depth p q) (y + 2)
+unfoldable pub hung : ℕ → ℕ → ℕ → List ℕ
+hung p q y = hanging (lane_x p + 12) (y + want_depth p q) (lane_x q - 12) (y + want_depth p q) (y + 2)
 
-abbrev pub want_arrow : ℕ → ℕ → Option ℕ → List ℕ
-want_arrow p y None = []
-want_arrow p y (Some q) = path_element (codes "want") (lane_x p + 12) y (want_path p q y)
+-- down to a height, across to a place, and up to another height
+unfoldable pub tracked : ℕ → ℕ → ℕ → List ℕ
+tracked low x y = codes "V" ++ decimal low ++ codes "H" ++ decimal x ++ codes "V" ++ decimal y
 
--- Of a rank that is blocked it is told whom it waits for, and it has an arrow to that rank where no step is enabled.
-abbrev pub want_elements : Finish → ℕ → ℕ → Option CallKind → Option ℕ → List ℕ
-want_elements finish.Held p y kind wanted = text_element (codes "name") (lane_x p) (y + 66) (wanted_text kind wanted)
-want_elements finish.Blocked p y kind wanted = text_element (codes "name") (lane_x p) (y + 66) (wanted_text kind wanted) ++ want_arrow p (y + 72) wanted
-want_elements f p y kind wanted = []
+-- how far below its ends the arrow of a rank is, where each has a height of its own
+abbrev pub track_depth : ℕ → ℕ
+track_depth p = 12 + 8 * min p 16
+
+-- Where there are more than 4 ranks, each has a height of its own, so that no arrow lies on another.
+unfoldable pub want_path : ℕ → ℕ → ℕ → ℕ → List ℕ
+want_path n p q y = if nat_lt 4 n then tracked (y + track_depth p) (lane_x q - 12) (y + 2) else hung p q y
+
+abbrev pub want_arrow : ℕ → ℕ → ℕ → Option ℕ → List ℕ
+want_arrow n p y None = []
+want_arrow n p y (Some q) = path_element (codes "want") (lane_x p + 12) y (want_path n p q y)
+
+-- Of a rank that is blocked, one of n, it is told whom it waits for, and it has an arrow to that rank where no step is enabled.
+abbrev pub want_elements : ℕ → Finish → ℕ → ℕ → Option CallKind → Option ℕ → List ℕ
+want_elements n finish.Held p y kind wanted = text_element (codes "name") (lane_x p) (y + 66) (wanted_text kind wanted)
+want_elements n finish.Blocked p y kind wanted = text_element (codes "name") (lane_x p) (y + 66) (wanted_text kind wanted) ++ want_arrow n p (y + 72) wanted
+want_elements n f p y kind wanted = []
+
+-- how much lower a drawing of n ranks ends than one of a few: so far do these arrows go
+abbrev pub tracks_height : ℕ → ℕ
+tracks_height n = 8 * (min n 16 - 6)
 
 -- ---- the end of a lane
 
 -- where a rank stands, and whom it waits for
-unfoldable pub standing : Finish → ℕ → ℕ → List ℕ → Option CallKind → Option ℕ → List ℕ
-standing f p y place kind wanted = place_element f (lane_x p) y place ++ want_elements f p y kind wanted
+unfoldable pub standing : ℕ → Finish → ℕ → ℕ → List ℕ → Option CallKind → Option ℕ → List ℕ
+standing n f p y place kind wanted = place_element f (lane_x p) y place ++ want_elements n f p y kind wanted
 
 -- a finish at a lane, with its words
 unfoldable pub end_title : List ℕ → List ℕ → List ℕ
 end_title name told = name ++ codes ": " ++ told
 
-unfoldable pub end_told : ℕ → ℕ → Finish → List ℕ → Option CallKind → Option ℕ → List ℕ
-end_told p row f place kind wanted =
+unfoldable pub end_told : ℕ → ℕ → ℕ → Finish → List ℕ → Option CallKind → Option ℕ → List ℕ
+end_told n p row f place kind wanted =
     group_begun (end_title (rank_name p) (finish_told f)) ++ path_element (finish_class f) (lane_x p) (row_y row) (finish_path f)
     ++ text_element (codes "name") (lane_x p) (row_y row + 24) (rank_name p) ++ text_element (codes "name") (lane_x p) (row_y row + 38) (finish_told f)
-    ++ standing f p (row_y row) place kind wanted ++ group_ended
+    ++ standing n f p (row_y row) place kind wanted ++ group_ended
 
 unfoldable pub end_by : Program → World → ℕ → ℕ → Finish → List ℕ
-end_by s w p row f = end_told p row f (line_told (end_line s w p f)) (wanted_kind w.board p) (wanted_rank w (wanted_kind w.board p))
+end_by s w p row f = end_told (length w.board.calls) p row f (line_told (end_line s w p f)) (wanted_kind w.board p) (wanted_rank w (wanted_kind w.board p))
 
 unfoldable pub end_elements : Program → World → ℕ → ℕ → List ℕ
 end_elements s w p row = end_by s w p row (finish_of (is_stuck w) (slice_get w.ranks p))
@@ -386,6 +444,7 @@ shape_elements s w (shape.Call c row place) = call_elements s w.board c row
 shape_elements s w (Stub c row) = stub_element w.board c row
 shape_elements s w (Arrow c from d to place) = arrow_elements w.board c from d to
 shape_elements s w (Bar row place) = bar_elements w.board row
+shape_elements s w (shape.Note n row place) = note_elements n row
 shape_elements s w (Candidate c from d to number) = candidate_elements w.board c from d to number
 shape_elements s w (Request c from to number) = request_elements s w.board c from to number
 shape_elements s w (End p row) = end_elements s w p row
@@ -395,9 +454,10 @@ shape_elements s w (End p row) = end_elements s w p row
 unfoldable pub listed_at : Board → ℕ → List ℕ → List ℕ
 listed_at b place told = text_element (codes "row") (column_x b) (told_y place) told
 
--- what is told of a call, of a match and of a release, each at its place
+-- what is told of a call, of a match, of a release and of a note, each at its place
 abbrev pub listed_elements : Program → Board → Shape → List ℕ
 listed_elements s b (shape.Call c row place) = listed_at b place (call_told s b c)
 listed_elements s b (Arrow c from d to place) = listed_at b place (arrow_told b c d)
 listed_elements s b (Bar row place) = listed_at b place (codes "release")
+listed_elements s b (shape.Note n row place) = listed_at b place (note_told n)
 listed_elements s b shape = []

@@ -5,8 +5,7 @@ ghost use Rattle.std.specs.List.{list_all};
 ghost use Rattle.mpd_model.specs.steps.Next.{any_call};
 ghost use Rattle.mpd_picture.specs.Shapes as spec;
 
-use crate::glyph::Mark;
-use crate::marks::row_of;
+use crate::marks::Marks;
 use crate::shape::Shape;
 use mpd_core::Core;
 use mpd_model::{CallId, CallKind, Step};
@@ -44,7 +43,7 @@ fn are_choices(core: &Core<'_>, steps: &[Step]) -> bool
 
 /// Adds a request of a waitany with its number, if it is a call.
 fn push_request(
-    marks: &[Mark],
+    marks: &Marks,
     shapes: &mut Vec<Shape>,
     number: usize,
     wait: CallId,
@@ -57,8 +56,8 @@ fn push_request(
     };
     shapes.push(Shape::Request {
         call,
-        from: row_of(marks, call),
-        to: row_of(marks, wait),
+        from: marks.row_of(call),
+        to: marks.row_of(wait),
         number,
     })?;
     Ok(())
@@ -77,7 +76,7 @@ fn request_call(core: &Core<'_>, rank: usize, index: usize) -> Option<CallId>
 /// Adds a candidate with its number.
 fn push_candidate(
     core: &Core<'_>,
-    marks: &[Mark],
+    marks: &Marks,
     shapes: &mut Vec<Shape>,
     number: usize,
     step: Step,
@@ -88,9 +87,9 @@ fn push_candidate(
         Step::Match(send, receive) => {
             shapes.push(Shape::Candidate {
                 send,
-                from: row_of(marks, send),
+                from: marks.row_of(send),
                 receive,
-                to: row_of(marks, receive),
+                to: marks.row_of(receive),
                 number,
             })?;
             Ok(())
@@ -106,7 +105,7 @@ fn push_candidate(
 /// Adds candidates, counted from 1.
 fn push_listed(
     core: &Core<'_>,
-    marks: &[Mark],
+    marks: &Marks,
     shapes: &mut Vec<Shape>,
     steps: &[Step],
 ) -> Result<(), AllocError>
@@ -125,7 +124,7 @@ fn push_listed(
 pub(crate) fn push_candidates(
     alloc: Global,
     core: &Core<'_>,
-    marks: &[Mark],
+    marks: &Marks,
     shapes: &mut Vec<Shape>,
 ) -> Result<(), AllocError>
     ensures { OnOk result (shapes.new.items ≡ shapes.old.items ++ spec.candidates_from core.now.world marks.now 1 (spec.candidates core.now.world)) }

@@ -10,8 +10,8 @@ ghost use Rattle.mpd_picture.specs.Rows.{rows_text};
 use crate::elements::{push_attribute, push_opened, push_text};
 use crate::glyph::Glyph;
 use crate::glyphs::glyphs_of;
-use crate::marks::{marks_of, rows_of};
-use crate::places::{column_x, row_y, told_y};
+use crate::marks::marks_of;
+use crate::places::{column_x, row_y, told_y, tracks_height};
 use crate::rows::push_rows;
 use crate::shape::Shape;
 use crate::shapes::{places_of, shapes_of};
@@ -181,11 +181,11 @@ fn push_head(out: &mut String, width: usize, height: usize, title: &str) -> Resu
     push_text(out, "head", 12, 24, title)
 }
 
-/// How high a drawing is of so many rows, and places in the list of what is told.
-fn height_of(rows: usize, places: usize) -> usize
-    ensures { result ≡ spec.height_of rows places }
+/// How high a drawing is of so many ranks and rows, and places in the list of what is told.
+fn height_of(count: usize, rows: usize, places: usize) -> usize
+    ensures { result ≡ spec.height_of count rows places }
 {
-    (row_y(rows) + 274).max(told_y(places) + 12)
+    (row_y(rows) + 274 + tracks_height(count)).max(told_y(places) + 12)
 }
 
 /// How wide a drawing is.
@@ -199,12 +199,12 @@ fn width_by(core: &Core<'_>, look: Look) -> usize
 }
 
 /// How high a drawing is.
-fn height_by(look: Look, rows: usize, places: usize) -> usize
-    ensures { result ≡ spec.height_by look rows places }
+fn height_by(look: Look, count: usize, rows: usize, places: usize) -> usize
+    ensures { result ≡ spec.height_by look count rows places }
 {
     match look {
-        Look::Full => height_of(rows, places),
-        Look::Plain => row_y(rows) + 134,
+        Look::Full => height_of(count, rows, places),
+        Look::Plain => row_y(rows) + 134 + tracks_height(count),
     }
 }
 
@@ -237,7 +237,7 @@ fn push_list_and_legend(
     ensures { OnOk result (string_bytes out.new ≡ string_bytes out.old ++ spec.list_and_legend core.now.program core.now.world.board rows shapes.now) }
 {
     push_list(alloc, core, out, shapes)?;
-    push_legend(out, row_y(rows) + 140)
+    push_legend(out, row_y(rows) + 140 + tracks_height(core.rank_count()))
 }
 
 /// Adds what comes after the shapes.
@@ -271,8 +271,8 @@ fn svg_of(
     let title = title_of(alloc, core, depth)?;
     let marks = marks_of(alloc, glyphs)?;
     let shapes = shapes_of(alloc, core, &marks)?;
-    let rows = rows_of(&marks);
-    let height = height_by(look, rows, places_of(glyphs));
+    let rows = marks.rows();
+    let height = height_by(look, core.rank_count(), rows, places_of(glyphs));
     let mut out = String::new(alloc);
     push_head(&mut out, width_by(core, look), height, &title)?;
     push_shapes(alloc, core, &mut out, &shapes)?;

@@ -1,6 +1,23 @@
 //! What the steps of a run show (docs/PICTURES.md, "Rows").
 
-use mpd_model::CallId;
+use mpd_model::{CallId, Trap};
+
+/// What a rank does by itself.
+#[derive(Clone, Copy)]
+pub(crate) enum Deed {
+    /// It printed a value.
+    Printed(i64),
+    /// It was trapped.
+    Trapped(Trap),
+}
+
+/// What a rank did by itself, and at which line of the script.
+#[derive(Clone, Copy)]
+pub(crate) struct Note {
+    pub(crate) rank: usize,
+    pub(crate) line: usize,
+    pub(crate) deed: Deed,
+}
 
 /// What is shown.
 #[derive(Clone, Copy)]
@@ -13,6 +30,8 @@ pub(crate) enum Event {
     WentOn(CallId),
     /// All ranks left their barriers.
     Released,
+    /// A rank printed, or was trapped.
+    Noted(Note),
 }
 
 /// What a step shows, and at which row of the picture in text, from 0.

@@ -2,14 +2,17 @@
 
 ghost use Rattle.std.specs.Prelude.{◌≡◌, ◌++◌, ◌<◌, ◌≤◌, ◌+◌, ◌∷◌, [], IfOk, OnOk, Some, length, drop, slice_get};
 ghost use Rattle.std.specs.List.{flat_map};
+ghost use Rattle.std.specs.Option.{option_map};
 ghost use Rattle.mpd_model.specs.steps.Next.{next};
 ghost use Rattle.mpd_model.specs.steps.World.{rank_numbers, start};
 ghost use Rattle.mpd_model.specs.runs.Trail.{done_steps, redone};
+ghost use Rattle.mpd_picture.specs.declared.glyph.Deed.TheVariants as deed;
 ghost use Rattle.mpd_picture.specs.Glyphs as spec;
 
-use crate::glyph::{Event, Glyph};
+use crate::glyph::{Deed, Event, Glyph, Note};
 use mpd_core::{Core, Debugger};
-use mpd_model::{CallId, Step};
+use mpd_model::{Activity, CallId, Step};
+use mpd_names::rank_line;
 use std::alloc::{AllocError, Global};
 
 /// Adds what is shown.
@@ -20,13 +23,67 @@ fn add(glyphs: &mut Vec<Glyph>, glyph: Glyph) -> Result<(), AllocError>
     Ok(())
 }
 
-/// How many calls the rank of a local step has issued.
-fn calls_before(core: &Core<'_>, step: Step) -> usize
-    ensures { result ≡ spec.calls_before core.now.world step }
+/// What is known of the rank of a local step before it; zeros of another step.
+#[derive(Clone, Copy)]
+pub(crate) struct Before {
+    /// How many calls it had issued.
+    calls: usize,
+    /// How much it had printed.
+    printed: usize,
+    /// The line where it stood.
+    line: usize,
+}
+
+/// How much a rank has printed.
+fn printed_of(core: &Core<'_>, rank: usize) -> usize
+    ensures { result ≡ spec.printed_of (slice_get core.now.world.ranks rank) }
+{
+    if rank >= core.rank_count() {
+        return 0;
+    }
+    core.rank(rank).output().len()
+}
+
+/// What is known of the rank of a step before it.
+fn before_step(core: &Core<'_>, step: Step) -> Before
+    ensures { result ≡ spec.before_step core.now.program.lines core.now.world step }
 {
     match step {
-        Step::Local(rank) => core.board().call_count(rank),
-        Step::Match(_, _) | Step::Wake(_) | Step::WakeAny { .. } | Step::Release => 0,
+        Step::Local(rank) => Before {
+            calls: core.board().call_count(rank),
+            printed: printed_of(core, rank),
+            line: rank_line(core, rank),
+        },
+        Step::Match(_, _) | Step::Wake(_) | Step::WakeAny { .. } | Step::Release => Before {
+            calls: 0,
+            printed: 0,
+            line: 0,
+        },
+    }
+}
+
+/// What stands at a place of what a rank has printed.
+fn printed_at(output: &[i64], place: usize) -> Option<Deed>
+    ensures { result ≡ option_map deed.Printed (slice_get output.now place) }
+{
+    if place < output.len() {
+        Some(Deed::Printed(output[place]))
+    } else {
+        None
+    }
+}
+
+/// What a rank has done by itself that had printed so much.
+fn deed_of(core: &Core<'_>, printed: usize, rank: usize) -> Option<Deed>
+    ensures { result ≡ spec.deed_of printed (slice_get core.now.world.ranks rank) }
+{
+    if rank >= core.rank_count() {
+        return None;
+    }
+    let state = core.rank(rank);
+    match state.activity() {
+        Activity::Trapped(trap) => Some(Deed::Trapped(trap)),
+        Activity::Running | Activity::Blocked => printed_at(state.output(), printed),
     }
 }
 
@@ -38,11 +95,13 @@ fn issues(core: &Core<'_>, before: usize, rank: usize) -> bool
 }
 
 /// Whether a step takes a row, on the state after it.
-fn takes_row(core: &Core<'_>, before: usize, step: Step) -> bool
-    ensures { result ≡ spec.takes_row before core.now.world.board step }
+fn takes_row(core: &Core<'_>, before: Before, step: Step) -> bool
+    ensures { result ≡ spec.takes_row before core.now.world step }
 {
     match step {
-        Step::Local(rank) => issues(core, before, rank),
+        Step::Local(rank) => {
+            issues(core, before.calls, rank) || deed_of(core, before.printed, rank).is_some()
+        }
         Step::Match(_, _) | Step::Release => true,
         Step::Wake(_) | Step::WakeAny { .. } => false,
     }
@@ -72,22 +131,40 @@ fn push_all_went_on(core: &Core<'_>, glyphs: &mut Vec<Glyph>, row: usize) -> Res
     Ok(())
 }
 
-/// Adds the call that a local step has issued, if it has.
-fn push_issued(
+/// Adds what a rank has done by itself, if it has.
+fn push_noted(
+    glyphs: &mut Vec<Glyph>,
+    line: usize,
+    row: usize,
+    rank: usize,
+    deed: Option<Deed>,
+) -> Result<(), AllocError>
+    ensures { OnOk result (glyphs.new.items ≡ glyphs.old.items ++ spec.noted line row rank deed) }
+{
+    let Some(deed) = deed else {
+        return Ok(());
+    };
+    let event = Event::Noted(Note { rank, line, deed });
+    add(glyphs, Glyph { row, event })
+}
+
+/// Adds the call that a local step has issued, or what else its rank has done that is shown.
+fn push_local(
     core: &Core<'_>,
     glyphs: &mut Vec<Glyph>,
-    before: usize,
+    before: Before,
     row: usize,
     rank: usize,
 ) -> Result<(), AllocError>
-    ensures { OnOk result (glyphs.new.items ≡ glyphs.old.items ++ spec.step_glyphs before core.now.world.board row (Step.Local rank)) }
+    ensures { OnOk result (glyphs.new.items ≡ glyphs.old.items ++ spec.step_glyphs before core.now.world row (Step.Local rank)) }
 {
-    if !issues(core, before, rank) {
-        return Ok(());
+    if !issues(core, before.calls, rank) {
+        let deed = deed_of(core, before.printed, rank);
+        return push_noted(glyphs, before.line, row, rank, deed);
     }
     let event = Event::Issued(CallId {
         rank,
-        index: before,
+        index: before.calls,
     });
     add(glyphs, Glyph { row, event })
 }
@@ -96,14 +173,14 @@ fn push_issued(
 fn push_step_glyphs(
     core: &Core<'_>,
     glyphs: &mut Vec<Glyph>,
-    before: usize,
+    before: Before,
     row: usize,
     step: Step,
 ) -> Result<(), AllocError>
-    ensures { OnOk result (glyphs.new.items ≡ glyphs.old.items ++ spec.step_glyphs before core.now.world.board row step) }
+    ensures { OnOk result (glyphs.new.items ≡ glyphs.old.items ++ spec.step_glyphs before core.now.world row step) }
 {
     match step {
-        Step::Local(rank) => push_issued(core, glyphs, before, row, rank),
+        Step::Local(rank) => push_local(core, glyphs, before, row, rank),
         Step::Match(send, receive) => add(
             glyphs,
             Glyph {
@@ -135,8 +212,8 @@ fn take_next(
 ) -> Result<usize, AllocError>
     requires ahead { debugger.old.trail.depth < length debugger.old.trail.steps }
     requires few { row < 9223372036854775808 }
-    ensures glyphs { OnOk result ((step : Step) → slice_get debugger.old.trail.steps debugger.old.trail.depth ≡ Some step → glyphs.new.items ≡ glyphs.old.items ++ spec.step_glyphs (spec.calls_before debugger.old.world step) debugger.new.world.board row step) }
-    ensures row { IfOk result (λ behind. (step : Step) → slice_get debugger.old.trail.steps debugger.old.trail.depth ≡ Some step → behind ≡ spec.row_behind (spec.calls_before debugger.old.world step) debugger.new.world.board row step) }
+    ensures glyphs { OnOk result ((step : Step) → slice_get debugger.old.trail.steps debugger.old.trail.depth ≡ Some step → glyphs.new.items ≡ glyphs.old.items ++ spec.step_glyphs (spec.before_step debugger.old.trail.program.lines debugger.old.world step) debugger.new.world row step) }
+    ensures row { IfOk result (λ behind. (step : Step) → slice_get debugger.old.trail.steps debugger.old.trail.depth ≡ Some step → behind ≡ spec.row_behind (spec.before_step debugger.old.trail.program.lines debugger.old.world step) debugger.new.world row step) }
     ensures few { IfOk result (λ behind. behind ≤ row + 1) }
     ensures leads { OnOk result ((step : Step) → slice_get debugger.old.trail.steps debugger.old.trail.depth ≡ Some step → next debugger.old.world step ≡ Some debugger.new.world) }
     ensures trail { OnOk result (debugger.new.trail ≡ redone debugger.old.trail) }
@@ -144,7 +221,7 @@ fn take_next(
     let Some(step) = debugger.next_undone() else {
         unreachable!();
     };
-    let before = calls_before(debugger.core(), step);
+    let before = before_step(debugger.core(), step);
     if debugger.redo().is_err() {
         return Err(AllocError);
     }
@@ -159,7 +236,7 @@ fn take_next(
 /// Takes all steps that are undone, and adds what they show.
 fn take_all(debugger: &mut Debugger<'_>, glyphs: &mut Vec<Glyph>) -> Result<(), AllocError>
     requires { debugger.old.trail.depth ≡ 0 }
-    ensures { OnOk result (glyphs.new.items ≡ glyphs.old.items ++ spec.glyphs_behind debugger.old.world 0 debugger.old.trail.steps) }
+    ensures { OnOk result (glyphs.new.items ≡ glyphs.old.items ++ spec.glyphs_behind debugger.old.trail.program.lines debugger.old.world 0 debugger.old.trail.steps) }
 {
     debugger.state_is_reached();
     let mut row = 0;

@@ -69,17 +69,24 @@ fn left_out(alloc: Global) -> Result<String, AllocError>
     Ok(label)
 }
 
+/// Of a label that has more than 16 characters a shorter one, where it has no more. An `Err` is want of memory.
+pub(crate) fn short_by(alloc: Global, whole: String, value: String) -> Result<String, AllocError>
+    ensures { IfOk result (λ t. string_bytes t ≡ spec.short_by (string_bytes whole) (string_bytes value)) }
+{
+    if whole.len() <= 16 {
+        return Ok(whole);
+    }
+    if value.len() <= 16 {
+        return Ok(value);
+    }
+    left_out(alloc)
+}
+
 /// The label of a message, of 16 characters at most.
 pub(crate) fn short_label(alloc: Global, kind: Option<CallKind>) -> Result<String, AllocError>
     ensures { IfOk result (λ t. string_bytes t ≡ spec.short_label kind) }
 {
     let whole = message_label(alloc, kind)?;
-    if whole.len() <= 16 {
-        return Ok(whole);
-    }
     let value = value_label(alloc, kind)?;
-    if value.len() <= 16 {
-        return Ok(value);
-    }
-    left_out(alloc)
+    short_by(alloc, whole, value)
 }

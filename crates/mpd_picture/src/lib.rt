@@ -9,6 +9,7 @@ mod glyphs;
 mod labels;
 pub mod laws;
 mod marks;
+mod notes;
 mod paths;
 mod places;
 mod rows;

@@ -31,6 +31,14 @@ pub(crate) fn column_x(core: &Core<'_>) -> usize
     lane_x(core.rank_count()).max(620)
 }
 
+/// How much lower a drawing of so many ranks ends than one of a few.
+pub(crate) fn tracks_height(count: usize) -> usize
+    ensures value { result ≡ spec.tracks_height count }
+    ensures small { result ≤ 80 }
+{
+    8 * count.min(16).saturating_sub(6)
+}
+
 /// Where the text of a place in the list of what is told stands.
 pub(crate) fn told_y(place: usize) -> usize
     ensures value { result ≡ spec.told_y place }

@@ -5,7 +5,9 @@ ghost use Rattle.std.specs.List.{flat_map};
 ghost use Rattle.mpd_model.specs.steps.World.{rank_numbers};
 ghost use Rattle.mpd_picture.specs.Rows as spec;
 
+use crate::glyph::{Deed, Note};
 use crate::labels::push_value;
+use crate::notes::push_deed_told;
 use crate::shape::Shape;
 use crate::style::LETTERS;
 use crate::svg::{Finish, finish_of, word_of};
@@ -73,6 +75,27 @@ fn arrow_sign(sender: usize, receiver: usize, rank: usize) -> &'static str
     }
     if is_between(sender, receiver, rank) {
         "--"
+    } else {
+        "| "
+    }
+}
+
+/// The letter of what a rank does by itself.
+fn deed_sign(deed: Deed) -> &'static str
+    ensures { result.now ≡ spec.deed_sign deed }
+{
+    match deed {
+        Deed::Printed(_) => "P ",
+        Deed::Trapped(_) => "X ",
+    }
+}
+
+/// The sign of a lane in the row of a note.
+fn note_sign(note: Note, rank: usize) -> &'static str
+    ensures { result.now ≡ spec.note_sign note rank }
+{
+    if rank == note.rank {
+        deed_sign(note.deed)
     } else {
         "| "
     }
@@ -157,6 +180,24 @@ fn push_bar_signs(core: &Core<'_>, out: &mut String) -> Result<(), AllocError>
     let count = core.rank_count();
     for rank in 0..count {
         push_bar_sign(out, rank)?;
+    }
+    Ok(())
+}
+
+/// Adds the sign of a lane in the row of a note.
+fn push_note_sign(out: &mut String, note: Note, rank: usize) -> Result<(), AllocError>
+    ensures { OnOk result (string_bytes out.new ≡ string_bytes out.old ++ spec.note_sign note rank) }
+{
+    out.push_str(note_sign(note, rank))
+}
+
+/// Adds the sign of each lane in the row of a note.
+fn push_note_signs(core: &Core<'_>, out: &mut String, note: Note) -> Result<(), AllocError>
+    ensures { OnOk result (string_bytes out.new ≡ string_bytes out.old ++ flat_map (spec.note_sign note) (rank_numbers core.now.world.board)) }
+{
+    let count = core.rank_count();
+    for rank in 0..count {
+        push_note_sign(out, note, rank)?;
     }
     Ok(())
 }
@@ -289,6 +330,27 @@ fn push_arrow_row(
     push_told(out, &told)
 }
 
+/// Adds the words of a note.
+#[tactic(auto, unfolding(crate::specs::Rows::note_words))]
+fn push_note_words(out: &mut String, note: Note) -> Result<(), AllocError>
+    ensures { OnOk result (string_bytes out.new ≡ string_bytes out.old ++ spec.note_words note) }
+{
+    let line = note.line;
+    write!(out, "{line}: ")?;
+    push_deed_told(out, note)
+}
+
+/// Adds the row of a note.
+#[tactic(auto, unfolding(crate::specs::Rows::told_behind))]
+fn push_note_row(core: &Core<'_>, out: &mut String, note: Note) -> Result<(), AllocError>
+    ensures { OnOk result (string_bytes out.new ≡ string_bytes out.old ++ spec.told_behind (spec.note_sign note) core.now.world.board (spec.note_words note)) }
+{
+    let mut told = String::new(*out.allocator());
+    push_note_words(&mut told, note)?;
+    push_note_signs(core, out, note)?;
+    push_told(out, &told)
+}
+
 /// Adds the row of a shape, if it has one.
 #[tactic(auto, unfolding(crate::specs::Rows::told_behind))]
 fn push_shape_row(core: &Core<'_>, out: &mut String, shape: Shape) -> Result<(), AllocError>
@@ -301,6 +363,7 @@ fn push_shape_row(core: &Core<'_>, out: &mut String, shape: Shape) -> Result<(),
             push_bar_signs(core, out)?;
             push_told(out, "release")
         }
+        Shape::Note { note, .. } => push_note_row(core, out, note),
         Shape::Lane { .. }
         | Shape::Waiting { .. }
         | Shape::Posted { .. }

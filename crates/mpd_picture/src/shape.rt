@@ -1,5 +1,6 @@
 //! The shapes of a picture, by ranks and rows (docs/PICTURES.md, "Shapes").
 
+use crate::glyph::Note;
 use mpd_model::CallId;
 
 /// A shape. Ranks are lanes from left to right, and rows count from 0 downwards.
@@ -43,6 +44,12 @@ pub(crate) enum Shape {
     },
     /// All ranks leave their barriers.
     Bar {
+        row: usize,
+        place: usize,
+    },
+    /// What a rank printed, or by what it was trapped, at that row.
+    Note {
+        note: Note,
         row: usize,
         place: usize,
     },

@@ -8,7 +8,7 @@ ghost use Rattle.mpd_picture.specs.Shapes as spec;
 
 use crate::candidates::push_candidates;
 use crate::glyph::{Event, Glyph, Mark};
-use crate::marks::{is_row, row_of, rows_of};
+use crate::marks::{Marks, is_row};
 use crate::shape::Shape;
 use mpd_core::Core;
 use mpd_model::{Activity, CallId, CallKind};
@@ -83,7 +83,7 @@ fn push_call(
 
 /// Adds what is shown of a match.
 fn push_pair(
-    marks: &[Mark],
+    marks: &Marks,
     shapes: &mut Vec<Shape>,
     send: CallId,
     receive: CallId,
@@ -96,7 +96,7 @@ fn push_pair(
         shapes,
         Shape::Posted {
             call: receive,
-            from: row_of(marks, receive),
+            from: marks.row_of(receive),
             to: row,
         },
     )?;
@@ -104,7 +104,7 @@ fn push_pair(
         shapes,
         Shape::Arrow {
             send,
-            from: row_of(marks, send),
+            from: marks.row_of(send),
             receive,
             to: row,
             place,
@@ -115,7 +115,7 @@ fn push_pair(
 /// Adds the shapes of a mark.
 fn push_mark(
     core: &Core<'_>,
-    marks: &[Mark],
+    marks: &Marks,
     shapes: &mut Vec<Shape>,
     rows: usize,
     mark: Mark,
@@ -130,24 +130,26 @@ fn push_mark(
             shapes,
             Shape::Waiting {
                 rank: call.rank,
-                from: row_of(marks, call),
+                from: marks.row_of(call),
                 to: row,
             },
         ),
         Event::Released => add(shapes, Shape::Bar { row, place }),
+        Event::Noted(note) => add(shapes, Shape::Note { note, row, place }),
     }
 }
 
-/// Adds the shapes of all marks.
+/// Adds the shapes of listed marks, among all.
 fn push_marks(
     core: &Core<'_>,
-    marks: &[Mark],
+    marks: &Marks,
+    list: &[Mark],
     shapes: &mut Vec<Shape>,
     rows: usize,
 ) -> Result<(), AllocError>
-    ensures { OnOk result (shapes.new.items ≡ shapes.old.items ++ flat_map (spec.mark_shapes core.now.world.board marks.now rows) marks.now) }
+    ensures { OnOk result (shapes.new.items ≡ shapes.old.items ++ flat_map (spec.mark_shapes core.now.world.board marks.now rows) list.now) }
 {
-    for mark in marks {
+    for mark in list {
         push_mark(core, marks, shapes, rows, *mark)?;
     }
     Ok(())
@@ -184,7 +186,7 @@ pub(crate) fn waits(core: &Core<'_>, rank: usize) -> bool
 /// Adds how a rank is at the end.
 fn push_end(
     core: &Core<'_>,
-    marks: &[Mark],
+    marks: &Marks,
     shapes: &mut Vec<Shape>,
     rows: usize,
     rank: usize,
@@ -196,7 +198,7 @@ fn push_end(
             shapes,
             Shape::Waiting {
                 rank,
-                from: row_of(marks, core.board().last_call(rank)),
+                from: marks.row_of(core.board().last_call(rank)),
                 to: rows,
             },
         )?;
@@ -207,7 +209,7 @@ fn push_end(
 /// Adds how all ranks are at the end.
 fn push_ends(
     core: &Core<'_>,
-    marks: &[Mark],
+    marks: &Marks,
     shapes: &mut Vec<Shape>,
     rows: usize,
 ) -> Result<(), AllocError>
@@ -224,14 +226,14 @@ fn push_ends(
 pub(crate) fn shapes_of(
     alloc: Global,
     core: &Core<'_>,
-    marks: &[Mark],
+    marks: &Marks,
 ) -> Result<Vec<Shape>, AllocError>
     ensures { IfOk result (λ shapes. shapes.items ≡ spec.shapes_of core.now.world marks.now) }
 {
-    let rows = rows_of(marks);
+    let rows = marks.rows();
     let mut shapes = Vec::new(alloc);
     push_lanes(core, &mut shapes, rows)?;
-    push_marks(core, marks, &mut shapes, rows)?;
+    push_marks(core, marks, marks.items(), &mut shapes, rows)?;
     push_candidates(alloc, core, marks, &mut shapes)?;
     push_ends(core, marks, &mut shapes, rows)?;
     Ok(shapes)

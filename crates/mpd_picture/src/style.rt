@@ -24,6 +24,7 @@ pub const STYLE: &str = "<style type=\"text/css\">\n\
 .mpd-wait{fill:#b45f06;stroke:#000}\n\
 .mpd-waitany{fill:#fff;stroke:#b45f06;stroke-width:2}\n\
 .mpd-barrier{fill:#000;stroke:#000}\n\
+.mpd-print{fill:#ffd966;stroke:#000}\n\
 .mpd-ended{fill:none;stroke:#000;stroke-width:3}\n\
 .mpd-running{fill:#fff;stroke:#000;stroke-width:1.5}\n\
 .mpd-held{fill:#fff;stroke:#b45f06;stroke-width:2}\n\
@@ -43,6 +44,7 @@ pub const LEGEND: &str =
 <path class=\"mpd-waitany\" d=\"M20 60m-5 -5h10v10h-10z\"/><text x=\"40\" y=\"64\">a wait for any</text>\n\
 <path class=\"mpd-barrier\" d=\"M20 80m-8 -3h16v6h-16z\"/><text x=\"40\" y=\"84\">a barrier</text>\n\
 <path class=\"mpd-want\" d=\"M10 100L30 100\"/><text x=\"40\" y=\"104\">waits for a rank</text>\n\
+<path class=\"mpd-print\" d=\"M20 120m0 -5l5 5l-5 5l-5 -5z\"/><text x=\"40\" y=\"124\">a print</text>\n\
 <path class=\"mpd-arrow\" d=\"M200 -5L220 5\"/><text x=\"230\" y=\"4\">a message, up to its match</text>\n\
 <path class=\"mpd-stub\" d=\"M204 14l12 16m-3 0a3 3 0 1 0 6 0a3 3 0 1 0 -6 0\"/><text x=\"230\" y=\"24\">a send that is not matched</text>\n\
 <path class=\"mpd-stub\" d=\"M218 40l-18 0m-3 0a3 3 0 1 0 6 0a3 3 0 1 0 -6 0\"/><text x=\"230\" y=\"44\">a receive that is not</text>\n\
@@ -60,5 +62,5 @@ pub const LEGEND: &str =
 
 /// What the letters of a picture in text are.
 pub const LETTERS: &str =
-    "S send, R receive, W wait, A wait for any, B barrier, o-> match, == release\n\
+    "S send, R receive, W wait, A waitany, B barrier, P print, o-> match, == release\n\
 at the end: E ended, V can go on, ~ waits, ! blocked, X trapped\n";

@@ -9,6 +9,7 @@ ghost use Rattle.mpd_picture.specs.Svg as spec;
 
 use crate::elements::{push_group, push_group_end, push_line, push_path, push_text};
 use crate::labels::{push_message, short_label};
+use crate::notes::push_note;
 use crate::paths::{arrow_path, bracket, candidate_path, posted_depth, request_path};
 use crate::places::{lane_x, row_y};
 use crate::shape::Shape;
@@ -164,15 +165,15 @@ pub(crate) fn arrow_told(
 /// What a text beside a lane belongs to: a point of the lane, at most 2,700 to the right and 40,000,000 down, and at which side of it
 /// the text stands.
 #[derive(Clone, Copy)]
-struct Anchor {
-    x: usize,
-    y: usize,
-    is_left: bool,
+pub(crate) struct Anchor {
+    pub(crate) x: usize,
+    pub(crate) y: usize,
+    pub(crate) is_left: bool,
 }
 
 /// Adds what stands beside a lane.
 #[tactic(auto, unfolding(crate::specs::Svg::side_element))]
-fn push_side(out: &mut String, anchor: Anchor, label: &str) -> Result<(), AllocError>
+pub(crate) fn push_side(out: &mut String, anchor: Anchor, label: &str) -> Result<(), AllocError>
     requires x { anchor.x ≤ 2700 }
     requires y { anchor.y ≤ 40000000 }
     ensures { OnOk result (string_bytes out.new ≡ string_bytes out.old ++ spec.side_element anchor.is_left anchor.x anchor.y label.now) }
@@ -561,16 +562,17 @@ fn end_title(alloc: Global, name: &str, told: &str) -> Result<String, AllocError
     Ok(title)
 }
 
-/// How a rank is at the end, and at which row that is drawn.
+/// How a rank, one of so many, is at the end, and at which row that is drawn.
 #[derive(Clone, Copy)]
-struct RankEnd {
-    rank: usize,
-    row: usize,
-    finish: Finish,
+pub(crate) struct RankEnd {
+    pub(crate) count: usize,
+    pub(crate) rank: usize,
+    pub(crate) row: usize,
+    pub(crate) finish: Finish,
     /// The call that it waits for, if it waits.
-    kind: Option<CallKind>,
+    pub(crate) kind: Option<CallKind>,
     /// The rank that it waits for, if that is one.
-    wanted: Option<usize>,
+    pub(crate) wanted: Option<usize>,
 }
 
 /// Adds the place where a rank stands that hasn't ended, below a point that is at most 40,000,000 down.
@@ -595,11 +597,11 @@ fn push_place(
 /// Adds where a rank stands, and whom it waits for.
 #[tactic(auto, unfolding(crate::specs::Svg::standing))]
 fn push_standing(out: &mut String, end: RankEnd, place: &str) -> Result<(), AllocError>
-    ensures { OnOk result (string_bytes out.new ≡ string_bytes out.old ++ spec.standing end.finish end.rank (spec.row_y end.row) place.now end.kind end.wanted) }
+    ensures { OnOk result (string_bytes out.new ≡ string_bytes out.old ++ spec.standing end.count end.finish end.rank (spec.row_y end.row) place.now end.kind end.wanted) }
 {
     let y = row_y(end.row);
     push_place(out, end.finish, lane_x(end.rank), y, place)?;
-    push_want(out, end.finish, end.rank, y, end.kind, end.wanted)
+    push_want(out, end, y)
 }
 
 /// Adds how a rank of that name is at the end, with a title and the place where it stands.
@@ -610,7 +612,7 @@ fn push_finish_group(
     title: &str,
     place: &str,
 ) -> Result<(), AllocError>
-    ensures { OnOk result (string_bytes out.new ≡ string_bytes out.old ++ (spec.group_begun title.now ++ spec.path_element (spec.finish_class end.finish) (spec.lane_x end.rank) (spec.row_y end.row) (spec.finish_path end.finish) ++ spec.text_element (codes "name") (spec.lane_x end.rank) (spec.row_y end.row + 24) name.now ++ spec.text_element (codes "name") (spec.lane_x end.rank) (spec.row_y end.row + 38) (spec.finish_told end.finish) ++ spec.standing end.finish end.rank (spec.row_y end.row) place.now end.kind end.wanted ++ spec.group_ended)) }
+    ensures { OnOk result (string_bytes out.new ≡ string_bytes out.old ++ (spec.group_begun title.now ++ spec.path_element (spec.finish_class end.finish) (spec.lane_x end.rank) (spec.row_y end.row) (spec.finish_path end.finish) ++ spec.text_element (codes "name") (spec.lane_x end.rank) (spec.row_y end.row + 24) name.now ++ spec.text_element (codes "name") (spec.lane_x end.rank) (spec.row_y end.row + 38) (spec.finish_told end.finish) ++ spec.standing end.count end.finish end.rank (spec.row_y end.row) place.now end.kind end.wanted ++ spec.group_ended)) }
 {
     let RankEnd {
         rank,
@@ -631,7 +633,7 @@ fn push_finish_group(
 /// Adds how a rank is at the end, with the place where it stands.
 #[tactic(auto, unfolding(crate::specs::Svg::end_told))]
 fn push_finish(alloc: Global, out: &mut String, end: RankEnd, place: &str) -> Result<(), AllocError>
-    ensures { OnOk result (string_bytes out.new ≡ string_bytes out.old ++ spec.end_told end.rank end.row end.finish place.now end.kind end.wanted) }
+    ensures { OnOk result (string_bytes out.new ≡ string_bytes out.old ++ spec.end_told end.count end.rank end.row end.finish place.now end.kind end.wanted) }
 {
     let name = rank_name(alloc, end.rank)?;
     let title = end_title(alloc, &name, finish_told(end.finish))?;
@@ -654,6 +656,7 @@ fn push_end(
     let kind = wanted_kind(core, rank);
     let wanted = wanted_rank(alloc, core, kind)?;
     let end = RankEnd {
+        count: core.rank_count(),
         rank,
         row,
         finish,
@@ -696,6 +699,7 @@ fn push_shape(
             push_arrow(alloc, core, out, arrow)
         }
         Shape::Bar { row, .. } => push_bar(core, out, row),
+        Shape::Note { note, row, .. } => push_note(alloc, out, note, row),
         Shape::Candidate {
             send,
             from,

@@ -5,6 +5,7 @@ ghost use Rattle.std.specs.List.{flat_map};
 ghost use Rattle.mpd_picture.specs.Svg as spec;
 
 use crate::elements::push_text;
+use crate::notes::note_told;
 use crate::places::{column_x, told_y};
 use crate::shape::Shape;
 use crate::svg::{arrow_told, call_told};
@@ -19,7 +20,7 @@ fn push_at(core: &Core<'_>, out: &mut String, place: usize, told: &str) -> Resul
     push_text(out, "row", column_x(core), told_y(place), told)
 }
 
-/// Adds what is told of a shape, if it is a call, a match or a release.
+/// Adds what is told of a shape, if it is a call, a match, a release or a note.
 fn push_shape_told(
     alloc: Global,
     core: &Core<'_>,
@@ -43,6 +44,10 @@ fn push_shape_told(
             push_at(core, out, place, &told)
         }
         Shape::Bar { place, .. } => push_at(core, out, place, "release"),
+        Shape::Note { note, place, .. } => {
+            let told = note_told(alloc, note)?;
+            push_at(core, out, place, &told)
+        }
         Shape::Lane { .. }
         | Shape::Waiting { .. }
         | Shape::Posted { .. }

@@ -8,7 +8,7 @@ use crate::elements::{push_path, push_text};
 use crate::paths::push_hanging;
 use crate::places::lane_x;
 use crate::shapes::waits;
-use crate::svg::Finish;
+use crate::svg::{Finish, RankEnd};
 use mpd_core::Core;
 use mpd_model::{CallId, CallKind, is_barrier};
 use std::alloc::{AllocError, Global};
@@ -141,55 +141,92 @@ fn want_depth(rank: usize, wanted: usize) -> usize
     if wanted < rank { 52 } else { 36 }
 }
 
-/// The path of the arrow, from a height that is at most 40,000,100.
-#[tactic(auto, unfolding(crate::specs::Svg::want_path))]
-fn want_path(alloc: Global, rank: usize, wanted: usize, y: usize) -> Result<String, AllocError>
+/// Adds the path of the arrow of a few ranks, from a height that is at most 40,000,100.
+#[tactic(auto, unfolding(crate::specs::Svg::hung))]
+fn push_hung(out: &mut String, rank: usize, wanted: usize, y: usize) -> Result<(), AllocError>
     requires { y ≤ 40000100 }
-    ensures { IfOk result (λ t. string_bytes t ≡ spec.want_path rank wanted y) }
+    ensures { OnOk result (string_bytes out.new ≡ string_bytes out.old ++ spec.hung rank wanted y) }
 {
-    let mut path = String::new(alloc);
     let low = y + want_depth(rank, wanted);
     let from = lane_x(rank) + 12;
     let to = lane_x(wanted).saturating_sub(12);
-    push_hanging(&mut path, from, low, to, low, y + 2)?;
+    push_hanging(out, from, low, to, low, y + 2)
+}
+
+/// Adds a path down to a height, across to a place, and up to another height.
+#[tactic(auto, unfolding(crate::specs::Svg::tracked))]
+fn push_tracked(out: &mut String, low: usize, x: usize, y: usize) -> Result<(), AllocError>
+    ensures { OnOk result (string_bytes out.new ≡ string_bytes out.old ++ spec.tracked low x y) }
+{
+    write!(out, "V{low}H{x}V{y}")
+}
+
+/// How far below its ends the arrow of a rank is, where each has a height of its own.
+fn track_depth(rank: usize) -> usize
+    ensures value { result ≡ spec.track_depth rank }
+    ensures small { result ≤ 140 }
+{
+    12 + 8 * rank.min(16)
+}
+
+/// The path of the arrow of one of so many ranks, from a height that is at most 40,000,100.
+#[tactic(auto, unfolding(crate::specs::Svg::want_path))]
+fn want_path(
+    alloc: Global,
+    count: usize,
+    rank: usize,
+    wanted: usize,
+    y: usize,
+) -> Result<String, AllocError>
+    requires { y ≤ 40000100 }
+    ensures { IfOk result (λ t. string_bytes t ≡ spec.want_path count rank wanted y) }
+{
+    let mut path = String::new(alloc);
+    if count > 4 {
+        let to = lane_x(wanted).saturating_sub(12);
+        push_tracked(&mut path, y + track_depth(rank), to, y + 2)?;
+    } else {
+        push_hung(&mut path, rank, wanted, y)?;
+    }
     Ok(path)
 }
 
 /// Adds the arrow from a rank to one that it waits for.
 fn push_arrow(
     out: &mut String,
+    count: usize,
     rank: usize,
     y: usize,
     wanted: Option<usize>,
 ) -> Result<(), AllocError>
     requires { y ≤ 40000100 }
-    ensures { OnOk result (string_bytes out.new ≡ string_bytes out.old ++ spec.want_arrow rank y wanted) }
+    ensures { OnOk result (string_bytes out.new ≡ string_bytes out.old ++ spec.want_arrow count rank y wanted) }
 {
     let Some(wanted) = wanted else {
         return Ok(());
     };
-    let path = want_path(*out.allocator(), rank, wanted, y)?;
+    let path = want_path(*out.allocator(), count, rank, wanted, y)?;
     push_path(out, "want", lane_x(rank) + 12, y, &path)
 }
 
 /// Adds whom a rank waits for, below a point that is at most 40,000,000 down.
-pub(crate) fn push_want(
-    out: &mut String,
-    finish: Finish,
-    rank: usize,
-    y: usize,
-    kind: Option<CallKind>,
-    wanted: Option<usize>,
-) -> Result<(), AllocError>
+pub(crate) fn push_want(out: &mut String, end: RankEnd, y: usize) -> Result<(), AllocError>
     requires { y ≤ 40000000 }
-    ensures { OnOk result (string_bytes out.new ≡ string_bytes out.old ++ spec.want_elements finish rank y kind wanted) }
+    ensures { OnOk result (string_bytes out.new ≡ string_bytes out.old ++ spec.want_elements end.count end.finish end.rank y end.kind end.wanted) }
 {
-    match finish {
+    let RankEnd {
+        count,
+        rank,
+        kind,
+        wanted,
+        ..
+    } = end;
+    match end.finish {
         Finish::Ended | Finish::Running | Finish::Trapped(_) => Ok(()),
         Finish::Held => push_words(out, lane_x(rank), y + 66, kind, wanted),
         Finish::Blocked => {
             push_words(out, lane_x(rank), y + 66, kind, wanted)?;
-            push_arrow(out, rank, y + 72, wanted)
+            push_arrow(out, count, rank, y + 72, wanted)
         }
     }
 }

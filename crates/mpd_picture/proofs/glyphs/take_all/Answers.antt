@@ -12,7 +12,8 @@ loop-place-preserved c =
     let within : place < length t.steps = omega (arith, c.loop-place-test.true, ap length c.steps-count.ensures) in
     record {
       steps = ap (λ (u : Trail). u.steps) told.trail ∙ kept.steps;
+      lines = ap (λ (u : Trail). u.program.lines) told.trail ∙ kept.lines;
       depth = ap (λ (u : Trail). u.depth) told.trail ∙ ap (λ k. k + 1) kept.depth;
       few = omega (arith, told.few, kept.few);
-      glyphs = glyphs_more t.steps place c.loop-place.row _ c.loop-place.debugger.trail c.loop-place.debugger.world c.take_next.new.debugger.world c.loop-place.glyphs.items c.take_next.new.glyphs.items _ within kept.steps kept.depth kept.glyphs told.glyphs told.row told.leads;
+      glyphs = glyphs_more t.program.lines t.steps place c.loop-place.row _ c.loop-place.debugger.trail c.loop-place.debugger.world c.take_next.new.debugger.world c.loop-place.glyphs.items c.take_next.new.glyphs.items _ within kept.steps kept.depth kept.lines kept.glyphs told.glyphs told.row told.leads;
     }
