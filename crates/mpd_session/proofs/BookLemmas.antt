@@ -1,5 +1,5 @@
 -- What a request leaves as it was, and how a history goes on.
-use Rattle.std.proofs.Common.{◌≡◌, ℕ, Bool, true, false, cond, List, [], ◌∷◌, ◌++◌, ◌&&◌, Option, Some, None, refl, ap, sym, subst, ◌∙◌, nat_lt, ◌+◌, ◌-◌, slice_get, slice_set, is_some, length}
+use Rattle.std.proofs.Common.{◌≡◌, ℕ, Bool, true, false, cond, List, [], ◌∷◌, ◌++◌, ◌&&◌, Option, Some, None, refl, ap, sym, subst, ◌∙◌, nat_lt, nat_le, ◌+◌, ◌-◌, slice_get, slice_set, is_some, length}
 use Rattle.std.specs.Prelude.{⊤}
 use Rattle.mpd_model.specs.declared.limits.TheConstants.{STEPS_MAX, RUNS_MAX}
 use Rattle.mpd_model.specs.declared.call.Mode.{Mode}
@@ -17,6 +17,8 @@ use Rattle.mpd_model.specs.runs.Running.{Ran, ran, all_applied}
 use Rattle.mpd_policy.specs.Single.{ran_on}
 use Rattle.mpd_session.specs.declared.request.Command.{Command}
 use Rattle.mpd_session.specs.declared.request.Command.TheVariants as command
+use Rattle.mpd_session.specs.declared.request.Look.{Look}
+use Rattle.mpd_session.specs.declared.request.Look.TheVariants as look
 use Rattle.mpd_session.specs.declared.request.Request.{Request}
 use Rattle.mpd_session.specs.declared.reply.Answer.{Answer}
 use Rattle.mpd_session.specs.declared.reply.Answer.TheVariants as answer
@@ -29,6 +31,7 @@ use Rattle.mpd_session.specs.declared.effect.Effect.{Effect}
 use Rattle.mpd_session.specs.declared.effect.Effect.TheVariants.{Refused, Told, Changed}
 use Rattle.mpd_session.specs.declared.history.Entry.{Entry}
 use Rattle.mpd_session.specs.Effects.{OnTrail, OnBreaks, is_within, is_there, applied_effect, step_effect, picked_effect, next_effect, ran_effect, going_effect, run_effect, run_on_effect, at_depth, back_effect, redo_effect, goto_effect, added_effect, break_effect, unbreak_effect, vars_of, vars_effect, calls_effect, why_effect, explore_effect}
+use Rattle.mpd_session.specs.Looks.{decision_effect, look_effect}
 use Rattle.mpd_session.specs.Held.{Held, opened}
 use Rattle.mpd_session.specs.Respond.{Carried, carried, respond, respond_at, reply_to, version_then, finished, is_current}
 use Rattle.mpd_session.specs.History.{Leads, IsReplay}
@@ -108,6 +111,20 @@ vars_look : (o : Option RankWorld) → Looks (vars_of o)
 vars_look None = tt
 vars_look (Some r) = tt
 
+decision_looks : (s : Program) (w : World) (d : Decision) → Looks (decision_effect s w d)
+decision_looks s w (Forced a) = tt
+decision_looks s w (Choice steps) = tt
+decision_looks s w (Leaf o) = tt
+
+looks_only : (t : Trail) (w : World) (l : Look) → Looks (look_effect t w l)
+looks_only t w look.Script = tt
+looks_only t w look.Where = tt
+looks_only t w look.All = tt
+looks_only t w look.Decision = decision_looks t.program w (decision w)
+looks_only t w (look.Steps from count) = looks_by (is_within 1 STEPS_MAX count && nat_le from (length t.steps)) _ _ tt tt
+looks_only t w (look.Lines p) = looks_by (nat_lt p (length w.board.calls)) _ _ tt tt
+looks_only t w look.Explain = tt
+
 look_fits : {X : Type 0} (x : X) (e : Effect) → Looks e → Fits x e x
 look_fits x (Refused r) h = refl
 look_fits x (Told a) h = refl
@@ -146,6 +163,7 @@ carried_fits t places w (command.Break b) = let q : OnBreaks = break_effect plac
 carried_fits t places w (command.Unbreak n) = let q : OnBreaks = unbreak_effect places n in on_breaks_fits t places q.1 q.0 (unbreak_fits places n)
 carried_fits t places w command.Breaks = refl
 carried_fits t places w (command.Explore runs fuel) = look_fits {X = Both} (t, places) (explore_effect t w runs fuel) (looks_by (is_within 1 RUNS_MAX runs && is_within 1 (STEPS_MAX - t.depth) fuel) _ _ tt tt)
+carried_fits t places w (command.Look l) = look_fits {X = Both} (t, places) (look_effect t w l) (looks_only t w l)
 
 -- ---- a request
 
@@ -223,6 +241,7 @@ carried_keeps t places w (command.Break b) = (refl, refl)
 carried_keeps t places w (command.Unbreak n) = (refl, refl)
 carried_keeps t places w command.Breaks = (refl, refl)
 carried_keeps t places w (command.Explore runs fuel) = (refl, refl)
+carried_keeps t places w (command.Look l) = (refl, refl)
 
 script_by : (b : Bool) (s : Held) (p q : Reply × Held) → Keeps s.trail p.1.trail → Keeps s.trail q.1.trail → Keeps s.trail (cond b p q).1.trail
 script_by true s p q hp hq = hp

@@ -21,3 +21,17 @@ lists_differ f xs ys i d e is_same within even at also decides differ = (
   λ no_way. cc,
   λ same. sym differ ∙ decides.1 (ap f at ∙ at_place f xs ys i d e within (omega arith) same ∙ ap f (sym also)),
 )
+
+-- lists that differ at a place are two
+pub items_differ : {X : Type 0} (xs ys : List X) (i : ℕ) (d e : X) (is_same : Bool) → i < length xs → length xs ≡ length ys → d ≡ get_or xs i d → e ≡ get_or ys i e → Decides is_same (d ≡ e) → is_same ≡ false → Decides false (xs ≡ ys)
+items_differ xs ys i d e is_same within even at also decides differ = (
+  λ no_way. cc,
+  λ same. sym differ ∙ decides.1 (at ∙ at_place (λ x. x) xs ys i d e within (omega arith) (ap (map (λ x. x)) same) ∙ sym also),
+)
+
+-- the same, of what stands there
+pub items_at : {X : Type 0} (xs ys : List X) (i : ℕ) (d e : X) (is_same : Bool) → i < length xs → length xs ≡ length ys → Decides is_same (get_or xs i d ≡ get_or ys i e) → is_same ≡ false → Decides false (xs ≡ ys)
+items_at xs ys i d e is_same within even decides differ = (
+  λ no_way. cc,
+  λ same. sym differ ∙ decides.1 (at_place (λ x. x) xs ys i d e within (omega arith) (ap (map (λ x. x)) same)),
+)

@@ -1,5 +1,5 @@
 -- What each command comes to: a refusal, an answer that changes nothing, or one that changes something, with what is changed.
-use Rattle.std.specs.Prelude.{ℕ, ◌+◌, ◌-◌, Bool, false, ◌&&◌, nat_le, nat_lt, if◌then◌else◌, List, [], ◌∷◌, ◌++◌, map, length, take, slice_get, slice_set, Option, Some, None, option_map, is_some, codes}
+use Rattle.std.specs.Prelude.{ℕ, ◌+◌, ◌-◌, Bool, true, false, ◌&&◌, nat_le, nat_lt, if◌then◌else◌, List, [], ◌∷◌, ◌++◌, map, length, take, slice_get, slice_set, Option, Some, None, option_map, is_some, codes}
 use Rattle.std.specs.Fmt.{decimal}
 use Rattle.std.specs.List.{flat_map, range_with_len}
 use Rattle.mpd_model.specs.declared.limits.TheConstants.{STEPS_MAX, RUNS_MAX, BREAKS_MAX}
@@ -7,6 +7,7 @@ use Rattle.mpd_model.specs.declared.step.CallId.{CallId}
 use Rattle.mpd_model.specs.declared.step.Step.{Step}
 use Rattle.mpd_model.specs.declared.decision.Decision.{Decision}
 use Rattle.mpd_model.specs.declared.decision.Decision.TheVariants.{Forced, Choice, Leaf}
+use Rattle.mpd_model.specs.declared.breakpoint.Condition.{Condition}
 use Rattle.mpd_model.specs.declared.breakpoint.Break.{Break}
 use Rattle.mpd_model.specs.declared.breakpoint.Break.TheVariants as on
 use Rattle.mpd_model.specs.declared.breakpoint.Stop.{Stop}
@@ -17,7 +18,7 @@ use Rattle.mpd_model.specs.steps.Why.{why}
 use Rattle.mpd_model.specs.runs.Trail.{Trail, applied, gone_back}
 use Rattle.mpd_model.specs.runs.Breakpoints.{break_at, cell_at, lowest_free}
 use Rattle.mpd_model.specs.runs.Running.{Ran, ran, stop_of, all_applied, ran_back}
-use Rattle.mpd_model.specs.texts.Texts.{id_text, step_text, rank_text, set_text, call_text, outcome_text}
+use Rattle.mpd_model.specs.texts.Texts.{id_text, step_text, rank_text, set_text, call_text, outcome_text, meant_text, compared_text}
 use Rattle.mpd_policy.specs.Single.{ran_on}
 use Rattle.mpd_explore.specs.declared.report.Leaf.{Leaf as RunLeaf}
 use Rattle.mpd_policy.specs.Walk.{walk}
@@ -107,12 +108,27 @@ abbrev pub has_handle : Option RankWorld → ℕ → Bool
 has_handle None h = false
 has_handle (Some r) h = nat_lt h (length r.handles)
 
+-- the rank that is meant, where one is
+abbrev pub has_meant : World → Option ℕ → Bool
+has_meant w None = true
+has_meant w (Some p) = nat_lt p (length w.ranks)
+
+abbrev pub first_meant : Option ℕ → ℕ
+first_meant None = 0
+first_meant (Some p) = p
+
+-- the cell that a condition names, where there is one: of rank 0 if no rank is meant, since all ranks have the same cells
+abbrev pub has_compared : World → Option ℕ → Option Condition → Bool
+has_compared w of None = true
+has_compared w of (Some c) = is_some (cell_at w (first_meant of) c.cell)
+
 -- The lines of a script are 1 to LINES_MAX.
 abbrev pub is_there : World → Break → Bool
-is_there w (on.Line n) = is_within 1 LINES_MAX n
+is_there w (on.Line n of when) = is_within 1 LINES_MAX n && (has_meant w of && has_compared w of when)
 is_there w (on.Change p c) = is_some (cell_at w p c)
 is_there w (on.Handle p h) = has_handle (slice_get w.ranks p) h
-is_there w (on.Match n) = is_within 1 LINES_MAX n
+is_there w (on.Match n of) = is_within 1 LINES_MAX n && has_meant w of
+is_there w (on.Rank p) = nat_lt p (length w.ranks)
 
 abbrev pub added_effect : List (Option Break) → Break → Option ℕ → OnBreaks
 added_effect places b None = (Refused BreaksFull, places)
@@ -154,11 +170,23 @@ partner_text q = id_text q.0 ++ held_text q.1
 abbrev pub why_effect : World → CallId → Effect
 why_effect w c = if is_some (call_at w.board c) then Told (answer.Partners (map partner_text (why w.board c))) else Refused BadNumber
 
+-- what must hold, with its cell by number
+abbrev pub when_text : Option Condition → List ℕ
+when_text None = []
+when_text (Some c) = codes " if " ++ decimal c.cell ++ compared_text c.comparison c.value
+
+abbrev pub line_text : ℕ → Option ℕ → Option Condition → List ℕ
+line_text n of when = codes " line " ++ decimal n ++ meant_text of ++ when_text when
+
+abbrev pub match_text : ℕ → Option ℕ → List ℕ
+match_text n of = codes " match " ++ decimal n ++ meant_text of
+
 abbrev pub break_text : Break → List ℕ
-break_text (on.Line n) = codes " line " ++ decimal n
+break_text (on.Line n of when) = line_text n of when
 break_text (on.Change p c) = codes " change " ++ decimal p ++ 32 ∷ decimal c
 break_text (on.Handle p h) = codes " handle " ++ decimal p ++ 32 ∷ decimal h
-break_text (on.Match n) = codes " match " ++ decimal n
+break_text (on.Match n of) = match_text n of
+break_text (on.Rank p) = codes " rank " ++ decimal p
 
 abbrev pub place_texts : ℕ → Option Break → List (List ℕ)
 place_texts n None = []

@@ -6,3 +6,5 @@ pub mod Audit
 pub mod FaultNumbers
 pub mod Copies
 pub mod RefusalNumbers
+pub mod Holdings
+pub mod Looks

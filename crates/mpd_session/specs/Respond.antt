@@ -16,6 +16,7 @@ use Rattle.mpd_session.specs.declared.effect.Effect.{Effect}
 use Rattle.mpd_session.specs.declared.effect.Effect.TheVariants.{Refused, Told, Changed}
 use Rattle.mpd_session.specs.Held.{Held}
 use Rattle.mpd_session.specs.Effects.{step_effect, next_effect, run_effect, run_on_effect, back_effect, redo_effect, goto_effect, run_back_effect, enabled_effect, state_effect, vars_effect, calls_effect, why_effect, break_effect, unbreak_effect, breaks_effect, explore_effect}
+use Rattle.mpd_session.specs.Looks.{look_effect}
 
 -- ---- what a command comes to, with what is changed
 
@@ -46,6 +47,7 @@ carried t places w (command.Break b) = on_breaks t (break_effect places w b)
 carried t places w (command.Unbreak n) = on_breaks t (unbreak_effect places n)
 carried t places w command.Breaks = (breaks_effect places, (t, places))
 carried t places w (command.Explore runs fuel) = (explore_effect t w runs fuel, (t, places))
+carried t places w (command.Look l) = (look_effect t w l, (t, places))
 
 -- Memory may be wanted by what takes a step, and by what has a list in its answer, and by nothing else.
 abbrev pub may_want : Command → Bool
@@ -66,6 +68,7 @@ may_want (command.Calls p) = true
 may_want (command.Why c) = true
 may_want command.Breaks = true
 may_want (command.Explore runs fuel) = true
+may_want (command.Look l) = true
 
 -- ---- versions
 

@@ -1,9 +1,9 @@
 //! Commands on breakpoints.
 
-ghost use Rattle.std.specs.Prelude.{◌≡◌, ◌-◌, ◌++◌, IfOk, OnOk, IfSome, IfNone, map, length, is_some, slice_get, string_bytes};
+ghost use Rattle.std.specs.Prelude.{◌≡◌, ◌-◌, ◌++◌, IfOk, OnOk, IfSome, IfNone, codes, map, length, is_some, slice_get, string_bytes};
 ghost use Rattle.std.specs.Fmt.{decimal};
 ghost use Rattle.mpd_session.specs.Effects as spec;
-ghost use Rattle.mpd_session.specs.Effects.{break_effect, unbreak_effect, breaks_effect, break_text, place_texts};
+ghost use Rattle.mpd_session.specs.Effects.{break_effect, unbreak_effect, breaks_effect, break_text, line_text, match_text, place_texts};
 ghost use Rattle.mpd_model.specs.runs.Breakpoints.{cell_at, break_at};
 
 use crate::effect::{Effect, is_within};
@@ -11,7 +11,7 @@ use crate::limits::LINES_MAX;
 use crate::looks::push_text;
 use crate::reply::{Answer, Refusal, TextList};
 use mpd_core::Core;
-use mpd_model::{BREAKS_MAX, Break};
+use mpd_model::{BREAKS_MAX, Break, Condition, push_compared, push_meant};
 use mpd_policy::Breaks;
 use std::alloc::{AllocError, Global};
 
@@ -37,15 +37,48 @@ fn has_handle(core: &Core<'_>, rank: usize, handle: usize) -> bool
     handle < core.rank(rank).handle_count()
 }
 
+/// Whether the rank that is meant is there, where one is.
+fn has_meant(core: &Core<'_>, of: Option<usize>) -> bool
+    ensures { result ≡ spec.has_meant core.now.world of }
+{
+    match of {
+        None => true,
+        Some(rank) => rank < core.rank_count(),
+    }
+}
+
+/// The rank that is meant, or the first.
+fn first_meant(of: Option<usize>) -> usize
+    ensures { result ≡ spec.first_meant of }
+{
+    match of {
+        None => 0,
+        Some(rank) => rank,
+    }
+}
+
+/// Whether there is the cell that a condition names, where there is one: all ranks have the same cells.
+fn has_compared(core: &Core<'_>, of: Option<usize>, when: Option<Condition>) -> bool
+    ensures { result ≡ spec.has_compared core.now.world of when }
+{
+    match when {
+        None => true,
+        Some(condition) => has_cell(core, first_meant(of), condition.cell),
+    }
+}
+
 /// Whether there is what a breakpoint names.
 pub fn is_there(core: &Core<'_>, stop: Break) -> bool
     ensures { result ≡ spec.is_there core.now.world stop }
 {
     match stop {
-        Break::Line(line) => is_within(1, LINES_MAX, line),
+        Break::Line { line, of, when } => {
+            is_within(1, LINES_MAX, line) && (has_meant(core, of) && has_compared(core, of, when))
+        }
         Break::Change { rank, cell } => has_cell(core, rank, cell),
         Break::Handle { rank, handle } => has_handle(core, rank, handle),
-        Break::Match(line) => is_within(1, LINES_MAX, line),
+        Break::Match { line, of } => is_within(1, LINES_MAX, line) && has_meant(core, of),
+        Break::Rank(rank) => rank < core.rank_count(),
     }
 }
 
@@ -77,15 +110,58 @@ pub fn remove(breaks: &mut Breaks, number: usize) -> Effect
     Effect::Changed(Answer::Removed)
 }
 
+/// Adds what must hold, with its cell by number, where something must.
+fn push_when(out: &mut String, when: Option<Condition>) -> Result<(), AllocError>
+    ensures { OnOk result (string_bytes out.new ≡ string_bytes out.old ++ spec.when_text when) }
+{
+    let Some(condition) = when else {
+        return Ok(());
+    };
+    let cell = condition.cell;
+    write!(out, " if {cell}")?;
+    push_compared(out, condition.comparison, condition.value)
+}
+
+/// A breakpoint of a line as text. An `Err` is want of memory.
+fn line_text_of(
+    alloc: Global,
+    number: usize,
+    line: usize,
+    of: Option<usize>,
+    when: Option<Condition>,
+) -> Result<String, AllocError>
+    ensures { IfOk result (λ t. string_bytes t ≡ decimal number ++ line_text line of when) }
+{
+    let mut text = format!(in alloc; "{number} line {line}")?;
+    push_meant(&mut text, of)?;
+    push_when(&mut text, when)?;
+    Ok(text)
+}
+
+/// A breakpoint of a match as text. An `Err` is want of memory.
+fn match_text_of(
+    alloc: Global,
+    number: usize,
+    line: usize,
+    of: Option<usize>,
+) -> Result<String, AllocError>
+    ensures { IfOk result (λ t. string_bytes t ≡ decimal number ++ match_text line of) }
+{
+    let mut text = format!(in alloc; "{number} match {line}")?;
+    push_meant(&mut text, of)?;
+    Ok(text)
+}
+
 /// A breakpoint as text. An `Err` is want of memory.
 fn text_of(alloc: Global, number: usize, stop: Break) -> Result<String, AllocError>
     ensures { IfOk result (λ t. string_bytes t ≡ decimal number ++ break_text stop) }
 {
     match stop {
-        Break::Line(line) => format!(in alloc; "{number} line {line}"),
+        Break::Line { line, of, when } => line_text_of(alloc, number, line, of, when),
         Break::Change { rank, cell } => format!(in alloc; "{number} change {rank} {cell}"),
         Break::Handle { rank, handle } => format!(in alloc; "{number} handle {rank} {handle}"),
-        Break::Match(line) => format!(in alloc; "{number} match {line}"),
+        Break::Match { line, of } => match_text_of(alloc, number, line, of),
+        Break::Rank(rank) => format!(in alloc; "{number} rank {rank}"),
     }
 }
 

@@ -4,11 +4,19 @@ ghost use Rattle.std.specs.Prelude.{◌≡◌, ◌++◌, ◌∷◌, [], IfOk, On
 ghost use Rattle.mpd_session.specs.declared.reply.Answer.TheVariants as answer;
 ghost use Rattle.mpd_session.specs.Copies.{holds_list, lists_in};
 
-use crate::reply::{Answer, HandleList, IntegerList, Reply, Text, TextList};
+use crate::reply::{
+    Answer, Coming, HandleList, Holding, HoldingList, IntegerList, NumberList, PartnerList, Reply,
+    Text, TextList,
+};
+use mpd_model::{CallId, Mode};
 use std::alloc::{AllocError, Global};
 
 /// Adds a copy of a text.
-fn push_copy(alloc: Global, copies: &mut Vec<String>, text: &str) -> Result<(), AllocError>
+pub(crate) fn push_copy(
+    alloc: Global,
+    copies: &mut Vec<String>,
+    text: &str,
+) -> Result<(), AllocError>
     ensures { OnOk result (map string_bytes copies.new.items ≡ map string_bytes copies.old.items ++ text.now ∷ []) }
 {
     copies.push(String::from_str(alloc, text)?)?;
@@ -150,6 +158,143 @@ fn copy_leaves(alloc: Global, leaves: &TextList, more: bool) -> Result<Answer, A
     Ok(Answer::Explored { leaves, more })
 }
 
+/// Numbers of lines, ranks or calls of their own.
+fn copy_numbers(alloc: Global, numbers: &[usize]) -> Result<NumberList, AllocError>
+    ensures { IfOk result (λ copy. copy ≡ numbers.now) }
+{
+    Ok(NumberList {
+        items: Vec::from_slice(alloc, numbers)?,
+    })
+}
+
+/// Partners of their own.
+fn copy_partners(alloc: Global, partners: &[Option<CallId>]) -> Result<PartnerList, AllocError>
+    ensures { IfOk result (λ copy. copy ≡ partners.now) }
+{
+    Ok(PartnerList {
+        items: Vec::from_slice(alloc, partners)?,
+    })
+}
+
+/// A script of its own.
+fn copy_script(
+    alloc: Global,
+    ranks: usize,
+    mode: Mode,
+    vars: &TextList,
+    handles: &TextList,
+    lines: &NumberList,
+) -> Result<Answer, AllocError>
+    ensures { IfOk result (λ copy. copy ≡ answer.Script ranks mode vars.now handles.now lines.now) }
+{
+    Ok(Answer::Script {
+        ranks,
+        mode,
+        vars: copy_texts(alloc, &vars.items)?,
+        handles: copy_texts(alloc, &handles.items)?,
+        lines: copy_numbers(alloc, &lines.items)?,
+    })
+}
+
+/// What a rank holds, of its own.
+fn copy_holding(alloc: Global, holding: &Holding) -> Result<Holding, AllocError>
+    ensures { IfOk result (λ copy. copy ≡ holding.now) }
+{
+    Ok(Holding {
+        vars: copy_integers(alloc, &holding.vars.items)?,
+        handles: copy_handles(alloc, &holding.handles.items)?,
+        out: copy_integers(alloc, &holding.out.items)?,
+    })
+}
+
+/// What ranks hold, of their own.
+fn copy_holdings(alloc: Global, holdings: &[Holding]) -> Result<HoldingList, AllocError>
+    ensures { IfOk result (λ copy. copy ≡ holdings.now) }
+{
+    let mut items = Vec::new(alloc);
+    for holding in holdings {
+        items.push(copy_holding(alloc, holding)?)?;
+    }
+    Ok(HoldingList { items })
+}
+
+/// What ranks hold, of their own, where it is told.
+fn copy_held(alloc: Global, held: &Option<HoldingList>) -> Result<Option<HoldingList>, AllocError>
+    ensures { IfOk result (λ copy. copy ≡ held.now) }
+{
+    match held {
+        None => Ok(None),
+        Some(held) => Ok(Some(copy_holdings(alloc, &held.items)?)),
+    }
+}
+
+/// Where ranks stand, of their own.
+fn copy_where(
+    alloc: Global,
+    ranks: &TextList,
+    lines: &HandleList,
+    ready: &NumberList,
+    held: &Option<HoldingList>,
+) -> Result<Answer, AllocError>
+    ensures { IfOk result (λ copy. copy ≡ answer.Where ranks.now lines.now ready.now held.now) }
+{
+    Ok(Answer::Where {
+        ranks: copy_texts(alloc, &ranks.items)?,
+        lines: copy_handles(alloc, &lines.items)?,
+        ready: copy_numbers(alloc, &ready.items)?,
+        held: copy_held(alloc, held)?,
+    })
+}
+
+/// What comes next, of its own.
+fn copy_decided(
+    alloc: Global,
+    coming: Coming,
+    steps: &TextList,
+    told: &TextList,
+    outcome: &Option<Text>,
+) -> Result<Answer, AllocError>
+    ensures { IfOk result (λ copy. copy ≡ answer.Decided coming steps.now told.now outcome.now) }
+{
+    Ok(Answer::Decided {
+        coming,
+        steps: copy_texts(alloc, &steps.items)?,
+        told: copy_texts(alloc, &told.items)?,
+        outcome: copy_text(alloc, outcome)?,
+    })
+}
+
+/// Steps of their own.
+fn copy_steps(
+    alloc: Global,
+    depth: usize,
+    steps: &TextList,
+    undone: usize,
+) -> Result<Answer, AllocError>
+    ensures { IfOk result (λ copy. copy ≡ answer.Steps depth steps.now undone) }
+{
+    let steps = copy_texts(alloc, &steps.items)?;
+    Ok(Answer::Steps {
+        depth,
+        steps,
+        undone,
+    })
+}
+
+/// Lines of calls and their partners, of their own.
+fn copy_lines(
+    alloc: Global,
+    lines: &NumberList,
+    partners: &PartnerList,
+) -> Result<Answer, AllocError>
+    ensures { IfOk result (λ copy. copy ≡ answer.Lines lines.now partners.now) }
+{
+    Ok(Answer::Lines {
+        lines: copy_numbers(alloc, &lines.items)?,
+        partners: copy_partners(alloc, &partners.items)?,
+    })
+}
+
 /// An answer of its own. An `Err` is want of memory, and comes only where the answer has a list.
 fn copy_answer(alloc: Global, answer: &Answer) -> Result<Answer, AllocError>
     ensures same { IfOk result (λ copy. copy ≡ answer.now) }
@@ -180,6 +325,32 @@ fn copy_answer(alloc: Global, answer: &Answer) -> Result<Answer, AllocError>
         Answer::Removed => Ok(Answer::Removed),
         Answer::Breaks(breaks) => copy_texts(alloc, &breaks.items).map(Answer::Breaks),
         Answer::Explored { leaves, more } => copy_leaves(alloc, leaves, *more),
+        Answer::Script {
+            ranks,
+            mode,
+            vars,
+            handles,
+            lines,
+        } => copy_script(alloc, *ranks, *mode, vars, handles, lines),
+        Answer::Where {
+            ranks,
+            lines,
+            ready,
+            held,
+        } => copy_where(alloc, ranks, lines, ready, held),
+        Answer::Decided {
+            coming,
+            steps,
+            told,
+            outcome,
+        } => copy_decided(alloc, *coming, steps, told, outcome),
+        Answer::Steps {
+            depth,
+            steps,
+            undone,
+        } => copy_steps(alloc, *depth, steps, *undone),
+        Answer::Lines { lines, partners } => copy_lines(alloc, lines, partners),
+        Answer::Explained(lines) => copy_texts(alloc, &lines.items).map(Answer::Explained),
     }
 }
 

@@ -14,15 +14,21 @@ pub use audit::AuditFault;
 pub use book::{Book, TakeFault};
 pub use desk::{Desk, DeskFault};
 pub use history::{Entry, HISTORY_MAX, Log, Logged, Receipt};
-pub use reply::{Answer, HandleList, IntegerList, Refusal, Reply, Text, TextList};
-pub use request::{Command, Request};
+pub use reply::{
+    Answer, Coming, HandleList, Holding, HoldingList, IntegerList, NumberList, PartnerList,
+    Refusal, Reply, Text, TextList,
+};
+pub use request::{Command, Look, Request};
 pub use same::{same_reply, same_request};
 pub use session::Session;
 
 pub(crate) mod breaks;
 pub(crate) mod copy;
+pub(crate) mod decided;
 pub(crate) mod effect;
 pub(crate) mod limits;
 pub(crate) mod looks;
+pub(crate) mod places;
 pub(crate) mod runs;
+pub(crate) mod script;
 pub(crate) mod steps;

@@ -8,12 +8,15 @@ ghost use Rattle.mpd_model.specs.texts.Texts.{step_text, rank_text, set_text, ca
 ghost use Rattle.mpd_model.specs.runs.Trail.{IsReached};
 ghost use Rattle.mpd_core.specs.DebuggerViews.{standing_of};
 ghost use Rattle.mpd_explore.specs.ReportText.{leaf_text};
+ghost use Rattle.mpd_session.specs.Looks.{look_effect};
 ghost use Rattle.mpd_session.specs.Effects.{enabled_effect, state_effect, vars_effect, calls_effect, why_effect, partner_text, leaves_effect, explore_effect};
 
 use crate::effect::{Effect, is_within};
 use crate::reply::{Answer, HandleList, IntegerList, Refusal, Text, TextList};
+use crate::request::Look;
 use crate::runs::report;
 use crate::steps::is_below;
+use crate::{decided, places, script};
 use mpd_core::{Core, Debugger};
 use mpd_explore::{Leaf, push_leaf_text};
 use mpd_model::{CallId, MatchSet, RUNS_MAX, STEPS_MAX, Step, print_outcome, print_step};
@@ -28,7 +31,7 @@ pub fn push_text(texts: &mut Vec<String>, text: String) -> Result<(), AllocError
 }
 
 /// The texts of steps.
-fn step_texts(alloc: Global, steps: &[Step]) -> Result<TextList, AllocError>
+pub(crate) fn step_texts(alloc: Global, steps: &[Step]) -> Result<TextList, AllocError>
     ensures { IfOk result (λ texts. texts ≡ map step_text steps.now) }
 {
     let mut items = Vec::new(alloc);
@@ -59,7 +62,7 @@ fn set_texts(alloc: Global, sets: &[MatchSet]) -> Result<TextList, AllocError>
 }
 
 /// The texts of what the ranks are doing.
-fn rank_texts(alloc: Global, core: &Core<'_>) -> Result<TextList, AllocError>
+pub(crate) fn rank_texts(alloc: Global, core: &Core<'_>) -> Result<TextList, AllocError>
     ensures { IfOk result (λ texts. texts ≡ map (rank_text core.now.program core.now.world) (rank_numbers core.now.world.board)) }
 {
     let mut items = Vec::new(alloc);
@@ -99,7 +102,7 @@ pub fn state(alloc: Global, debugger: &Debugger<'_>) -> Result<Effect, AllocErro
 }
 
 /// Values as a list of their own.
-fn integers(alloc: Global, values: &[i64]) -> Result<IntegerList, AllocError>
+pub(crate) fn integers(alloc: Global, values: &[i64]) -> Result<IntegerList, AllocError>
     ensures { IfOk result (λ list. list ≡ values.now) }
 {
     Ok(IntegerList {
@@ -108,7 +111,7 @@ fn integers(alloc: Global, values: &[i64]) -> Result<IntegerList, AllocError>
 }
 
 /// Handles as a list of their own.
-fn handles(alloc: Global, values: &[Option<usize>]) -> Result<HandleList, AllocError>
+pub(crate) fn handles(alloc: Global, values: &[Option<usize>]) -> Result<HandleList, AllocError>
     ensures { IfOk result (λ list. list ≡ values.now) }
 {
     Ok(HandleList {
@@ -245,4 +248,20 @@ pub fn explore(
         leaves,
         more: report.more,
     }))
+}
+
+/// Looks at something of the script, of all ranks or of steps. An `Err` is want of memory.
+pub fn look(alloc: Global, debugger: &Debugger<'_>, look: Look) -> Result<Effect, AllocError>
+    ensures { IfOk result (λ effect. effect ≡ look_effect debugger.now.trail debugger.now.world look) }
+{
+    let core = debugger.core();
+    match look {
+        Look::Script => script::script(alloc, core),
+        Look::Where => places::stands(alloc, core),
+        Look::All => places::all(alloc, core),
+        Look::Decision => decided::decision(alloc, core),
+        Look::Steps { from, count } => decided::steps(alloc, debugger, from, count),
+        Look::Lines(rank) => places::lines(alloc, core, rank),
+        Look::Explain => decided::explain(alloc, core),
+    }
 }

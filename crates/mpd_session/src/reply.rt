@@ -3,7 +3,7 @@
 ghost use Rattle.std.specs.Prelude.{◌≡◌};
 ghost use Rattle.mpd_session.specs.RefusalNumbers.{refusal_number};
 
-use mpd_model::{Step, Stop};
+use mpd_model::{CallId, Mode, Step, Stop};
 use std::marker::Model;
 
 /// The text of how a run has ended (docs/SESSIONS.md, "Requests"); contracts see its bytes.
@@ -60,6 +60,75 @@ impl Model for HandleList {
     ghost Value = { List (Option ℕ) };
 
     ghost view = { λ l. l.items.items };
+}
+
+/// Numbers of lines or of ranks, in ascending order, or of the calls of a rank; contracts see a list.
+#[derive(Drop)]
+pub struct NumberList {
+    pub items: Vec<usize>,
+}
+
+impl Model for NumberList {
+    ghost use Rattle.std.specs.Prelude.{List, ℕ};
+
+    ghost Value = { List ℕ };
+
+    ghost view = { λ l. l.items.items };
+}
+
+/// For each call of a rank the call that it was matched with, where there is one; contracts see a list.
+#[derive(Drop)]
+pub struct PartnerList {
+    pub items: Vec<Option<CallId>>,
+}
+
+impl Model for PartnerList {
+    ghost use Rattle.std.specs.Prelude.{List, Option};
+    ghost use Rattle.mpd_model.specs.declared.step.CallId.{CallId};
+
+    ghost Value = { List (Option CallId) };
+
+    ghost view = { λ l. l.items.items };
+}
+
+/// What a rank holds.
+#[derive(Drop)]
+pub struct Holding {
+    /// The cells of its variables.
+    pub vars: IntegerList,
+    /// Its handles.
+    pub handles: HandleList,
+    /// What it has printed.
+    pub out: IntegerList,
+}
+
+/// What each rank holds, by rank; contracts see a list.
+#[derive(Drop)]
+pub struct HoldingList {
+    pub items: Vec<Holding>,
+}
+
+impl Model for HoldingList {
+    ghost use Rattle.std.specs.Prelude.{List};
+    ghost use Rattle.mpd_session.specs.declared.reply.Holding.{Holding};
+    ghost use Rattle.mpd_session.specs.Holdings.{holdings_code};
+
+    ghost Value = { List Holding };
+
+    ghost coded = { holdings_code };
+
+    ghost view = { λ l. l.items.items };
+}
+
+/// What comes next, without its steps.
+#[derive(Clone, Copy)]
+pub enum Coming {
+    /// A step that nobody has to choose.
+    Forced,
+    /// A choice among candidates, also of a single one.
+    Choice,
+    /// No step: the run has ended.
+    Leaf,
 }
 
 /// What is told of a request that was carried out, by its command (docs/SESSIONS.md, "Requests"). A depth is how many steps are not
@@ -123,6 +192,59 @@ pub enum Answer {
         /// Whether there are more.
         more: bool,
     },
+    /// Of `script`.
+    Script {
+        /// How many ranks run it.
+        ranks: usize,
+        /// Its mode.
+        mode: Mode,
+        /// Its variables, as they are declared.
+        vars: TextList,
+        /// Its handles, as they are declared.
+        handles: TextList,
+        /// The lines at which its statements begin, each once.
+        lines: NumberList,
+    },
+    /// Of `where` and `all`.
+    Where {
+        /// What each rank is doing.
+        ranks: TextList,
+        /// The line where each stands, where it stands at one.
+        lines: HandleList,
+        /// The ranks that can go on.
+        ready: NumberList,
+        /// Of `all`: what each holds.
+        held: Option<HoldingList>,
+    },
+    /// Of `decision`.
+    Decided {
+        /// What comes next.
+        coming: Coming,
+        /// The texts of the step that is forced, or of the candidates.
+        steps: TextList,
+        /// What is told of each of them.
+        told: TextList,
+        /// How the run has ended, where no step is enabled.
+        outcome: Option<Text>,
+    },
+    /// Of `steps`.
+    Steps {
+        /// The depth.
+        depth: usize,
+        /// The texts of the steps.
+        steps: TextList,
+        /// How many undone steps are kept.
+        undone: usize,
+    },
+    /// Of `lines`, for each call of a rank.
+    Lines {
+        /// The line of its statement.
+        lines: NumberList,
+        /// The call that it was matched with.
+        partners: PartnerList,
+    },
+    /// Of `explain`: the lines that are told of how the run has ended.
+    Explained(TextList),
 }
 
 /// Why a session has not carried out a request, by the numbers of docs/SESSIONS.md, "Refusals"; then nothing has changed. What is

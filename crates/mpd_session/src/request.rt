@@ -2,6 +2,30 @@
 
 use mpd_model::{Break, CallId, Step};
 
+/// What a client is told of the script, of all ranks and of steps (docs/SESSIONS.md, "Looks"); nothing changes by it.
+#[derive(Clone, Copy)]
+pub enum Look {
+    /// Tell what the script declares, and where its statements stand.
+    Script,
+    /// Tell where each rank stands, and which can go on.
+    Where,
+    /// Tell that, and what each rank holds.
+    All,
+    /// Tell what comes next.
+    Decision,
+    /// List steps that are taken or lie ahead.
+    Steps {
+        /// How many stand before the first of them.
+        from: usize,
+        /// How many at most.
+        count: usize,
+    },
+    /// List the lines of the calls of this rank, and the calls that these were matched with.
+    Lines(usize),
+    /// Explain how the run has ended.
+    Explain,
+}
+
 /// A command with its fields (docs/SESSIONS.md, "Requests"); numbers are as they were given, also where a session refuses them.
 #[derive(Clone, Copy)]
 pub enum Command {
@@ -44,6 +68,8 @@ pub enum Command {
         /// How many steps each takes at most.
         fuel: usize,
     },
+    /// Look at something else.
+    Look(Look),
 }
 
 /// What a client asks: a command, and which version it is for, if it names one.

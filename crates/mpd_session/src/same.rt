@@ -2,12 +2,19 @@
 
 ghost use Rattle.std.specs.Prelude.{◌≡◌, map, string_bytes};
 ghost use Rattle.std.specs.Bool.{Decides};
+ghost use Rattle.mpd_model.specs.declared.breakpoint.Break.TheVariants as on;
+ghost use Rattle.mpd_session.specs.declared.request.Command.TheVariants as commands;
 ghost use Rattle.mpd_session.specs.declared.request.Command.TheVariants.{Explore};
-ghost use Rattle.mpd_session.specs.declared.reply.Answer.TheVariants.{Stepped, Ran, State, Vars, Explored};
+ghost use Rattle.mpd_session.specs.declared.request.Look.TheVariants.{Steps};
+ghost use Rattle.mpd_session.specs.declared.reply.Answer.TheVariants as answers;
+ghost use Rattle.mpd_session.specs.declared.reply.Answer.TheVariants.{Stepped, Ran, State, Vars, Explored, Script, Where, Decided, Lines};
 
-use crate::reply::{Answer, HandleList, IntegerList, Refusal, Reply, Text, TextList};
-use crate::request::{Command, Request};
-use mpd_model::{Step, Stop};
+use crate::reply::{
+    Answer, Coming, HandleList, Holding, HoldingList, IntegerList, NumberList, PartnerList,
+    Refusal, Reply, Text, TextList,
+};
+use crate::request::{Command, Look, Request};
+use mpd_model::{Break, CallId, Condition, Mode, Step, Stop};
 
 /// Whether a command is to explore with these limits.
 fn is_explore(command: Command, runs: usize, fuel: usize) -> bool
@@ -18,6 +25,140 @@ fn is_explore(command: Command, runs: usize, fuel: usize) -> bool
             runs: most,
             fuel: longest,
         } => most == runs && longest == fuel,
+        _ => false,
+    }
+}
+
+/// Whether a look is at these steps.
+fn is_steps(look: Look, from: usize, count: usize) -> bool
+    ensures { Decides result (Steps from count ≡ look) }
+{
+    match look {
+        Look::Steps {
+            from: before,
+            count: most,
+        } => before == from && most == count,
+        _ => false,
+    }
+}
+
+/// Whether two looks are one.
+fn same_look(one: Look, other: Look) -> bool
+    ensures { Decides result (one ≡ other) }
+{
+    match one {
+        Look::Script => matches!(other, Look::Script),
+        Look::Where => matches!(other, Look::Where),
+        Look::All => matches!(other, Look::All),
+        Look::Decision => matches!(other, Look::Decision),
+        Look::Steps { from, count } => is_steps(other, from, count),
+        Look::Lines(rank) => matches!(other, Look::Lines(also) if also == rank),
+        Look::Explain => matches!(other, Look::Explain),
+    }
+}
+
+/// Whether a command is this look.
+fn is_look(command: Command, look: Look) -> bool
+    ensures { Decides result (commands.Look look ≡ command) }
+{
+    match command {
+        Command::Look(also) => same_look(look, also),
+        _ => false,
+    }
+}
+
+/// Whether two conditions are one.
+fn same_condition(one: Condition, other: Condition) -> bool
+    ensures { Decides result (one ≡ other) }
+{
+    one.cell == other.cell && one.comparison == other.comparison && one.value == other.value
+}
+
+/// Whether two conditions are one, or there are none.
+fn same_when(one: Option<Condition>, other: Option<Condition>) -> bool
+    ensures { Decides result (one ≡ other) }
+{
+    match one {
+        None => other.is_none(),
+        Some(condition) => match other {
+            None => false,
+            Some(also) => same_condition(condition, also),
+        },
+    }
+}
+
+/// Whether a breakpoint is on this line, of this rank or of any, with this condition or none.
+fn is_on_line(stop: Break, line: usize, of: Option<usize>, when: Option<Condition>) -> bool
+    ensures { Decides result (on.Line line of when ≡ stop) }
+{
+    match stop {
+        Break::Line {
+            line: place,
+            of: own,
+            when: also,
+        } => place == line && own == of && same_when(when, also),
+        _ => false,
+    }
+}
+
+/// Whether a breakpoint is on matches of this line, of this rank or of any.
+fn is_on_match(stop: Break, line: usize, of: Option<usize>) -> bool
+    ensures { Decides result (on.Match line of ≡ stop) }
+{
+    match stop {
+        Break::Match {
+            line: place,
+            of: own,
+        } => place == line && own == of,
+        _ => false,
+    }
+}
+
+/// Whether a breakpoint is on this cell of this rank.
+fn is_on_change(stop: Break, rank: usize, cell: usize) -> bool
+    ensures { Decides result (on.Change rank cell ≡ stop) }
+{
+    match stop {
+        Break::Change {
+            rank: own,
+            cell: place,
+        } => own == rank && place == cell,
+        _ => false,
+    }
+}
+
+/// Whether a breakpoint is on this handle of this rank.
+fn is_on_handle(stop: Break, rank: usize, handle: usize) -> bool
+    ensures { Decides result (on.Handle rank handle ≡ stop) }
+{
+    match stop {
+        Break::Handle {
+            rank: own,
+            handle: place,
+        } => own == rank && place == handle,
+        _ => false,
+    }
+}
+
+/// Whether two breakpoints are one.
+fn same_break(one: Break, other: Break) -> bool
+    ensures { Decides result (one ≡ other) }
+{
+    match one {
+        Break::Line { line, of, when } => is_on_line(other, line, of, when),
+        Break::Change { rank, cell } => is_on_change(other, rank, cell),
+        Break::Handle { rank, handle } => is_on_handle(other, rank, handle),
+        Break::Match { line, of } => is_on_match(other, line, of),
+        Break::Rank(rank) => matches!(other, Break::Rank(also) if also == rank),
+    }
+}
+
+/// Whether a command is to set this breakpoint.
+fn is_break(command: Command, stop: Break) -> bool
+    ensures { Decides result (commands.Break stop ≡ command) }
+{
+    match command {
+        Command::Break(also) => same_break(stop, also),
         _ => false,
     }
 }
@@ -40,10 +181,11 @@ fn same_command(one: Command, other: Command) -> bool
         Command::Vars(rank) => matches!(other, Command::Vars(also) if also == rank),
         Command::Calls(rank) => matches!(other, Command::Calls(also) if also == rank),
         Command::Why(call) => matches!(other, Command::Why(also) if also == call),
-        Command::Break(place) => matches!(other, Command::Break(also) if also == place),
+        Command::Break(stop) => is_break(other, stop),
         Command::Unbreak(number) => matches!(other, Command::Unbreak(also) if also == number),
         Command::Breaks => matches!(other, Command::Breaks),
         Command::Explore { runs, fuel } => is_explore(other, runs, fuel),
+        Command::Look(look) => is_look(other, look),
     }
 }
 
@@ -189,6 +331,190 @@ fn is_explored(answer: &Answer, leaves: &TextList, more: bool) -> bool
     }
 }
 
+/// Whether two lists of numbers of lines, ranks or calls are one.
+fn same_numbers(one: &[usize], other: &[usize]) -> bool
+    ensures { Decides result (one.now ≡ other.now) }
+{
+    one == other
+}
+
+/// Whether two calls are one, or there are none.
+fn same_partner(one: &Option<CallId>, other: &Option<CallId>) -> bool
+    ensures { Decides result (one.now ≡ other.now) }
+{
+    match one {
+        None => other.is_none(),
+        Some(call) => matches!(other, Some(also) if *also == *call),
+    }
+}
+
+/// Whether two lists of partners are one.
+fn same_partners(one: &[Option<CallId>], other: &[Option<CallId>]) -> bool
+    ensures { Decides result (one.now ≡ other.now) }
+{
+    if one.len() != other.len() {
+        return false;
+    }
+    for number in 0..one.len() {
+        if !same_partner(&one[number], &other[number]) {
+            return false;
+        }
+    }
+    true
+}
+
+/// Whether two ranks hold the same.
+fn same_holding(one: &Holding, other: &Holding) -> bool
+    ensures { Decides result (one.now ≡ other.now) }
+{
+    same_integers(&one.vars.items, &other.vars.items)
+        && same_handles(&one.handles.items, &other.handles.items)
+        && same_integers(&one.out.items, &other.out.items)
+}
+
+/// Whether two lists of what ranks hold are one.
+fn same_holdings(one: &[Holding], other: &[Holding]) -> bool
+    ensures { Decides result (one.now ≡ other.now) }
+{
+    if one.len() != other.len() {
+        return false;
+    }
+    for number in 0..one.len() {
+        if !same_holding(&one[number], &other[number]) {
+            return false;
+        }
+    }
+    true
+}
+
+/// Whether two lists of what ranks hold are one, or there are none.
+fn same_held(one: &Option<HoldingList>, other: &Option<HoldingList>) -> bool
+    ensures { Decides result (one.now ≡ other.now) }
+{
+    match one {
+        None => other.is_none(),
+        Some(held) => match other {
+            None => false,
+            Some(also) => same_holdings(&held.items, &also.items),
+        },
+    }
+}
+
+/// Whether an answer is this script.
+fn is_script(
+    answer: &Answer,
+    ranks: usize,
+    mode: Mode,
+    vars: &TextList,
+    handles: &TextList,
+    lines: &NumberList,
+) -> bool
+    ensures { Decides result (Script ranks mode vars.now handles.now lines.now ≡ answer.now) }
+{
+    match answer {
+        Answer::Script {
+            ranks: told_ranks,
+            mode: told_mode,
+            vars: told_vars,
+            handles: told_handles,
+            lines: told_lines,
+        } => {
+            *told_ranks == ranks
+                && *told_mode == mode
+                && same_texts(&told_vars.items, &vars.items)
+                && same_texts(&told_handles.items, &handles.items)
+                && same_numbers(&told_lines.items, &lines.items)
+        }
+        _ => false,
+    }
+}
+
+/// Whether an answer is that ranks stand so.
+fn is_where(
+    answer: &Answer,
+    ranks: &TextList,
+    lines: &HandleList,
+    ready: &NumberList,
+    held: &Option<HoldingList>,
+) -> bool
+    ensures { Decides result (Where ranks.now lines.now ready.now held.now ≡ answer.now) }
+{
+    match answer {
+        Answer::Where {
+            ranks: told_ranks,
+            lines: told_lines,
+            ready: told_ready,
+            held: told_held,
+        } => {
+            same_texts(&told_ranks.items, &ranks.items)
+                && same_handles(&told_lines.items, &lines.items)
+                && same_numbers(&told_ready.items, &ready.items)
+                && same_held(told_held, held)
+        }
+        _ => false,
+    }
+}
+
+/// Whether an answer is that this comes next.
+fn is_decided(
+    answer: &Answer,
+    coming: Coming,
+    steps: &TextList,
+    told: &TextList,
+    outcome: &Option<Text>,
+) -> bool
+    ensures { Decides result (Decided coming steps.now told.now outcome.now ≡ answer.now) }
+{
+    match answer {
+        Answer::Decided {
+            coming: told_coming,
+            steps: told_steps,
+            told: told_words,
+            outcome: told_outcome,
+        } => {
+            *told_coming == coming
+                && same_texts(&told_steps.items, &steps.items)
+                && same_texts(&told_words.items, &told.items)
+                && same_outcome(told_outcome, outcome)
+        }
+        _ => false,
+    }
+}
+
+/// Whether an answer is these steps.
+fn is_listed(answer: &Answer, depth: usize, steps: &TextList, undone: usize) -> bool
+    ensures { Decides result (answers.Steps depth steps.now undone ≡ answer.now) }
+{
+    match answer {
+        Answer::Steps {
+            depth: told_depth,
+            steps: told_steps,
+            undone: told_undone,
+        } => {
+            *told_depth == depth
+                && *told_undone == undone
+                && same_texts(&told_steps.items, &steps.items)
+        }
+        _ => false,
+    }
+}
+
+/// Whether an answer is these lines of calls, with these partners.
+fn is_lines(answer: &Answer, lines: &NumberList, partners: &PartnerList) -> bool
+    ensures { Decides result (Lines lines.now partners.now ≡ answer.now) }
+{
+    match answer {
+        Answer::Lines {
+            lines: told_lines,
+            partners: told_partners,
+        } => {
+            same_numbers(&told_lines.items, &lines.items)
+                && same_partners(&told_partners.items, &partners.items)
+        }
+        _ => false,
+    }
+}
+
 /// Whether two answers are one.
 fn same_answer(one: &Answer, other: &Answer) -> bool
     ensures { Decides result (one.now ≡ other.now) }
@@ -220,6 +546,34 @@ fn same_answer(one: &Answer, other: &Answer) -> bool
             matches!(other, Answer::Breaks(also) if same_texts(&also.items, &breaks.items))
         }
         Answer::Explored { leaves, more } => is_explored(other, leaves, *more),
+        Answer::Script {
+            ranks,
+            mode,
+            vars,
+            handles,
+            lines,
+        } => is_script(other, *ranks, *mode, vars, handles, lines),
+        Answer::Where {
+            ranks,
+            lines,
+            ready,
+            held,
+        } => is_where(other, ranks, lines, ready, held),
+        Answer::Decided {
+            coming,
+            steps,
+            told,
+            outcome,
+        } => is_decided(other, *coming, steps, told, outcome),
+        Answer::Steps {
+            depth,
+            steps,
+            undone,
+        } => is_listed(other, *depth, steps, *undone),
+        Answer::Lines { lines, partners } => is_lines(other, lines, partners),
+        Answer::Explained(lines) => {
+            matches!(other, Answer::Explained(also) if same_texts(&also.items, &lines.items))
+        }
     }
 }
 

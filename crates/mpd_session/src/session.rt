@@ -92,6 +92,7 @@ fn carry_out(
         Command::Unbreak(number) => Ok(breaks::remove(breaks, number)),
         Command::Breaks => breaks::list(alloc, breaks),
         Command::Explore { runs, fuel } => looks::explore(alloc, debugger, runs, fuel),
+        Command::Look(look) => looks::look(alloc, debugger, look),
     }
 }
 

@@ -1,11 +1,13 @@
 -- Worked rows: what some lines are read as, by computing.
-use Rattle.std.specs.Prelude.{◌≡◌, [], ◌∷◌, codes, Some, None, Result, Ok, Err, refl}
+use Rattle.std.specs.Prelude.{◌≡◌, negsuc, [], ◌∷◌, codes, Some, None, Result, Ok, Err, refl}
 use Rattle.std.specs.Str.{chars, is_utf8}
 use Rattle.serde_json.proofs.OnLiterals.{serde_json_on_literals}
+use Rattle.mpd_model.specs.declared.comparison.Comparison.TheVariants.{AtMost}
 use Rattle.mpd_model.specs.declared.breakpoint.Break.TheVariants as on
 use Rattle.mpd_model.specs.steps.World.{call_id}
 use Rattle.mpd_session.specs.declared.request.Command.{Command}
 use Rattle.mpd_session.specs.declared.request.Command.TheVariants as command
+use Rattle.mpd_session.specs.declared.request.Look.TheVariants as look
 use Rattle.mpd_session.specs.declared.request.Request.{Request}
 use Rattle.mpd_wire.specs.declared.fault.WireFault.{WireFault}
 use Rattle.mpd_wire.specs.declared.fault.WireFault.TheVariants.{NotJson, BadField, UnknownCommand}
@@ -35,6 +37,39 @@ row_change = refl
 pub row_handle : request_in (codes "{\"cmd\":\"break\",\"kind\":\"handle\",\"rank\":2,\"handle\":1}") ≡ plain (command.Break (on.Handle 2 1))
 unfolding is_utf8 chars serde_json_on_literals break_shape shape_of is_own command_in asked json_of
 row_handle = refl
+
+-- a line of one rank, with a condition, and a rank; of a condition all three fields stand, or none
+pub row_line : request_in (codes "{\"cmd\":\"break\",\"kind\":\"line\",\"line\":9}") ≡ plain (command.Break (on.Line 9 None None))
+unfolding is_utf8 chars serde_json_on_literals break_shape shape_of is_own command_in asked json_of
+row_line = refl
+
+pub row_line_of_a_rank : request_in (codes "{\"cmd\":\"break\",\"kind\":\"line\",\"line\":9,\"rank\":1}") ≡ plain (command.Break (on.Line 9 (Some 1) None))
+unfolding is_utf8 chars serde_json_on_literals break_shape shape_of is_own command_in asked json_of
+row_line_of_a_rank = refl
+
+pub row_condition : request_in (codes "{\"cell\":2,\"cmd\":\"break\",\"is\":\"<=\",\"kind\":\"line\",\"line\":9,\"value\":-12}") ≡ plain (command.Break (on.Line 9 None (Some (record { cell = 2; comparison = AtMost; value = negsuc 11 }))))
+unfolding is_utf8 chars serde_json_on_literals break_shape shape_of is_own command_in asked json_of
+row_condition = refl
+
+pub row_no_value : request_in (codes "{\"cell\":2,\"cmd\":\"break\",\"is\":\"<=\",\"kind\":\"line\",\"line\":9}") ≡ Err BadField
+unfolding is_utf8 chars serde_json_on_literals break_shape shape_of is_own command_in asked json_of
+row_no_value = refl
+
+pub row_no_operator : request_in (codes "{\"cell\":2,\"cmd\":\"break\",\"is\":\"=\",\"kind\":\"line\",\"line\":9,\"value\":1}") ≡ Err BadField
+unfolding is_utf8 chars serde_json_on_literals break_shape shape_of is_own command_in asked json_of
+row_no_operator = refl
+
+pub row_match_of_a_rank : request_in (codes "{\"cmd\":\"break\",\"kind\":\"match\",\"line\":8,\"rank\":0}") ≡ plain (command.Break (on.Match 8 (Some 0)))
+unfolding is_utf8 chars serde_json_on_literals break_shape shape_of is_own command_in asked json_of
+row_match_of_a_rank = refl
+
+pub row_condition_of_a_match : request_in (codes "{\"cell\":0,\"cmd\":\"break\",\"is\":\"==\",\"kind\":\"match\",\"line\":8,\"value\":1}") ≡ Err BadField
+unfolding is_utf8 chars serde_json_on_literals break_shape shape_of is_own command_in asked json_of
+row_condition_of_a_match = refl
+
+pub row_rank : request_in (codes "{\"cmd\":\"break\",\"kind\":\"rank\",\"rank\":3}") ≡ plain (command.Break (on.Rank 3))
+unfolding is_utf8 chars serde_json_on_literals break_shape shape_of is_own command_in asked json_of
+row_rank = refl
 
 pub row_run_on : request_in (codes "{\"cmd\":\"run-on\",\"max\":9}") ≡ plain (command.RunOn 9)
 unfolding is_utf8 chars serde_json_on_literals break_shape shape_of is_own command_in asked json_of
@@ -73,6 +108,10 @@ row_too_many = refl
 pub row_no_object : request_in (codes "[\"state\"]") ≡ Err BadField
 unfolding is_utf8 chars serde_json_on_literals break_shape shape_of is_own command_in asked json_of
 row_no_object = refl
+
+pub row_steps : request_in (codes "{\"cmd\":\"steps\",\"count\":2,\"from\":1}") ≡ plain (command.Look (look.Steps 1 2))
+unfolding is_utf8 chars serde_json_on_literals break_shape shape_of is_own command_in asked json_of
+row_steps = refl
 
 -- a command that there is not is told before its fields
 pub row_unknown : request_in (codes "{\"cmd\":\"halt\",\"id\":null}") ≡ Err UnknownCommand

@@ -4,6 +4,7 @@
 pub mod engine;
 pub mod fault;
 mod fields;
+mod look_values;
 pub mod parser;
 pub mod printer;
 pub(crate) mod shape;

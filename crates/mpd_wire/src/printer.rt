@@ -7,13 +7,17 @@ ghost use Rattle.mpd_wire.specs.Replies.{natural, integer, or_null, listed, memb
 ghost use Rattle.mpd_session.specs.declared.reply.Answer.TheVariants as answer;
 ghost use Rattle.mpd_session.specs.declared.reply.Refusal.TheVariants as refusal;
 
+use crate::look_values::{
+    BareScript, decided_value, explained_value, lines_value, listed_value, script_value,
+    where_value,
+};
 use mpd_model::{Cause, Step, Stop, print_step};
 use mpd_session::{Answer, HandleList, IntegerList, Refusal, Reply, Text, TextList};
 use serde_json::{Map, Value, put};
 use std::alloc::{AllocError, Global};
 
 /// The fields of an object so far, or that memory was refused for one of them.
-type Fields = Result<Map<String, Value>, AllocError>;
+pub(crate) type Fields = Result<Map<String, Value>, AllocError>;
 
 /// The text of a reply (docs/SESSIONS.md, "Replies"), without its line feed. An `Err` is want of memory.
 pub fn print(alloc: Global, reply: &Reply) -> Result<String, AllocError>
@@ -33,7 +37,7 @@ fn value_of(alloc: Global, reply: &Reply) -> Result<Value, AllocError>
 }
 
 /// An object without fields.
-fn no_fields(alloc: Global) -> Fields
+pub(crate) fn no_fields(alloc: Global) -> Fields
     ensures { IfOk result (λ f. members_view f.entries ≡ no_members) }
 {
     Ok(Map::new(alloc))
@@ -54,7 +58,7 @@ fn one_more(alloc: Global, fields: Map<String, Value>, key: &str, value: Value) 
 }
 
 /// The fields with one more, where none was refused before it.
-fn with_field(alloc: Global, fields: Fields, key: &str, value: Value) -> Fields
+pub(crate) fn with_field(alloc: Global, fields: Fields, key: &str, value: Value) -> Fields
     ensures { (held : Members) → IfOk fields (λ f. members_view f.entries ≡ held) → IfOk result (λ f. members_view f.entries ≡ put key.now (view value) held) }
 {
     match fields {
@@ -67,14 +71,14 @@ fn with_field(alloc: Global, fields: Fields, key: &str, value: Value) -> Fields
 }
 
 /// The fields with a number more, where none was refused before it.
-fn with_number(alloc: Global, fields: Fields, key: &str, number: usize) -> Fields
+pub(crate) fn with_number(alloc: Global, fields: Fields, key: &str, number: usize) -> Fields
     ensures { (held : Members) → IfOk fields (λ f. members_view f.entries ≡ held) → IfOk result (λ f. members_view f.entries ≡ put key.now (natural number) held) }
 {
     with_field(alloc, fields, key, Value::from(number))
 }
 
 /// The fields with a truth value more, where none was refused before it.
-fn with_flag(alloc: Global, fields: Fields, key: &str, flag: bool) -> Fields
+pub(crate) fn with_flag(alloc: Global, fields: Fields, key: &str, flag: bool) -> Fields
     ensures { (held : Members) → IfOk fields (λ f. members_view f.entries ≡ held) → IfOk result (λ f. members_view f.entries ≡ put key.now (boolean flag) held) }
 {
     with_field(alloc, fields, key, Value::Bool(flag))
@@ -94,7 +98,7 @@ fn one_text_more(alloc: Global, fields: Map<String, Value>, key: &str, text: &st
 }
 
 /// The fields with a text more, where none was refused before it.
-fn with_text(alloc: Global, fields: Fields, key: &str, text: &str) -> Fields
+pub(crate) fn with_text(alloc: Global, fields: Fields, key: &str, text: &str) -> Fields
     ensures { (held : Members) → IfOk fields (λ f. members_view f.entries ≡ held) → IfOk result (λ f. members_view f.entries ≡ put key.now (string text.now) held) }
 {
     match fields {
@@ -104,7 +108,7 @@ fn with_text(alloc: Global, fields: Fields, key: &str, text: &str) -> Fields
 }
 
 /// The object of some fields.
-fn object_of(fields: Fields) -> Result<Value, AllocError>
+pub(crate) fn object_of(fields: Fields) -> Result<Value, AllocError>
     ensures { (held : Members) → IfOk fields (λ f. members_view f.entries ≡ held) → IfOk result (λ v. view v ≡ object held) }
 {
     match fields {
@@ -114,14 +118,14 @@ fn object_of(fields: Fields) -> Result<Value, AllocError>
 }
 
 /// The object of some fields, with the version of the session as its last.
-fn with_version(alloc: Global, fields: Fields, version: u64) -> Result<Value, AllocError>
+pub(crate) fn with_version(alloc: Global, fields: Fields, version: u64) -> Result<Value, AllocError>
     ensures { (held : Members) → IfOk fields (λ f. members_view f.entries ≡ held) → IfOk result (λ v. view v ≡ object (put (codes "version") (natural version) held)) }
 {
     object_of(with_field(alloc, fields, "version", Value::from(version)))
 }
 
 /// The fields with a depth more, and that the request was carried out.
-fn with_depth(alloc: Global, fields: Fields, depth: usize) -> Fields
+pub(crate) fn with_depth(alloc: Global, fields: Fields, depth: usize) -> Fields
     ensures { (held : Members) → IfOk fields (λ f. members_view f.entries ≡ held) → IfOk result (λ f. members_view f.entries ≡ put (codes "ok") (boolean true) (put (codes "depth") (natural depth) held)) }
 {
     let fields = with_number(alloc, fields, "depth", depth);
@@ -217,6 +221,53 @@ fn done(alloc: Global, version: u64, answer: &Answer) -> Result<Value, AllocErro
         Answer::Removed => removed_value(alloc, version),
         Answer::Breaks(breaks) => breaks_value(alloc, version, &breaks.items),
         Answer::Explored { leaves, more } => leaves_value(alloc, version, &leaves.items, *more),
+        Answer::Script {
+            ranks,
+            mode,
+            vars,
+            handles,
+            lines,
+        } => {
+            let script = BareScript {
+                ranks: *ranks,
+                mode: *mode,
+                vars: &vars.items,
+                handles: &handles.items,
+                lines: &lines.items,
+            };
+            script_value(alloc, version, script)
+        }
+        Answer::Where {
+            ranks,
+            lines,
+            ready,
+            held,
+        } => where_value(
+            alloc,
+            version,
+            &ranks.items,
+            &lines.items,
+            &ready.items,
+            held,
+        ),
+        Answer::Decided {
+            coming,
+            steps,
+            told,
+            outcome,
+        } => decided_value(alloc, version, *coming, &steps.items, &told.items, outcome),
+        Answer::Steps {
+            depth,
+            steps,
+            undone,
+        } => listed_value(alloc, version, *depth, &steps.items, *undone),
+        Answer::Lines { lines, partners } => lines_value(
+            alloc,
+            version,
+            &lines.items,
+            &partners.items,
+        ),
+        Answer::Explained(lines) => explained_value(alloc, version, &lines.items),
     }
 }
 
@@ -441,7 +492,7 @@ fn leaves_value(
     with_version(alloc, fields, version)
 }
 
-fn texts_value(alloc: Global, texts: &[String]) -> Result<Value, AllocError>
+pub(crate) fn texts_value(alloc: Global, texts: &[String]) -> Result<Value, AllocError>
     ensures { IfOk result (λ v. view v ≡ listed string (map string_bytes texts.now)) }
 {
     let mut values = Vec::new(alloc);
@@ -458,7 +509,7 @@ fn integer_value(number: &i64) -> Value
     Value::from(*number)
 }
 
-fn integers_value(alloc: Global, numbers: &[i64]) -> Result<Value, AllocError>
+pub(crate) fn integers_value(alloc: Global, numbers: &[i64]) -> Result<Value, AllocError>
     ensures { IfOk result (λ v. view v ≡ listed integer numbers.now) }
 {
     let mut values = Vec::new(alloc);
@@ -478,7 +529,7 @@ fn handle_value(handle: Option<usize>) -> Value
     }
 }
 
-fn handles_value(alloc: Global, handles: &[Option<usize>]) -> Result<Value, AllocError>
+pub(crate) fn handles_value(alloc: Global, handles: &[Option<usize>]) -> Result<Value, AllocError>
     ensures { IfOk result (λ v. view v ≡ listed or_null handles.now) }
 {
     let mut values = Vec::new(alloc);

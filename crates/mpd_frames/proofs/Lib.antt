@@ -1,0 +1,9 @@
+pub mod HeaderLemmas
+pub mod ReaderLemmas
+pub mod FrameLemmas
+pub mod LengthLemmas
+pub mod SpokenLemmas
+pub mod FedLemmas
+pub mod TurnLemmas
+pub mod WriteLemmas
+pub mod AgainLemmas

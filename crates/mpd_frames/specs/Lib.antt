@@ -1,0 +1,11 @@
+pub mod Header
+pub mod Scanning
+pub mod Frames
+pub mod Frame
+pub mod Reading
+pub mod FaultWords
+pub mod Answered
+pub mod Fed
+pub mod Served
+pub mod Turned
+pub mod FrameRows

@@ -1,0 +1,10 @@
+use Rattle.std.proofs.Common.{◌≡◌, ◌-◌, ◌++◌, map}
+use Rattle.std.specs.List.{range_with_len}
+use Rattle.mpd_model.specs.steps.World.{call_id, call_at, call_numbers}
+use Rattle.mpd_names.specs.Placed.{issue_line}
+use Rattle.mpd_session.proofs.places.call_lines.Given as goal
+
+abbrev pub invariant-loop-index : goal.invariant-loop-index
+invariant-loop-index l =
+    l.items.items ++ map (λ i. issue_line l.core.program.lines (call_at l.core.world.board (call_id l.rank i))) (range_with_len l.index (l.count - l.index))
+    ≡ map (λ i. issue_line l.core.program.lines (call_at l.core.world.board (call_id l.rank i))) (call_numbers l.core.world.board l.rank)
