@@ -9,19 +9,18 @@ use Rattle.mpd_model.specs.runs.Running.{all_applied, stop_of}
 use Rattle.mpd_model.specs.runs.Trail.{Trail, forgotten}
 use Rattle.mpd_policy.specs.Single.{ran_on}
 use Rattle.mpd_model.specs.declared.breakpoint.Break.{Break}
-use Rattle.mpd_model.specs.declared.breakpoint.Break.TheVariants as on
 use Rattle.mpd_model.specs.runs.Breakpoints.{no_breaks, lowest_free}
-use Rattle.mpd_console.specs.Onward.{alone, frees, steps_by, steps_to_line, steps_to_wake, steps_with}
+use Rattle.mpd_console.specs.Onward.{on_line, alone, frees, steps_by, steps_to_line, steps_to_wake, steps_with}
 
 -- A breakpoint that was set where there was none is the only one.
 first_is_free : lowest_free no_breaks ≡ Some 0
 first_is_free = refl
 
 -- the lowest place of none that are taken is the first
-pub added_alone : (n : ℕ) (places all : List (Option Break)) (number : Option ℕ) → places ≡ no_breaks → number ≡ lowest_free places → IfSome number (λ k. all ≡ slice_set places k (Some (on.Line n))) → all ≡ alone n
+pub added_alone : (n : ℕ) (places all : List (Option Break)) (number : Option ℕ) → places ≡ no_breaks → number ≡ lowest_free places → IfSome number (λ k. all ≡ slice_set places k (Some (on_line n))) → all ≡ alone n
 added_alone n places all number none is set =
     let first : number ≡ Some 0 = is ∙ ap lowest_free none ∙ first_is_free in
-    subst (λ o. IfSome o (λ k. all ≡ slice_set places k (Some (on.Line n)))) first set ∙ ap (λ p. slice_set p 0 (Some (on.Line n))) none
+    subst (λ o. IfSome o (λ k. all ≡ slice_set places k (Some (on_line n)))) first set ∙ ap (λ p. slice_set p 0 (Some (on_line n))) none
 
 pub line_is : (t u : Trail) (w v : World) (b : List (Option Break)) (n k : ℕ) (s : Stop) → u ≡ forgotten t → v ≡ w → b ≡ alone n → s ≡ stop_of (ran_on u.program b STEPS_MAX u.depth v) → k ≡ steps_by s → k ≡ steps_to_line t w n
 unfolding steps_to_line

@@ -5,3 +5,4 @@ pub mod Quitting
 pub mod News
 pub mod Onward
 pub mod Moves
+pub mod Values

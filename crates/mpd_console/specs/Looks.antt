@@ -1,5 +1,6 @@
 -- What words are answered that change nothing.
 use Rattle.std.specs.Prelude.{ℕ, nat_lt, if◌then◌else◌, List, [], ◌∷◌, ◌++◌, length, Option, Some, None, is_some, codes}
+use Rattle.std.specs.Fmt.{decimal}
 use Rattle.std.specs.List.{flat_map, range_with_len}
 use Rattle.mpd_model.specs.declared.limits.TheConstants.{BREAKS_MAX}
 use Rattle.mpd_model.specs.declared.step.CallId.{CallId}
@@ -82,6 +83,10 @@ abbrev pub unfinished_text : Program → World → Option ℕ → List ℕ
 unfinished_text s w None = line (codes "refused: the last step is of no rank; finish P names one")
 unfinished_text s w (Some p) = why_of_text s w (Some p)
 
+-- of `until`, where no statement begins at the line
+abbrev pub no_statement : ℕ → List ℕ
+no_statement n = line (codes "refused: no statement begins at line " ++ decimal n)
+
 abbrev pub whole_text : Trail → World → List ℕ
 whole_text t w = show_text t.program w t.depth (length t.steps)
 
@@ -98,6 +103,7 @@ look_text t w places text word.Queues = shown.queues_text t.program w.board
 look_text t w places text (word.WhyCall c) = why_call_text t.program w c
 look_text t w places text (word.WhyRank p) = why_of_text t.program w p
 look_text t w places text (word.Finish p) = unfinished_text t.program w (finish_rank t p)
+look_text t w places text (word.Until n) = no_statement n
 look_text t w places text (word.History n) = history_text t n
 look_text t w places text word.Picture = picture_text t w
 look_text t w places text (word.Check n) = check_text t w n

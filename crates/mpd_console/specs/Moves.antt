@@ -1,7 +1,6 @@
 -- Words that ask the session for something that changes it: what they ask, and what is told of the reply.
 use Rattle.std.specs.Prelude.{ℕ, ◌-◌, ◌==◌, Bool, true, false, ◌&&◌, ◌||◌, not, min, drop, nat_lt, nat_le, is_some, is_none, if◌then◌else◌, List, [], ◌∷◌, ◌++◌, length, slice_get, Option, Some, None, codes}
 use Rattle.std.specs.Fmt.{decimal}
-use Rattle.std.specs.List.{list_any}
 use Rattle.mpd_model.specs.declared.step.Step.{Step}
 use Rattle.mpd_model.specs.declared.decision.Decision.{Decision}
 use Rattle.mpd_model.specs.declared.decision.Decision.TheVariants.{Forced, Choice, Leaf}
@@ -39,7 +38,7 @@ use Rattle.mpd_console.specs.declared.moves.Doing.TheVariants.{Asks, Undoes, See
 use Rattle.mpd_runs.specs.declared.way.Way.TheVariants as way
 use Rattle.mpd_runs.specs.Seek.{count_words}
 use Rattle.mpd_console.specs.News.{Known, known_for, news_text}
-use Rattle.mpd_console.specs.Onward.{is_line, steps_to_line, steps_to_wake, finish_rank}
+use Rattle.mpd_console.specs.Onward.{on_line, begins, is_line, steps_to_line, steps_to_wake, finish_rank}
 use Rattle.mpd_vocabulary.specs.declared.word.Word.{Word}
 use Rattle.mpd_vocabulary.specs.declared.word.Word.TheVariants as word
 
@@ -119,7 +118,11 @@ up_to t w n = no_further n (run_command t w STEPS_MAX)
 
 -- up to where a rank comes to a line, as `run` goes on; what is no line is refused as a breakpoint on it is
 abbrev pub until_command : Trail → World → ℕ → Command
-until_command t w n = if is_line n then up_to t w (steps_to_line t w n) else command.Break (on.Line n)
+until_command t w n = if is_line n then up_to t w (steps_to_line t w n) else command.Break (on_line n)
+
+-- where no statement begins at the line nothing is done
+abbrev pub until_doing : Trail → World → ℕ → Doing
+until_doing t w n = if is_line n && not (begins t.program.lines n) then Looks else Asks (until_command t w n)
 
 -- up to where a rank goes on that waits
 abbrev pub finish_command : Trail → World → ℕ → Command
@@ -135,7 +138,7 @@ finish_doing t w (Some p) = if waits (slice_get w.ranks p) then Asks (finish_com
 abbrev pub doing_of : Trail → World → Word → Doing
 doing_of t w (word.Next n) = Asks (next_command t w n)
 doing_of t w (word.Run n) = Asks (run_command t w n)
-doing_of t w (word.Until n) = Asks (until_command t w n)
+doing_of t w (word.Until n) = until_doing t w n
 doing_of t w (word.Finish p) = finish_doing t w (finish_rank t p)
 doing_of t w (word.Back n) = Asks (command.Back n)
 doing_of t w word.RunBack = Asks command.RunBack
@@ -299,26 +302,17 @@ ran_line x depth count = line (count_words count ++ back_words x ++ codes ", dep
 
 -- `no statement begins at line 7`, where that is so
 abbrev pub statement_line : List ℕ → ℕ → List ℕ
-statement_line lines n = if list_any (λ l. l == n) lines then [] else line (codes "no statement begins at line " ++ decimal n)
-
--- of the line that `until` goes on to
-abbrev pub until_note : List ℕ → Word → List ℕ
-until_note lines (word.Until n) = statement_line lines n
-until_note lines other = []
-
--- why a run made no more steps, and before it that no statement stands on the line that was named
-abbrev pub stopped_text : Program → List (Option Break) → Word → Cause → List ℕ
-stopped_text p places x cause = until_note p.lines x ++ cause_line p.decls places x cause
+statement_line lines n = if begins lines n then [] else line (codes "no statement begins at line " ++ decimal n)
 
 abbrev pub run_text : List ℕ → Trail → World → List (Option Break) → Word → ℕ → Stop → Known → List ℕ
 run_text text t w places x depth stop k =
-    ran_line x depth stop.steps ++ news_text k t w ++ stopped_text t.program places x stop.cause ++ standing_text text t w
+    ran_line x depth stop.steps ++ news_text k t w ++ cause_line t.program.decls places x stop.cause ++ standing_text text t w
 
 -- ---- breakpoints
 
 abbrev pub break_note : List ℕ → Break → List ℕ
-break_note lines (on.Line n) = statement_line lines n
-break_note lines (on.Match n) = statement_line lines n
+break_note lines (on.Line n of when) = statement_line lines n
+break_note lines (on.Match n of) = statement_line lines n
 break_note lines other = []
 
 abbrev pub added_line : Program → Word → ℕ → List ℕ
@@ -331,15 +325,24 @@ removed_line other = []
 
 -- ---- refusals
 
--- which numbers there are, of a line or of a rank
+abbrev pub no_line : List ℕ
+no_line = line (codes "refused: lines are 1 to 65537")
+
+abbrev pub no_rank : List ℕ
+no_rank = line (codes "refused: there is no such rank")
+
+-- what isn't there, of a line and a rank: where the line may be, it is the rank
+abbrev pub line_range : ℕ → List ℕ
+line_range n = if is_line n then no_rank else no_line
+
 abbrev pub break_range : Break → List ℕ
-break_range (on.Line n) = line (codes "refused: lines are 1 to 65537")
-break_range (on.Match n) = line (codes "refused: lines are 1 to 65537")
-break_range other = line (codes "refused: there is no such rank")
+break_range (on.Line n of when) = line_range n
+break_range (on.Match n of) = line_range n
+break_range other = no_rank
 
 abbrev pub range_line : Word → List ℕ
 range_line (word.Break b) = break_range b
-range_line (word.Until n) = break_range (on.Line n)
+range_line (word.Until n) = no_line
 range_line other = line (codes "refused: 1 to 1000000 steps can be asked for")
 
 -- `next` is answered with where it stands, and says why only where that doesn't tell

@@ -1,6 +1,6 @@
 -- How far `until` and `finish` go on (docs/CONSOLE.md, "Words that move").
 use Rattle.std.specs.Prelude.{ℕ, ◌+◌, ◌-◌, ◌==◌, Bool, true, false, ◌&&◌, nat_le, if◌then◌else◌, List, drop, slice_get, slice_set, Option, Some, None, option_and_then}
-use Rattle.std.specs.List.{position}
+use Rattle.std.specs.List.{list_any, position}
 use Rattle.mpd_model.specs.declared.limits.TheConstants.{STEPS_MAX}
 use Rattle.mpd_session.specs.declared.limits.TheConstants.{LINES_MAX}
 use Rattle.mpd_model.specs.declared.step.Step.{Step}
@@ -22,9 +22,17 @@ use Rattle.mpd_policy.specs.Single.{ran_on}
 abbrev pub is_line : ℕ → Bool
 is_line n = nat_le 1 n && nat_le n LINES_MAX
 
--- a breakpoint on a line, and no other
+-- whether a statement begins at a line, given the line of each
+abbrev pub begins : List ℕ → ℕ → Bool
+begins lines n = list_any (λ l. l == n) lines
+
+-- a breakpoint on a line, of any rank, and whatever holds there
+abbrev pub on_line : ℕ → Break
+on_line n = on.Line n None None
+
+-- such a one, and no other
 abbrev pub alone : ℕ → List (Option Break)
-alone n = slice_set no_breaks 0 (Some (on.Line n))
+alone n = slice_set no_breaks 0 (Some (on_line n))
 
 -- as many steps as a run made that stopped for a breakpoint; else as many as there can be
 abbrev pub steps_for : ℕ → Cause → ℕ

@@ -1,5 +1,5 @@
 -- What a line of the console is answered, and where that leaves the session.
-use Rattle.std.specs.Prelude.{◌≡◌, ℕ, ◌-◌, ◌⊎◌, Bool, true, false, nat_lt, List, [], ◌++◌, length, Option, Some, None, option_and_then, IfSome, codes, refl}
+use Rattle.std.specs.Prelude.{◌≡◌, ℕ, ◌-◌, ◌⊎◌, Bool, true, false, nat_lt, List, [], ◌∷◌, ◌++◌, length, Option, Some, None, option_and_then, IfSome, codes, refl}
 use Rattle.std.specs.Coded.{Coded, code_by, coded×, coded_ℕ, coded_bool, coded_list, coded_option}
 use Rattle.std.specs.Fmt.{decimal}
 use Rattle.mpd_model.specs.declared.limits.TheConstants.{LINE_MAX}
@@ -24,8 +24,9 @@ use Rattle.mpd_vocabulary.specs.declared.word.Word.{Word}
 use Rattle.mpd_vocabulary.specs.declared.word.Word.TheVariants as word
 use Rattle.mpd_vocabulary.specs.declared.word.WordFault.{WordFault}
 use Rattle.mpd_vocabulary.specs.declared.read.Line.{Line}
-use Rattle.mpd_vocabulary.specs.declared.read.Line.TheVariants.{Blank, Comment, Says, Wrong}
-use Rattle.mpd_vocabulary.specs.Reading.{line_of}
+use Rattle.mpd_vocabulary.specs.declared.read.Line.TheVariants.{Blank, Comment, Says, Evaluates, Wrong}
+use Rattle.mpd_vocabulary.specs.Reading.{line_of, behind_word}
+use Rattle.mpd_console.specs.declared.prompts.Look.{Look}
 use Rattle.mpd_console.specs.declared.moves.Doing.{Doing}
 use Rattle.mpd_console.specs.declared.moves.Doing.TheVariants.{Asks, Undoes, Seeks, Follows, Blames, Looks}
 use Rattle.mpd_console.specs.News.{Known, told}
@@ -34,6 +35,7 @@ use Rattle.mpd_blame.specs.declared.back.Blame.{Blame}
 use Rattle.mpd_blame.specs.declared.back.Blame.TheVariants as blame_is
 use Rattle.mpd_console.specs.Blamed.{TellsBlame}
 use Rattle.mpd_console.specs.Looks.{look_text}
+use Rattle.mpd_console.specs.Values.{asked_text, is_asked, kept_if}
 use Rattle.mpd_runs.specs.declared.counts.WayCounts.{WayCounts}
 use Rattle.mpd_runs.specs.declared.search.Scope.{Scope}
 use Rattle.mpd_runs.specs.declared.search.Scope.TheVariants.{Listed}
@@ -45,7 +47,8 @@ use Rattle.mpd_runs.specs.Runs.{fuel_at, none_line}
 use Rattle.mpd_runs.specs.Seek.{found_run, numbered_run, nothing_line, LeadsTo, LiesAhead, TooMany, ahead_line, no_run_line}
 use Rattle.mpd_runs.specs.LastChoice.{last_choice, no_choice_line}
 use Rattle.mpd_vocabulary.specs.Faults.{fault_text}
-use Rattle.mpd_lines.specs.Folding.{folded}
+use Rattle.mpd_lines.specs.Echo.{echo, long_echo}
+use Rattle.mpd_lines.specs.Folding.{folded_at}
 
 -- the lines that stand in the place of an answer: where memory is refused before anything was done, and behind that
 abbrev pub memory_line : List ℕ
@@ -69,8 +72,8 @@ prompt false s = []
 prompt true s = codes "(" ++ decimal s.trail.depth ++ codes ") "
 
 -- an answer whose long lines go on in further lines
-abbrev pub said : Bool → Held → List ℕ → List ℕ
-said p s told = folded told ++ prompt p s
+abbrev pub said : Look → Held → List ℕ → List ℕ
+said p s told = folded_at p.width told ++ prompt p.is_prompting s
 
 abbrev pub lead_said : Held → Word → List ℕ
 lead_said s x = at_world (λ w. lead_text s.trail w x) (world_of s.trail)
@@ -83,7 +86,7 @@ known_at t x (Some w) = way_known t w x
 abbrev pub known_in : Held → Word → Known
 known_in s x = known_at s.trail x (world_of s.trail)
 
-abbrev pub reply_said : Bool → List ℕ → Held → Word → List ℕ → Known → Reply → List ℕ
+abbrev pub reply_said : Look → List ℕ → Held → Word → List ℕ → Known → Reply → List ℕ
 reply_said p script s x lead k r = said p s (at_world (λ w. reply_text script s.trail w s.breaks x lead k r) (world_of s.trail))
 
 -- behind `quit` no prompt stands
@@ -92,37 +95,41 @@ prompts_behind p word.Quit = false
 prompts_behind p other = p
 
 -- what a word shows as it is, however long its lines are
-abbrev pub laid_out : Word → List ℕ → List ℕ
-laid_out (word.List rank) told = told
-laid_out word.Show told = told
-laid_out word.Words told = told
-laid_out word.Picture told = told
-laid_out other told = folded told
+abbrev pub laid_out : ℕ → Word → List ℕ → List ℕ
+laid_out width (word.List rank) told = told
+laid_out width word.Show told = told
+laid_out width word.Words told = told
+laid_out width word.Picture told = told
+laid_out width other told = folded_at width told
 
-abbrev pub look_said : Bool → List ℕ → Held → Word → List ℕ
-look_said p script s x = laid_out x (at_world (λ w. look_text s.trail w s.breaks script x) (world_of s.trail)) ++ prompt (prompts_behind p x) s
+abbrev pub look_said : Look → List ℕ → Held → Word → List ℕ
+look_said p script s x = laid_out p.width x (at_world (λ w. look_text s.trail w s.breaks script x) (world_of s.trail)) ++ prompt (prompts_behind p.is_prompting x) s
 
 -- of a run that lies ahead, which ends so and has so many steps more than are taken; of the run of a number this, too
-abbrev pub laid_said : Bool → List ℕ → Held → Option ℕ → Ending → ℕ → List ℕ
+abbrev pub laid_said : Look → List ℕ → Held → Option ℕ → Ending → ℕ → List ℕ
 laid_said p script s number e ahead = said p s (ahead_line s.trail.program.lines number e ahead ++ at_world (λ w. standing_text script s.trail w) (world_of s.trail))
 
 -- of steps that lie ahead from the start of a script: how the run ends that they make
-abbrev pub AlongSaid : Program → Mode → Bool → List ℕ → List Step → List ℕ → Type 0
+abbrev pub AlongSaid : Program → Mode → Look → List ℕ → List Step → List ℕ → Type 0
 AlongSaid s mode p script steps text = (e : Ending) × LeadsTo (start s mode) steps e × (text ≡ laid_said p script (laid (opened s mode) steps) None e (length steps))
 
 -- of the steps of a witness, which lie ahead from there: the same, and the run ends in what the witness leads to
-abbrev pub WitnessSaid : Program → Mode → Bool → List ℕ → Witness → List ℕ → Type 0
+abbrev pub WitnessSaid : Program → Mode → Look → List ℕ → Witness → List ℕ → Type 0
 WitnessSaid s mode p script x text =
     (e : Ending) × (end_of e ≡ Some x.end) × LeadsTo (start s mode) x.steps e × (text ≡ laid_said p script (laid (opened s mode) x.steps) None e (length x.steps))
 
-abbrev pub not_found_said : Bool → Held → Way → WayCounts → List ℕ
+abbrev pub not_found_said : Look → Held → Way → WayCounts → List ℕ
 not_found_said p s x counts = said p s (none_line x counts)
 
-abbrev pub fault_said : Bool → Held → List ℕ → WordFault → List ℕ
+abbrev pub fault_said : Look → Held → List ℕ → WordFault → List ℕ
 fault_said p s z f = said p s (fault_text z f)
 
-abbrev pub none_said : Scope → Bool → Held → Way → List ℕ
+abbrev pub none_said : Scope → Look → Held → Way → List ℕ
 none_said k p s x = said p s (at_world (λ w. nothing_line k x s.trail w) (world_of s.trail))
+
+-- of what stands behind `print` and is to be an expression
+abbrev pub value_said : Look → Held → List ℕ → List ℕ
+value_said p s z = said p s (at_world (λ w. asked_text s.trail.program w z) (world_of s.trail))
 
 -- ---- what a word does to the session
 
@@ -139,22 +146,22 @@ asking c = record { command = c; at = None }
 
 -- A word that asks the session: the session behind it is the one behind that request, and its reply is told; or memory was refused, and
 -- the session is as before.
-abbrev pub Carried : Bool → List ℕ → Held → Word → Command → Held → List ℕ → Type 0
+abbrev pub Carried : Look → List ℕ → Held → Word → Command → Held → List ℕ → Type 0
 Carried p script s x c t text =
     ((t ≡ (respond s (asking c)).1) × Told (reply_said p script t x (lead_said s x) (known_in s x) (respond s (asking c)).0) text) ⊎ ((t ≡ s) × (text ≡ memory_line))
 
 -- A word that is refused by its own: the session is as before.
-abbrev pub Refused : Bool → Held → List ℕ → Held → List ℕ → Type 0
+abbrev pub Refused : Look → Held → List ℕ → Held → List ℕ → Type 0
 Refused p s told t text = (t ≡ s) × (Told (said p s told) text ⊎ (text ≡ memory_line))
 
 -- The last choice is gone back to, by a request for it, or none was made.
-abbrev pub UndoneBy : Bool → List ℕ → Held → Word → Option ℕ → Held → List ℕ → Type 0
+abbrev pub UndoneBy : Look → List ℕ → Held → Word → Option ℕ → Held → List ℕ → Type 0
 UndoneBy p script s x None t text = Refused p s no_choice_line t text
 UndoneBy p script s x (Some n) t text = Carried p script s x (command.Goto n) t text
 
 -- A run lies ahead: its steps are those that are kept, of which as many are not undone as were before; or memory was refused, and the
 -- session is as before.
-abbrev pub LaidBy : Bool → List ℕ → Held → Option ℕ → WholeRun → Held → List ℕ → Type 0
+abbrev pub LaidBy : Look → List ℕ → Held → Option ℕ → WholeRun → Held → List ℕ → Type 0
 LaidBy p script s number r t text =
     (LiesAhead s.trail r × (t ≡ laid s r.steps) × Told (laid_said p script t number r.ending (length r.steps - s.trail.depth)) text) ⊎ ((t ≡ s) × (text ≡ memory_line))
 
@@ -172,38 +179,38 @@ WhyListed k s x = k ≡ Listed → IfSome (world_of s.trail) (TooMany x (fuel_at
 -- what a search from a session has found, in the words of that session
 abbrev pub FoundAs : Scope → Held → Way → Sought → Type 0
 FoundAs k s x (Found r) = found_from k s x ≡ Some r
-FoundAs k s x (Nothing counts) = (found_from k s x ≡ None) × ((p : Bool) → not_found_said p s x counts ≡ none_said k p s x)
+FoundAs k s x (Nothing counts) = (found_from k s x ≡ None) × ((p : Look) → not_found_said p s x counts ≡ none_said k p s x)
 
 abbrev pub IsFoundFrom : Scope → Held → Way → Sought → Type 0
 IsFoundFrom k s x q = WhyListed k s x × FoundAs k s x q
 
-abbrev pub SoughtBy : Scope → Bool → List ℕ → Held → Way → Option WholeRun → Held → List ℕ → Type 0
+abbrev pub SoughtBy : Scope → Look → List ℕ → Held → Way → Option WholeRun → Held → List ℕ → Type 0
 SoughtBy k p script s x None t text = (t ≡ s) × Looked (none_said k p s x) text
 SoughtBy k p script s x (Some r) t text = LaidBy p script s None r t text
 
 -- All runs of the wide walk are looked at, or those that are listed.
-abbrev pub SoughtFrom : Bool → List ℕ → Held → Way → Held → List ℕ → Type 0
+abbrev pub SoughtFrom : Look → List ℕ → Held → Way → Held → List ℕ → Type 0
 SoughtFrom p script s x t text = (k : Scope) × WhyListed k s x × SoughtBy k p script s x (found_from k s x) t text
 
-abbrev pub FollowedBy : Bool → List ℕ → Held → ℕ → Option WholeRun → Held → List ℕ → Type 0
+abbrev pub FollowedBy : Look → List ℕ → Held → ℕ → Option WholeRun → Held → List ℕ → Type 0
 FollowedBy p script s n None t text = Refused p s no_run_line t text
 FollowedBy p script s n (Some r) t text = LaidBy p script s (Some n) r t text
 
 -- a line is told, or memory for it was refused; and what `goto` answers of a depth
-abbrev pub IsGone : Bool → List ℕ → Held → ℕ → List ℕ → Held → List ℕ → Type 0
+abbrev pub IsGone : Look → List ℕ → Held → ℕ → List ℕ → Held → List ℕ → Type 0
 IsGone p script s depth told t text =
-    ((rest : List ℕ) × (text ≡ folded told ++ rest) × Carried p script s (word.Goto depth) (goto_command s.trail depth) t rest) ⊎ ((t ≡ s) × (text ≡ memory_line))
+    ((rest : List ℕ) × (text ≡ folded_at p.width told ++ rest) × Carried p script s (word.Goto depth) (goto_command s.trail depth) t rest) ⊎ ((t ≡ s) × (text ≡ memory_line))
 
 -- The step that decided is told, and it is gone to, as `goto` goes there; or where it isn't known which, that is told.
-abbrev pub BlamedAs : Bool → List ℕ → Held → Blame → List ℕ → Held → List ℕ → Type 0
+abbrev pub BlamedAs : Look → List ℕ → Held → Blame → List ℕ → Held → List ℕ → Type 0
 BlamedAs p script s (blame_is.At d) told t text = IsGone p script s d.depth told t text
 BlamedAs p script s b told t text = (t ≡ s) × Looked (said p s told) text
 
 -- It is told of the run that is kept; or memory was refused, and the session is as before.
-abbrev pub BlamedBy : Bool → List ℕ → Held → Held → List ℕ → Type 0
+abbrev pub BlamedBy : Look → List ℕ → Held → Held → List ℕ → Type 0
 BlamedBy p script s t text = ((b : Blame) × (told : List ℕ) × TellsBlame s.trail b told × BlamedAs p script s b told t text) ⊎ ((t ≡ s) × (text ≡ memory_line))
 
-abbrev pub AnsweredBy : Bool → List ℕ → Held → Word → Doing → Held → List ℕ → Type 0
+abbrev pub AnsweredBy : Look → List ℕ → Held → Word → Doing → Held → List ℕ → Type 0
 AnsweredBy p script s x (Asks c) t text = Carried p script s x c t text
 AnsweredBy p script s x Undoes t text = UndoneBy p script s x (last_choice s.trail) t text
 AnsweredBy p script s x (Seeks way) t text = SoughtFrom p script s way t text
@@ -219,30 +226,51 @@ doing_at t x (Some w) = doing_of t w x
 abbrev pub doing_in : Held → Word → Doing
 doing_in s x = doing_at s.trail x (world_of s.trail)
 
--- A word is answered, given the text of the script and whether prompts are wanted.
-abbrev pub Answered : Bool → List ℕ → Held → Word → Held → List ℕ → Type 0
+-- A word is answered, given the text of the script and how answers look.
+abbrev pub Answered : Look → List ℕ → Held → Word → Held → List ℕ → Type 0
 Answered p script s x t text = AnsweredBy p script s x (doing_in s x) t text
+
+-- The value of an expression is told, or why it is none; the next empty line tells it again, if it is one.
+abbrev pub Evaluated : Look → Held → List ℕ → List ℕ → List ℕ → List ℕ → Type 0
+Evaluated p s old z new text = ((new ≡ kept_if (is_asked s.trail.program.decls z) z old) × Looked (value_said p s z) text) ⊎ ((new ≡ old) × (text ≡ memory_line))
 
 -- ---- lines
 
--- what a console holds: a session, the text of its script, the word that an empty line repeats, and whether prompts are wanted
+-- what a console holds: a session, the text of its script, what an empty line repeats, which is an expression or, where that is empty,
+-- a word, and how answers look
 pub record Console : Type 0 where
   pub session : Held
   pub script : List ℕ
   pub last : Option Word
-  pub prompts : Bool
+  pub asked : List ℕ
+  pub look : Look
+
+abbrev pub look_code : Coded Look
+look_code =
+    code_by (Bool × (Bool × ℕ)) (coded× coded_bool (coded× coded_bool coded_ℕ)) (λ p. (p.is_prompting, (p.is_echoing, p.width)))
+    (λ q. record { is_prompting = q.0; is_echoing = q.1.0; width = q.1.1 }) (λ _. refl)
 
 abbrev pub console_code : Coded Console
 console_code =
-    code_by (Held × (List ℕ × (Option Word × Bool))) (coded× held_code (coded× (coded_list coded_ℕ) (coded× (coded_option word_row.the_row.coded) coded_bool)))
-    (λ d. (d.session, (d.script, (d.last, d.prompts)))) (λ q. record { session = q.0; script = q.1.0; last = q.1.1.0; prompts = q.1.1.1 }) (λ _. refl)
+    code_by (Held × (List ℕ × (Option Word × (List ℕ × Look)))) (coded× held_code (coded× (coded_list coded_ℕ) (coded× (coded_option word_row.the_row.coded) (coded× (coded_list coded_ℕ) look_code))))
+    (λ d. (d.session, (d.script, (d.last, (d.asked, d.look))))) (λ q. record { session = q.0; script = q.1.0; last = q.1.1.0; asked = q.1.1.1.0; look = q.1.1.1.1 }) (λ _. refl)
 
 abbrev pub WordSays : Console → Word → List ℕ → Console → Type 0
-WordSays d x text e = (e.script ≡ d.script) × (e.last ≡ d.last) × (e.prompts ≡ d.prompts) × Answered d.prompts d.script d.session x e.session text
+WordSays d x text e = (e.script ≡ d.script) × (e.last ≡ d.last) × (e.asked ≡ d.asked) × (e.look ≡ d.look) × Answered d.look d.script d.session x e.session text
 
 abbrev pub RepeatSays : Console → Option Word → List ℕ → Console → Type 0
-RepeatSays d None text e = (e ≡ d) × Looked (prompt d.prompts d.session) text
+RepeatSays d None text e = (e ≡ d) × Looked (prompt d.look.is_prompting d.session) text
 RepeatSays d (Some x) text e = WordSays d x text e
+
+-- whether no expression is kept
+abbrev pub keeps_none : List ℕ → Bool
+keeps_none [] = true
+keeps_none (b ∷ z) = false
+
+-- what an empty line does: it tells an expression again, if one is kept
+abbrev pub BlankSays : Console → List ℕ → List ℕ → Console → Type 0
+BlankSays d [] text e = RepeatSays d d.last text e
+BlankSays d (b ∷ z) text e = (e ≡ d) × Looked (value_said d.look d.session (b ∷ z)) text
 
 -- what an empty line does behind a word: `next` lists the candidates of the next choice, and doesn't take one of the same number
 abbrev pub again : Word → Word
@@ -250,18 +278,28 @@ again (word.Next n) = word.Next None
 again other = other
 
 abbrev pub LineSays : Console → Line → List ℕ → List ℕ → Console → Type 0
-LineSays d Blank z text e = RepeatSays d d.last text e
-LineSays d Comment z text e = (e ≡ d) × Looked (prompt d.prompts d.session) text
-LineSays d (Says x) z text e = WordSays (record d { last = Some (again x) }) x text e
-LineSays d (Wrong f) z text e = (e ≡ d) × Looked (fault_said d.prompts d.session z f) text
+LineSays d Blank z text e = BlankSays d d.asked text e
+LineSays d Comment z text e = (e ≡ d) × Looked (prompt d.look.is_prompting d.session) text
+LineSays d (Says x) z text e = WordSays (record d { last = Some (again x); asked = [] }) x text e
+LineSays d Evaluates z text e = (e ≡ record d { asked = e.asked }) × Evaluated d.look d.session d.asked (behind_word z) e.asked text
+LineSays d (Wrong f) z text e = (e ≡ d) × Looked (fault_said d.look d.session z f) text
 
 abbrev pub SaysBy : Bool → Console → List ℕ → List ℕ → Console → Type 0
-SaysBy true d z text e = (e ≡ d) × (text ≡ too_long_line ++ prompt d.prompts d.session)
+SaysBy true d z text e = (e ≡ d) × (text ≡ too_long_line ++ prompt d.look.is_prompting d.session)
 SaysBy false d z text e = LineSays d (line_of d.session.trail.program.decls z) z text e
 
--- A console d answers a line by this text, and is e then.
+-- what is shown of a line before its answer, and of one that is too long
+abbrev pub shown : Bool → List ℕ → List ℕ
+shown false z = []
+shown true z = echo [] z
+
+abbrev pub long_shown : Bool → List ℕ
+long_shown false = []
+long_shown true = long_echo []
+
+-- A console d answers a line by this text, and is e then: by what is shown of the line, and an answer.
 abbrev pub ConsoleSays : Console → List ℕ → List ℕ → Console → Type 0
-ConsoleSays d z text e = SaysBy (nat_lt LINE_MAX (length z)) d z text e
+ConsoleSays d z text e = (answer : List ℕ) × (text ≡ shown d.look.is_echoing z ++ answer) × SaysBy (nat_lt LINE_MAX (length z)) d z answer e
 
 -- ---- the same, of what is added to a text
 

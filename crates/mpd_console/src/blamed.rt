@@ -3,7 +3,7 @@
 ghost use Rattle.std.specs.Prelude.{◌≡◌, ◌+◌, ◌<◌, ◌≤◌, ◌++◌, IfOk, IfSome, OnOk, OnErr, length, string_bytes, vec_len, vec_capacity};
 ghost use Rattle.std.specs.List.{position};
 ghost use Rattle.mpd_model.specs.runs.Trail.{step_eq};
-ghost use Rattle.mpd_lines.specs.Folding.{folded};
+ghost use Rattle.mpd_lines.specs.Folding.{folded_at};
 ghost use Rattle.mpd_console.specs.Blamed as way;
 ghost use Rattle.mpd_console.specs.Blamed.{kept_limit, IsWhole, TellsBlame};
 ghost use Rattle.mpd_console.specs.Says as spec;
@@ -11,10 +11,10 @@ ghost use Rattle.mpd_console.specs.Says.{Adds, Looked, IsGone, BlamedBy};
 
 use crate::desk::{MEMORY, Screen, add, carry_out};
 use crate::moves::goto_command;
-use crate::prompts::said;
+use crate::prompts::{Look, said};
 use mpd_blame::{Blame, blame_run, push_blame};
 use mpd_core::{Core, Debugger};
-use mpd_lines::{ROOM, push_all, push_folded};
+use mpd_lines::{ROOM, push_all, push_folded_at};
 use mpd_model::{Decision, STEPS_MAX, Step};
 use mpd_outcomes::StateLimits;
 use mpd_policy::decide;
@@ -165,15 +165,15 @@ fn blame_in(alloc: Global, session: &Session<'_>) -> Result<BlameLine, AllocErro
 }
 
 /// Adds a line, and keeps room for a short answer after it.
-fn push_line(line: &str, out: &mut Vec<u8>) -> Result<(), AllocError>
-    ensures text { OnOk result (out.new.items ≡ out.old.items ++ folded line.now) }
+fn push_line(line: &str, width: usize, out: &mut Vec<u8>) -> Result<(), AllocError>
+    ensures text { OnOk result (out.new.items ≡ out.old.items ++ folded_at width line.now) }
     ensures room { OnOk result (vec_len out.new + ROOM ≤ vec_capacity out.new) }
     ensures err { OnErr result (out.new.items ≡ out.old.items) }
     ensures len { OnErr result (vec_len out.new ≡ vec_len out.old) }
     ensures capacity { vec_capacity out.old ≤ vec_capacity out.new }
 {
     let mut text = Vec::new(*out.allocator());
-    push_folded(&mut text, line.as_bytes())?;
+    push_folded_at(&mut text, line.as_bytes(), width)?;
     out.reserve(text.len() + ROOM)?;
     push_all(out, &text);
     Ok(())
@@ -190,10 +190,10 @@ fn go_there(
     out: &mut Vec<u8>,
 )
     requires room { vec_len out.old + ROOM ≤ vec_capacity out.old }
-    ensures gone { Adds (IsGone screen.entry.is_prompting screen.entry.script.now session.old depth line.now session.new) out.old.items out.new.items }
+    ensures gone { Adds (IsGone screen.entry.look screen.entry.script.now session.old depth line.now session.new) out.old.items out.new.items }
     ensures capacity { vec_capacity out.old ≤ vec_capacity out.new }
 {
-    let Ok(()) = push_line(line, out) else {
+    let Ok(()) = push_line(line, screen.look.width, out) else {
         return push_all(out, MEMORY);
     };
     let command = goto_command(session.debugger(), depth);
@@ -202,12 +202,12 @@ fn go_there(
 
 /// Tells that it is not known by which step it was decided, or that it isn't decided.
 #[tactic(auto, using(crate::proofs::SaidLemmas::telling))]
-fn stay(alloc: Global, session: &Session<'_>, is_prompting: bool, line: &str, out: &mut Vec<u8>)
+fn stay(alloc: Global, session: &Session<'_>, look: Look, line: &str, out: &mut Vec<u8>)
     requires room { vec_len out.old + ROOM ≤ vec_capacity out.old }
-    ensures told { Adds (Looked (spec.said is_prompting session.now line.now)) out.old.items out.new.items }
+    ensures told { Adds (Looked (spec.said look session.now line.now)) out.old.items out.new.items }
     ensures capacity { vec_capacity out.old ≤ vec_capacity out.new }
 {
-    let Ok(text) = said(alloc, session, is_prompting, line) else {
+    let Ok(text) = said(alloc, session, look, line) else {
         return push_all(out, MEMORY);
     };
     add(&text, MEMORY, out)
@@ -222,7 +222,7 @@ pub(crate) fn tell_blame(
     out: &mut Vec<u8>,
 )
     requires room { vec_len out.old + ROOM ≤ vec_capacity out.old }
-    ensures blamed { Adds (BlamedBy screen.entry.is_prompting screen.entry.script.now session.old session.new) out.old.items out.new.items }
+    ensures blamed { Adds (BlamedBy screen.entry.look screen.entry.script.now session.old session.new) out.old.items out.new.items }
     ensures capacity { vec_capacity out.old ≤ vec_capacity out.new }
 {
     let Ok(told) = blame_in(alloc, session) else {
@@ -232,7 +232,7 @@ pub(crate) fn tell_blame(
     match told.blame {
         Blame::At(decided) => go_there(alloc, session, screen, decided.depth, line, out),
         Blame::FromStart | Blame::OrEarlier(_) | Blame::Open | Blame::Unknown => {
-            stay(alloc, session, screen.is_prompting, line, out)
+            stay(alloc, session, screen.look, line, out)
         }
     }
 }

@@ -1,25 +1,26 @@
 //! What answers the lines of the console: a desk with a session.
 
-ghost use Rattle.std.specs.Prelude.{◌≡◌, ◌+◌, ◌-◌, ◌≤◌, ◌++◌, ℕ, Bool, List, None, IfOk, IfSome, OnOk, length, string_bytes, vec_len, vec_capacity};
+ghost use Rattle.std.specs.Prelude.{◌≡◌, ◌+◌, ◌-◌, ◌≤◌, ◌++◌, ℕ, Bool, List, None, IfOk, IfSome, OnOk, [], length, string_bytes, vec_len, vec_capacity};
 ghost use Rattle.mpd_session.specs.Respond.{laid};
 ghost use Rattle.mpd_runs.specs.Seek.{LiesAhead, FoundLies, no_run_line};
 ghost use Rattle.mpd_runs.specs.LastChoice.{last_choice as last_choice_of, no_choice_line};
-ghost use Rattle.mpd_vocabulary.specs.Reading.{line_of};
+ghost use Rattle.mpd_vocabulary.specs.Reading.{behind_word, line_of};
 ghost use Rattle.mpd_console.specs.News.{told};
 ghost use Rattle.mpd_console.specs.Moves.{told_hit};
 ghost use Rattle.mpd_console.specs.Says as spec;
-ghost use Rattle.mpd_console.specs.Says.{Adds, OrElse, Told, Carried, UndoneBy, SoughtFrom, FollowedBy, Answered, Looked, RepeatSays};
+ghost use Rattle.mpd_console.specs.Says.{Adds, OrElse, Told, Carried, UndoneBy, SoughtFrom, FollowedBy, Answered, BlankSays, Evaluated, Looked, RepeatSays};
 
 use crate::blamed::tell_blame;
 use crate::looks::push_look;
 use crate::moves::{Doing, doing_of, lead_of, push_reply};
 use crate::news::Lead;
-use crate::prompts::{idle_text, push_idle, said};
+use crate::prompts::{Look, idle_text, push_idle, said};
 use crate::standing::Scene;
+use crate::values::{evaluate, evaluate_again, keeps_none};
 use itoa::Buffer;
 use mpd_explain::push_standing;
 use mpd_explore::Ending;
-use mpd_lines::{LineDesk, ROOM, push_all, push_folded};
+use mpd_lines::{LINE_ROOM, LineDesk, ROOM, push_all, push_echo, push_folded_at, push_long_echo};
 use mpd_model::LINE_MAX;
 use mpd_policy::decide;
 use mpd_runs::{
@@ -27,7 +28,7 @@ use mpd_runs::{
     push_no_choice, push_no_run, push_none, seek as seek_run,
 };
 use mpd_session::{Command, Reply, Request, Session};
-use mpd_vocabulary::{Line, Word, WordFault, line_of, push_fault};
+use mpd_vocabulary::{Line, Word, WordFault, behind_word, line_of, push_fault};
 use std::alloc::{AllocError, Global};
 use std::marker::Model;
 
@@ -40,13 +41,13 @@ const UNPRINTED: &[u8] = b"done, but memory for the answer was refused\n";
 /// What answers a line that is too long.
 const TOO_LONG: &[u8] = b"refused: this line is too long\n";
 
-/// What a console is written for: the text of its script, which it shows, and whether a person is to see prompts.
+/// What a console is written for: the text of its script, which it shows, and how its answers look.
 #[derive(Clone, Copy)]
 pub struct Screen<'t> {
     /// The text of the script.
     pub script: &'t [u8],
-    /// Whether prompts are wanted.
-    pub is_prompting: bool,
+    /// How answers look.
+    pub look: Look,
 }
 
 /// A run whose steps lie ahead.
@@ -96,7 +97,7 @@ fn reply_text(
     hit: Option<usize>,
 ) -> Result<Vec<u8>, AllocError>
     requires hit { hit ≡ told_hit session.now.breaks session.now.trail (string_bytes lead.now.text) }
-    ensures { IfOk result (λ t. t.items ≡ spec.reply_said screen.entry.is_prompting screen.entry.script.now session.now lead.now.word (string_bytes lead.now.text) (told lead.now.known.depth lead.now.known.printed.items lead.now.known.lost.items lead.now.known.gone) reply.now) }
+    ensures { IfOk result (λ t. t.items ≡ spec.reply_said screen.entry.look screen.entry.script.now session.now lead.now.word (string_bytes lead.now.text) (told lead.now.known.depth lead.now.known.printed.items lead.now.known.lost.items lead.now.known.gone) reply.now) }
 {
     let mut told = String::new(alloc);
     let debugger = session.debugger();
@@ -108,7 +109,7 @@ fn reply_text(
         hit,
     };
     push_reply(alloc, scene, &mut told, lead, reply)?;
-    said(alloc, session, screen.is_prompting, &told)
+    said(alloc, session, screen.look, &told)
 }
 
 /// The same, whatever that step hits. The session is as it was found.
@@ -120,7 +121,7 @@ fn told_text(
     lead: &Lead,
     reply: &Reply,
 ) -> Result<Vec<u8>, AllocError>
-    ensures text { IfOk result (λ t. t.items ≡ spec.reply_said screen.entry.is_prompting screen.entry.script.now session.old lead.now.word (string_bytes lead.now.text) (told lead.now.known.depth lead.now.known.printed.items lead.now.known.lost.items lead.now.known.gone) reply.now) }
+    ensures text { IfOk result (λ t. t.items ≡ spec.reply_said screen.entry.look screen.entry.script.now session.old lead.now.word (string_bytes lead.now.text) (told lead.now.known.depth lead.now.known.printed.items lead.now.known.lost.items lead.now.known.gone) reply.now) }
     ensures held { session.new ≡ session.old }
 {
     let hit = hit_told(session, lead.text.as_str())?;
@@ -138,7 +139,7 @@ fn tell_reply(
     out: &mut Vec<u8>,
 )
     requires room { vec_len out.old + ROOM ≤ vec_capacity out.old }
-    ensures told { Adds (Told (spec.reply_said screen.entry.is_prompting screen.entry.script.now session.old lead.now.word (string_bytes lead.now.text) (told lead.now.known.depth lead.now.known.printed.items lead.now.known.lost.items lead.now.known.gone) reply.now)) out.old.items out.new.items }
+    ensures told { Adds (Told (spec.reply_said screen.entry.look screen.entry.script.now session.old lead.now.word (string_bytes lead.now.text) (told lead.now.known.depth lead.now.known.printed.items lead.now.known.lost.items lead.now.known.gone) reply.now)) out.old.items out.new.items }
     ensures held { session.new ≡ session.old }
     ensures capacity { vec_capacity out.old ≤ vec_capacity out.new }
 {
@@ -171,7 +172,7 @@ pub(crate) fn carry_out(
     out: &mut Vec<u8>,
 )
     requires room { vec_len out.old + ROOM ≤ vec_capacity out.old }
-    ensures carried { Adds (Carried screen.entry.is_prompting screen.entry.script.now session.old word command session.new) out.old.items out.new.items }
+    ensures carried { Adds (Carried screen.entry.look screen.entry.script.now session.old word command session.new) out.old.items out.new.items }
     ensures capacity { vec_capacity out.old ≤ vec_capacity out.new }
 {
     let Ok(lead) = lead_in(alloc, session, word) else {
@@ -195,12 +196,12 @@ fn prompts_behind(is_prompting: bool, word: Word) -> bool
 }
 
 /// Adds the answer to a word that changes nothing: its long lines go on in further lines, but of a word that shows them as they are.
-fn push_laid_out(out: &mut Vec<u8>, word: Word, told: &[u8]) -> Result<(), AllocError>
-    ensures { OnOk result (out.new.items ≡ out.old.items ++ spec.laid_out word told.now) }
+fn push_laid_out(out: &mut Vec<u8>, width: usize, word: Word, told: &[u8]) -> Result<(), AllocError>
+    ensures { OnOk result (out.new.items ≡ out.old.items ++ spec.laid_out width word told.now) }
 {
     match word {
         Word::List(_) | Word::Show | Word::Words | Word::Picture => out.extend_from_slice(told),
-        _ => push_folded(out, told),
+        _ => push_folded_at(out, told, width),
     }
 }
 
@@ -212,7 +213,7 @@ fn look_text(
     screen: Screen<'_>,
     word: Word,
 ) -> Result<Vec<u8>, AllocError>
-    ensures { IfOk result (λ t. t.items ≡ spec.look_said screen.entry.is_prompting screen.entry.script.now session.now word) }
+    ensures { IfOk result (λ t. t.items ≡ spec.look_said screen.entry.look screen.entry.script.now session.now word) }
 {
     let mut told = String::new(alloc);
     let debugger = session.debugger();
@@ -226,11 +227,11 @@ fn look_text(
         word,
     )?;
     let mut out = Vec::new(alloc);
-    push_laid_out(&mut out, word, told.as_bytes())?;
+    push_laid_out(&mut out, screen.look.width, word, told.as_bytes())?;
     push_idle(
         alloc,
         session,
-        prompts_behind(screen.is_prompting, word),
+        prompts_behind(screen.look.is_prompting, word),
         &mut out,
     )?;
     Ok(out)
@@ -244,7 +245,7 @@ pub(crate) fn laid_text(
     screen: Screen<'_>,
     run: RunAhead<'_>,
 ) -> Result<Vec<u8>, AllocError>
-    ensures { IfOk result (λ t. t.items ≡ spec.laid_said screen.entry.is_prompting screen.entry.script.now session.now run.entry.number run.entry.ending.now run.entry.steps) }
+    ensures { IfOk result (λ t. t.items ≡ spec.laid_said screen.entry.look screen.entry.script.now session.now run.entry.number run.entry.ending.now run.entry.steps) }
 {
     let mut told = String::new(alloc);
     let debugger = session.debugger();
@@ -253,7 +254,7 @@ pub(crate) fn laid_text(
     push_ahead(&mut told, lines, run.number, run.ending, run.steps)?;
     let decided = decide(alloc, debugger.core())?;
     push_standing(alloc, debugger, screen.script, &mut told, decided)?;
-    said(alloc, session, screen.is_prompting, &told)
+    said(alloc, session, screen.look, &told)
 }
 
 /// What is told where no run ends so.
@@ -261,15 +262,15 @@ pub(crate) fn laid_text(
 fn not_found_text(
     alloc: Global,
     session: &Session<'_>,
-    is_prompting: bool,
+    look: Look,
     way: Way,
     counts: WayCounts,
 ) -> Result<Vec<u8>, AllocError>
-    ensures { IfOk result (λ t. t.items ≡ spec.not_found_said is_prompting session.now way counts) }
+    ensures { IfOk result (λ t. t.items ≡ spec.not_found_said look session.now way counts) }
 {
     let mut told = String::new(alloc);
     push_none(&mut told, way, counts)?;
-    said(alloc, session, is_prompting, &told)
+    said(alloc, session, look, &told)
 }
 
 /// Tells of a run that lies ahead.
@@ -282,7 +283,7 @@ fn tell_laid(
     out: &mut Vec<u8>,
 )
     requires room { vec_len out.old + ROOM ≤ vec_capacity out.old }
-    ensures told { Adds (Told (spec.laid_said screen.entry.is_prompting screen.entry.script.now session.now run.entry.number run.entry.ending.now run.entry.steps)) out.old.items out.new.items }
+    ensures told { Adds (Told (spec.laid_said screen.entry.look screen.entry.script.now session.now run.entry.number run.entry.ending.now run.entry.steps)) out.old.items out.new.items }
     ensures capacity { vec_capacity out.old ≤ vec_capacity out.new }
 {
     let Ok(text) = laid_text(alloc, session, screen, run) else {
@@ -304,7 +305,7 @@ fn lay(
     requires lies { LiesAhead session.old.trail run }
     requires room { vec_len out.old + ROOM ≤ vec_capacity out.old }
     ensures session { session.new ≡ laid session.old run.steps }
-    ensures told { Adds (Told (spec.laid_said screen.entry.is_prompting screen.entry.script.now session.new number run.ending (length run.steps - session.old.trail.depth))) out.old.items out.new.items }
+    ensures told { Adds (Told (spec.laid_said screen.entry.look screen.entry.script.now session.new number run.ending (length run.steps - session.old.trail.depth))) out.old.items out.new.items }
     ensures capacity { vec_capacity out.old ≤ vec_capacity out.new }
 {
     let depth = session.debugger().depth();
@@ -324,16 +325,16 @@ fn lay(
 fn tell_none(
     alloc: Global,
     session: &Session<'_>,
-    is_prompting: bool,
+    look: Look,
     way: Way,
     counts: WayCounts,
     out: &mut Vec<u8>,
 )
     requires room { vec_len out.old + ROOM ≤ vec_capacity out.old }
-    ensures told { Adds (Looked (spec.not_found_said is_prompting session.now way counts)) out.old.items out.new.items }
+    ensures told { Adds (Looked (spec.not_found_said look session.now way counts)) out.old.items out.new.items }
     ensures capacity { vec_capacity out.old ≤ vec_capacity out.new }
 {
-    let Ok(text) = not_found_text(alloc, session, is_prompting, way, counts) else {
+    let Ok(text) = not_found_text(alloc, session, look, way, counts) else {
         return push_all(out, MEMORY);
     };
     add(&text, MEMORY, out)
@@ -354,7 +355,7 @@ fn sought_from(alloc: Global, session: &Session<'_>, way: Way) -> Result<Search,
 #[tactic(auto, using(crate::proofs::SaidLemmas::laying))]
 fn seek(alloc: Global, session: &mut Session<'_>, screen: Screen<'_>, way: Way, out: &mut Vec<u8>)
     requires room { vec_len out.old + ROOM ≤ vec_capacity out.old }
-    ensures sought { Adds (SoughtFrom screen.entry.is_prompting screen.entry.script.now session.old way session.new) out.old.items out.new.items }
+    ensures sought { Adds (SoughtFrom screen.entry.look screen.entry.script.now session.old way session.new) out.old.items out.new.items }
     ensures capacity { vec_capacity out.old ≤ vec_capacity out.new }
 {
     let Ok(search) = sought_from(alloc, session, way) else {
@@ -367,9 +368,7 @@ fn seek(alloc: Global, session: &mut Session<'_>, screen: Screen<'_>, way: Way, 
     } = search;
     match sought {
         Sought::Found(run) => lay(alloc, session, screen, None, run, out),
-        Sought::Nothing(counts) => {
-            tell_none(alloc, session, screen.is_prompting, way, counts, out)
-        }
+        Sought::Nothing(counts) => tell_none(alloc, session, screen.look, way, counts, out),
     }
 }
 
@@ -390,26 +389,22 @@ fn numbered_from(
 
 /// What is told of a number that no run has.
 #[tactic(auto, using(crate::proofs::SaidLemmas::saying))]
-fn no_run_text(
-    alloc: Global,
-    session: &Session<'_>,
-    is_prompting: bool,
-) -> Result<Vec<u8>, AllocError>
-    ensures { IfOk result (λ t. t.items ≡ spec.said is_prompting session.now no_run_line) }
+fn no_run_text(alloc: Global, session: &Session<'_>, look: Look) -> Result<Vec<u8>, AllocError>
+    ensures { IfOk result (λ t. t.items ≡ spec.said look session.now no_run_line) }
 {
     let mut told = String::new(alloc);
     push_no_run(&mut told)?;
-    said(alloc, session, is_prompting, &told)
+    said(alloc, session, look, &told)
 }
 
 /// Tells of a number that no run has.
 #[tactic(auto, using(crate::proofs::SaidLemmas::telling))]
-fn tell_no_run(alloc: Global, session: &Session<'_>, is_prompting: bool, out: &mut Vec<u8>)
+fn tell_no_run(alloc: Global, session: &Session<'_>, look: Look, out: &mut Vec<u8>)
     requires room { vec_len out.old + ROOM ≤ vec_capacity out.old }
-    ensures told { Adds (Told (spec.said is_prompting session.now no_run_line)) out.old.items out.new.items }
+    ensures told { Adds (Told (spec.said look session.now no_run_line)) out.old.items out.new.items }
     ensures capacity { vec_capacity out.old ≤ vec_capacity out.new }
 {
-    let Ok(text) = no_run_text(alloc, session, is_prompting) else {
+    let Ok(text) = no_run_text(alloc, session, look) else {
         return push_all(out, UNPRINTED);
     };
     add(&text, UNPRINTED, out)
@@ -425,7 +420,7 @@ fn follow(
     out: &mut Vec<u8>,
 )
     requires room { vec_len out.old + ROOM ≤ vec_capacity out.old }
-    ensures followed { Adds (FollowedBy screen.entry.is_prompting screen.entry.script.now session.old number (spec.numbered_from session.old number) session.new) out.old.items out.new.items }
+    ensures followed { Adds (FollowedBy screen.entry.look screen.entry.script.now session.old number (spec.numbered_from session.old number) session.new) out.old.items out.new.items }
     ensures capacity { vec_capacity out.old ≤ vec_capacity out.new }
 {
     let Ok(found) = numbered_from(alloc, session, number) else {
@@ -433,7 +428,7 @@ fn follow(
     };
     match found {
         Some(run) => lay(alloc, session, screen, Some(number), run, out),
-        None => tell_no_run(alloc, session, screen.is_prompting, out),
+        None => tell_no_run(alloc, session, screen.look, out),
     }
 }
 
@@ -447,26 +442,22 @@ fn last_choice_in(alloc: Global, session: &Session<'_>) -> Result<Option<usize>,
 
 /// What is told where no choice was made.
 #[tactic(auto, using(crate::proofs::SaidLemmas::saying))]
-fn no_choice_text(
-    alloc: Global,
-    session: &Session<'_>,
-    is_prompting: bool,
-) -> Result<Vec<u8>, AllocError>
-    ensures { IfOk result (λ t. t.items ≡ spec.said is_prompting session.now no_choice_line) }
+fn no_choice_text(alloc: Global, session: &Session<'_>, look: Look) -> Result<Vec<u8>, AllocError>
+    ensures { IfOk result (λ t. t.items ≡ spec.said look session.now no_choice_line) }
 {
     let mut told = String::new(alloc);
     push_no_choice(&mut told)?;
-    said(alloc, session, is_prompting, &told)
+    said(alloc, session, look, &told)
 }
 
 /// Tells that no choice was made.
 #[tactic(auto, using(crate::proofs::SaidLemmas::telling))]
-fn tell_no_choice(alloc: Global, session: &Session<'_>, is_prompting: bool, out: &mut Vec<u8>)
+fn tell_no_choice(alloc: Global, session: &Session<'_>, look: Look, out: &mut Vec<u8>)
     requires room { vec_len out.old + ROOM ≤ vec_capacity out.old }
-    ensures told { Adds (Told (spec.said is_prompting session.now no_choice_line)) out.old.items out.new.items }
+    ensures told { Adds (Told (spec.said look session.now no_choice_line)) out.old.items out.new.items }
     ensures capacity { vec_capacity out.old ≤ vec_capacity out.new }
 {
-    let Ok(text) = no_choice_text(alloc, session, is_prompting) else {
+    let Ok(text) = no_choice_text(alloc, session, look) else {
         return push_all(out, UNPRINTED);
     };
     add(&text, UNPRINTED, out)
@@ -482,7 +473,7 @@ fn undo_choice(
     out: &mut Vec<u8>,
 )
     requires room { vec_len out.old + ROOM ≤ vec_capacity out.old }
-    ensures undone { Adds (UndoneBy screen.entry.is_prompting screen.entry.script.now session.old word (last_choice_of session.old.trail) session.new) out.old.items out.new.items }
+    ensures undone { Adds (UndoneBy screen.entry.look screen.entry.script.now session.old word (last_choice_of session.old.trail) session.new) out.old.items out.new.items }
     ensures capacity { vec_capacity out.old ≤ vec_capacity out.new }
 {
     let Ok(found) = last_choice_in(alloc, session) else {
@@ -493,7 +484,7 @@ fn undo_choice(
             let command = Command::Goto(depth);
             carry_out(alloc, session, screen, word, command, out)
         }
-        None => tell_no_choice(alloc, session, screen.is_prompting, out),
+        None => tell_no_choice(alloc, session, screen.look, out),
     }
 }
 
@@ -501,7 +492,7 @@ fn undo_choice(
 #[tactic(auto, using(crate::proofs::SaidLemmas::telling))]
 fn look(alloc: Global, session: &Session<'_>, screen: Screen<'_>, word: Word, out: &mut Vec<u8>)
     requires room { vec_len out.old + ROOM ≤ vec_capacity out.old }
-    ensures looked { Adds (Looked (spec.look_said screen.entry.is_prompting screen.entry.script.now session.now word)) out.old.items out.new.items }
+    ensures looked { Adds (Looked (spec.look_said screen.entry.look screen.entry.script.now session.now word)) out.old.items out.new.items }
     ensures capacity { vec_capacity out.old ≤ vec_capacity out.new }
 {
     let Ok(text) = look_text(alloc, session, screen, word) else {
@@ -530,7 +521,7 @@ fn answer_word(
     out: &mut Vec<u8>,
 )
     requires room { vec_len out.old + ROOM ≤ vec_capacity out.old }
-    ensures answered { Adds (Answered screen.entry.is_prompting screen.entry.script.now session.old word session.new) out.old.items out.new.items }
+    ensures answered { Adds (Answered screen.entry.look screen.entry.script.now session.old word session.new) out.old.items out.new.items }
     ensures capacity { vec_capacity out.old ≤ vec_capacity out.new }
 {
     let Ok(doing) = doing_in(alloc, session, word) else {
@@ -551,15 +542,15 @@ fn answer_word(
 fn fault_text(
     alloc: Global,
     session: &Session<'_>,
-    is_prompting: bool,
+    look: Look,
     line: &[u8],
     fault: WordFault,
 ) -> Result<Vec<u8>, AllocError>
-    ensures { IfOk result (λ t. t.items ≡ spec.fault_said is_prompting session.now line.now fault) }
+    ensures { IfOk result (λ t. t.items ≡ spec.fault_said look session.now line.now fault) }
 {
     let mut told = String::new(alloc);
     push_fault(&mut told, line, fault)?;
-    said(alloc, session, is_prompting, &told)
+    said(alloc, session, look, &told)
 }
 
 /// Adds the prompt, which takes no memory, where one is wanted.
@@ -597,13 +588,16 @@ fn again(word: Word) -> Word
     }
 }
 
-/// A console at the start of a script (docs/CONSOLE.md): a session, the text of its script and whether prompts are wanted, and the word
-/// that an empty line repeats.
+/// A console at the start of a script (docs/CONSOLE.md): a session, the text of its script and how its answers look, and what an
+/// empty line repeats.
 #[derive(Drop)]
 pub struct ConsoleDesk<'c, 't> {
     session: Session<'c>,
     screen: Screen<'t>,
+    /// The last word that was understood.
     last: Option<Word>,
+    /// The expression that was told after it; empty if none was.
+    asked: Vec<u8>,
 }
 
 impl<'c, 't> Model for ConsoleDesk<'c, 't> {
@@ -613,18 +607,46 @@ impl<'c, 't> Model for ConsoleDesk<'c, 't> {
 
     ghost coded = { console_code };
 
-    ghost view = { λ d. record { session = d.session; script = d.screen.script.now; last = d.last; prompts = d.screen.is_prompting } };
+    ghost view = { λ d. record { session = d.session; script = d.screen.script.now; last = d.last; asked = d.asked.items; look = d.screen.look } };
 }
 
 impl<'c, 't> ConsoleDesk<'c, 't> {
-    /// A console over a session, given the text of its script and whether prompts are wanted.
-    pub fn new(session: Session<'c>, screen: Screen<'t>) -> ConsoleDesk<'c, 't>
-        ensures { result ≡ record { session = session.entry; script = screen.entry.script.now; last = None; prompts = screen.entry.is_prompting } }
+    /// A console over a session, given the text of its script and how its answers look.
+    pub fn new(alloc: Global, session: Session<'c>, screen: Screen<'t>) -> ConsoleDesk<'c, 't>
+        ensures { result ≡ record { session = session.entry; script = screen.entry.script.now; last = None; asked = []; look = screen.entry.look } }
     {
         ConsoleDesk {
             session,
             screen,
             last: None,
+            asked: Vec::new(alloc),
+        }
+    }
+
+    /// Shows a line before its answer, where lines are shown. Room for a short answer is left.
+    #[tactic(auto, using(crate::proofs::SaidLemmas::showing))]
+    fn show(&self, line: &[u8], out: &mut Vec<u8>)
+        requires line { length line.now ≤ LINE_MAX }
+        requires room { vec_len out.old + LINE_ROOM ≤ vec_capacity out.old }
+        ensures text { out.new.items ≡ out.old.items ++ spec.shown self.now.look.is_echoing line.now }
+        ensures room { vec_len out.new + ROOM ≤ vec_capacity out.new }
+        ensures capacity { vec_capacity out.old ≤ vec_capacity out.new }
+    {
+        if self.screen.look.is_echoing {
+            push_echo(out, b"", line)
+        }
+    }
+
+    /// The same of a line that is too long.
+    #[tactic(auto, using(crate::proofs::SaidLemmas::showing))]
+    fn show_long(&self, out: &mut Vec<u8>)
+        requires room { vec_len out.old + LINE_ROOM ≤ vec_capacity out.old }
+        ensures text { out.new.items ≡ out.old.items ++ spec.long_shown self.now.look.is_echoing }
+        ensures room { vec_len out.new + ROOM ≤ vec_capacity out.new }
+        ensures capacity { vec_capacity out.old ≤ vec_capacity out.new }
+    {
+        if self.screen.look.is_echoing {
+            push_long_echo(out, b"")
         }
     }
 
@@ -642,16 +664,16 @@ impl<'c, 't> ConsoleDesk<'c, 't> {
     #[tactic(auto, using(crate::proofs::SaidLemmas::telling))]
     fn say_nothing(&self, alloc: Global, out: &mut Vec<u8>)
         requires room { vec_len out.old + ROOM ≤ vec_capacity out.old }
-        ensures said { Adds (Looked (spec.prompt self.now.prompts self.now.session)) out.old.items out.new.items }
+        ensures said { Adds (Looked (spec.prompt self.now.look.is_prompting self.now.session)) out.old.items out.new.items }
         ensures capacity { vec_capacity out.old ≤ vec_capacity out.new }
     {
-        let Ok(text) = idle_text(alloc, &self.session, self.screen.is_prompting) else {
+        let Ok(text) = idle_text(alloc, &self.session, self.screen.look.is_prompting) else {
             return push_all(out, MEMORY);
         };
         add(text.as_bytes(), MEMORY, out)
     }
 
-    /// Answers an empty line: by the last word once more, where there was one.
+    /// Answers by the last word once more, where there was one.
     #[tactic(auto, using(crate::proofs::SaidLemmas::speaking))]
     fn repeat(&mut self, alloc: Global, out: &mut Vec<u8>)
         requires room { vec_len out.old + ROOM ≤ vec_capacity out.old }
@@ -664,15 +686,42 @@ impl<'c, 't> ConsoleDesk<'c, 't> {
         }
     }
 
+    /// Answers an empty line: by the expression that was told last, or by the last word.
+    #[tactic(auto, using(crate::proofs::SaidLemmas::blank))]
+    fn say_again(&mut self, alloc: Global, out: &mut Vec<u8>)
+        requires room { vec_len out.old + ROOM ≤ vec_capacity out.old }
+        ensures said { Adds (λ text. BlankSays self.old self.old.asked text self.new) out.old.items out.new.items }
+        ensures capacity { vec_capacity out.old ≤ vec_capacity out.new }
+    {
+        if keeps_none(&self.asked) {
+            return self.repeat(alloc, out);
+        }
+        let look = self.screen.look;
+        evaluate_again(alloc, &self.session, look, &self.asked, out)
+    }
+
+    /// Answers a line that asks for the value of an expression.
+    #[tactic(auto, using(crate::proofs::SaidLemmas::speaking))]
+    fn say_value(&mut self, alloc: Global, line: &[u8], out: &mut Vec<u8>)
+        requires room { vec_len out.old + ROOM ≤ vec_capacity out.old }
+        ensures same { self.new ≡ record self.old { asked = self.new.asked } }
+        ensures said { Adds (Evaluated self.old.look self.old.session self.old.asked (behind_word line.now) self.new.asked) out.old.items out.new.items }
+        ensures capacity { vec_capacity out.old ≤ vec_capacity out.new }
+    {
+        let text = behind_word(line);
+        let look = self.screen.look;
+        evaluate(alloc, &self.session, look, &mut self.asked, text, out)
+    }
+
     /// Answers a line that asks for nothing that can be done.
     #[tactic(auto, using(crate::proofs::SaidLemmas::telling))]
     fn refuse(&self, alloc: Global, line: &[u8], fault: WordFault, out: &mut Vec<u8>)
         requires room { vec_len out.old + ROOM ≤ vec_capacity out.old }
-        ensures said { Adds (Looked (spec.fault_said self.now.prompts self.now.session line.now fault)) out.old.items out.new.items }
+        ensures said { Adds (Looked (spec.fault_said self.now.look self.now.session line.now fault)) out.old.items out.new.items }
         ensures capacity { vec_capacity out.old ≤ vec_capacity out.new }
     {
-        let is_prompting = self.screen.is_prompting;
-        let Ok(text) = fault_text(alloc, &self.session, is_prompting, line, fault) else {
+        let look = self.screen.look;
+        let Ok(text) = fault_text(alloc, &self.session, look, line, fault) else {
             return push_all(out, MEMORY);
         };
         add(&text, MEMORY, out)
@@ -686,11 +735,13 @@ impl<'c, 't> ConsoleDesk<'c, 't> {
         ensures capacity { vec_capacity out.old ≤ vec_capacity out.new }
     {
         match line_of(self.session.code(), line) {
-            Line::Blank => self.repeat(alloc, out),
+            Line::Blank => self.say_again(alloc, out),
             Line::Comment => self.say_nothing(alloc, out),
             Line::Wrong(fault) => self.refuse(alloc, line, fault, out),
+            Line::Evaluates => self.say_value(alloc, line, out),
             Line::Says(word) => {
                 self.last = Some(again(word));
+                self.asked.clear();
                 self.say(alloc, word, out)
             }
         }
@@ -712,11 +763,13 @@ impl<'c, 't> LineDesk for ConsoleDesk<'c, 't> {
 
     #[tactic(auto, using(crate::proofs::SaidLemmas::speaking))]
     fn answer(&mut self, line: &[u8], out: &mut Vec<u8>) {
+        self.show(line, out);
         self.answer_line(*out.allocator(), line, out)
     }
 
     #[tactic(auto, using(crate::proofs::SaidLemmas::speaking))]
     fn refuse_long(&mut self, out: &mut Vec<u8>) {
-        refuse_long(&self.session, self.screen.is_prompting, out)
+        self.show_long(out);
+        refuse_long(&self.session, self.screen.look.is_prompting, out)
     }
 }

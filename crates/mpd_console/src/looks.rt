@@ -23,7 +23,7 @@ use mpd_vocabulary::{Word, push_help};
 use std::alloc::{AllocError, Global};
 
 /// What is answered to a rank that isn't there.
-const NO_SUCH_RANK: &str = "refused: there is no such rank\n";
+pub(crate) const NO_SUCH_RANK: &str = "refused: there is no such rank\n";
 
 /// What is answered to a call that isn't there.
 const NO_SUCH_CALL: &str = "refused: there is no such call\n";
@@ -201,6 +201,13 @@ fn push_unfinished(
     }
 }
 
+/// Adds that `until` names a line at which no statement begins.
+fn push_no_statement(out: &mut String, line: usize) -> Result<(), AllocError>
+    ensures { OnOk result (string_bytes out.new ≡ string_bytes out.old ++ spec.no_statement line) }
+{
+    write!(out, "refused: no statement begins at line {line}\n")
+}
+
 /// Adds the whole state.
 fn push_show(alloc: Global, debugger: &Debugger<'_>, out: &mut String) -> Result<(), AllocError>
     ensures { OnOk result (string_bytes out.new ≡ string_bytes out.old ++ spec.whole_text debugger.now.trail debugger.now.world) }
@@ -233,6 +240,7 @@ pub(crate) fn push_look(
         Word::WhyCall(call) => push_why_call(alloc, core, out, call),
         Word::WhyRank(rank) => push_why_of(alloc, core, out, rank),
         Word::Finish(rank) => push_unfinished(alloc, core, out, finish_rank(debugger, rank)),
+        Word::Until(line) => push_no_statement(out, line),
         Word::History(count) => push_history(debugger, out, count),
         Word::Picture => push_picture(debugger, out),
         Word::Check(runs) => push_runs(alloc, debugger, out, runs),
@@ -242,7 +250,6 @@ pub(crate) fn push_look(
         Word::Help(topic) => push_help(out, topic),
         Word::Next(_)
         | Word::Run(_)
-        | Word::Until(_)
         | Word::Back(_)
         | Word::RunBack
         | Word::UndoChoice

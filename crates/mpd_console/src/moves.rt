@@ -1,7 +1,6 @@
 //! Words that ask the session for something that changes it: what they ask, and what is told of the reply (docs/CONSOLE.md, "Answers").
 
 ghost use Rattle.std.specs.Prelude.{◌≡◌, ◌==◌, ◌≤◌, ◌++◌, IfOk, OnOk, None, Some, drop, length, slice_get, string_bytes};
-ghost use Rattle.std.specs.List.{list_any};
 ghost use Rattle.mpd_model.specs.runs.Decisions.{decision};
 ghost use Rattle.mpd_policy.specs.Single.{single};
 ghost use Rattle.mpd_names.specs.Called.{break_text};
@@ -9,9 +8,10 @@ ghost use Rattle.mpd_explain.specs.Steps.{step_words};
 ghost use Rattle.mpd_explain.specs.Standing.{standing_text};
 ghost use Rattle.mpd_console.specs.News.{told};
 ghost use Rattle.mpd_console.specs.Moves as spec;
+ghost use Rattle.mpd_console.specs.Onward.{begins};
 
 use crate::news::{Lead, known_for, push_news};
-use crate::onward::{finish_doing, finish_rank, until_command};
+use crate::onward::{finish_doing, finish_rank, is_line, until_doing};
 use crate::standing::{Scene, standing_of};
 use mpd_code::Code;
 use mpd_core::{Core, Debugger};
@@ -238,7 +238,7 @@ pub fn doing_of(alloc: Global, debugger: &Debugger<'_>, word: Word) -> Result<Do
     match word {
         Word::Next(number) => Ok(Doing::Asks(next_command(alloc, debugger, number)?)),
         Word::Run(max) => Ok(Doing::Asks(run_command(alloc, debugger, max)?)),
-        Word::Until(line) => Ok(Doing::Asks(until_command(alloc, debugger, line)?)),
+        Word::Until(line) => until_doing(alloc, debugger, line),
         Word::Finish(rank) => finish_doing(alloc, debugger, finish_rank(debugger, rank)),
         Word::Back(count) => Ok(Doing::Asks(Command::Back(count))),
         Word::RunBack => Ok(Doing::Asks(Command::RunBack)),
@@ -509,9 +509,9 @@ fn push_ran(out: &mut String, word: Word, depth: usize, count: usize) -> Result<
     write!(out, ", depth {depth}\n")
 }
 
-/// Whether a line is among some.
-fn is_among(lines: &[usize], line: usize) -> bool
-    ensures { result ≡ list_any (λ l. l == line) lines.now }
+/// Whether a statement begins at a line, given the line of each.
+pub(crate) fn begins(lines: &[usize], line: usize) -> bool
+    ensures { result ≡ begins lines.now line }
 {
     lines.iter().any(|other| *other == line)
 }
@@ -520,20 +520,10 @@ fn is_among(lines: &[usize], line: usize) -> bool
 fn push_statement(out: &mut String, lines: &[usize], line: usize) -> Result<(), AllocError>
     ensures { OnOk result (string_bytes out.new ≡ string_bytes out.old ++ spec.statement_line lines.now line) }
 {
-    if is_among(lines, line) {
+    if begins(lines, line) {
         return Ok(());
     }
     write!(out, "no statement begins at line {line}\n")
-}
-
-/// Adds that of the line that `until` goes on to.
-fn push_until_note(out: &mut String, lines: &[usize], word: Word) -> Result<(), AllocError>
-    ensures { OnOk result (string_bytes out.new ≡ string_bytes out.old ++ spec.until_note lines.now word) }
-{
-    match word {
-        Word::Until(line) => push_statement(out, lines, line),
-        _ => Ok(()),
-    }
 }
 
 /// Adds that to a breakpoint of a line or of a match.
@@ -541,8 +531,8 @@ fn push_note(out: &mut String, lines: &[usize], stop: Break) -> Result<(), Alloc
     ensures { OnOk result (string_bytes out.new ≡ string_bytes out.old ++ spec.break_note lines.now stop) }
 {
     match stop {
-        Break::Line(line) | Break::Match(line) => push_statement(out, lines, line),
-        Break::Change { .. } | Break::Handle { .. } => Ok(()),
+        Break::Line { line, .. } | Break::Match { line, .. } => push_statement(out, lines, line),
+        Break::Rank(_) | Break::Change { .. } | Break::Handle { .. } => Ok(()),
     }
 }
 
@@ -588,14 +578,24 @@ fn stands_behind(is_next: bool, refusal: Refusal) -> bool
     }
 }
 
+/// What isn't there, of a line and a rank.
+fn line_range(line: usize) -> &'static str
+    ensures { result.now ≡ spec.line_range line }
+{
+    if is_line(line) {
+        "refused: there is no such rank\n"
+    } else {
+        "refused: lines are 1 to 65537\n"
+    }
+}
+
 /// Which numbers a word may have.
 fn range_line(word: Word) -> &'static str
     ensures { result.now ≡ spec.range_line word }
 {
     match word {
-        Word::Break(Break::Line(_) | Break::Match(_)) | Word::Until(_) => {
-            "refused: lines are 1 to 65537\n"
-        }
+        Word::Break(Break::Line { line, .. } | Break::Match { line, .. }) => line_range(line),
+        Word::Until(_) => "refused: lines are 1 to 65537\n",
         Word::Break(_) => "refused: there is no such rank\n",
         _ => "refused: 1 to 1000000 steps can be asked for\n",
     }
@@ -640,7 +640,7 @@ fn push_refused(
     Ok(())
 }
 
-/// Adds that no statement stands on the line that was named, if none does, and why a run made no more steps.
+/// Adds why a run made no more steps.
 fn push_stopped(
     out: &mut String,
     debugger: &Debugger<'_>,
@@ -648,11 +648,9 @@ fn push_stopped(
     word: Word,
     cause: Cause,
 ) -> Result<(), AllocError>
-    ensures { OnOk result (string_bytes out.new ≡ string_bytes out.old ++ spec.stopped_text debugger.now.trail.program breaks.now word cause) }
+    ensures { OnOk result (string_bytes out.new ≡ string_bytes out.old ++ spec.cause_line debugger.now.trail.program.decls breaks.now word cause) }
 {
-    let code = debugger.core().code();
-    push_until_note(out, code.lines(), word)?;
-    push_cause(out, code.decls(), breaks, word, cause)
+    push_cause(out, debugger.core().code().decls(), breaks, word, cause)
 }
 
 /// Adds what is told of a run.
@@ -778,7 +776,13 @@ pub fn push_reply(
             | Answer::Calls(_)
             | Answer::Partners(_)
             | Answer::Breaks(_)
-            | Answer::Explored { .. } => Ok(()),
+            | Answer::Explored { .. }
+            | Answer::Script { .. }
+            | Answer::Where { .. }
+            | Answer::Decided { .. }
+            | Answer::Steps { .. }
+            | Answer::Lines { .. }
+            | Answer::Explained(_) => Ok(()),
         },
     }
 }

@@ -5,7 +5,7 @@ ghost use Rattle.std.specs.List.{position};
 ghost use Rattle.mpd_console.specs.Onward as spec;
 ghost use Rattle.mpd_console.specs.Moves as moves;
 
-use crate::moves::{Doing, run_command};
+use crate::moves::{Doing, begins, run_command};
 use mpd_core::Debugger;
 use mpd_model::{Break, Cause, STEPS_MAX, Step, Stop};
 use mpd_names::is_blocked;
@@ -17,10 +17,21 @@ use std::alloc::{AllocError, Global};
 const LAST_LINE: usize = 65_537;
 
 /// Whether a breakpoint may be on a line.
-fn is_line(line: usize) -> bool
+pub(crate) fn is_line(line: usize) -> bool
     ensures { result ≡ spec.is_line line }
 {
     1 <= line && line <= LAST_LINE
+}
+
+/// A breakpoint on a line, of any rank, and whatever holds there.
+fn on_line(line: usize) -> Break
+    ensures { result ≡ spec.on_line line }
+{
+    Break::Line {
+        line,
+        of: None,
+        when: None,
+    }
 }
 
 /// A breakpoint on a line, and no other.
@@ -29,7 +40,7 @@ fn alone(line: usize) -> Breaks
     ensures { result ≡ spec.alone line }
 {
     let mut breaks = Breaks::new();
-    let _ = breaks.add(Break::Line(line));
+    let _ = breaks.add(on_line(line));
     breaks
 }
 
@@ -172,18 +183,28 @@ fn up_to(alloc: Global, debugger: &Debugger<'_>, max: usize) -> Result<Command, 
 }
 
 /// What `until` asks for: to go on to where a rank comes to a line.
-pub(crate) fn until_command(
-    alloc: Global,
-    debugger: &Debugger<'_>,
-    line: usize,
-) -> Result<Command, AllocError>
+fn until_command(alloc: Global, debugger: &Debugger<'_>, line: usize) -> Result<Command, AllocError>
     ensures { IfOk result (λ c. c ≡ moves.until_command debugger.now.trail debugger.now.world line) }
 {
     if !is_line(line) {
-        return Ok(Command::Break(Break::Line(line)));
+        return Ok(Command::Break(on_line(line)));
     }
     let max = steps_to_line(alloc, debugger, line)?;
     up_to(alloc, debugger, max)
+}
+
+/// What `until` does of a line: where a statement begins at it, it goes on.
+pub(crate) fn until_doing(
+    alloc: Global,
+    debugger: &Debugger<'_>,
+    line: usize,
+) -> Result<Doing, AllocError>
+    ensures { IfOk result (λ doing. doing ≡ moves.until_doing debugger.now.trail debugger.now.world line) }
+{
+    if is_line(line) && !begins(debugger.core().code().lines(), line) {
+        return Ok(Doing::Looks);
+    }
+    Ok(Doing::Asks(until_command(alloc, debugger, line)?))
 }
 
 /// What `finish` asks for: to go on to where a rank goes on that waits.

@@ -1,6 +1,6 @@
 //! Opens a console: at the start of a script, or with steps ahead, of a witness or of any run.
 
-ghost use Rattle.std.specs.Prelude.{◌≡◌, ◌≤◌, ℕ, IfOk, IsErrOf, None, length};
+ghost use Rattle.std.specs.Prelude.{◌≡◌, ◌≤◌, ℕ, IfOk, IsErrOf, None, [], length};
 ghost use Rattle.mpd_model.specs.steps.World.{start};
 ghost use Rattle.mpd_model.specs.runs.Trail.{IsRun};
 ghost use Rattle.mpd_explore.specs.Witness.{IsWitness};
@@ -44,16 +44,16 @@ pub fn open<'c, 't>(
     subject: Subject<'c>,
     screen: Screen<'t>,
 ) -> Result<Opened<'c, 't>, OpenFault>
-    ensures desk { IfOk result (λ o. o.desk ≡ record { session = opened subject.entry.code.now.program subject.entry.mode; script = screen.entry.script.now; last = None; prompts = screen.entry.is_prompting }) }
-    ensures said { IfOk result (λ o. o.said.items ≡ prompt screen.entry.is_prompting (opened subject.entry.code.now.program subject.entry.mode)) }
+    ensures desk { IfOk result (λ o. o.desk ≡ record { session = opened subject.entry.code.now.program subject.entry.mode; script = screen.entry.script.now; last = None; asked = []; look = screen.entry.look }) }
+    ensures said { IfOk result (λ o. o.said.items ≡ prompt screen.entry.look.is_prompting (opened subject.entry.code.now.program subject.entry.mode)) }
 {
     let Ok(session) = Session::start(alloc, subject.code, subject.mode) else {
         return Err(OpenFault::Memory);
     };
-    let Ok(said) = idle_bytes(alloc, &session, screen.is_prompting) else {
+    let Ok(said) = idle_bytes(alloc, &session, screen.look.is_prompting) else {
         return Err(OpenFault::Memory);
     };
-    let desk = ConsoleDesk::new(session, screen);
+    let desk = ConsoleDesk::new(alloc, session, screen);
     Ok(Opened { desk, said })
 }
 
@@ -79,12 +79,12 @@ fn console_before<'c, 't>(
     screen: Screen<'t>,
     run: RunAhead<'_>,
 ) -> Result<Opened<'c, 't>, AllocError>
-    ensures desk { IfOk result (λ o. o.desk ≡ record { session = session.entry; script = screen.entry.script.now; last = None; prompts = screen.entry.is_prompting }) }
-    ensures said { IfOk result (λ o. o.said.items ≡ laid_said screen.entry.is_prompting screen.entry.script.now session.entry run.entry.number run.entry.ending.now run.entry.steps) }
+    ensures desk { IfOk result (λ o. o.desk ≡ record { session = session.entry; script = screen.entry.script.now; last = None; asked = []; look = screen.entry.look }) }
+    ensures said { IfOk result (λ o. o.said.items ≡ laid_said screen.entry.look screen.entry.script.now session.entry run.entry.number run.entry.ending.now run.entry.steps) }
 {
     match laid_text(alloc, &session, screen, run) {
         Ok(said) => {
-            let desk = ConsoleDesk::new(session, screen);
+            let desk = ConsoleDesk::new(alloc, session, screen);
             Ok(Opened { desk, said })
         }
         Err(error) => {
@@ -104,8 +104,8 @@ fn console_along<'c, 't>(
     ending: &Ending,
 ) -> Result<Opened<'c, 't>, AllocError>
     requires { IsRun subject.code.now.program subject.mode steps }
-    ensures desk { IfOk result (λ o. o.desk ≡ record { session = laid (opened subject.entry.code.now.program subject.entry.mode) steps; script = screen.entry.script.now; last = None; prompts = screen.entry.is_prompting }) }
-    ensures said { IfOk result (λ o. o.said.items ≡ laid_said screen.entry.is_prompting screen.entry.script.now (laid (opened subject.entry.code.now.program subject.entry.mode) steps) None ending.now (length steps)) }
+    ensures desk { IfOk result (λ o. o.desk ≡ record { session = laid (opened subject.entry.code.now.program subject.entry.mode) steps; script = screen.entry.script.now; last = None; asked = []; look = screen.entry.look }) }
+    ensures said { IfOk result (λ o. o.said.items ≡ laid_said screen.entry.look screen.entry.script.now (laid (opened subject.entry.code.now.program subject.entry.mode) steps) None ending.now (length steps)) }
 {
     let mut session = Session::start(alloc, subject.code, subject.mode)?;
     let count = steps.items.len();
@@ -174,8 +174,8 @@ pub fn open_along<'c, 't>(
     steps: StepList,
 ) -> Result<Opened<'c, 't>, StepsFault>
     ensures run { IfOk result (λ _. IsRun subject.entry.code.now.program subject.entry.mode steps) }
-    ensures desk { IfOk result (λ o. o.desk ≡ record { session = laid (opened subject.entry.code.now.program subject.entry.mode) steps; script = screen.entry.script.now; last = None; prompts = screen.entry.is_prompting }) }
-    ensures said { IfOk result (λ o. AlongSaid subject.entry.code.now.program subject.entry.mode screen.entry.is_prompting screen.entry.script.now steps o.said.items) }
+    ensures desk { IfOk result (λ o. o.desk ≡ record { session = laid (opened subject.entry.code.now.program subject.entry.mode) steps; script = screen.entry.script.now; last = None; asked = []; look = screen.entry.look }) }
+    ensures said { IfOk result (λ o. AlongSaid subject.entry.code.now.program subject.entry.mode screen.entry.look screen.entry.script.now steps o.said.items) }
     ensures not_enabled { (place : ℕ) → IsErrOf result (StepsFault.NotEnabled place) → StopsAt (start subject.entry.code.now.program subject.entry.mode) steps place }
 {
     let ending = ending_along(alloc, subject, &steps.items)?;
@@ -195,8 +195,8 @@ pub fn open_with<'c, 't>(
     witness: Witness,
 ) -> Result<Opened<'c, 't>, OpenFault>
     ensures is { IfOk result (λ _. IsWitness subject.entry.code.now.program subject.entry.mode witness) }
-    ensures desk { IfOk result (λ o. o.desk ≡ record { session = laid (opened subject.entry.code.now.program subject.entry.mode) witness.steps; script = screen.entry.script.now; last = None; prompts = screen.entry.is_prompting }) }
-    ensures said { IfOk result (λ o. WitnessSaid subject.entry.code.now.program subject.entry.mode screen.entry.is_prompting screen.entry.script.now witness o.said.items) }
+    ensures desk { IfOk result (λ o. o.desk ≡ record { session = laid (opened subject.entry.code.now.program subject.entry.mode) witness.steps; script = screen.entry.script.now; last = None; asked = []; look = screen.entry.look }) }
+    ensures said { IfOk result (λ o. WitnessSaid subject.entry.code.now.program subject.entry.mode screen.entry.look screen.entry.script.now witness o.said.items) }
 {
     check_witness(alloc, subject, &witness)?;
     let Witness { steps, end } = witness;

@@ -1,11 +1,22 @@
-//! The prompt of the console, and what stands before it.
+//! How the answers of the console look: the prompt of the console, and what stands before it.
 
 ghost use Rattle.std.specs.Prelude.{◌≡◌, ◌++◌, IfOk, OnOk, string_bytes};
 ghost use Rattle.mpd_console.specs.Says as spec;
 
-use mpd_lines::push_folded;
+use mpd_lines::push_folded_at;
 use mpd_session::Session;
 use std::alloc::{AllocError, Global};
+
+/// How the answers of a console look.
+#[derive(Clone, Copy)]
+pub struct Look {
+    /// Whether prompts are wanted.
+    pub is_prompting: bool,
+    /// Whether each line that is read is shown before its answer.
+    pub is_echoing: bool,
+    /// How many bytes a line has before it wraps.
+    pub width: usize,
+}
 
 /// Adds the prompt, where one is wanted: how many steps are not undone.
 fn push_prompt(
@@ -68,13 +79,13 @@ pub(crate) fn idle_bytes(
 pub(crate) fn said(
     alloc: Global,
     session: &Session<'_>,
-    is_prompting: bool,
+    look: Look,
     told: &str,
 ) -> Result<Vec<u8>, AllocError>
-    ensures { IfOk result (λ t. t.items ≡ spec.said is_prompting session.now told.now) }
+    ensures { IfOk result (λ t. t.items ≡ spec.said look session.now told.now) }
 {
     let mut out = Vec::new(alloc);
-    push_folded(&mut out, told.as_bytes())?;
-    push_idle(alloc, session, is_prompting, &mut out)?;
+    push_folded_at(&mut out, told.as_bytes(), look.width)?;
+    push_idle(alloc, session, look.is_prompting, &mut out)?;
     Ok(out)
 }

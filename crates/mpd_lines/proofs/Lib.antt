@@ -11,3 +11,4 @@ pub mod WordLemmas
 pub mod ShortLemmas
 pub mod CutLemmas
 pub mod KeepLaws
+pub mod EchoLaws

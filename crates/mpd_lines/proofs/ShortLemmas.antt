@@ -1,12 +1,12 @@
 -- A line that stays long could nowhere be cut.
-use Rattle.std.proofs.Common.{◌≡◌, ℕ, zero, suc, ◌+◌, ◌<◌, ◌≤◌, ◌⊎◌, Bool, true, false, ◌&&◌, ◌||◌, ◌==◌, nat_lt, if◌then◌else◌, cond, List, [], ◌∷◌, ◌++◌, length, map, take, replicate, slice_get, Option, Some, None, refl, sym, ap, ◌∙◌, subst, arith, append_assoc, append-nil, inl, inr}
+use Rattle.std.proofs.Common.{◌≡◌, ℕ, zero, suc, ◌+◌, ◌-◌, ◌<◌, ◌≤◌, ◌⊎◌, Bool, true, false, ◌&&◌, ◌||◌, ◌==◌, nat_lt, if◌then◌else◌, cond, List, [], ◌∷◌, ◌++◌, length, map, take, replicate, slice_get, Option, Some, None, refl, sym, ap, ◌∙◌, subst, arith, append_assoc, append-nil, inl, inr}
 use Rattle.std.specs.Prelude.{IfSome}
 use Rattle.std.specs.List.{All, find, flat_map, list_any, range_with_len}
 use Rattle.std.proofs.lemmas.Bool.{cases_lt}
 use Rattle.std.proofs.lemmas.Bool.Decides.{nat_tests}
 use Rattle.std.proofs.lemmas.List.Elements.{All-nil, All-cons}
 use Rattle.mpd_lines.proofs.FoldLemmas.{some_line}
-use Rattle.mpd_lines.specs.Folding.{is_ink, is_blank, can_cut, last_below, first_of_all, or_else, cut, laid, break, folded_line, grown, begun, lines, joined, folded, IsShort}
+use Rattle.mpd_lines.specs.Folding.{is_ink, is_blank, can_cut, last_below, first_of_all, or_else, cut, laid, break, folded_line, grown, begun, lines, joined, folded_at, IsShort}
 
 -- ---- where nothing can be cut
 
@@ -110,13 +110,13 @@ fits w l = fits_by w l (nat_lt w (length l)) (last_below l (suc w)) (first_of_al
 abbrev blanks : List ℕ
 blanks = replicate 8 32
 
-first_short : (l : List ℕ) → Fits 80 l → IsShort l
-first_short l (inl le) = λ lt. absurd (omega (arith, le, lt))
-first_short l (inr h) = λ lt. h
+first_short : (n : ℕ) (l : List ℕ) → Fits n l → IsShort n l
+first_short n l (inl le) = λ lt. absurd (omega (arith, le, lt))
+first_short n l (inr h) = λ lt. h
 
-later_short : (l : List ℕ) → Fits 72 l → IsShort (blanks ++ l)
-later_short l (inl le) = λ lt. absurd (omega (arith, le, lt))
-later_short l (inr h) = λ lt. behind_blank (32 ∷ 32 ∷ 32 ∷ 32 ∷ 32 ∷ 32 ∷ 32 ∷ l) (behind_blank (32 ∷ 32 ∷ 32 ∷ 32 ∷ 32 ∷ 32 ∷ l) (behind_blank (32 ∷ 32 ∷ 32 ∷ 32 ∷ 32 ∷ l) (behind_blank (32 ∷ 32 ∷ 32 ∷ 32 ∷ l)
+later_short : (n : ℕ) (l : List ℕ) → 8 ≤ n → Fits (n - 8) l → IsShort n (blanks ++ l)
+later_short n l wide (inl le) = λ lt. absurd (omega (arith, wide, le, lt))
+later_short n l wide (inr h) = λ lt. behind_blank (32 ∷ 32 ∷ 32 ∷ 32 ∷ 32 ∷ 32 ∷ 32 ∷ l) (behind_blank (32 ∷ 32 ∷ 32 ∷ 32 ∷ 32 ∷ 32 ∷ l) (behind_blank (32 ∷ 32 ∷ 32 ∷ 32 ∷ 32 ∷ l) (behind_blank (32 ∷ 32 ∷ 32 ∷ 32 ∷ l)
     (behind_blank (32 ∷ 32 ∷ 32 ∷ l) (behind_blank (32 ∷ 32 ∷ l) (behind_blank (32 ∷ l) (behind_blank l h)))))))
 
 -- ---- lines
@@ -172,36 +172,36 @@ lines_between (b ∷ x) y = ap (begun (b == 10) b) (lines_between x y) ∙ begun
 
 -- ---- a line that is cut
 
-short_lone : (l : List ℕ) → Plain l → IsShort l → Each IsShort (lines l)
-short_lone l p h = subst (Each IsShort) (sym (one_line l p)) (h, tt)
+short_lone : (n : ℕ) (l : List ℕ) → Plain l → IsShort n l → Each (IsShort n) (lines l)
+short_lone n l p h = subst (Each (IsShort n)) (sym (one_line l p)) (h, tt)
 
-laid_short : (o : Option ℕ) (l pre : List ℕ) → Plain pre → Plain l → IsShort (pre ++ kept o l) → Each IsShort (lines (pre ++ laid o l))
-laid_short None l pre p q h = short_lone (pre ++ l) (plain_join pre l p q) h
-laid_short (Some zero) [] pre p q h = short_lone (pre ++ []) (plain_join pre [] p tt) h
-laid_short (Some (suc i)) [] pre p q h = short_lone (pre ++ []) (plain_join pre [] p tt) h
-laid_short (Some zero) (b ∷ l) pre p (e, q) h =
-    subst (Each IsShort) (sym (lines_between pre (blanks ++ laid (cut 72 l) l)))
-    (each_join IsShort (lines pre) (lines (blanks ++ laid (cut 72 l) l)) (short_lone pre p (subst IsShort (append-nil pre) h))
-    (laid_short (cut 72 l) l blanks (refl, (refl, (refl, (refl, (refl, (refl, (refl, (refl, tt)))))))) q (later_short (kept (cut 72 l) l) (fits 72 l))))
-laid_short (Some (suc i)) (b ∷ l) pre p (e, q) h =
-    subst (λ z. Each IsShort (lines z)) (append_assoc pre (b ∷ []) (laid (Some i) l))
-    (laid_short (Some i) l (pre ++ b ∷ []) (plain_join pre (b ∷ []) p (e, tt)) q (subst IsShort (sym (append_assoc pre (b ∷ []) (take i l))) h))
+laid_short : (n : ℕ) (o : Option ℕ) (l pre : List ℕ) → 8 ≤ n → Plain pre → Plain l → IsShort n (pre ++ kept o l) → Each (IsShort n) (lines (pre ++ laid n o l))
+laid_short n None l pre wide p q h = short_lone n (pre ++ l) (plain_join pre l p q) h
+laid_short n (Some zero) [] pre wide p q h = short_lone n (pre ++ []) (plain_join pre [] p tt) h
+laid_short n (Some (suc i)) [] pre wide p q h = short_lone n (pre ++ []) (plain_join pre [] p tt) h
+laid_short n (Some zero) (b ∷ l) pre wide p (e, q) h =
+    subst (Each (IsShort n)) (sym (lines_between pre (blanks ++ laid n (cut (n - 8) l) l)))
+    (each_join (IsShort n) (lines pre) (lines (blanks ++ laid n (cut (n - 8) l) l)) (short_lone n pre p (subst (IsShort n) (append-nil pre) h))
+    (laid_short n (cut (n - 8) l) l blanks wide (refl, (refl, (refl, (refl, (refl, (refl, (refl, (refl, tt)))))))) q (later_short n (kept (cut (n - 8) l) l) wide (fits (n - 8) l))))
+laid_short n (Some (suc i)) (b ∷ l) pre wide p (e, q) h =
+    subst (λ z. Each (IsShort n) (lines z)) (append_assoc pre (b ∷ []) (laid n (Some i) l))
+    (laid_short n (Some i) l (pre ++ b ∷ []) wide (plain_join pre (b ∷ []) p (e, tt)) q (subst (IsShort n) (sym (append_assoc pre (b ∷ []) (take i l))) h))
 
-line_short : (l : List ℕ) → Plain l → Each IsShort (lines (folded_line l))
-line_short l p = laid_short (cut 80 l) l [] tt p (first_short (kept (cut 80 l) l) (fits 80 l))
+line_short : (n : ℕ) (l : List ℕ) → 8 ≤ n → Plain l → Each (IsShort n) (lines (folded_line n l))
+line_short n l wide p = laid_short n (cut n l) l [] wide tt p (first_short n (kept (cut n l) l) (fits n l))
 
 -- ---- a whole text
 
-more_short : (x : List ℕ) (ls : List (List ℕ)) → Each IsShort (lines x) → Each Plain ls → Each IsShort (lines (x ++ flat_map (λ m. 10 ∷ m) (map folded_line ls)))
-more_short x [] h p = subst (λ z. Each IsShort (lines z)) (sym (append-nil x)) h
-more_short x (l ∷ ls) h (p, q) =
-    let rest : List ℕ = folded_line l ++ flat_map (λ m. 10 ∷ m) (map folded_line ls) in
-    subst (Each IsShort) (sym (lines_between x rest)) (each_join IsShort (lines x) (lines rest) h (more_short (folded_line l) ls (line_short l p) q))
+more_short : (n : ℕ) (x : List ℕ) (ls : List (List ℕ)) → 8 ≤ n → Each (IsShort n) (lines x) → Each Plain ls → Each (IsShort n) (lines (x ++ flat_map (λ m. 10 ∷ m) (map (folded_line n) ls)))
+more_short n x [] wide h p = subst (λ z. Each (IsShort n) (lines z)) (sym (append-nil x)) h
+more_short n x (l ∷ ls) wide h (p, q) =
+    let rest : List ℕ = folded_line n l ++ flat_map (λ m. 10 ∷ m) (map (folded_line n) ls) in
+    subst (Each (IsShort n)) (sym (lines_between x rest)) (each_join (IsShort n) (lines x) (lines rest) h (more_short n (folded_line n l) ls wide (line_short n l wide p) q))
 
-joined_short : (ls : List (List ℕ)) → Each Plain ls → Each IsShort (lines (joined (map folded_line ls)))
-joined_short [] p = (λ lt i. past [] i (omega arith), tt)
-joined_short (l ∷ ls) (p, q) = more_short (folded_line l) ls (line_short l p) q
+joined_short : (n : ℕ) (ls : List (List ℕ)) → 8 ≤ n → Each Plain ls → Each (IsShort n) (lines (joined (map (folded_line n) ls)))
+joined_short n [] wide p = (λ lt i. past [] i (omega arith), tt)
+joined_short n (l ∷ ls) wide (p, q) = more_short n (folded_line n l) ls wide (line_short n l wide p) q
 
-pub short_or_whole : (z : List ℕ) → All IsShort (lines (folded z))
-unfolding folded
-short_or_whole z = all_of IsShort (lines (joined (map folded_line (lines z)))) (joined_short (lines z) (all_plain z))
+pub short_or_whole : (n : ℕ) (z : List ℕ) → 8 ≤ n → All (IsShort n) (lines (folded_at n z))
+unfolding folded_at
+short_or_whole n z wide = all_of (IsShort n) (lines (joined (map (folded_line n) (lines z)))) (joined_short n (lines z) wide (all_plain z))

@@ -5,7 +5,7 @@ use Rattle.std.specs.Prelude.{IfSome}
 use Rattle.std.specs.List.{filter, find, flat_map, range_with_len}
 use Rattle.std.proofs.lemmas.List.Elements.{filter-append}
 use Rattle.mpd_lines.proofs.FoldLemmas.{some_line}
-use Rattle.mpd_lines.specs.Folding.{is_blank, is_letter, can_cut, last_below, first_of_all, or_else, cut, laid, folded_line, grown, begun, lines, joined, folded}
+use Rattle.mpd_lines.specs.Folding.{is_blank, is_letter, can_cut, last_below, first_of_all, or_else, cut, laid, folded_line, grown, begun, lines, joined, folded_at}
 
 abbrev letters : List ℕ → List ℕ
 letters z = filter is_letter z
@@ -49,31 +49,31 @@ cut_is width l =
 blank_goes : (b : ℕ) (l : List ℕ) → (b == 32) ≡ true → letters (b ∷ l) ≡ letters l
 blank_goes b l h = ap (λ (v : Bool). if not (v || b == 10) then b ∷ filter is_letter l else filter is_letter l) h
 
-same_letters : (o : Option ℕ) (l : List ℕ) → IsCut l o → letters (laid o l) ≡ letters l
-same_letters None l h = refl
-same_letters (Some i) [] h = refl
-same_letters (Some zero) (b ∷ l) h = same_letters (cut 72 l) l (cut_is 72 l) ∙ sym (blank_goes b l h)
-same_letters (Some (suc i)) (b ∷ l) h = ap (λ (z : List ℕ). if is_letter b then b ∷ z else z) (same_letters (Some i) l h)
+same_letters : (n : ℕ) (o : Option ℕ) (l : List ℕ) → IsCut l o → letters (laid n o l) ≡ letters l
+same_letters n None l h = refl
+same_letters n (Some i) [] h = refl
+same_letters n (Some zero) (b ∷ l) h = same_letters n (cut (n - 8) l) l (cut_is (n - 8) l) ∙ sym (blank_goes b l h)
+same_letters n (Some (suc i)) (b ∷ l) h = ap (λ (z : List ℕ). if is_letter b then b ∷ z else z) (same_letters n (Some i) l h)
 
-line_letters : (l : List ℕ) → letters (folded_line l) ≡ letters l
-line_letters l = same_letters (cut 80 l) l (cut_is 80 l)
+line_letters : (n : ℕ) (l : List ℕ) → letters (folded_line n l) ≡ letters l
+line_letters n l = same_letters n (cut n l) l (cut_is n l)
 
 -- ---- all lines
 
 abbrev behind_feeds : List (List ℕ) → List ℕ
 behind_feeds ls = flat_map (λ m. 10 ∷ m) ls
 
-more_letters : (ls : List (List ℕ)) → letters (behind_feeds (map folded_line ls)) ≡ letters (behind_feeds ls)
-more_letters [] = refl
-more_letters (l ∷ ls) =
-    filter-append is_letter (folded_line l) (behind_feeds (map folded_line ls)) ∙ ap (λ z. z ++ filter is_letter (behind_feeds (map folded_line ls))) (line_letters l) ∙ ap (λ z. filter is_letter l ++ z) (more_letters ls)
-    ∙ sym (filter-append is_letter l (behind_feeds ls))
+more_letters : (n : ℕ) (ls : List (List ℕ)) → letters (behind_feeds (map (folded_line n) ls)) ≡ letters (behind_feeds ls)
+more_letters n [] = refl
+more_letters n (l ∷ ls) =
+    filter-append is_letter (folded_line n l) (behind_feeds (map (folded_line n) ls)) ∙ ap (λ z. z ++ filter is_letter (behind_feeds (map (folded_line n) ls))) (line_letters n l)
+    ∙ ap (λ z. filter is_letter l ++ z) (more_letters n ls) ∙ sym (filter-append is_letter l (behind_feeds ls))
 
-joined_letters : (ls : List (List ℕ)) → letters (joined (map folded_line ls)) ≡ letters (joined ls)
-joined_letters [] = refl
-joined_letters (l ∷ ls) =
-    filter-append is_letter (folded_line l) (behind_feeds (map folded_line ls)) ∙ ap (λ z. z ++ filter is_letter (behind_feeds (map folded_line ls))) (line_letters l) ∙ ap (λ z. filter is_letter l ++ z) (more_letters ls)
-    ∙ sym (filter-append is_letter l (behind_feeds ls))
+joined_letters : (n : ℕ) (ls : List (List ℕ)) → letters (joined (map (folded_line n) ls)) ≡ letters (joined ls)
+joined_letters n [] = refl
+joined_letters n (l ∷ ls) =
+    filter-append is_letter (folded_line n l) (behind_feeds (map (folded_line n) ls)) ∙ ap (λ z. z ++ filter is_letter (behind_feeds (map (folded_line n) ls))) (line_letters n l)
+    ∙ ap (λ z. filter is_letter l ++ z) (more_letters n ls) ∙ sym (filter-append is_letter l (behind_feeds ls))
 
 -- ---- lines, joined again
 
@@ -94,6 +94,6 @@ joined_lines : (z : List ℕ) → joined (lines z) ≡ z
 joined_lines [] = refl
 joined_lines (b ∷ z) = begun_joined (b == 10) b z refl (joined_lines z)
 
-pub words_stay : (z : List ℕ) → filter is_letter (folded z) ≡ filter is_letter z
-unfolding folded
-words_stay z = joined_letters (lines z) ∙ ap letters (joined_lines z)
+pub words_stay : (n : ℕ) (z : List ℕ) → filter is_letter (folded_at n z) ≡ filter is_letter z
+unfolding folded_at
+words_stay n z = joined_letters n (lines z) ∙ ap letters (joined_lines z)

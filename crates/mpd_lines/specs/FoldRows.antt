@@ -1,6 +1,6 @@
 -- Worked rows of long lines. What is wanted was worked out by hand.
 use Rattle.std.specs.Prelude.{◌≡◌, ℕ, Bool, List, [], ◌∷◌, ◌++◌, map, replicate, Option, Some, None, codes, refl}
-use Rattle.mpd_lines.specs.Folding.{cut, folded, folded_line, lines}
+use Rattle.mpd_lines.specs.Folding.{cut, folded, folded_at, folded_line, lines}
 
 -- so many letters
 abbrev ink : ℕ → List ℕ
@@ -30,3 +30,12 @@ pub row_kept : map {B = List ℕ} folded (ink 100 ∷ (codes "a b" ++ 10 ∷ ink
     ≡ ink 100 ∷ (codes "a b" ++ 10 ∷ ink 81) ∷ (ink 78 ++ codes " b" ++ 10 ∷ ink 78 ++ codes " b") ∷ []
 unfolding folded cut
 row_kept = refl
+
+-- at 20: lines of 20, 18 and 17 bytes; at 1,000 nothing is cut
+pub row_narrow : folded_at 20 (ten ++ ten ++ codes "aaaaaaaaa " ++ codes "end") ≡ ten ++ codes "aaaaaaaaa" ++ 10 ∷ codes "        aaaaaaaaa" ++ 10 ∷ codes "        end"
+unfolding folded_at cut
+row_narrow = refl
+
+pub row_wide : folded_at 1000 (ink 79 ++ 32 ∷ ink 79 ++ codes " end") ≡ ink 79 ++ 32 ∷ ink 79 ++ codes " end"
+unfolding folded_at cut
+row_wide = refl

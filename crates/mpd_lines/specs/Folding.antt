@@ -1,4 +1,4 @@
--- Long lines: how a text is laid out, so that its lines have 80 bytes, where they have blanks (docs/CONSOLE.md, "Long lines").
+-- Long lines: how a text is laid out, so that its lines have no more bytes than a width, where they have blanks (docs/CONSOLE.md, "Long lines").
 use Rattle.std.specs.Prelude.{◌≡◌, ◌<◌, ℕ, ◌-◌, zero, suc, ◌==◌, Bool, true, false, ◌&&◌, ◌||◌, not, nat_lt, if◌then◌else◌, List, [], ◌∷◌, ◌++◌, length, map, replicate, take, slice_get, Option, Some, None}
 use Rattle.std.specs.List.{find, flat_map, list_any, range_with_len}
 use Rattle.mpd_lines.specs.declared.fold.TheConstants.{WIDTH, INDENT}
@@ -44,15 +44,15 @@ cut width l = if nat_lt width (length l) then or_else (last_below l (suc width))
 abbrev pub break : List ℕ
 break = FEED ∷ replicate INDENT BLANK
 
--- What is left of a line, given where it is cut: the blank is left out, and what stands behind it begins a further line.
-abbrev pub laid : Option ℕ → List ℕ → List ℕ
-laid None l = l
-laid (Some i) [] = []
-laid (Some zero) (b ∷ l) = break ++ laid (cut (WIDTH - INDENT) l) l
-laid (Some (suc i)) (b ∷ l) = b ∷ laid (Some i) l
+-- What is left of a line, given the width and where it is cut: the blank is left out, and what stands after it begins a further line.
+abbrev pub laid : ℕ → Option ℕ → List ℕ → List ℕ
+laid width None l = l
+laid width (Some i) [] = []
+laid width (Some zero) (b ∷ l) = break ++ laid width (cut (width - INDENT) l) l
+laid width (Some (suc i)) (b ∷ l) = b ∷ laid width (Some i) l
 
-abbrev pub folded_line : List ℕ → List ℕ
-folded_line l = laid (cut WIDTH l) l
+abbrev pub folded_line : ℕ → List ℕ → List ℕ
+folded_line width l = laid width (cut width l) l
 
 -- ---- a whole text
 
@@ -80,8 +80,12 @@ abbrev pub joined : List (List ℕ) → List ℕ
 joined [] = []
 joined (l ∷ ls) = l ++ flat_map (λ m. FEED ∷ m) ls
 
+unfoldable pub folded_at : ℕ → List ℕ → List ℕ
+folded_at width z = joined (map (folded_line width) (lines z))
+
+-- the same at the width that is usual
 unfoldable pub folded : List ℕ → List ℕ
-folded z = joined (map folded_line (lines z))
+folded z = joined (map (folded_line WIDTH) (lines z))
 
 -- ---- what stays: bytes that are no blanks, and no line feeds
 
@@ -90,5 +94,5 @@ is_letter b = not (b == BLANK || b == FEED)
 
 -- ---- a line of no more bytes than fit, or one that can nowhere be cut
 
-abbrev pub IsShort : List ℕ → Type 0
-IsShort l = WIDTH < length l → (i : ℕ) → can_cut l i ≡ false
+abbrev pub IsShort : ℕ → List ℕ → Type 0
+IsShort width l = width < length l → (i : ℕ) → can_cut l i ≡ false

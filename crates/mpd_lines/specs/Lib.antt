@@ -12,3 +12,4 @@ pub mod FoldRows
 pub mod Ends
 pub mod Limits
 pub mod Seen
+pub mod Echo

@@ -21,8 +21,8 @@ pub trait Source {
     /// Its reads so far, and the bytes that are still to come.
     ghost seen: { Self → SourceSeen };
 
-    /// Reads into the front of `buffer`, and answers how many bytes were read: 0 at the end of the input, or where
-    /// there is no room. A failed read takes no byte from the input.
+    /// Reads into the front of `buffer`, and returns how many bytes were read: 0 at the end of the
+    /// input, or if there is no room. A failed read takes no byte from the input.
     fn read(&mut self, buffer: &mut [u8]) -> Result<usize, DeviceFault>
         ensures bound { ReadsAtMost result buffer.new }
         ensures bytes { ReadConsumes (seen self.old).remaining (seen self.new).remaining result buffer.new }
@@ -37,8 +37,8 @@ pub trait Sink {
     /// Its writes so far, and the bytes that were written.
     ghost seen: { Self → SinkSeen };
 
-    /// Writes the front of `piece`, and answers how many bytes were written. A write of a nonempty piece that takes no
-    /// byte has failed. A failed write writes nothing.
+    /// Writes the front of `piece`, and returns how many bytes were written. A write of a nonempty
+    /// piece that takes no byte has failed. A failed write writes nothing.
     fn write(&mut self, piece: &[u8]) -> Result<usize, DeviceFault>
         ensures bound { WritesAtMost result piece.now }
         ensures some { 0 < length piece.now → IfOk result (λ n. 0 < n) }
@@ -98,7 +98,7 @@ pub struct FromReader<R> {
 }
 
 impl<R: Read> FromReader<R> {
-    /// The reader, with no call yet.
+    /// A source over a reader, with no call counted yet.
     pub fn new(reader: R) -> FromReader<R>
         ensures { ⟦<FromReader<R> as Source>⟧.seen result ≡ record { calls = 0; failures = 0; ends = 0; remaining = R.remaining reader } }
     {
@@ -141,7 +141,7 @@ pub struct ToWriter<W> {
 }
 
 impl<W: Write> ToWriter<W> {
-    /// The writer, with no call yet.
+    /// A sink over a writer, with no call counted yet.
     pub fn new(writer: W) -> ToWriter<W>
         ensures { ⟦<ToWriter<W> as Sink>⟧.seen result ≡ record { calls = 0; failures = 0; contents = W.contents writer } }
     {
@@ -152,7 +152,7 @@ impl<W: Write> ToWriter<W> {
         }
     }
 
-    /// The writer again.
+    /// Returns the writer.
     pub fn into_writer(self) -> W
         ensures { W.contents result ≡ (⟦<ToWriter<W> as Sink>⟧.seen self).contents }
     {

@@ -26,14 +26,14 @@ pub enum EngineFault {
     ReadFailed,
     /// A write failed.
     WriteFailed,
-    /// So many reads were made as one engine may make.
+    /// As many reads were made as one engine may make.
     TooManyTurns,
     /// A buffer that the engine keeps was refused, before anything was read.
     Memory,
 }
 
 impl EngineFault {
-    /// The number of the fault; 0 for want of memory, which has none.
+    /// The number of the fault; 0 for refused memory, which has none.
     pub fn number(self) -> u8
         ensures { result ≡ engine_fault_number self }
     {
@@ -45,7 +45,7 @@ impl EngineFault {
         }
     }
 
-    /// The name of the fault.
+    /// The name of the fault: `read-failed`, `write-failed`, `too-many-turns` or `memory`.
     pub fn name(self) -> &'static str
         ensures { result.now ≡ engine_fault_name self }
     {
@@ -165,7 +165,8 @@ pub fn run<S: Source, W: Sink, D: LineDesk>(
     run_behind(alloc, source, sink, desk, &[], READS_MAX)
 }
 
-/// Answers the lines of a source behind bytes that were read before, in so many reads at most.
+/// Answers the lines of a source after the bytes `before`, which were read already, in at most
+/// `turns` reads.
 pub fn run_behind<S: Source, W: Sink, D: LineDesk>(
     alloc: Global,
     source: &mut S,

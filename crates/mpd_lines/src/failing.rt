@@ -12,9 +12,9 @@ use std::cmp;
 /// How far a device still goes before it fails in each call.
 #[derive(Clone, Copy)]
 pub enum Limit {
-    /// So many calls.
+    /// This many calls.
     Calls(u64),
-    /// So many bytes.
+    /// This many bytes.
     Bytes(u64),
 }
 
@@ -29,7 +29,7 @@ impl Limit {
         }
     }
 
-    /// The limit after one call, which took or gave so many bytes.
+    /// The limit after one call, which took or gave `count` bytes.
     fn after(self, count: usize) -> Limit
         ensures { result ≡ limit_after self count }
     {
@@ -64,7 +64,7 @@ pub struct FailingSource<S> {
 }
 
 impl<S: Source> FailingSource<S> {
-    /// The source `inner` up to the limit.
+    /// The source `inner`, which fails in each read once the limit is reached.
     pub fn new(inner: S, limit: Limit) -> FailingSource<S>
         ensures seen { ⟦<FailingSource<S> as Source>⟧.seen result ≡ record { calls = 0; failures = 0; ends = 0; remaining = (S.seen inner).remaining } }
         ensures limit { result.limit ≡ limit }
@@ -130,7 +130,7 @@ pub struct FailingSink<W> {
 }
 
 impl<W: Sink> FailingSink<W> {
-    /// The sink `inner` up to the limit.
+    /// The sink `inner`, which fails in each write once the limit is reached.
     pub fn new(inner: W, limit: Limit) -> FailingSink<W>
         ensures seen { ⟦<FailingSink<W> as Sink>⟧.seen result ≡ record { calls = 0; failures = 0; contents = (W.seen inner).contents } }
         ensures limit { result.limit ≡ limit }
@@ -143,7 +143,7 @@ impl<W: Sink> FailingSink<W> {
         }
     }
 
-    /// The inner sink again.
+    /// Returns the inner sink.
     pub fn into_inner(self) -> W
         ensures { result ≡ self.inner }
     {

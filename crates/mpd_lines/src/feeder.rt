@@ -34,7 +34,7 @@ impl Model for Feeder {
 }
 
 impl Feeder {
-    /// No line has begun. An `Err` is want of memory.
+    /// No line has begun. `Err` means that memory was refused.
     pub(crate) fn new(alloc: Global) -> Result<Feeder, AllocError>
         ensures { IfOk result (λ f. f ≡ []) }
     {

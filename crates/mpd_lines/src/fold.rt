@@ -6,7 +6,7 @@ ghost use Rattle.mpd_lines.specs.Folding as spec;
 
 use std::alloc::AllocError;
 
-/// How many bytes a line has, where it can be cut.
+/// How many bytes a line has, if it can be cut and nothing else is said.
 pub const WIDTH: usize = 80;
 
 /// How many blanks a further line begins with.
@@ -46,14 +46,14 @@ fn last_below(line: &[u8], bound: usize) -> Option<usize>
     None
 }
 
-/// Whether a byte is a blank, behind ink.
+/// Whether a byte is a blank, after ink.
 fn is_place(byte: u8, is_inked: bool) -> bool
     ensures { result ≡ (spec.is_blank (Some byte) && is_inked) }
 {
     byte == b' ' && is_inked
 }
 
-/// Whether there is ink, behind one more byte.
+/// Whether there is ink, after one more byte.
 fn inked_behind(byte: u8, is_inked: bool) -> bool
     ensures { result ≡ (is_inked || spec.is_ink byte) }
 {
@@ -75,10 +75,9 @@ fn first_of_all(line: &[u8]) -> Option<usize>
     None
 }
 
-/// Where a line is cut, where it has more bytes than this.
+/// The place at which a line is cut, if it has more bytes than this.
 #[tactic(auto, using(crate::proofs::CutLemmas::inside), unfolding(crate::specs::Folding::cut))]
 fn cut(line: &[u8], width: usize) -> Option<usize>
-    requires { width < 256 }
     ensures value { result ≡ spec.cut width line.now }
     ensures within { IfSome result (λ i. i < length line.now) }
 {
@@ -91,7 +90,7 @@ fn cut(line: &[u8], width: usize) -> Option<usize>
     }
 }
 
-/// What stands before a place of a text, and what stands behind the byte there.
+/// What stands before a place of a text, and what stands after the byte there.
 fn parted(text: &[u8], place: usize) -> (&[u8], &[u8])
     requires { place < length text.now }
     ensures before { result.0.now ≡ take place text.now }
@@ -103,19 +102,19 @@ fn parted(text: &[u8], place: usize) -> (&[u8], &[u8])
     (before, behind)
 }
 
-/// Adds a line, in further lines where it is long.
+/// Adds a line, in further lines if it has more bytes than the width.
 #[tactic(auto, using(crate::proofs::FoldLemmas::laying))]
-fn push_line(out: &mut Vec<u8>, line: &[u8]) -> Result<(), AllocError>
-    ensures { OnOk result (out.new.items ≡ out.old.items ++ spec.folded_line line.now) }
+fn push_line(out: &mut Vec<u8>, line: &[u8], width: usize) -> Result<(), AllocError>
+    ensures { OnOk result (out.new.items ≡ out.old.items ++ spec.folded_line width line.now) }
 {
     let mut rest = line;
-    let mut width = WIDTH;
-    while let Some(place) = cut(rest, width) {
+    let mut left = width;
+    while let Some(place) = cut(rest, left) {
         let (part, behind) = parted(rest, place);
         out.extend_from_slice(part)?;
         out.extend_from_slice(BREAK)?;
         rest = behind;
-        width = WIDTH - INDENT;
+        left = width.saturating_sub(INDENT);
     }
     out.extend_from_slice(rest)
 }
@@ -133,7 +132,7 @@ fn line_len(text: &[u8]) -> usize
     text.len()
 }
 
-/// The first line of a text and what stands behind it, where a line feed ends it.
+/// The first line of a text and what stands after it, if a line feed ends it.
 #[tactic(auto, using(crate::proofs::FoldLemmas::ending))]
 fn ended_line(text: &[u8]) -> Option<(&[u8], &[u8])>
     ensures parts { MatchOption result (spec.lines text.now ≡ text.now ∷ []) (λ q. spec.lines text.now ≡ q.0.now ∷ spec.lines q.1.now) }
@@ -146,28 +145,38 @@ fn ended_line(text: &[u8]) -> Option<(&[u8], &[u8])>
     Some(parted(text, count))
 }
 
-/// Adds a text whose long lines go on in further lines. An `Err` is want of memory.
+/// Adds a text whose lines of more bytes than a width go on in further lines. `Err` means that memory
+/// was refused.
 #[tactic(auto, using(crate::proofs::FoldLemmas::folding))]
-pub fn push_folded(out: &mut Vec<u8>, text: &[u8]) -> Result<(), AllocError>
-    ensures { OnOk result (out.new.items ≡ out.old.items ++ spec.folded text.now) }
+pub fn push_folded_at(out: &mut Vec<u8>, text: &[u8], width: usize) -> Result<(), AllocError>
+    ensures { OnOk result (out.new.items ≡ out.old.items ++ spec.folded_at width text.now) }
 {
     let mut rest = text;
     while let Some((line, behind)) = ended_line(rest) {
-        push_line(out, line)?;
+        push_line(out, line, width)?;
         out.push(b'\n')?;
         rest = behind;
     }
-    push_line(out, rest)
+    push_line(out, rest, width)
 }
 
-/// A law: a text whose long lines go on in further lines has all its bytes, in their order, but for blanks and line feeds.
+/// Adds a text whose long lines go on in further lines, at the usual width. An `Err` is want of memory.
+#[tactic(auto, using(crate::proofs::FoldLemmas::usual))]
+pub fn push_folded(out: &mut Vec<u8>, text: &[u8]) -> Result<(), AllocError>
+    ensures { OnOk result (out.new.items ≡ out.old.items ++ spec.folded text.now) }
+{
+    push_folded_at(out, text, WIDTH)
+}
+
+/// A law: a text whose long lines go on in further lines has all its bytes, in their order, but for blanks and line feeds, whatever the
+/// width.
 #[tactic(auto, using(crate::proofs::WordLemmas::words_stay))]
 pub fn long_lines_keep_their_words()
-    ensures { (z : List ℕ) → filter spec.is_letter (spec.folded z) ≡ filter spec.is_letter z }
+    ensures { (width : ℕ) → (z : List ℕ) → filter spec.is_letter (spec.folded_at width z) ≡ filter spec.is_letter z }
 {}
 
-/// A law: no line of such a text has more than 80 bytes, and a blank at which it could have been cut.
+/// A law: no line of such a text has more bytes than the width, and a blank at which it could have been cut.
 #[tactic(auto, using(crate::proofs::ShortLemmas::short_or_whole))]
 pub fn long_lines_can_nowhere_be_cut()
-    ensures { (z : List ℕ) → All spec.IsShort (spec.lines (spec.folded z)) }
+    ensures { (width : ℕ) → (z : List ℕ) → INDENT ≤ width → All (spec.IsShort width) (spec.lines (spec.folded_at width z)) }
 {}

@@ -4,6 +4,7 @@
 
 pub mod desk;
 pub mod device;
+pub mod echo;
 pub mod engine;
 pub mod failing;
 mod feeder;
@@ -14,12 +15,14 @@ pub mod room;
 pub mod up_to;
 pub mod verdict;
 
-pub use desk::{LineDesk, ROOM};
+pub use desk::{LINE_ROOM, LineDesk, ROOM};
 pub use device::{DeviceFault, FromReader, Sink, Source, ToWriter};
+pub use echo::{MARK_MAX, push_echo, push_long_echo};
 pub use engine::{EngineFault, READ_MAX, run, run_behind};
 pub use failing::{FailingSink, FailingSource, Limit};
 pub use fold::{
     INDENT, WIDTH, long_lines_can_nowhere_be_cut, long_lines_keep_their_words, push_folded,
+    push_folded_at,
 };
 pub use outbox::write_all;
 pub use room::push_all;

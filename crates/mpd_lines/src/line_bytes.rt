@@ -28,7 +28,7 @@ impl Model for Chain {
     ghost size_decreases = { λ a h. Prim.grind (arith, length-append) };
 }
 
-/// Which bytes have come. It takes no bytes, so that what is known of a line has no bound where the memory for it has.
+/// Which bytes have come. It takes no bytes, so what is known of a line is not bounded by memory.
 #[derive(Drop)]
 pub(crate) struct Seen {
     chain: Option<Snapshot<Chain>>,

@@ -3,16 +3,16 @@ ghost use Rattle.std.specs.Prelude.{◌≡◌, ◌+◌, ◌<◌, ◌≤◌, [], 
 ghost use Rattle.mpd_lines.specs.Gathering.{Gathered, Relieved, Written};
 ghost use Rattle.mpd_lines.specs.Telling.{waiting_below};
 
-use crate::desk::{LineDesk, ROOM};
+use crate::desk::{LINE_ROOM, LineDesk};
 use crate::device::{DeviceFault, Sink};
 use mpd_model::LINE_MAX;
 use std::alloc::{AllocError, Global};
 use std::marker::Model;
 
-/// As soon as so many bytes of gathered answers wait, they are written.
+/// As soon as this many bytes of gathered answers wait, they are written.
 const WAITING_MAX: usize = 65_536;
 
-/// Answers that wait to be written. There is always room for a short one.
+/// Answers that wait to be written. There is always room for a line and a short one.
 #[derive(Drop)]
 pub(crate) struct Outbox {
     waiting: Vec<u8>,
@@ -25,10 +25,11 @@ impl Model for Outbox {
 
     ghost view = { λ o. o.waiting.items };
 
-    ghost invariant = { λ o. (vec_len o.waiting < 65536) × (65600 ≤ vec_capacity o.waiting) };
+    ghost invariant = { λ o. (vec_len o.waiting < 65536) × (69760 ≤ vec_capacity o.waiting) };
 }
 
-/// Writes all bytes, however the sink cuts them. An `Err` comes only where a write failed; a part of them was written then.
+/// Writes all bytes, however the sink cuts them. `Err` comes only if a write failed; then a part of
+/// them was written.
 #[tactic(auto, using(crate::proofs::SentLaws::sending))]
 pub fn write_all<W: Sink>(sink: &mut W, bytes: &[u8]) -> Result<(), DeviceFault>
     ensures { Written bytes.now (W.seen sink.old) (W.seen sink.new) result }
@@ -42,7 +43,7 @@ pub fn write_all<W: Sink>(sink: &mut W, bytes: &[u8]) -> Result<(), DeviceFault>
     Ok(())
 }
 
-/// As soon as so many bytes wait, they are written.
+/// The number of waiting bytes from which on they are written.
 fn waiting_below(gathers: bool) -> usize
     ensures value { result ≡ waiting_below gathers }
     ensures some { 0 < result }
@@ -51,7 +52,7 @@ fn waiting_below(gathers: bool) -> usize
     if gathers { WAITING_MAX } else { 1 }
 }
 
-/// Writes what waits, where that isn't fewer than so many bytes. What a failed write has left is dropped.
+/// Writes what waits if it is at least `below` bytes. What a failed write leaves over is dropped.
 #[tactic(auto, using(crate::proofs::GatherLaws::relieving))]
 fn relieve<W: Sink>(waiting: &mut Vec<u8>, below: usize, sink: &mut W) -> Result<(), DeviceFault>
     requires { 0 < below }
@@ -68,16 +69,16 @@ fn relieve<W: Sink>(waiting: &mut Vec<u8>, below: usize, sink: &mut W) -> Result
 }
 
 impl Outbox {
-    /// Nothing waits. An `Err` is want of memory.
+    /// Nothing waits. `Err` means that memory was refused.
     pub(crate) fn new(alloc: Global) -> Result<Outbox, AllocError>
         ensures { IfOk result (λ o. o ≡ []) }
     {
         Ok(Outbox {
-            waiting: Vec::with_capacity(alloc, WAITING_MAX + ROOM)?,
+            waiting: Vec::with_capacity(alloc, WAITING_MAX + LINE_ROOM)?,
         })
     }
 
-    /// Gathers the answer to a line, and writes what waits where that is much.
+    /// Gathers the answer to a line, and writes what waits if that is much.
     #[tactic(auto, using(crate::proofs::GatherLaws::gathering))]
     pub(crate) fn answer<D: LineDesk, W: Sink>(
         &mut self,
@@ -93,7 +94,7 @@ impl Outbox {
         relieve(&mut self.waiting, waiting_below(desk.is_gathering()), sink)
     }
 
-    /// Gathers the answer to a line that is too long, and writes what waits where that is much.
+    /// Gathers the answer to a line that is too long, and writes what waits if that is much.
     #[tactic(auto, using(crate::proofs::GatherLaws::gathering))]
     pub(crate) fn refuse_long<D: LineDesk, W: Sink>(
         &mut self,
@@ -107,7 +108,7 @@ impl Outbox {
         relieve(&mut self.waiting, waiting_below(desk.is_gathering()), sink)
     }
 
-    /// Writes all that waits. What a failed write has left is dropped.
+    /// Writes all that waits. What a failed write leaves over is dropped.
     pub(crate) fn flush<W: Sink>(&mut self, sink: &mut W) -> Result<(), DeviceFault>
         ensures written { Written self.old (W.seen sink.old) (W.seen sink.new) result }
         ensures none { self.new ≡ [] }

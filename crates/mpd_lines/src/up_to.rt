@@ -1,4 +1,4 @@
-//! The bytes of a source, up to so many.
+//! The bytes of a source, up to a limit.
 ghost use Rattle.std.specs.Prelude.{◌+◌, ◌<◌, ◌^◌, IfOk, IfErr};
 ghost use Rattle.mpd_lines.specs.UpTo.{IsRead, IsUnread};
 
@@ -8,9 +8,9 @@ use crate::room::push_all;
 use std::alloc::Global;
 use std::cmp;
 
-/// Reads a source up to its end, or up to the first byte that is too many: one more than `max`. So there are more than `max` bytes
-/// exactly where that many are answered, and then the source isn't read to its end. An `Err` is `ReadFailed` where a read failed, or
-/// `Memory`, before the first read.
+/// Reads a source to its end, or up to the first byte too many: `max + 1` bytes. So more than `max`
+/// bytes are returned exactly if the source has more, and then it isn't read to its end.
+/// `ReadFailed`: a read failed. `Memory`: memory was refused, before the first read.
 #[tactic(auto, using(crate::proofs::UpToLaws::gathering))]
 pub fn read_up_to<S: Source>(
     alloc: Global,

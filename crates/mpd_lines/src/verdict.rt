@@ -9,12 +9,12 @@ pub enum Verdict {
     Good,
     /// Something: a deadlock or a trap is listed, or a witness is refused.
     Bad,
-    /// Nothing that is listed, and not all is listed that was to be.
+    /// Nothing that is listed, but not all is listed that was to be.
     NotWhole,
 }
 
 impl Verdict {
-    /// The status that the program ends with.
+    /// The status that the program ends with: 0, 1 or 4 (docs/FORMATS.md, "Faults and statuses").
     pub fn status(self) -> u8
         ensures { result ≡ verdict_status self }
     {

@@ -10,15 +10,15 @@ Row = List (List ℕ) × Option Task
 
 -- words behind `trace`, and the file and the mode that they name
 abbrev names : List (List ℕ) → List ℕ → List ℕ → Row
-names words file mode = (codes "trace" ∷ words, Some (trace file mode))
+names words file mode = (codes "trace" ∷ words, Some (trace file mode false))
 
 -- words behind `debug`, and the file, the mode and the witness that they name, without choices
 abbrev debugs : List (List ℕ) → List ℕ → List ℕ → Option (List ℕ) → Row
-debugs words file mode witness = (codes "debug" ∷ words, Some (debug file mode None witness false))
+debugs words file mode witness = (codes "debug" ∷ words, Some (debug file mode None witness false false 80))
 
 -- and with choices, and with `--ends` or without it, of the file `a`
 abbrev debugs_run : List (List ℕ) → List ℕ → Option (List ℕ) → Option (List ℕ) → Bool → Row
-debugs_run words mode choices witness ends = (codes "debug" ∷ words, Some (debug (codes "a") mode choices witness ends))
+debugs_run words mode choices witness ends = (codes "debug" ∷ words, Some (debug (codes "a") mode choices witness ends false 80))
 
 -- words behind `debug a` that make them ask for nothing
 abbrev strays : List (List ℕ) → Row

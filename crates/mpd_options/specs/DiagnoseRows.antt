@@ -60,7 +60,7 @@ rows =
     ∷ says_strictly (codes "--mode" ∷ codes "b" ∷ codes "a" ∷ codes "--strict" ∷ []) (codes "a") (Some (codes "b"))
     ∷ says_strictly (codes "--strict" ∷ codes "--" ∷ codes "--strict" ∷ []) (codes "--strict") None
     ∷ says_strictly (codes "a" ∷ codes "--strict" ∷ codes "--" ∷ []) (codes "a") None
-    ∷ (codes "trace" ∷ codes "diagnose" ∷ [], Some (trace (codes "diagnose") (codes "rendezvous")))
+    ∷ (codes "trace" ∷ codes "diagnose" ∷ [], Some (trace (codes "diagnose") (codes "rendezvous") false))
     ∷ nothing (codes "diagnose" ∷ [])
     ∷ nothing (codes "diagnose" ∷ codes "--" ∷ [])
     ∷ nothing (codes "diagnose" ∷ codes "--strict" ∷ [])

@@ -3,6 +3,7 @@ pub mod AskedRows
 pub mod CheckRows
 pub mod ClashRows
 pub mod Clashes
+pub mod DebugRows
 pub mod DiagnoseRows
 pub mod FaultRows
 pub mod Help

@@ -15,13 +15,17 @@ abbrev Row : Type 0
 Row = List (List ℕ) × Option Task
 
 -- words after `page`, and the choices, the witness and the trace words that they ask for, of the file `a` in `rendezvous`, with no number of
--- runs and the usual fuel
+-- runs, the usual fuel and the usual states
 abbrev shows : List (List ℕ) → Option (List ℕ) → Option (List ℕ) → Option (List ℕ) → Row
-shows words choices witness trace_words = (codes "page" ∷ words, Some (page (codes "a") (codes "rendezvous") choices witness trace_words None 100000 false false))
+shows words choices witness trace_words = (codes "page" ∷ words, Some (page (codes "a") (codes "rendezvous") choices witness trace_words None 100000 100000 false false))
 
 -- and how many runs, the fuel, and whether with `--ends` and `--hide`
 abbrev shows_so : List (List ℕ) → Option ℕ → ℕ → Bool → Bool → Row
-shows_so words runs fuel ends hide = (codes "page" ∷ words, Some (page (codes "a") (codes "rendezvous") None None None runs fuel ends hide))
+shows_so words runs fuel ends hide = (codes "page" ∷ words, Some (page (codes "a") (codes "rendezvous") None None None runs fuel 100000 ends hide))
+
+-- and how many states searches come to
+abbrev shows_of : List (List ℕ) → ℕ → Row
+shows_of words states = (codes "page" ∷ codes "a" ∷ words, Some (page (codes "a") (codes "rendezvous") None None None None 100000 states false false))
 
 -- words after `page a` that make them ask for nothing
 abbrev blots : List (List ℕ) → Row
@@ -47,8 +51,10 @@ rows =
     ∷ shows_so (codes "a" ∷ codes "--fuel=1000000" ∷ codes "--hide" ∷ []) None 1000000 false true
     ∷ shows_so (codes "--hide" ∷ codes "--ends" ∷ codes "a" ∷ []) None 100000 true true
     ∷ shows_so (codes "--ends" ∷ codes "--runs" ∷ codes "3" ∷ codes "--hide" ∷ codes "--fuel" ∷ codes "9" ∷ codes "--" ∷ codes "a" ∷ []) (Some 3) 9 true true
-    ∷ (codes "page" ∷ codes "a" ∷ codes "--mode=slots:2" ∷ codes "--hide" ∷ [], Some (page (codes "a") (codes "slots:2") None None None None 100000 false true))
-    ∷ (codes "page" ∷ codes "--" ∷ codes "--hide" ∷ [], Some (page (codes "--hide") (codes "rendezvous") None None None None 100000 false false))
+    ∷ shows_of (codes "--states" ∷ codes "1" ∷ []) 1
+    ∷ shows_of (codes "--states=16000000" ∷ []) 16000000
+    ∷ (codes "page" ∷ codes "a" ∷ codes "--mode=slots:2" ∷ codes "--hide" ∷ [], Some (page (codes "a") (codes "slots:2") None None None None 100000 100000 false true))
+    ∷ (codes "page" ∷ codes "--" ∷ codes "--hide" ∷ [], Some (page (codes "--hide") (codes "rendezvous") None None None None 100000 100000 false false))
     ∷ blots (codes "b" ∷ [])
     ∷ blots (codes "--runs" ∷ codes "0" ∷ [])
     ∷ blots (codes "--runs=1001" ∷ [])
@@ -57,6 +63,9 @@ rows =
     ∷ blots (codes "--runs=1" ∷ codes "--runs=1" ∷ [])
     ∷ blots (codes "--fuel" ∷ codes "0" ∷ [])
     ∷ blots (codes "--fuel=1000001" ∷ [])
+    ∷ blots (codes "--states" ∷ codes "0" ∷ [])
+    ∷ blots (codes "--states=16000001" ∷ [])
+    ∷ blots (codes "--states=5" ∷ codes "--states=5" ∷ [])
     ∷ blots (codes "--hide" ∷ codes "--hide" ∷ [])
     ∷ blots (codes "--hide=true" ∷ [])
     ∷ blots (codes "--ends" ∷ codes "--ends" ∷ [])
@@ -79,7 +88,7 @@ unfolding chars
 worked_pages = refl
 
 -- for a number of ranks
-pub paged_ranks : meant (codes "page" ∷ codes "a" ∷ codes "--ranks" ∷ codes "5" ∷ []) ≡ Some (record { task = page (codes "a") (codes "rendezvous") None None None None 100000 false false; ranks = Some 5 })
+pub paged_ranks : meant (codes "page" ∷ codes "a" ∷ codes "--ranks" ∷ codes "5" ∷ []) ≡ Some (record { task = page (codes "a") (codes "rendezvous") None None None None 100000 100000 false false; ranks = Some 5 })
 unfolding chars
 paged_ranks = refl
 
@@ -109,6 +118,7 @@ fault_rows =
     ∷ wrong kind.ValueValidation (codes "page" ∷ codes "a" ∷ codes "--runs" ∷ codes "0" ∷ [])
     ∷ wrong kind.ValueValidation (codes "page" ∷ codes "a" ∷ codes "--runs=1001" ∷ [])
     ∷ wrong kind.ValueValidation (codes "page" ∷ codes "a" ∷ codes "--fuel=1000001" ∷ [])
+    ∷ wrong kind.ValueValidation (codes "page" ∷ codes "a" ∷ codes "--states=16000001" ∷ [])
     ∷ wrong kind.TooManyValues (codes "page" ∷ codes "a" ∷ codes "--hide=true" ∷ [])
     ∷ wrong kind.ArgumentConflict (codes "page" ∷ codes "a" ∷ codes "--hide" ∷ codes "--hide" ∷ [])
     ∷ wrong kind.ArgumentConflict (codes "page" ∷ codes "a" ∷ codes "--runs=1" ∷ codes "--runs=2" ∷ [])

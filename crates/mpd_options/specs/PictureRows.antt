@@ -63,7 +63,7 @@ rows =
     ∷ nothing (codes "c=a" ∷ [])
     ∷ nothing (codes "--mode" ∷ codes "b" ∷ codes "c" ∷ codes "a" ∷ [])
     ∷ nothing (codes "--" ∷ codes "c" ∷ codes "a" ∷ [])
-    ∷ (codes "trace" ∷ codes "c" ∷ [], Some (trace (codes "c") (codes "rendezvous")))
+    ∷ (codes "trace" ∷ codes "c" ∷ [], Some (trace (codes "c") (codes "rendezvous") false))
     ∷ draws (codes "a" ∷ []) (codes "rendezvous") None None None 100000
     ∷ draws (codes "a" ∷ codes "--mode" ∷ codes "buffered" ∷ []) (codes "buffered") None None None 100000
     ∷ draws (codes "--mode=b" ∷ codes "a" ∷ []) (codes "b") None None None 100000

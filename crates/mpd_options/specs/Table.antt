@@ -100,6 +100,17 @@ most_leaf = 67108863
 abbrev pub most_paged : ℕ
 most_paged = 1000
 
+-- how many states each search of a page comes to at most
+abbrev pub most_visited : ℕ
+most_visited = 16000000
+
+-- how many bytes a line of an answer has before it wraps
+abbrev pub least_width : ℕ
+least_width = 20
+
+abbrev pub most_width : ℕ
+most_width = 1000
+
 -- how many runs of each piece are tried where that isn't said
 abbrev pub usual_runs : ℕ
 usual_runs = 1000
@@ -154,9 +165,12 @@ item_of the.PagedChoices = named (codes "choices") AnyWord is_nothing
 item_of the.PagedWitness = an_option (codes "laid_witness") (codes "witness") AnyWord is_nothing
 item_of the.PagedWords = named (codes "words") AnyWord is_nothing
 item_of the.PagedRuns = named (codes "runs") (FromTo 1 most_paged) is_nothing
+item_of the.PagedStates = named (codes "states") (FromTo 1 most_visited) (is_same_as (codes "100000"))
 item_of the.PagedEnds = a_flag (codes "ends")
 item_of the.Hide = a_flag (codes "hide")
 item_of the.PlainDrawing = a_flag (codes "plain")
+item_of the.Echo = a_flag (codes "echo")
+item_of the.Width = named (codes "width") (FromTo least_width most_width) (is_same_as (codes "80"))
 item_of the.Strict = a_flag (codes "strict")
 
 -- ---- the commands
@@ -181,8 +195,8 @@ called tool.Page = codes "page"
 -- what words after each can say something of, as its help lists them
 abbrev pub names_of : Tool → List Name
 names_of tool.Diagnose = the.File ∷ the.RankSpan ∷ the.GivenMode ∷ the.Modes ∷ the.Strict ∷ []
-names_of tool.Trace = the.File ∷ the.Ranks ∷ the.Mode ∷ []
-names_of tool.Debug = the.File ∷ the.Ranks ∷ the.Mode ∷ the.LaidChoices ∷ the.LaidWitness ∷ the.ChosenEnds ∷ []
+names_of tool.Trace = the.File ∷ the.Ranks ∷ the.Mode ∷ the.Echo ∷ []
+names_of tool.Debug = the.File ∷ the.Ranks ∷ the.Mode ∷ the.LaidChoices ∷ the.LaidWitness ∷ the.ChosenEnds ∷ the.Echo ∷ the.Width ∷ []
 names_of tool.Run = the.File ∷ the.Ranks ∷ the.Mode ∷ []
 names_of tool.Serve = the.File ∷ the.Ranks ∷ the.Mode ∷ the.Port ∷ the.Clients ∷ []
 names_of tool.Check =
@@ -191,7 +205,7 @@ names_of tool.Verify = the.File ∷ the.Ranks ∷ the.Mode ∷ the.WitnessFile �
 names_of tool.Words = the.File ∷ the.Ranks ∷ the.Mode ∷ the.NeededChoices ∷ the.Fuel ∷ the.ChosenEnds ∷ []
 names_of tool.Translate = the.File ∷ the.Ranks ∷ []
 names_of tool.Picture = the.File ∷ the.Ranks ∷ the.Mode ∷ the.DrawnChoices ∷ the.DrawnWitness ∷ the.DrawnWords ∷ the.Fuel ∷ the.ChosenEnds ∷ the.PlainDrawing ∷ []
-names_of tool.Page = the.File ∷ the.Ranks ∷ the.Mode ∷ the.PagedChoices ∷ the.PagedWitness ∷ the.PagedWords ∷ the.PagedRuns ∷ the.Fuel ∷ the.PagedEnds ∷ the.Hide ∷ []
+names_of tool.Page = the.File ∷ the.Ranks ∷ the.Mode ∷ the.PagedChoices ∷ the.PagedWitness ∷ the.PagedWords ∷ the.PagedRuns ∷ the.Fuel ∷ the.PagedStates ∷ the.PagedEnds ∷ the.Hide ∷ []
 
 abbrev pub items_of : Tool → List Item
 items_of t = map item_of (names_of t)

@@ -1,10 +1,10 @@
-//! Options of `check` that can't stand together (docs/FORMATS.md, "The command line").
+//! Options of `check` that can't be combined (docs/FORMATS.md, "The command line").
 ghost use Rattle.std.specs.Prelude.{◌≡◌};
 ghost use Rattle.mpd_options.specs.Clashes.{beside_complete, beside_outcomes, beside_sample, clash_of, first_given, option_word};
 
 use crate::options::CheckOptions;
 
-/// An option of `check` that can't stand beside some other.
+/// An option of `check` that can't be combined with some other.
 #[derive(Clone, Copy)]
 pub enum CheckOption {
     /// `--complete`.
@@ -32,7 +32,7 @@ pub enum CheckOption {
 }
 
 impl CheckOption {
-    /// Its word.
+    /// The option as it is written, with its hyphens.
     pub fn word(self) -> &'static str
         ensures { result.now ≡ option_word self }
     {
@@ -52,7 +52,7 @@ impl CheckOption {
     }
 }
 
-/// Why options can't stand together.
+/// Why options can't be combined.
 #[derive(Clone, Copy)]
 pub enum Clash {
     /// These two can't.
@@ -64,7 +64,7 @@ pub enum Clash {
 }
 
 impl CheckOptions {
-    /// The first option that was given and can't stand beside `--outcomes`.
+    /// The first option that was given and can't be combined with `--outcomes`.
     fn beside_outcomes(self) -> Option<CheckOption>
         ensures { result ≡ first_given (beside_outcomes self) }
     {
@@ -95,7 +95,7 @@ impl CheckOptions {
         None
     }
 
-    /// The first option that was given and can't stand beside `--sample`.
+    /// The first option that was given and can't be combined with `--sample`.
     fn beside_sample(self) -> Option<CheckOption>
         ensures { result ≡ first_given (beside_sample self) }
     {
@@ -120,8 +120,8 @@ impl CheckOptions {
         None
     }
 
-    /// The first option that was given and can't stand beside `--complete`: what is asked of a piece, or of how many there are, tells
-    /// nothing of all runs.
+    /// The first option that was given and can't be combined with `--complete`: what is asked of a
+    /// piece, or of how many there are, tells nothing of all runs.
     fn beside_complete(self) -> Option<CheckOption>
         ensures { result ≡ first_given (beside_complete self) }
     {
@@ -134,8 +134,9 @@ impl CheckOptions {
         None
     }
 
-    /// Why these options can't stand together; `None` where they can. What can't stand beside `--outcomes` is told first, then that
-    /// `--states` is alone, then what can't stand beside `--sample`, then that `--seed` is alone, then what can't stand beside `--complete`.
+    /// Why these options can't be combined; `None` if they can. What can't be combined with
+    /// `--outcomes` comes first, then that `--states` is alone, then what can't be combined with
+    /// `--sample`, then that `--seed` is alone, then what can't be combined with `--complete`.
     pub fn clash(self) -> Option<Clash>
         ensures { result ≡ clash_of self }
     {

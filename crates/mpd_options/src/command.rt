@@ -14,7 +14,7 @@ use clap::builder::ValueParser;
 use clap::{Arg, ArgAction, Command};
 use std::alloc::{AllocError, Global};
 
-/// A command, where memory was given for it.
+/// A command, if memory was given for it.
 type Made<'a> = Result<Command<'a>, AllocError>;
 
 /// The words that `--until` takes.
@@ -102,7 +102,7 @@ fn arg<'a>(alloc: Global, item: Item, until: Until<'a>) -> Arg<'a>
     }
 }
 
-/// The command, where it was made, with what help says of it, and its example.
+/// The command, if it was made, with what help says of it, and its example.
 fn with_help<'a>(command: Made<'a>, about: &'a str, example: &'a str) -> Made<'a>
     ensures app { (app : App) → IfOk command.entry (λ c. app_of c ≡ app) → IfOk result (λ c. app_of c ≡ app) }
     ensures own { IfOk command.entry (λ c. (fields_of c).has_globals ≡ false) → IfOk result (λ c. (fields_of c).has_globals ≡ false) }
@@ -114,7 +114,7 @@ fn with_help<'a>(command: Made<'a>, about: &'a str, example: &'a str) -> Made<'a
     }
 }
 
-/// The command, where it was made, with one argument more.
+/// The command, if it was made, with one argument more.
 fn with_arg<'a>(command: Made<'a>, arg: Arg<'a>) -> Made<'a>
     requires { arg.global ≡ false }
     ensures app { (f : App → App) (app : App) → IfOk command.entry (λ c. f (with_rule (app_of c) (rule_of arg.entry)) ≡ app) → IfOk result (λ c. f (app_of c) ≡ app) }
@@ -129,7 +129,8 @@ fn with_arg<'a>(command: Made<'a>, arg: Arg<'a>) -> Made<'a>
     }
 }
 
-/// The command, where it was made, with the arguments of these rows, by the words that `--until` takes.
+/// The command, if it was made, with the arguments of these rows, by the words that `--until`
+/// takes.
 fn with_args<'a>(alloc: Global, command: Made<'a>, mut names: &[Name], until: Until<'a>) -> Made<'a>
     ensures app { (app : App) → IfOk command.entry (λ c. fold (with_item until.entry.words) (app_of c) names.entry.now ≡ app) → IfOk result (λ c. app_of c ≡ app) }
     ensures own { IfOk command.entry (λ c. (fields_of c).has_globals ≡ false) → IfOk result (λ c. (fields_of c).has_globals ≡ false) }
@@ -164,7 +165,7 @@ fn named_program<'a>(alloc: Global) -> Made<'a>
         .bin_name("mpdbg")
 }
 
-/// The program, where it was made, with a command more.
+/// The program, if it was made, with a command more.
 fn with_command<'a>(alloc: Global, program: Made<'a>, tool: Tool, until: Until<'a>) -> Made<'a>
     ensures { (f : App → App) (app : App) → IfOk program.entry (λ c. f (with_tool until.entry.words (app_of c) tool) ≡ app) → IfOk result (λ c. f (app_of c) ≡ app) }
 {
@@ -180,7 +181,7 @@ fn with_command<'a>(alloc: Global, program: Made<'a>, tool: Tool, until: Until<'
     }
 }
 
-/// The program, where it was made, with these commands.
+/// The program, if it was made, with these commands.
 fn with_commands<'a>(
     alloc: Global,
     program: Made<'a>,

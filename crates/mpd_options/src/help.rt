@@ -51,6 +51,8 @@ const RUN_EXAMPLE: &str =
   back, redo, goto, run-back         go back, and forward again
   state, enabled, vars, calls, why   look at where it stands
   break, unbreak, breaks, explore    set breakpoints, list the runs from here
+  script, where, all, decision       tell names, lines, and what comes next
+  steps, lines, explain              list steps, lines of calls, and why it ended so
 
 Example:
   echo '{\"cmd\":\"run\",\"max\":100}' | ./mpdbg run examples/race.mpd";

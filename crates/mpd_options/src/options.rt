@@ -15,10 +15,10 @@ use std::alloc::{AllocError, Global};
 use std::convert::AsStr;
 use std::fmt;
 
-/// How many runs of each piece are tried where that isn't said.
+/// How many runs of each piece are tried by default.
 const USUAL_RUNS: usize = 1_000;
 
-/// By how many choices the runs are cut into pieces where that isn't said.
+/// By how many choices the runs are cut into pieces by default.
 const USUAL_SPLIT: usize = 1;
 
 /// What is said of words that are no text, as `clap` says it.
@@ -28,40 +28,41 @@ const NOT_TEXT: &str =
 /// How deadlocks are looked for.
 #[derive(Clone, Copy)]
 pub struct CheckOptions {
-    /// Up to how many slots each mode is tried, in place of one mode: `rendezvous`, `slots:1` to `slots:N`, `buffered`; none tries the
-    /// one mode alone.
+    /// Up to how many slots each mode is tried, instead of one mode: `rendezvous`, `slots:1` to
+    /// `slots:N`, `buffered`. `None` tries the one mode alone.
     pub modes: Option<usize>,
-    /// How many runs of each piece are tried at most; 1,000 where that isn't said.
+    /// How many runs of each piece are tried at most; 1,000 by default.
     pub runs: usize,
-    /// Whether it is said how many runs are tried.
+    /// Whether the number of runs is given.
     pub runs_given: bool,
     /// How many steps each run takes at most.
     pub fuel: usize,
-    /// By how many choices the runs are cut into pieces; 1 where that isn't said.
+    /// By how many choices the runs are cut into pieces; 1 by default.
     pub split: usize,
-    /// Whether it is said by how many choices they are cut.
+    /// Whether the number of these choices is given.
     pub split_given: bool,
     /// How many workers make the report.
     pub workers: usize,
     /// Whether each end is listed once: of runs that differ only in the order of steps that don't conflict, one.
     pub ends: bool,
-    /// Whether each different end is listed once with how many runs come to it, which aren't tried one by one.
+    /// Whether each different end is listed once, with the number of runs that lead to it; runs
+    /// aren't tried one by one.
     pub outcomes: bool,
-    /// How many states are kept at most, where that is said: 1 to 16,000,000.
+    /// How many states are kept at most, if given: 1 to 16,000,000.
     pub states: Option<usize>,
-    /// How many runs are drawn at random, in place of all being tried.
+    /// How many runs are drawn at random, instead of trying all; optional.
     pub sample: Option<usize>,
-    /// What the draw begins with.
+    /// The seed of the draw; optional.
     pub seed: Option<u64>,
     /// Whether each deadlock and each trap is explained.
     pub explain: bool,
-    /// Whether each different end is listed once, in place of the runs.
+    /// Whether each different end is listed once, instead of the runs.
     pub group: bool,
-    /// Whether the report ends behind the first run that ends in a deadlock or a trap.
+    /// Whether the report ends after the first run that ends in a deadlock or a trap.
     pub until_bad: bool,
-    /// Whether the trace words of a run that comes to a deadlock are wanted.
+    /// Whether the trace words of runs to a deadlock or trap are wanted.
     pub witness: bool,
-    /// Whether the status is to tell that not all runs were tried.
+    /// Whether the status shall say that not all runs were tried.
     pub complete: bool,
     /// The number of the piece whose part of the report is wanted alone.
     pub piece: Option<usize>,
@@ -74,21 +75,23 @@ pub struct CheckOptions {
 pub struct PageOptions<'a> {
     /// The file's word.
     pub file: &'a str,
-    /// The mode's word, whatever it is; `rendezvous` where there is none.
+    /// The word of the mode, unchecked; `rendezvous` if none is given.
     pub mode: &'a str,
-    /// The word of a run's choices, whatever it is; there need be none.
+    /// The word of a run's choices, unchecked; optional.
     pub choices: Option<&'a str>,
-    /// The file of a witness or a report, whose run is shown; there need be none.
+    /// The file of a witness or a report, whose run is shown; optional.
     pub witness: Option<&'a str>,
-    /// The file of a run's trace words; there need be none.
+    /// The file of a run's trace words; optional.
     pub words: Option<&'a str>,
-    /// The runs of how many leaves that `check` lists, 1 to 1,000, where that is asked for.
+    /// The runs of how many leaves that `check` lists, 1 to 1,000, if that is asked for.
     pub runs: Option<usize>,
     /// How many steps a run takes at most, 1 to 1,000,000.
     pub fuel: usize,
+    /// How many states each search comes to at most, 1 to 16,000,000.
+    pub states: usize,
     /// Whether choices and runs go along the wide walk.
     pub ends: bool,
-    /// Whether how runs end is covered at first.
+    /// Whether the ends of runs are hidden at first.
     pub hide: bool,
 }
 
@@ -101,58 +104,65 @@ pub enum Options<'a> {
     Diagnose {
         /// The file's word.
         file: &'a str,
-        /// The mode's word, whatever it is; there need be none.
+        /// The word of the mode, unchecked; optional.
         mode: Option<&'a str>,
-        /// Up to how many slots modes are diagnosed in turn, where that is asked for.
+        /// Up to how many slots modes are diagnosed in turn, if that is asked for.
         modes: Option<usize>,
-        /// Whether the status is to tell that calls can be left over.
+        /// Whether the status shall say that calls can be left over.
         strict: bool,
-        /// The word of how many ranks run the script, one number or several, whatever it is; there need be none.
+        /// The word of how many ranks run the script, one number or several, unchecked; optional.
         ranks: Option<&'a str>,
     },
     /// Trace the script of a file, by trace words on standard input.
     Trace {
         /// The file's word.
         file: &'a str,
-        /// The mode's word, whatever it is; `rendezvous` where there is none.
+        /// The word of the mode, unchecked; `rendezvous` if none is given.
         mode: &'a str,
+        /// Whether each line that is read is shown before its answer.
+        echo: bool,
     },
     /// Debug the script of a file, by words on standard input.
     Debug {
         /// The file's word.
         file: &'a str,
-        /// The mode's word, whatever it is; `rendezvous` where there is none.
+        /// The word of the mode, unchecked; `rendezvous` if none is given.
         mode: &'a str,
-        /// The word of the choices of a run that is laid ahead, whatever it is; there need be none.
+        /// The word of the choices of a run whose steps are queued, unchecked; optional.
         choices: Option<&'a str>,
-        /// The file of a witness or a report, whose deadlock is laid ahead; there need be none.
+        /// The file of a witness or a report, whose steps to a deadlock or trap are queued;
+        /// optional.
         witness: Option<&'a str>,
         /// Whether the choices are those of a report of `--ends` or `--sample`.
         ends: bool,
+        /// Whether each line that is read is shown before its answer.
+        echo: bool,
+        /// How many bytes a line of an answer has before it wraps, 20 to 1,000; 80 where that isn't said.
+        width: usize,
     },
     /// Answer requests on the script of a file, which stand on standard input.
     Run {
         /// The file's word.
         file: &'a str,
-        /// The mode's word, whatever it is; `rendezvous` where there is none.
+        /// The word of the mode, unchecked; `rendezvous` if none is given.
         mode: &'a str,
     },
     /// Answer requests of several clients on the script of a file.
     Serve {
         /// The file's word.
         file: &'a str,
-        /// The mode's word, whatever it is; `rendezvous` where there is none.
+        /// The word of the mode, unchecked; `rendezvous` if none is given.
         mode: &'a str,
-        /// The port that is listened on.
+        /// The port to listen on; 0 lets the system choose one.
         port: u16,
-        /// How many clients are answered.
+        /// How many clients are answered, 1 to 16.
         clients: usize,
     },
     /// Look for deadlocks in the script of a file.
     Check {
         /// The file's word.
         file: &'a str,
-        /// The mode's word, whatever it is; `rendezvous` where there is none.
+        /// The word of the mode, unchecked; `rendezvous` if none is given.
         mode: &'a str,
         /// How it looks for them.
         options: CheckOptions,
@@ -163,7 +173,7 @@ pub enum Options<'a> {
         file: &'a str,
         /// The witness's file.
         witness: &'a str,
-        /// The mode's word, whatever it is; `rendezvous` where there is none.
+        /// The word of the mode, unchecked; `rendezvous` if none is given.
         mode: &'a str,
         /// The leaf whose witness is taken of a whole report.
         leaf: Option<usize>,
@@ -172,9 +182,9 @@ pub enum Options<'a> {
     Words {
         /// The file's word.
         file: &'a str,
-        /// The word of the run's choices, whatever it is.
+        /// The word of the run's choices, unchecked.
         choices: &'a str,
-        /// The mode's word, whatever it is; `rendezvous` where there is none.
+        /// The word of the mode, unchecked; `rendezvous` if none is given.
         mode: &'a str,
         /// How many steps the run takes at most.
         fuel: usize,
@@ -190,15 +200,15 @@ pub enum Options<'a> {
     Picture {
         /// The file's word.
         file: &'a str,
-        /// The mode's word, whatever it is; `rendezvous` where there is none.
+        /// The word of the mode, unchecked; `rendezvous` if none is given.
         mode: &'a str,
-        /// The word of the run's choices, whatever it is; there need be none.
+        /// The word of the run's choices, unchecked; optional.
         choices: Option<&'a str>,
-        /// The file of a witness or a report, whose run is drawn; there need be none.
+        /// The file of a witness or a report, whose run is drawn; optional.
         witness: Option<&'a str>,
-        /// The file of the run's trace words; there need be none.
+        /// The file of the run's trace words; optional.
         words: Option<&'a str>,
-        /// How many steps the run takes at most, where it is told by choices or by nothing.
+        /// How many steps the run takes at most, if it is told by choices or by nothing.
         fuel: usize,
         /// Whether the choices are those of a report of `--ends` or `--sample`.
         ends: bool,
@@ -214,14 +224,14 @@ pub enum Options<'a> {
 pub struct CommandLine<'a> {
     /// What it asks for.
     pub asked: Options<'a>,
-    /// How many ranks run the script, 1 to 16, where that is said; else it is the number in the script.
+    /// How many ranks run the script, 1 to 16, if given; else it is the number in the script.
     pub ranks: Option<usize>,
 }
 
 /// Why a command line asks for nothing that can be done. Its `Display` is the text for the user, with its line feeds.
 #[derive(Drop)]
 pub enum UsageFault {
-    /// Help or the version was asked for, or the words are wrong.
+    /// Help or the version was asked for, or the words of the command line are wrong.
     Usage(clap::Error),
     /// A word is no text.
     NotText,
@@ -252,7 +262,7 @@ impl fmt::Display for UsageFault {
 }
 
 impl UsageFault {
-    /// Help or the version, which was asked for and goes to standard output.
+    /// Whether help or the version was asked for, which goes to standard output.
     pub fn is_answer(&self) -> bool
         ensures { result ≡ is_answer self.now }
     {
@@ -267,7 +277,8 @@ impl UsageFault {
         }
     }
 
-    /// The status that the program ends with: 0 behind help or the version, 2 where the words are wrong, 3 without memory.
+    /// The status that the program ends with: 0 after help or the version, 2 if the words are
+    /// wrong, 3 if memory was refused.
     pub fn status(&self) -> u8
         ensures { result ≡ usage_status self.now }
     {
@@ -281,7 +292,7 @@ impl UsageFault {
     }
 }
 
-/// The fault of words that `clap` refuses: want of memory is no fault of theirs.
+/// The fault of words that `clap` refuses: refused memory is no fault of theirs.
 fn usage_fault(error: clap::Error) -> UsageFault
     ensures { result ≡ usage_of error }
 {
@@ -291,7 +302,7 @@ fn usage_fault(error: clap::Error) -> UsageFault
     }
 }
 
-/// The text of a row of the table, where one was given or stands for it.
+/// The text of a row of the table, if one was given or stands for it.
 #[tactic(auto, using(crate::proofs::Commands::text_is))]
 fn text<'a>(matches: &ArgMatches<'a>, name: Name) -> Option<&'a str>
     ensures { given_word result ≡ text_in (rows_of (found_of matches.now)) name }
@@ -299,7 +310,7 @@ fn text<'a>(matches: &ArgMatches<'a>, name: Name) -> Option<&'a str>
     matches.get_str(name.item().id)
 }
 
-/// The text of a row; the empty one where there is none.
+/// The text of a row; the empty one if there is none.
 #[tactic(auto, using(crate::proofs::Commands::word_is))]
 fn word<'a>(matches: &ArgMatches<'a>, name: Name) -> &'a str
     ensures { result.now ≡ word_by (text_in (rows_of (found_of matches.now)) name) }
@@ -315,7 +326,7 @@ fn parsed(text: &str) -> Option<usize>
     read.ok()
 }
 
-/// The number of a row, where one was given or stands for it.
+/// The number of a row, if one was given or stands for it.
 fn given(matches: &ArgMatches<'_>, name: Name) -> Option<usize>
     ensures { result ≡ number_by (text_in (rows_of (found_of matches.now)) name) }
 {
@@ -325,7 +336,7 @@ fn given(matches: &ArgMatches<'_>, name: Name) -> Option<usize>
     }
 }
 
-/// The number of a row; 0 where there is none.
+/// The number of a row; 0 if there is none.
 fn number(matches: &ArgMatches<'_>, name: Name) -> usize
     ensures { result ≡ number_or_none (number_by (text_in (rows_of (found_of matches.now)) name)) }
 {
@@ -340,7 +351,7 @@ fn parsed_port(text: &str) -> Option<u16>
     read.ok()
 }
 
-/// The port; 0 where there is none.
+/// The port; 0 if there is none.
 fn port_of(serve: &ArgMatches<'_>) -> u16
     ensures { result ≡ number_or_none (port_by (text_in (rows_of (found_of serve.now)) Name.Port)) }
 {
@@ -366,7 +377,8 @@ fn trace_in<'a>(trace: &ArgMatches<'a>) -> Options<'a>
 {
     let file = word(trace, Name::File);
     let mode = word(trace, Name::Mode);
-    Options::Trace { file, mode }
+    let echo = is_on(trace, Name::Echo);
+    Options::Trace { file, mode, echo }
 }
 
 /// What the words after `debug` ask for.
@@ -378,12 +390,16 @@ fn debug_in<'a>(debug: &ArgMatches<'a>) -> Options<'a>
     let choices_word = text(debug, Name::LaidChoices);
     let witness_file = text(debug, Name::LaidWitness);
     let ends = is_on(debug, Name::ChosenEnds);
+    let echo = is_on(debug, Name::Echo);
+    let width = number(debug, Name::Width);
     Options::Debug {
         file,
         mode,
         choices: choices_word,
         witness: witness_file,
         ends,
+        echo,
+        width,
     }
 }
 
@@ -430,7 +446,7 @@ fn serve_in<'a>(serve: &ArgMatches<'a>) -> Options<'a>
     }
 }
 
-/// What the draw begins with, where that was given.
+/// What the draw begins with, if that was given.
 fn seed_of(check: &ArgMatches<'_>) -> Option<u64>
     ensures { result ≡ number_by (text_in (rows_of (found_of check.now)) Name.Seed) }
 {
@@ -576,6 +592,7 @@ fn page_in<'a>(page: &ArgMatches<'a>) -> Options<'a>
     let words_file = text(page, Name::PagedWords);
     let runs = given(page, Name::PagedRuns);
     let fuel = number(page, Name::Fuel);
+    let states = number(page, Name::PagedStates);
     let ends = is_on(page, Name::PagedEnds);
     let hide = is_on(page, Name::Hide);
     Options::Page(PageOptions {
@@ -586,6 +603,7 @@ fn page_in<'a>(page: &ArgMatches<'a>) -> Options<'a>
         words: words_file,
         runs,
         fuel,
+        states,
         ends,
         hide,
     })
@@ -669,9 +687,10 @@ fn options_by_words<'a, S: AsStr>(
     }
 }
 
-/// Reads the words of a command line, without the program's own name (docs/FORMATS.md, "The command line"): what they ask
-/// for, with the words of files and mode as they were given. An `Err` is `Usage` exactly where they ask for nothing that can be
-/// done, with the kind of fault that `clap` has for these words, or `Memory`.
+/// Reads the words of a command line, without the program's own name (docs/FORMATS.md, "The command
+/// line"): what they ask for, with the words of files and mode as they were given. An `Err` is
+/// `Usage` exactly if they ask for nothing that can be done, with the kind of fault that `clap` has
+/// for these words, or `Memory`.
 pub fn read_options<'a, S: AsStr>(
     alloc: Global,
     words: &'a [S],

@@ -31,6 +31,12 @@ const MOST_LEAF: u64 = 67_108_863;
 
 const MOST_PAGED: u64 = 1_000;
 
+const MOST_VISITED: u64 = 16_000_000;
+
+const LEAST_WIDTH: u64 = 20;
+
+const MOST_WIDTH: u64 = 1_000;
+
 /// A command.
 #[derive(Clone, Copy)]
 pub enum Tool {
@@ -98,10 +104,13 @@ pub(crate) enum Name {
     PagedWitness,
     PagedWords,
     PagedRuns,
+    PagedStates,
     PagedEnds,
     Hide,
     PlainDrawing,
     Strict,
+    Echo,
+    Width,
 }
 
 /// The values that an option takes.
@@ -118,7 +127,7 @@ pub(crate) enum Values {
 /// What it means that an option isn't there.
 #[derive(Clone, Copy)]
 pub(crate) enum Unsaid {
-    /// It is missed.
+    /// It is missing, which is a fault.
     Missed,
     /// Nothing.
     Nothing,
@@ -432,6 +441,13 @@ impl Name {
                 Unsaid::Nothing,
                 "Show the runs of the first N leaves that `check` lists, 1 to 1000",
             ),
+            Name::PagedStates => option(
+                "states",
+                "N",
+                Values::FromTo(1, MOST_VISITED),
+                Unsaid::SameAs("100000"),
+                "How many states each search of a page comes to at most, 1 to 16000000",
+            ),
             Name::PagedEnds => flag(
                 "ends",
                 "Take choices and runs along the wide walk, as `check --ends` does",
@@ -441,6 +457,14 @@ impl Name {
             Name::Strict => flag(
                 "strict",
                 "End with status 1 also where calls can be left over",
+            ),
+            Name::Echo => flag("echo", "Show each line that is read before its answer"),
+            Name::Width => option(
+                "width",
+                "N",
+                Values::FromTo(LEAST_WIDTH, MOST_WIDTH),
+                Unsaid::SameAs("80"),
+                "How many bytes a line of an answer has before it wraps, 20 to 1000",
             ),
         }
     }
@@ -493,7 +517,8 @@ impl Tool {
                 Name::Modes,
                 Name::Strict,
             ],
-            Tool::Trace | Tool::Run => &[Name::File, Name::Ranks, Name::Mode],
+            Tool::Trace => &[Name::File, Name::Ranks, Name::Mode, Name::Echo],
+            Tool::Run => &[Name::File, Name::Ranks, Name::Mode],
             Tool::Debug => &[
                 Name::File,
                 Name::Ranks,
@@ -501,6 +526,8 @@ impl Tool {
                 Name::LaidChoices,
                 Name::LaidWitness,
                 Name::ChosenEnds,
+                Name::Echo,
+                Name::Width,
             ],
             Tool::Serve => &[
                 Name::File,
@@ -556,6 +583,7 @@ impl Tool {
                 Name::PagedWords,
                 Name::PagedRuns,
                 Name::Fuel,
+                Name::PagedStates,
                 Name::PagedEnds,
                 Name::Hide,
             ],

@@ -9,3 +9,4 @@ pub mod CollectLaws
 pub mod PlainLaws
 pub mod TraceLaws
 pub mod FileLaws
+pub mod EchoLemmas

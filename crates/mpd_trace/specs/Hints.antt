@@ -70,21 +70,70 @@ abbrev pub open_line : Option ℕ → List ℕ
 open_line None = []
 open_line (Some number) = codes "  the block that line " ++ decimal number ++ codes " opens isn't closed\n"
 
--- of a token that the grammar doesn't allow: that a block is open where the text ends, or that a word of the language stands in a name's place
+-- of an `else` where a statement can stand: what it follows, and which block is open, if one is
+unfoldable pub lone_else : List ℕ
+lone_else = line (codes "  'else' follows the '}' of an if")
+
+abbrev pub else_line : Option ℕ → List ℕ
+else_line None = lone_else
+else_line (Some number) = codes "  'else' follows a '}': the block that line " ++ decimal number ++ codes " opens isn't closed\n"
+
+-- of a declaration there
+unfoldable pub late_line : List ℕ
+late_line = line (codes "  declarations stand before the first statement")
+
+abbrev pub is_either : List ℕ → List ℕ → List ℕ → Bool
+is_either one other word = bytes_eq word one || bytes_eq word other
+
+abbrev pub statement_line : List ℕ → List ℕ → List ℕ
+statement_line front word =
+    if bytes_eq word (codes "else") then else_line (innermost (still_open false 1 [] front))
+    else (if is_either (codes "var") (codes "req") word then late_line else [])
+
+-- of a word that begins no statement, where one can stand
+abbrev pub misplaced_line : List ℕ → List ℕ → List ℕ
+misplaced_line front word = if allows front (codes "while") then statement_line front word else []
+
+-- of a token that the grammar doesn't allow: that a block is open where the text ends, that a word of the language stands in a name's place,
+-- or that a word stands in a statement's place that begins none
 abbrev pub expected_line : List ℕ → ℕ → List ℕ
 expected_line text place =
-    if nat_lt place (length text) then reserved_line (word_at text place) (is_reserved (word_at text place) && names_alone (take place text))
+    if nat_lt place (length text) then
+    reserved_line (word_at text place) (is_reserved (word_at text place) && names_alone (take place text)) ++ misplaced_line (take place text) (word_at text place)
     else open_line (innermost (still_open false 1 [] text))
+
+-- of a comma behind the name that a declaration has
+unfoldable pub list_line : List ℕ
+list_line = line (codes "  a declaration has one name: write 'var x; var y;'")
+
+-- whether the front of a text ends with such a name: its size could follow, and behind a semicolon another declaration
+abbrev pub declares_name : List ℕ → Bool
+declares_name front = allows front (codes "[") && allows (front ++ 59 ∷ []) (codes "var")
+
+abbrev pub bad_line : List ℕ → ℕ → List ℕ
+bad_line text place = if bytes_eq (take 1 (drop place text)) (codes ",") && declares_name (take place text) then list_line else []
+
+unfoldable pub ranks_line : List ℕ
+ranks_line = line (codes "  a script has 1 to 16 ranks")
+
+unfoldable pub waitany_line : List ℕ
+waitany_line = line (codes "  'waitany' is a word of version 2: begin with 'mpd 2;'")
+
+unfoldable pub versions_line : List ℕ
+versions_line = line (codes "  there are the versions 1 and 2")
+
+abbrev pub version_line : List ℕ → List ℕ
+version_line word = if bytes_eq word (codes "waitany") then waitany_line else versions_line
 
 abbrev pub hint_line : List ℕ → FaultCode → ℕ → List ℕ
 hint_line text code.TooLong place = []
 hint_line text code.NotText place = []
-hint_line text code.BadToken place = []
+hint_line text code.BadToken place = bad_line text place
 hint_line text code.Expected place = expected_line text place
 hint_line text code.UnknownName place = foreign_line (word_at text place) (instead_in foreign (word_at text place))
 hint_line text code.Twice place = []
 hint_line text code.TooDeep place = []
 hint_line text code.TooMany place = []
-hint_line text code.BadRanks place = []
-hint_line text code.NotInVersion place = []
+hint_line text code.BadRanks place = ranks_line
+hint_line text code.NotInVersion place = version_line (word_at text place)
 hint_line text code.Memory place = []

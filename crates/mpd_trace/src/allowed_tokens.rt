@@ -195,8 +195,8 @@ fn token_len(text: &[u8]) -> usize
     sign_len(first, if text.len() > 1 { text[1] } else { 0 })
 }
 
-/// Adds the token at the front of what is left of a text, of a long one 72 bytes, or that the text ends.
-fn push_found(out: &mut String, rest: &[u8]) -> Result<(), AllocError>
+/// Adds the token at the front of what is left of a text, of a long one 72 bytes, or that the text ends. An `Err` is want of memory.
+pub fn push_found(out: &mut String, rest: &[u8]) -> Result<(), AllocError>
     ensures { OnOk result (string_bytes out.new ≡ string_bytes out.old ++ found_text rest.now) }
 {
     if rest.is_empty() {

@@ -1,6 +1,6 @@
 //! What answers the lines of trace words: a desk with a debugger.
 
-ghost use Rattle.std.specs.Prelude.{◌≡◌, ℕ, ◌+◌, ◌≤◌, List, length, IfOk, ◌++◌, vec_len, vec_capacity};
+ghost use Rattle.std.specs.Prelude.{◌≡◌, ℕ, ◌+◌, ◌<◌, ◌≤◌, List, length, IfOk, ◌++◌, vec_len, vec_capacity};
 ghost use Rattle.mpd_model.specs.runs.Trail.{first_standing};
 ghost use Rattle.mpd_model.specs.texts.Answers.{AnswerOrMemory, ok_text, refused_text};
 ghost use Rattle.mpd_trace.specs.Replies.{Replies};
@@ -11,13 +11,16 @@ use crate::state_text::show;
 use itoa::Buffer;
 use mpd_code::Code;
 use mpd_core::{ApplyFault, AtStart, Debugger, NotBefore, RedoFault, Reply, TrailCommand, answer};
-use mpd_lines::{LineDesk, ROOM, push_all};
+use mpd_lines::{LineDesk, ROOM, push_all, push_echo, push_long_echo};
 use mpd_model::{LINE_MAX, Mode, Step, TraceWord, has_word, trace_word_of};
 use std::alloc::{AllocError, Global};
 use std::marker::Model;
 
 /// The name of what is no trace word.
 const BAD_WORD: &str = "bad-word";
+
+/// What stands before a line that is shown.
+const PROMPT: &[u8] = b"> ";
 
 /// The answer to `enabled` where no step is.
 const NONE_ENABLED: &[u8] = b"enabled\n";
@@ -220,6 +223,17 @@ impl<'c> TraceDesk<'c> {
             debugger: Debugger::start(alloc, code, mode)?,
         })
     }
+
+    /// Refuses a line that is too long.
+    #[tactic(auto, using(crate::proofs::DeskLemmas::refusing))]
+    fn refuse_after(&self, out: &mut Vec<u8>)
+        requires room { vec_len out.old + ROOM ≤ vec_capacity out.old }
+        ensures said { (text : List ℕ) × (out.new.items ≡ out.old.items ++ text) × ((line : List ℕ) → LINE_MAX < length line → AnswerOrMemory self.now line text self.now) }
+        ensures capacity { vec_capacity out.old ≤ vec_capacity out.new }
+    {
+        self.debugger.state_is_reached();
+        refuse(out, BAD_WORD)
+    }
 }
 
 impl<'c> LineDesk for TraceDesk<'c> {
@@ -239,9 +253,58 @@ impl<'c> LineDesk for TraceDesk<'c> {
         answer_line(*out.allocator(), &mut self.debugger, line, out)
     }
 
-    #[tactic(auto, using(crate::proofs::DeskLemmas::refusing))]
     fn refuse_long(&mut self, out: &mut Vec<u8>) {
-        self.debugger.state_is_reached();
-        refuse(out, BAD_WORD)
+        self.refuse_after(out)
+    }
+}
+
+/// A desk that shows each line before its answer, after `> `, as a terminal shows what is typed at a prompt.
+#[derive(Drop)]
+pub struct EchoDesk<'c> {
+    desk: TraceDesk<'c>,
+}
+
+impl<'c> Model for EchoDesk<'c> {
+    ghost use Rattle.mpd_model.specs.runs.Trail.{Standing, standing_code};
+
+    ghost Value = { Standing };
+
+    ghost coded = { standing_code };
+
+    ghost view = { λ d. d.desk };
+}
+
+impl<'c> EchoDesk<'c> {
+    /// A desk that shows the lines that another answers.
+    pub fn new(desk: TraceDesk<'c>) -> EchoDesk<'c>
+        ensures { result ≡ desk.entry }
+    {
+        EchoDesk { desk }
+    }
+}
+
+impl<'c> LineDesk for EchoDesk<'c> {
+    ghost use Rattle.std.specs.Prelude.{true, codes};
+    ghost use Rattle.mpd_lines.specs.Echo.{Echoes};
+    ghost use Rattle.mpd_model.specs.texts.Answers.{AnswerOrMemory};
+
+    ghost gathers = { true };
+
+    ghost says = { Echoes (codes "> ") AnswerOrMemory };
+
+    fn is_gathering(&self) -> bool {
+        true
+    }
+
+    #[tactic(auto, using(crate::proofs::EchoLemmas::echoing))]
+    fn answer(&mut self, line: &[u8], out: &mut Vec<u8>) {
+        push_echo(out, PROMPT, line);
+        answer_line(*out.allocator(), &mut self.desk.debugger, line, out)
+    }
+
+    #[tactic(auto, using(crate::proofs::EchoLemmas::echoing))]
+    fn refuse_long(&mut self, out: &mut Vec<u8>) {
+        push_long_echo(out, PROMPT);
+        self.desk.refuse_after(out)
     }
 }

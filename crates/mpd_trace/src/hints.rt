@@ -2,7 +2,7 @@
 //! isn't closed (docs/FORMATS.md, "Standard error").
 
 ghost use Rattle.std.specs.Prelude.{◌≡◌, ◌++◌, [], Some, false, map, option_map, IfOk, OnOk, string_bytes};
-ghost use Rattle.mpd_trace.specs.Hints.{expected_line, foreign, foreign_line, hint_line, instead_in, is_reserved, names_alone, open_line, opened, reserved_in, reserved_line, still_open, word_at};
+ghost use Rattle.mpd_trace.specs.Hints.{bad_line, declares_name, else_line, expected_line, foreign, foreign_line, hint_line, instead_in, is_reserved, late_line, list_line, misplaced_line, names_alone, open_line, opened, ranks_line, reserved_in, reserved_line, still_open, version_line, word_at};
 
 use crate::allowed_tokens::{is_allowed, run_len};
 use crate::excerpts::push_part;
@@ -46,8 +46,8 @@ pub(crate) const FOREIGN: [(&[u8], &str); 20] = [
     (b"MPI_ANY_TAG", "write 'any'"),
 ];
 
-/// The letters, digits and underscores at a place.
-fn word_at(text: &[u8], place: usize) -> &[u8]
+/// The letters, digits and underscores of a text at a place; none where the text is no longer than that.
+pub fn word_at(text: &[u8], place: usize) -> &[u8]
     ensures { result.now ≡ word_at text.now place }
 {
     let (_, rest) = text.split_at(cmp::min(place, text.len()));
@@ -188,6 +188,52 @@ fn names_alone(alloc: Global, front: &[u8]) -> Result<bool, AllocError>
     )
 }
 
+/// Adds what an `else` follows where a statement can stand, given the line of the block that is open, if one is.
+#[tactic(auto, unfolding(crate::specs::Hints::lone_else))]
+fn push_else(out: &mut String, line: Option<usize>) -> Result<(), AllocError>
+    ensures { OnOk result (string_bytes out.new ≡ string_bytes out.old ++ else_line line) }
+{
+    match line {
+        Some(line) => {
+            write!(
+                out,
+                "  'else' follows a '}}': the block that line {line} opens isn't closed\n"
+            )
+        }
+        None => out.push_str("  'else' follows the '}' of an if\n"),
+    }
+}
+
+/// Adds where declarations stand.
+#[tactic(auto, unfolding(crate::specs::Hints::late_line))]
+fn push_late(out: &mut String) -> Result<(), AllocError>
+    ensures { OnOk result (string_bytes out.new ≡ string_bytes out.old ++ late_line) }
+{
+    out.push_str("  declarations stand before the first statement\n")
+}
+
+/// Adds what is told of a word where a statement can stand, if it begins none and often stands there.
+fn push_misplaced(
+    alloc: Global,
+    out: &mut String,
+    front: &[u8],
+    word: &[u8],
+) -> Result<(), AllocError>
+    ensures { OnOk result (string_bytes out.new ≡ string_bytes out.old ++ misplaced_line front.now word.now) }
+{
+    if !is_allowed(alloc, front, b"while")? {
+        return Ok(());
+    }
+    if word == b"else".as_slice() {
+        let lines = still_open(alloc, front)?;
+        return push_else(out, lines.last().copied());
+    }
+    if word == b"var".as_slice() || word == b"req".as_slice() {
+        return push_late(out);
+    }
+    Ok(())
+}
+
 /// Adds what is told of a token that the grammar doesn't allow.
 fn push_expected(
     alloc: Global,
@@ -204,18 +250,76 @@ fn push_expected(
     let word = word_at(text, place);
     let (front, _) = text.split_at(place);
     let is_told = is_reserved(word) && names_alone(alloc, front)?;
-    push_reserved(out, word, is_told)
+    push_reserved(out, word, is_told)?;
+    push_misplaced(alloc, out, front, word)
 }
 
-/// Tells of a fault of a text what is mostly meant by what stands there: what is written here for a word of C or MPI (`unknown-name`),
-/// that a word of the language can't be a name, and which block isn't closed where the text ends (`expected`). The line is indented by two
-/// and ends with a line feed; of any other fault there is none. An `Err` is want of memory.
+/// Whether the front of a text ends with the name of a declaration.
+fn declares_name(alloc: Global, front: &[u8]) -> Result<bool, AllocError>
+    ensures { IfOk result (λ found. found ≡ declares_name front.now) }
+{
+    if !is_allowed(alloc, front, b"[")? {
+        return Ok(false);
+    }
+    let mut ended = Vec::new(alloc);
+    ended.extend_from_slice(front)?;
+    ended.push(b';')?;
+    is_allowed(alloc, &ended, b"var")
+}
+
+/// Adds that a declaration has one name.
+#[tactic(auto, unfolding(crate::specs::Hints::list_line))]
+fn push_list_line(out: &mut String) -> Result<(), AllocError>
+    ensures { OnOk result (string_bytes out.new ≡ string_bytes out.old ++ list_line) }
+{
+    out.push_str("  a declaration has one name: write 'var x; var y;'\n")
+}
+
+/// Adds what is told of what is no token: of a comma in a declaration.
+fn push_bad(alloc: Global, out: &mut String, text: &[u8], place: usize) -> Result<(), AllocError>
+    ensures { OnOk result (string_bytes out.new ≡ string_bytes out.old ++ bad_line text.now place) }
+{
+    let (front, rest) = text.split_at(cmp::min(place, text.len()));
+    let (byte, _) = rest.split_at(cmp::min(1, rest.len()));
+    if byte == b",".as_slice() && declares_name(alloc, front)? {
+        return push_list_line(out);
+    }
+    Ok(())
+}
+
+/// Adds how many ranks a script has.
+#[tactic(auto, unfolding(crate::specs::Hints::ranks_line))]
+fn push_ranks(out: &mut String) -> Result<(), AllocError>
+    ensures { OnOk result (string_bytes out.new ≡ string_bytes out.old ++ ranks_line) }
+{
+    out.push_str("  a script has 1 to 16 ranks\n")
+}
+
+/// Adds which version has a word, or which versions there are.
+#[tactic(auto, unfolding(crate::specs::Hints::waitany_line, crate::specs::Hints::versions_line))]
+fn push_version(out: &mut String, word: &[u8]) -> Result<(), AllocError>
+    ensures { OnOk result (string_bytes out.new ≡ string_bytes out.old ++ version_line word.now) }
+{
+    if word == b"waitany".as_slice() {
+        return out.push_str("  'waitany' is a word of version 2: begin with 'mpd 2;'\n");
+    }
+    out.push_str("  there are the versions 1 and 2\n")
+}
+
+/// Tells of a fault of a text what is mostly meant by what stands there: what is written here for a word of C or MPI (`unknown-name`);
+/// that a word of the language can't be a name, what an `else` follows and where declarations stand, and which block isn't closed where the
+/// text ends (`expected`); that a declaration has one name (`bad-token`); how many ranks a script has (`bad-ranks`), and which version has a
+/// word (`not-in-version`). The line is indented by two and ends with a line feed; of any other fault there is none. An `Err` is want of
+/// memory.
 pub fn hint(alloc: Global, text: &[u8], fault: ReadFault) -> Result<String, AllocError>
     ensures { IfOk result (λ t. string_bytes t ≡ hint_line text.now fault.code fault.place) }
 {
     let mut out = String::new(alloc);
     match fault.code {
         FaultCode::Expected => push_expected(alloc, &mut out, text, fault.place)?,
+        FaultCode::BadToken => push_bad(alloc, &mut out, text, fault.place)?,
+        FaultCode::BadRanks => push_ranks(&mut out)?,
+        FaultCode::NotInVersion => push_version(&mut out, word_at(text, fault.place))?,
         FaultCode::UnknownName => {
             let word = word_at(text, fault.place);
             push_foreign(&mut out, word, instead_of(word))?;

@@ -1,15 +1,16 @@
 //! Traces a script: trace words in, answers out.
 
-ghost use Rattle.std.specs.Prelude.{[], true};
+ghost use Rattle.std.specs.Prelude.{[], true, codes};
 ghost use Rattle.mpd_model.specs.runs.Trail.{Standing, first_standing};
 ghost use Rattle.mpd_model.specs.texts.Answers.{AnswerOrMemory};
+ghost use Rattle.mpd_lines.specs.Echo.{Echoes};
 ghost use Rattle.mpd_lines.specs.FaultWords.{failed_reads, failed_writes};
 ghost use Rattle.mpd_lines.specs.Served.{Served, Counted};
 ghost use Rattle.mpd_lines.specs.Telling.{waiting_below};
 
-use crate::desk::TraceDesk;
+use crate::desk::{EchoDesk, TraceDesk};
 use mpd_code::Subject;
-use mpd_lines::{EngineFault, Sink, Source, run_behind};
+use mpd_lines::{EngineFault, Sink, Source, run, run_behind};
 use mpd_model::READS_MAX;
 use std::alloc::Global;
 
@@ -29,7 +30,24 @@ pub fn trace<S: Source, W: Sink>(
     trace_behind(alloc, subject, source, sink, &[], READS_MAX)
 }
 
-/// The same behind bytes that were read before, in so many reads at most.
+/// The same, with each line shown before its answer, after `> `: a line that was too long to be kept as `..`.
+pub fn trace_echoing<S: Source, W: Sink>(
+    alloc: Global,
+    subject: Subject<'_>,
+    source: &mut S,
+    sink: &mut W,
+) -> Result<(), EngineFault>
+    ensures served { (e : Standing) × Served (Echoes (codes "> ") AnswerOrMemory) (waiting_below true) (first_standing subject.entry.code.now.program subject.entry.mode) [] READS_MAX (S.seen source.old) (S.seen source.new) (W.seen sink.old) (W.seen sink.new) e result }
+    ensures counted { Counted READS_MAX (failed_reads result) (failed_writes result) (S.seen source.old) (S.seen source.new) (W.seen sink.old) (W.seen sink.new) }
+{
+    let Ok(desk) = TraceDesk::start(alloc, subject.code, subject.mode) else {
+        return Err(EngineFault::Memory);
+    };
+    let mut desk = EchoDesk::new(desk);
+    run(alloc, source, sink, &mut desk)
+}
+
+/// The same as `trace` behind bytes that were read before, in so many reads at most.
 pub(crate) fn trace_behind<S: Source, W: Sink>(
     alloc: Global,
     subject: Subject<'_>,

@@ -1,10 +1,12 @@
 //! `mpdbg debug`: a console for a person, or for a file of words (docs/CONSOLE.md).
 
-use crate::outside::Outside;
+use crate::outside::{Outside, Terminals};
 use crate::picture::{NamedChoices, steps_fault, steps_of_choices};
 use crate::tell::Fault;
 use mpd_code::Subject;
-use mpd_console::{OpenFault, Opened, Screen, UntilQuit, open, open_along, open_with, run_console};
+use mpd_console::{
+    Look, OpenFault, Opened, Screen, UntilQuit, open, open_along, open_with, run_console,
+};
 use mpd_explore::Witness;
 use mpd_lines::{EngineFault, Sink, Source, write_all};
 use mpd_runs::FUEL;
@@ -19,6 +21,16 @@ pub(crate) enum Ahead<'a> {
     Choices(NamedChoices<'a>),
     /// Those of a witness, which is checked first.
     Witness(Witness),
+}
+
+/// How the answers of a console look, where lines of so many bytes are wanted, and whether those that are read are to be shown: then there
+/// are prompts, too. A terminal shows what is typed itself.
+pub(crate) fn look_of(terminals: Terminals, echo: bool, width: usize) -> Look {
+    Look {
+        is_prompting: terminals.is_prompting || echo,
+        is_echoing: echo && !terminals.is_prompting,
+        width,
+    }
 }
 
 /// A console with the steps ahead of the run with the choices of a word.
@@ -68,7 +80,7 @@ fn console_of<'c, 't, 'a>(
     }
 }
 
-/// Ends the line of the last prompt, where the input has ended behind it.
+/// Ends the line of the last prompt, where the input has ended after it.
 fn end_prompt<'a, W: Sink>(
     is_prompting: bool,
     has_quit: bool,
@@ -103,7 +115,7 @@ fn talk<'a, S: Source, W: Sink>(
 pub(crate) fn debug_script<'a, R: Eprint + AllocGlobal, S: Source, W: Sink>(
     rt: &R,
     subject: Subject<'_>,
-    text: &[u8],
+    screen: Screen<'_>,
     ahead: Ahead<'a>,
     outside: Outside<'_, S, W>,
 ) -> Result<(), Fault<'a>> {
@@ -112,11 +124,7 @@ pub(crate) fn debug_script<'a, R: Eprint + AllocGlobal, S: Source, W: Sink>(
         sink,
         terminals,
     } = outside;
-    let is_prompting = terminals.is_prompting;
-    let screen = Screen {
-        script: text,
-        is_prompting,
-    };
+    let is_prompting = screen.look.is_prompting;
     let mut opened = console_of(rt.alloc(), subject, screen, ahead)?;
     if terminals.is_terminal {
         let _unwritten = eprintln!(rt;

@@ -1,6 +1,6 @@
 //! `mpdbg diagnose`: whether the runs of a script can hang or trap, how, and where that was decided (docs/FORMATS.md, "Diagnosis").
 
-ghost use Rattle.std.specs.Prelude.{◌≡◌, Some};
+ghost use Rattle.std.specs.Prelude.{◌≡◌, ◌≤◌, Some};
 ghost use Rattle.mpd_trace.specs.Ranks.{AreRanks};
 ghost use Rattle.mpd_trace.specs.Spans.{IsSpan};
 
@@ -11,7 +11,7 @@ use mpd_diagnose::{
     ranks_line, verdict_of, worst_of,
 };
 use mpd_lines::{EngineFault, Sink, Verdict, write_all};
-use mpd_model::Mode;
+use mpd_model::{Mode, STEPS_MAX};
 use mpd_outcomes::StateLimits;
 use mpd_runs::{FUEL, STATES_KEPT, STATES_VISITED};
 use mpd_trace::{RankSpan, code_of_text};
@@ -57,14 +57,25 @@ pub(crate) fn diagnose_script<'a, W: Sink>(
     Ok(verdict_of(&told, strict))
 }
 
-/// What is said of the runs of the script of a file, in lines of 80 columns at most.
+/// What is said of the runs of the script of a file by a search with these limits, in lines of 80 columns at most: the first lines, which
+/// are told of all runs that it comes to. No step that decides is looked for, and no run is drawn.
 pub(crate) fn said_of<'a>(
     alloc: Global,
     subject: Subject<'_>,
     file: &str,
     ranks: Option<usize>,
-) -> Result<Vec<u8>, Fault<'a>> {
-    let told = diagnose(alloc, subject, plan_of(file, ranks))?;
+    limits: StateLimits,
+) -> Result<Vec<u8>, Fault<'a>>
+    requires { limits.fuel ≤ STEPS_MAX }
+{
+    let plan = DiagnosisPlan {
+        limits,
+        blamed: 0,
+        drawn: 0,
+        file,
+        ranks,
+    };
+    let told = diagnose(alloc, subject, plan)?;
     Ok(told.text)
 }
 

@@ -13,15 +13,9 @@ use mpd_model::{Mode, STEPS_MAX, StepList, bare_line, cut_line};
 use mpd_options::PageOptions;
 use mpd_outcomes::{Count, Goal, Outcomes, StateLimits, explore_outcomes};
 use mpd_page::{PageFault, Title, Walk, make_page};
-use mpd_policy::{Plain, Wide};
+use mpd_policy::{Ending, Plain, Wide};
 use mpd_runs::{WordsFault, steps_by_choices};
 use std::alloc::{AllocError, Global};
-
-/// How many states the search for the ways to end keeps at most.
-const KEPT_MAX: usize = 1_000_000;
-
-/// How many states it comes to at most, kept or not.
-const VISITED_MAX: usize = 20_000_000;
 
 /// Before a line that goes on one before it.
 const GOES_ON: usize = 8;
@@ -49,6 +43,8 @@ struct PageScript<'s> {
     ranks: Option<usize>,
     /// How many steps a run has at most.
     fuel: usize,
+    /// How many states each search comes to at most.
+    states: usize,
     /// Whether how runs end is covered at first.
     hide: bool,
 }
@@ -166,6 +162,11 @@ fn walk_of(wide: bool) -> Walk {
     if wide { Walk::Wide } else { Walk::Decisions }
 }
 
+/// Whether one of the runs of some leaves is cut: it goes on, and so there are more runs.
+fn any_cut(leaves: &[Leaf]) -> bool {
+    leaves.iter().any(|leaf| matches!(leaf.ending, Ending::Cut))
+}
+
 /// The leaves of a check.
 fn report_of<'a>(alloc: Global, subject: Subject<'_>, limits: Limits) -> Result<Report, Fault<'a>>
     requires { limits.fuel ≤ STEPS_MAX }
@@ -181,14 +182,14 @@ fn report_of<'a>(alloc: Global, subject: Subject<'_>, limits: Limits) -> Result<
     }
 }
 
-/// The runs of the first leaves of a check.
-fn first_leaves<'a>(
+/// The runs of the first leaves of a check, and whether there are more.
+fn first_runs<'a>(
     alloc: Global,
     subject: Subject<'_>,
     runs: usize,
     ends: bool,
     fuel: usize,
-) -> Result<Found, Fault<'a>>
+) -> Result<(Vec<StepList>, bool), Fault<'a>>
     requires { fuel ≤ STEPS_MAX }
 {
     let limits = Limits {
@@ -200,11 +201,26 @@ fn first_leaves<'a>(
     };
     let report = report_of(alloc, subject, limits)?;
     let found = runs_of(alloc, subject, &report.leaves, ends, fuel)?;
+    let more = report.more || any_cut(&report.leaves);
+    Ok((found, more))
+}
+
+/// The same, as they are shown.
+fn first_leaves<'a>(
+    alloc: Global,
+    subject: Subject<'_>,
+    runs: usize,
+    ends: bool,
+    fuel: usize,
+) -> Result<Found, Fault<'a>>
+    requires { fuel ≤ STEPS_MAX }
+{
+    let (found, more) = first_runs(alloc, subject, runs, ends, fuel)?;
     Ok(Found {
         runs: found,
         walk: walk_of(ends),
         said: Vec::new(alloc),
-        more: report.more,
+        more,
     })
 }
 
@@ -260,7 +276,7 @@ fn add_at<'a>(
     }
 }
 
-/// The runs of those leaves.
+/// The runs of those leaves; the first run that a check lists where there is no leaf.
 fn chosen_runs<'a>(
     alloc: Global,
     subject: Subject<'_>,
@@ -270,6 +286,10 @@ fn chosen_runs<'a>(
 ) -> Result<Vec<StepList>, Fault<'a>>
     requires { fuel ≤ STEPS_MAX }
 {
+    if leaves.is_empty() {
+        let (runs, _) = first_runs(alloc, subject, 1, wide, fuel)?;
+        return Ok(runs);
+    }
     let (first, second) = chosen(leaves);
     let mut runs = Vec::new(alloc);
     add_at(alloc, subject, &mut runs, leaves.get(first), wide, fuel)?;
@@ -333,16 +353,17 @@ fn both<'a>(alloc: Global, script: PageScript<'_>, ends: bool) -> Result<Found, 
     let wide = ends || !subject.code.has_no_waitany() || subject.mode.is_limited();
     let limits = StateLimits {
         fuel,
-        kept: KEPT_MAX,
-        visited: VISITED_MAX,
+        kept: script.states,
+        visited: script.states,
         witnesses: false,
         until: None,
     };
     let outcomes = outcomes_of(alloc, subject, limits)?;
     let runs = chosen_runs(alloc, subject, &outcomes.firsts.leaves, wide, fuel)?;
-    let told = said_of(alloc, subject, script.file, script.ranks)?;
+    let told = said_of(alloc, subject, script.file, script.ranks, limits)?;
     let said = said_first(alloc, &told)?;
-    let more = outcomes.firsts.more || is_more(outcomes.total, runs.len());
+    let leaves = &outcomes.firsts.leaves;
+    let more = outcomes.firsts.more || is_more(outcomes.total, runs.len()) || any_cut(leaves);
     Ok(Found {
         runs,
         walk: walk_of(wide),
@@ -389,7 +410,14 @@ fn page_of<'a>(alloc: Global, script: PageScript<'_>, found: &Found) -> Result<V
         said: &found.said,
         more: found.more,
     };
-    match make_page(alloc, script.code, script.mode, title, &found.runs) {
+    match make_page(
+        alloc,
+        script.code,
+        script.mode,
+        title,
+        &found.runs,
+        script.states,
+    ) {
         Ok(page) => Ok(page),
         Err(PageFault::TooMany) => Err(Fault::LongPage),
         Err(PageFault::Memory) => Err(Fault::from(EngineFault::Memory)),
@@ -450,6 +478,7 @@ pub(crate) fn page_script<'a, W: Sink>(
         file: page.file,
         ranks,
         fuel: page.fuel,
+        states: page.states,
         hide: page.hide,
     };
     write_page(alloc, shown, runs, sink)

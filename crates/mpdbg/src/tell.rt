@@ -305,6 +305,17 @@ fn tell_refused<R: Eprint>(rt: &R, fault: PoolFault, hint: &str, is_terminal: bo
     WRONG
 }
 
+/// Says that runs have too many states for a page. Answers the status.
+fn tell_long_page<R: Eprint>(rt: &R, is_terminal: bool) -> u8 {
+    let _unwritten = eprintln!(rt; "mpdbg: page of more than 20000 states");
+    if is_terminal {
+        let _unwritten = eprintln!(rt;
+            "  --fuel N lets a run take N steps at most, --runs N shows fewer runs"
+        );
+    }
+    WRONG
+}
+
 /// Says a fault by one line, and at a terminal what else is known of it, and answers the status that the program ends with.
 /// Where it can't be written, the status is the same.
 pub(crate) fn tell<R: Print + Eprint + AllocGlobal>(
@@ -372,10 +383,7 @@ pub(crate) fn tell<R: Print + Eprint + AllocGlobal>(
             let _unwritten = eprintln!(rt; "mpdbg: picture of more than 20000 glyphs");
             WRONG
         }
-        Fault::LongPage => {
-            let _unwritten = eprintln!(rt; "mpdbg: page of more than 20000 states");
-            WRONG
-        }
+        Fault::LongPage => tell_long_page(rt, notes.is_terminal),
         Fault::Plain(fault) => tell_plain(rt, fault, notes),
         Fault::Listener(error) => tell_listener(rt, error, notes.is_terminal),
         Fault::Settle(number) => {

@@ -1,9 +1,0 @@
-use Rattle.std.proofs.Common.{◌≡◌, ◌++◌, length}
-use Rattle.mpd_lines.specs.Folding.{folded}
-use Rattle.mpd_lines.proofs.fold.push_folded.Given as goal
-
-abbrev pub invariant-loop-line : goal.invariant-loop-line
-invariant-loop-line l = l.out.items ++ folded l.rest ≡ l.fn.out.items ++ folded l.text
-
-abbrev pub decreases-loop-line : goal.decreases-loop-line
-decreases-loop-line l = length l.rest
