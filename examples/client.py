@@ -1,4 +1,4 @@
-"""Finds the race of a script: runs to its first choice, takes each candidate in turn, and tells how the run ends, and where it hangs.
+"""Finds the race of a script: runs to its first choice, takes each candidate in turn, and tells where all ranks stand in the end, and why.
 
     python3 examples/client.py examples/race.mpd
 """
@@ -25,26 +25,26 @@ class Session:
         return reply
 
 
-def place_of(session, rank):
-    """The last call of a blocked rank, and the line of its statement: where the rank stood before it was blocked."""
-    call, depth = session.ask('calls', rank=rank)['calls'][-1], session.ask('state')['depth']
-    while (doing := session.ask('state')['ranks'][rank]).startswith('blocked'):
-        session.ask('back', count=1)
-    session.ask('redo', count=depth - session.ask('state')['depth'])
-    return f'rank {rank} {doing}: {call}'
+def cells(declared):
+    """The name of each cell of what is declared: of `a[2]` `a[0]` and `a[1]`."""
+    for name, _, size in (text.partition('[') for text in declared):
+        yield from [f'{name}[{place}]' for place in range(int(size[:-1]))] if size else [name]
 
 
 if len(sys.argv) != 2:
     sys.exit('usage: python3 examples/client.py FILE')
 session = Session(sys.argv[1])
+names = list(cells(session.ask('script')['vars']))
 first = session.ask('run', max=1000000)
-print(f'behind {first["depth"]} steps: {first["stop"]}')
-for number, step in enumerate(session.ask('enabled')['steps']):
+print(f'after {first["depth"]} steps: {first["stop"]}')
+for number, told in enumerate(session.ask('decision')['told']):
     session.ask('goto', depth=first['depth'])
     session.ask('next', choice=number)
     session.ask('run', max=1000000)
-    state = session.ask('state')
-    print(f'{step}: {state.get("outcome", "another choice")}')
-    for rank, doing in enumerate(state['ranks']):
-        if doing.startswith('blocked'):
-            print(f'  {place_of(session, rank)}')
+    stands = session.ask('all')
+    print(f'{told}: {session.ask("decision").get("outcome", "another choice")}')
+    for rank, (line, held) in enumerate(zip(stands['lines'], stands['held'])):
+        values = ', '.join(f'{name} = {value}' for name, value in zip(names, held['vars']))
+        print(f'  rank {rank} {"has ended" if line is None else f"stands at line {line}"}: {values}')
+    for line in session.ask('explain')['told']:
+        print(line)

@@ -1,13 +1,13 @@
 #!/usr/bin/env python3
-"""Draws every state of twelve pages in a browser, forward and back, by keys, clicks and the slider, and takes a screenshot of each.
+"""Draws every state of fifteen pages in a browser, forward and back, by keys, clicks and the slider, and takes a screenshot of each.
 
     page/try_pages.py PROGRAM                  of pages that PROGRAM makes
     page/try_pages.py PROGRAM --keep FOLDER    pages and screenshots stay there
     page/try_pages.py PROGRAM --size 1024,768 --dark
 
-A state must be drawn alike on the way there and back, and the browser must hold what the changes of the data give by docs/PAGES.md, as
-compare/runs/pages.py applies them. The browser is Chromium without a window; where none is there, *skipped* is written, and the status
-is 0. Else it is 0 where nothing was wrong.
+A state must be drawn alike on the way there and back, its table must fit the window's width, and the browser must hold what the changes of
+the data give by docs/PAGES.md, as compare/runs/pages.py applies them. The browser is Chromium without a window; where none is there,
+*skipped* is written, and the status is 0. Else it is 0 where nothing was wrong.
 """
 
 import argparse
@@ -36,9 +36,16 @@ PAGES = (('stolen_message', ('examples/stolen_message.mpd',), '#run=0&step=9'), 
          ('trap', ('examples/trap.mpd',), '#run=0&step=99'), ('barrier', ('examples/skipped_barrier.mpd',), '#run=0&step=99'),
          ('lost', ('examples/lost_request.mpd',), '#run=0&step=99'), ('slots', ('examples/freed_slot.mpd', '--mode', 'slots:2'), '#run=0&step=99'),
          ('sixteen', ('examples/one_in_seven.mpd', '--ranks', '16', '--choices', '3'), '#run=0&step=60'),
-         ('signs', ('signs.mpd', '--mode', 'buffered'), '#run=0&step=5'))
+         ('signs', ('signs.mpd', '--mode', 'buffered'), '#run=0&step=5'), ('two', ('two.mpd',), '#run=0&step=8'),
+         ('cut', ('examples/stolen_message.mpd', '--fuel', '8'), '#run=0&step=8'),
+         ('few', ('examples/one_in_seven.mpd', '--ranks', '16', '--choices', '14', '--states', '2'), '#run=0&step=999'))
+# Scripts of these pages: one whose text has signs of HTML, and one in which a rank waits for two calls.
 SIGNS = (b'mpd 1;\r\nranks 2;\r\nvar x;\r\n#\t</script><!-- "\\ &lt; \r x\r\n'
          b'if rank == 0 { send -5 to 1 tag 7; send 6 to 0 tag 2; } else { recv x from 0 tag 7; }\r\n')
+TWO = (b'mpd 2;\nranks 3;\nvar first;\nvar second;\nvar which;\nreq answers[2];\nif rank == 0 {\n  irecv answers[0] first from 1 tag any;\n'
+       b'  irecv answers[1] second from 2 tag any;\n  waitany answers to which;\n} else {\n  if rank == 2 { recv first from 1 tag 3; }\n'
+       b'  isend answers[0] rank * 1000000 to 0 tag 1234;\n  wait answers[0];\n}\n')
+SCRIPTS = {'signs.mpd': SIGNS, 'two.mpd': TWO}
 
 # What is done in the browser, at the end of a page: it leaves what it has found as text in the place of the page.
 TRIAL = r'''
@@ -65,10 +72,13 @@ TRIAL = r'''
     if (/undefined|NaN|Infinity|\[object/.test(document.querySelector('main').innerHTML)) wrong(`${how}: step ${k} has no number or no text`);
     if (document.querySelectorAll('#source .badge').length !== N) wrong(`${how}: step ${k} has not each rank`);
     if (+el('slider').value !== k) wrong(`${how}: the slider`);
+    const pane = el('table').parentElement;
+    if (pane.scrollWidth > pane.clientWidth + 1) wrong(`${how}: the table of step ${k} is wider than the window`);
+    if (ends[endOf()].outcome === 'cut' && el('table').textContent.includes('nothing fits')) wrong(`${how}: nothing fits where the run goes on`);
   }
   function expect(what, how) { if (!what) wrong(how); look(how); }
   try {
-    look('the address');
+    expect(!D.hide || endOf() === 0 && k === 0, 'a page whose ends are covered begins with its first run');
     for (let e = 0; e < ends.length; e++) {
       const sign = document.querySelector(`[data-end="${e}"]`);
       if (sign) { click(sign); expect(endOf() === e && k === last(), 'a click on an end'); } else choose(e, 0);
@@ -156,7 +166,7 @@ def wrong_states(data, lines):
 
 def tried(program, folder, asked, name, words, moment):
     """What is wrong with a page in the browser, how many states were drawn, and its screenshot."""
-    words = [str(Path(folder, word)) if word == 'signs.mpd' else word for word in words]
+    words = [str(Path(folder, word)) if word in SCRIPTS else word for word in words]
     made = subprocess.run([os.path.abspath(asked.program), 'page', *words], capture_output=True, cwd=TOP, check=False)
     if made.returncode:
         return [made.stderr.decode().strip()], 0
@@ -193,7 +203,8 @@ def main():
     with tempfile.TemporaryDirectory(prefix='pages-') as temporary:
         folder = os.path.abspath(asked.keep or temporary)
         os.makedirs(folder, exist_ok=True)
-        Path(folder, 'signs.mpd').write_bytes(SIGNS)
+        for name, text in SCRIPTS.items():
+            Path(folder, name).write_bytes(text)
         for name, words, moment in PAGES:
             if asked.only in (None, name):
                 wrong, drawn = tried(program, folder, asked, name, words, moment)

@@ -194,18 +194,18 @@ decided : (b : Blame) (words : List ℕ) → no_less (decided_text b words) ≡ 
 unfolding decided_text
 decided b words = four (codes ",\"decided\":[") (en.depth_text b) (44 ∷ quoted words) (codes "]") refl (depth b) (text words) refl
 
-decides : (b : Bool) (s : Program) (mode : Mode) (r : List Step) (t : List ℕ) → DecidesIf b s mode r t → no_less t ≡ true
-decides false s mode r t h = ap no_less h
-decides true s mode r t h = ap no_less h.text_is ∙ decided h.blame (blame_words s h.world h.blame)
+decides : (most : ℕ) (b : Bool) (s : Program) (mode : Mode) (r : List Step) (t : List ℕ) → DecidesIf most b s mode r t → no_less t ≡ true
+decides most false s mode r t h = ap no_less h
+decides most true s mode r t h = ap no_less h.text_is ∙ decided h.blame (blame_words s h.world h.blame)
 
-one_end : (s : Program) (mode : Mode) (n : ℕ) (r : List Step) (t : List ℕ) → IsEnd s mode n r t → no_less t ≡ true
-one_end s mode n r t h =
+one_end : (most : ℕ) (s : Program) (mode : Mode) (n : ℕ) (r : List Step) (t : List ℕ) → IsEnd most s mode n r t → no_less t ≡ true
+one_end most s mode n r t h =
     let e : Ending = en.ending_at h.world in
-    ap no_less h.text_is ∙ three (end_text s h.world n e) h.decided (codes "}") (end s h.world n e) (decides (meets Bad e) s mode r h.decided h.decides) refl
+    ap no_less h.text_is ∙ three (end_text s h.world n e) h.decided (codes "}") (end s h.world n e) (decides most (meets Bad e) s mode r h.decided h.decides) refl
 
-ends : (s : Program) (mode : Mode) (rs : List (List Step)) (tree : List Branch) (t : List ℕ) → AreEnds s mode tree rs t → no_less t ≡ true
-ends s mode [] tree t h = ap no_less h
-ends s mode (r ∷ rs) tree t h = ap no_less h.2.2 ∙ both h.0 h.1 (one_end s mode (tr.run_end tree 0 r) r h.0 h.2.0) (ends s mode rs (tr.run_tree tree 0 r) h.1 h.2.1)
+ends : (most : ℕ) (s : Program) (mode : Mode) (rs : List (List Step)) (tree : List Branch) (t : List ℕ) → AreEnds most s mode tree rs t → no_less t ≡ true
+ends most s mode [] tree t h = ap no_less h
+ends most s mode (r ∷ rs) tree t h = ap no_less h.2.2 ∙ both h.0 h.1 (one_end most s mode (tr.run_end tree 0 r) r h.0 h.2.0) (ends most s mode rs (tr.run_tree tree 0 r) h.1 h.2.1)
 
 -- ---- all of it
 
@@ -228,4 +228,4 @@ data_there s w t rs z h =
     (head s w.board t.name t.walk t.hide t.said t.text) (nodes_under (tr.nodes_text s t.walk w rs) (states s t.walk w rs)) (ends_under z h) (more_there t.more)
 
 pub no_markup : NoMarkup
-no_markup s mode t rs z h = data_there s (start s mode) t rs z (ends s mode rs [] z h)
+no_markup most s mode t rs z h = data_there s (start s mode) t rs z (ends most s mode rs [] z h)

@@ -1,5 +1,5 @@
 -- How the runs of a page end (docs/PAGES.md, "Ends").
-use Rattle.std.specs.Prelude.{◌≡◌, ℕ, ◌+◌, ◌-◌, Bool, true, false, nat_lt, if◌then◌else◌, List, [], ◌∷◌, ◌++◌, length, Option, Some, None, codes}
+use Rattle.std.specs.Prelude.{◌≡◌, ℕ, ◌+◌, ◌-◌, ◌/◌, Bool, true, false, nat_lt, if◌then◌else◌, List, [], ◌∷◌, ◌++◌, length, Option, Some, None, codes}
 use Rattle.std.specs.Fmt.{decimal}
 use Rattle.mpd_model.specs.declared.limits.TheConstants.{STEPS_MAX}
 use Rattle.mpd_model.specs.declared.step.Step.{Step}
@@ -18,7 +18,6 @@ use Rattle.mpd_explain.specs.Lost.{lost_lines}
 use Rattle.mpd_outcomes.specs.Goals.{meets}
 use Rattle.mpd_outcomes.specs.declared.report.Goal.TheVariants.{Bad}
 use Rattle.mpd_runs.specs.declared.listing.TheConstants.{FUEL}
-use Rattle.mpd_runs.specs.declared.states.TheConstants.{STATES_VISITED}
 use Rattle.mpd_blame.specs.declared.back.Blame.{Blame}
 use Rattle.mpd_blame.specs.declared.back.Blame.TheVariants as blame_is
 use Rattle.mpd_blame.specs.Blame.{IsBlame, IsThere}
@@ -67,36 +66,40 @@ depth_text b = codes "null"
 unfoldable pub decided_text : Blame → List ℕ → List ℕ
 decided_text b words = codes ",\"decided\":[" ++ depth_text b ++ 44 ∷ quoted words ++ codes "]"
 
--- the text tells by which step it was decided how a run ends
-pub record Decides (s : Program) (mode : Mode) (run : List Step) (text : List ℕ) : Type 0 where
+-- Of so many states, which the searches of all runs of a page come to at most, those of one of so many runs: each has an equal part.
+abbrev pub share : ℕ → ℕ → ℕ
+share states runs = states / runs
+
+-- The text tells by which step it was decided how a run ends, as far as a search tells it that comes to so many states at most.
+pub record Decides (most : ℕ) (s : Program) (mode : Mode) (run : List Step) (text : List ℕ) : Type 0 where
   pub blame : Blame
-  pub is : IsBlame STATES_VISITED (run_limit (length run)) (start s mode) run blame
+  pub is : IsBlame most (run_limit (length run)) (start s mode) run blame
   pub world : World
   pub there : IsThere (start s mode) run blame world
   pub text_is : text ≡ decided_text blame (blame_words s world blame)
 
 -- that is told of a run that hangs or traps
-abbrev pub DecidesIf : Bool → Program → Mode → List Step → List ℕ → Type 0
-DecidesIf false s mode run text = text ≡ []
-DecidesIf true s mode run text = Decides s mode run text
+abbrev pub DecidesIf : ℕ → Bool → Program → Mode → List Step → List ℕ → Type 0
+DecidesIf most false s mode run text = text ≡ []
+DecidesIf most true s mode run text = Decides most s mode run text
 
 -- ---- the ends
 
 -- the text of a run that ends in the state of this number, with a comma and a line feed before it
-pub record IsEnd (s : Program) (mode : Mode) (n : ℕ) (run : List Step) (text : List ℕ) : Type 0 where
+pub record IsEnd (most : ℕ) (s : Program) (mode : Mode) (n : ℕ) (run : List Step) (text : List ℕ) : Type 0 where
   pub world : World
   pub leads : fold (start s mode) run ≡ Some world
   pub decided : List ℕ
-  pub decides : DecidesIf (meets Bad (ending_at world)) s mode run decided
+  pub decides : DecidesIf most (meets Bad (ending_at world)) s mode run decided
   pub text_is : text ≡ end_text s world n (ending_at world) ++ decided ++ codes "}"
 
 -- that was added
-pub record EndAdded (s : Program) (mode : Mode) (n : ℕ) (run : List Step) (old new : List ℕ) : Type 0 where
+pub record EndAdded (most : ℕ) (s : Program) (mode : Mode) (n : ℕ) (run : List Step) (old new : List ℕ) : Type 0 where
   pub one : List ℕ
-  pub is : IsEnd s mode n run one
+  pub is : IsEnd most s mode n run one
   pub added : new ≡ old ++ one
 
 -- the texts of runs, of which the first begins with this tree
-abbrev pub AreEnds : Program → Mode → List Branch → List (List Step) → List ℕ → Type 0
-AreEnds s mode tree [] text = text ≡ []
-AreEnds s mode tree (run ∷ runs) text = (one : List ℕ) × (rest : List ℕ) × (IsEnd s mode (run_end tree 0 run) run one × AreEnds s mode (run_tree tree 0 run) runs rest × (text ≡ one ++ rest))
+abbrev pub AreEnds : ℕ → Program → Mode → List Branch → List (List Step) → List ℕ → Type 0
+AreEnds most s mode tree [] text = text ≡ []
+AreEnds most s mode tree (run ∷ runs) text = (one : List ℕ) × (rest : List ℕ) × (IsEnd most s mode (run_end tree 0 run) run one × AreEnds most s mode (run_tree tree 0 run) runs rest × (text ≡ one ++ rest))

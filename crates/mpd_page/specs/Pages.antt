@@ -1,5 +1,5 @@
 -- A page: the template about its data (docs/PAGES.md, "The file").
-use Rattle.std.specs.Prelude.{◌≡◌, ℕ, Bool, true, List, [], ◌∷◌, ◌++◌, codes}
+use Rattle.std.specs.Prelude.{◌≡◌, ℕ, Bool, true, List, [], ◌∷◌, ◌++◌, length, codes}
 use Rattle.mpd_model.specs.declared.step.Step.{Step}
 use Rattle.mpd_model.specs.declared.call.Mode.{Mode}
 use Rattle.mpd_model.specs.script.Program.{Program}
@@ -9,7 +9,7 @@ use Rattle.mpd_page.specs.declared.walk.Walk.{Walk}
 use Rattle.mpd_page.specs.Json.{array}
 use Rattle.mpd_page.specs.Heads.{key_text, bool_member, head_text}
 use Rattle.mpd_page.specs.Trees.{nodes_text, runs_tree, is_few}
-use Rattle.mpd_page.specs.Ends.{AreEnds}
+use Rattle.mpd_page.specs.Ends.{AreEnds, share}
 use Rattle.mpd_page.specs.Templates.{page_head, page_tail}
 
 -- what is told of a page beside its runs
@@ -41,9 +41,9 @@ data_text s w t runs ends = head_text s w.board t.name t.walk t.hide t.said t.te
 unfoldable pub page_text : Program → World → Titled → List (List Step) → List ℕ → List ℕ
 page_text s w t runs ends = page_head ++ data_text s w t runs ends ++ page_tail
 
--- the page of some runs
-pub record IsPage (s : Program) (mode : Mode) (t : Titled) (runs : List (List Step)) (page : List ℕ) : Type 0 where
+-- The page of some runs. The searches for the steps that decide come to so many states at most, all together.
+pub record IsPage (states : ℕ) (s : Program) (mode : Mode) (t : Titled) (runs : List (List Step)) (page : List ℕ) : Type 0 where
   pub few : is_few (runs_tree [] runs) ≡ true
   pub ends : List ℕ
-  pub are : AreEnds s mode [] runs ends
+  pub are : AreEnds (share states (length runs)) s mode [] runs ends
   pub text_is : page ≡ page_text s (start s mode) t runs ends

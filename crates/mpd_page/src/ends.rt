@@ -15,7 +15,7 @@ use mpd_explain::{push_all_lost, push_told};
 use mpd_model::{STEPS_MAX, print_outcome};
 use mpd_outcomes::{Goal, StateLimits};
 use mpd_policy::Ending;
-use mpd_runs::{FUEL, STATES_KEPT, STATES_VISITED};
+use mpd_runs::{FUEL, STATES_KEPT};
 use std::alloc::{AllocError, Global};
 
 /// How a run ends that leads to a state.
@@ -145,16 +145,17 @@ fn decided_text(alloc: Global, blame: Blame, words: &str) -> Result<Vec<u8>, All
     Ok(text)
 }
 
-/// By which step it was decided how the run of a debugger ends. The debugger is left on the way back along its run.
-fn decided(alloc: Global, whole: &mut Debugger<'_>) -> Result<Vec<u8>, AllocError>
+/// By which step it was decided how the run of a debugger ends, as far as a search tells it that comes to so many states at most. The debugger
+/// is left on the way back along its run.
+fn decided(alloc: Global, whole: &mut Debugger<'_>, most: usize) -> Result<Vec<u8>, AllocError>
     requires clean { length whole.old.trail.steps ≡ whole.old.trail.depth }
-    ensures { IfOk result (λ t. Decides whole.old.trail.program whole.old.trail.mode whole.old.trail.steps t.items) }
+    ensures { IfOk result (λ t. Decides most whole.old.trail.program whole.old.trail.mode whole.old.trail.steps t.items) }
 {
     whole.state_is_reached();
     let limits = StateLimits {
         fuel: limit_of(whole.depth()),
         kept: STATES_KEPT,
-        visited: STATES_VISITED,
+        visited: most,
         witnesses: false,
         until: None,
     };
@@ -169,31 +170,34 @@ fn decided_if(
     alloc: Global,
     whole: &mut Debugger<'_>,
     ending: &Ending,
+    most: usize,
 ) -> Result<Vec<u8>, AllocError>
     requires clean { length whole.old.trail.steps ≡ whole.old.trail.depth }
-    ensures { IfOk result (λ t. DecidesIf (meets Bad ending.now) whole.old.trail.program whole.old.trail.mode whole.old.trail.steps t.items) }
+    ensures { IfOk result (λ t. DecidesIf most (meets Bad ending.now) whole.old.trail.program whole.old.trail.mode whole.old.trail.steps t.items) }
 {
     if Goal::Bad.is_met(ending) {
-        return decided(alloc, whole);
+        return decided(alloc, whole, most);
     }
     Ok(Vec::new(alloc))
 }
 
-/// Adds the end of the run of a debugger, in the state of this number. The debugger is left on the way back along its run.
+/// Adds the end of the run of a debugger, in the state of this number; the step that decides is looked for in so many states at most. The
+/// debugger is left on the way back along its run.
 #[tactic(auto, using(crate::proofs::EndLemmas::ending))]
 pub(crate) fn push_end(
     whole: &mut Debugger<'_>,
     out: &mut Vec<u8>,
     number: usize,
+    most: usize,
 ) -> Result<(), AllocError>
-    ensures { OnOk result (EndAdded whole.old.trail.program whole.old.trail.mode number (done_steps whole.old.trail) out.old.items out.new.items) }
+    ensures { OnOk result (EndAdded most whole.old.trail.program whole.old.trail.mode number (done_steps whole.old.trail) out.old.items out.new.items) }
 {
     let alloc = *out.allocator();
     whole.state_is_reached();
     whole.forget_undone();
     let ending = ending_at(alloc, whole.core())?;
     push_end_text(whole.core(), out, number, &ending)?;
-    let decided = decided_if(alloc, whole, &ending)?;
+    let decided = decided_if(alloc, whole, &ending, most)?;
     add(out, &decided)?;
     add_text(out, "}")
 }

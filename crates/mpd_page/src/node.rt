@@ -13,7 +13,6 @@ use crate::changes::{
 };
 use crate::json::{add_text, push_member};
 use crate::reasons::push_reasons;
-use crate::tree::is_same;
 use crate::walk::{Walk, candidates};
 use mpd_core::Core;
 use mpd_model::Step;
@@ -34,7 +33,7 @@ pub struct Way {
 fn place_in(step: Step, steps: &[Step]) -> Option<usize>
     ensures { result ≡ position (λ b. step_eq b step) steps.now }
 {
-    steps.iter().position(|other| is_same(*other, step))
+    steps.iter().position(|other| *other == step)
 }
 
 /// Adds the place of a step among the candidates.

@@ -6,7 +6,7 @@ ghost use Rattle.mpd_model.specs.steps.World.{start};
 ghost use Rattle.mpd_model.specs.steps.Next.{fold};
 ghost use Rattle.mpd_model.specs.runs.Trail.{done_steps};
 ghost use Rattle.mpd_page.specs.Trees as tree_spec;
-ghost use Rattle.mpd_page.specs.Ends.{AreEnds, EndAdded};
+ghost use Rattle.mpd_page.specs.Ends.{AreEnds, EndAdded, share};
 ghost use Rattle.mpd_page.specs.Pages as spec;
 ghost use Rattle.mpd_page.specs.Pages.{IsPage, titled};
 ghost use Rattle.mpd_page.specs.Nodes.{first_node};
@@ -24,13 +24,22 @@ use mpd_core::{Core, Debugger};
 use mpd_model::{Mode, StepList};
 use std::alloc::{AllocError, Global};
 
+/// How runs are drawn.
+#[derive(Clone, Copy)]
+struct DrawPlan {
+    /// Along what choices are told.
+    walk: Walk,
+    /// How many states the search for the step that decides comes to at most, of one run.
+    blamed: usize,
+}
+
 /// Adds a run by two debuggers that stand at its start, and its end.
 #[tactic(auto, using(crate::proofs::PageLemmas::behind_none))]
 fn draw_with(
     behind: &mut Debugger<'_>,
     ahead: &mut Debugger<'_>,
     drawn: &mut Drawn,
-    walk: Walk,
+    plan: DrawPlan,
     run: &StepList,
 ) -> Result<(), PageFault>
     requires world { ahead.old.world ≡ behind.old.world }
@@ -39,12 +48,12 @@ fn draw_with(
     requires few { length drawn.old.tree.items + 1 ≤ STATES_MAX }
     ensures tree { OnOk result (drawn.new.tree.items ≡ tree_spec.run_tree drawn.old.tree.items 0 run.now) }
     ensures few { OnOk result (length drawn.new.tree.items + 1 ≤ STATES_MAX) }
-    ensures text { OnOk result (drawn.new.text.items ≡ drawn.old.text.items ++ tree_spec.run_text behind.old.trail.program walk drawn.old.tree.items 0 behind.old.world run.now) }
-    ensures ends { OnOk result (EndAdded ahead.old.trail.program ahead.old.trail.mode (tree_spec.run_end drawn.old.tree.items 0 run.now) run.now drawn.old.ends.items drawn.new.ends.items) }
+    ensures text { OnOk result (drawn.new.text.items ≡ drawn.old.text.items ++ tree_spec.run_text behind.old.trail.program plan.walk drawn.old.tree.items 0 behind.old.world run.now) }
+    ensures ends { OnOk result (EndAdded plan.blamed ahead.old.trail.program ahead.old.trail.mode (tree_spec.run_end drawn.old.tree.items 0 run.now) run.now drawn.old.ends.items drawn.new.ends.items) }
     ensures too_many { IsErrOf result PageFault.TooMany → STATES_MAX < length (tree_spec.run_tree drawn.old.tree.items 0 run.now) + 1 }
 {
-    let number = follow(behind, ahead, drawn, walk, &run.items)?;
-    push_end(ahead, &mut drawn.ends, number)?;
+    let number = follow(behind, ahead, drawn, plan.walk, &run.items)?;
+    push_end(ahead, &mut drawn.ends, number, plan.blamed)?;
     Ok(())
 }
 
@@ -53,21 +62,21 @@ fn draw_with(
 fn draw_by(
     behind: &mut Debugger<'_>,
     drawn: &mut Drawn,
-    walk: Walk,
+    plan: DrawPlan,
     run: &StepList,
 ) -> Result<(), PageFault>
     requires first { done_steps behind.old.trail ≡ [] }
     requires few { length drawn.old.tree.items + 1 ≤ STATES_MAX }
     ensures tree { OnOk result (drawn.new.tree.items ≡ tree_spec.run_tree drawn.old.tree.items 0 run.now) }
     ensures few { OnOk result (length drawn.new.tree.items + 1 ≤ STATES_MAX) }
-    ensures text { OnOk result (drawn.new.text.items ≡ drawn.old.text.items ++ tree_spec.run_text behind.old.trail.program walk drawn.old.tree.items 0 behind.old.world run.now) }
-    ensures ends { OnOk result (EndAdded behind.old.trail.program behind.old.trail.mode (tree_spec.run_end drawn.old.tree.items 0 run.now) run.now drawn.old.ends.items drawn.new.ends.items) }
+    ensures text { OnOk result (drawn.new.text.items ≡ drawn.old.text.items ++ tree_spec.run_text behind.old.trail.program plan.walk drawn.old.tree.items 0 behind.old.world run.now) }
+    ensures ends { OnOk result (EndAdded plan.blamed behind.old.trail.program behind.old.trail.mode (tree_spec.run_end drawn.old.tree.items 0 run.now) run.now drawn.old.ends.items drawn.new.ends.items) }
     ensures too_many { IsErrOf result PageFault.TooMany → STATES_MAX < length (tree_spec.run_tree drawn.old.tree.items 0 run.now) + 1 }
 {
     let Ok(mut ahead) = behind.copy() else {
         return Err(PageFault::Memory);
     };
-    let made = draw_with(behind, &mut ahead, drawn, walk, run);
+    let made = draw_with(behind, &mut ahead, drawn, plan, run);
     drop(ahead);
     made
 }
@@ -78,20 +87,20 @@ fn draw_run(
     code: &Code,
     mode: Mode,
     drawn: &mut Drawn,
-    walk: Walk,
+    plan: DrawPlan,
     run: &StepList,
 ) -> Result<(), PageFault>
     requires few { length drawn.old.tree.items + 1 ≤ STATES_MAX }
     ensures tree { OnOk result (drawn.new.tree.items ≡ tree_spec.run_tree drawn.old.tree.items 0 run.now) }
     ensures few { OnOk result (length drawn.new.tree.items + 1 ≤ STATES_MAX) }
-    ensures text { OnOk result (drawn.new.text.items ≡ drawn.old.text.items ++ tree_spec.run_text code.now.program walk drawn.old.tree.items 0 (start code.now.program mode) run.now) }
-    ensures ends { OnOk result (EndAdded code.now.program mode (tree_spec.run_end drawn.old.tree.items 0 run.now) run.now drawn.old.ends.items drawn.new.ends.items) }
+    ensures text { OnOk result (drawn.new.text.items ≡ drawn.old.text.items ++ tree_spec.run_text code.now.program plan.walk drawn.old.tree.items 0 (start code.now.program mode) run.now) }
+    ensures ends { OnOk result (EndAdded plan.blamed code.now.program mode (tree_spec.run_end drawn.old.tree.items 0 run.now) run.now drawn.old.ends.items drawn.new.ends.items) }
     ensures too_many { IsErrOf result PageFault.TooMany → STATES_MAX < length (tree_spec.run_tree drawn.old.tree.items 0 run.now) + 1 }
 {
     let Ok(mut behind) = Debugger::start(alloc, code, mode) else {
         return Err(PageFault::Memory);
     };
-    let made = draw_by(&mut behind, drawn, walk, run);
+    let made = draw_by(&mut behind, drawn, plan, run);
     drop(behind);
     made
 }
@@ -103,19 +112,19 @@ fn draw_all(
     code: &Code,
     mode: Mode,
     drawn: &mut Drawn,
-    walk: Walk,
+    plan: DrawPlan,
     runs: &[StepList],
 ) -> Result<(), PageFault>
     requires few { length drawn.old.tree.items + 1 ≤ STATES_MAX }
     requires empty { drawn.old.ends.items ≡ [] }
     ensures few { OnOk result (length (tree_spec.runs_tree drawn.old.tree.items runs.now) + 1 ≤ STATES_MAX) }
-    ensures text { OnOk result (drawn.new.text.items ≡ drawn.old.text.items ++ tree_spec.runs_text code.now.program walk (start code.now.program mode) drawn.old.tree.items runs.now) }
-    ensures ends { OnOk result (AreEnds code.now.program mode drawn.old.tree.items runs.now drawn.new.ends.items) }
+    ensures text { OnOk result (drawn.new.text.items ≡ drawn.old.text.items ++ tree_spec.runs_text code.now.program plan.walk (start code.now.program mode) drawn.old.tree.items runs.now) }
+    ensures ends { OnOk result (AreEnds plan.blamed code.now.program mode drawn.old.tree.items runs.now drawn.new.ends.items) }
     ensures too_many { IsErrOf result PageFault.TooMany → STATES_MAX < length (tree_spec.runs_tree drawn.old.tree.items runs.now) + 1 }
 {
     let mut left = runs;
     while let Some((one, rest)) = left.split_first() {
-        match draw_run(alloc, code, mode, drawn, walk, one) {
+        match draw_run(alloc, code, mode, drawn, plan, one) {
             Ok(()) => left = rest,
             Err(fault) => return Err(fault),
         }
@@ -233,8 +242,19 @@ fn page_of(
     made
 }
 
+/// Of so many states those of one of so many runs, of which each has an equal part; none where there is no run.
+fn share(states: usize, runs: usize) -> usize
+    ensures { result ≡ share states runs }
+{
+    if runs == 0 {
+        return 0;
+    }
+    states / runs
+}
+
 /// The page of some runs from the start of a script: the template about its data. A run is the steps from there, each enabled where it
-/// stands; one that isn't, and a run of more than 1,000,000 steps, is told as want of memory, and so is want of memory.
+/// stands; one that isn't, and a run of more than 1,000,000 steps, is told as want of memory, and so is want of memory. The searches for
+/// the steps that decide come to so many states at most, all together.
 #[tactic(auto, using(crate::proofs::PageLemmas::paging))]
 pub fn make_page(
     alloc: Global,
@@ -242,8 +262,9 @@ pub fn make_page(
     mode: Mode,
     title: Title<'_>,
     runs: &[StepList],
+    states: usize,
 ) -> Result<Vec<u8>, PageFault>
-    ensures ok { IfOk result (λ page. IsPage code.now.program mode (titled title.entry) runs.now page.items) }
+    ensures ok { IfOk result (λ page. IsPage states code.now.program mode (titled title.entry) runs.now page.items) }
     ensures too_many { IsErrOf result PageFault.TooMany → tree_spec.is_few (tree_spec.runs_tree [] runs.now) ≡ false }
 {
     let mut drawn = Drawn {
@@ -251,7 +272,11 @@ pub fn make_page(
         text: Vec::new(alloc),
         ends: Vec::new(alloc),
     };
-    match draw_all(alloc, code, mode, &mut drawn, title.walk, runs) {
+    let plan = DrawPlan {
+        walk: title.walk,
+        blamed: share(states, runs.len()),
+    };
+    match draw_all(alloc, code, mode, &mut drawn, plan, runs) {
         Ok(()) => {}
         Err(fault) => return Err(fault),
     }

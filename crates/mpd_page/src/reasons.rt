@@ -1,16 +1,17 @@
 //! Why a rank waits (docs/PAGES.md, "States").
 
-ghost use Rattle.std.specs.Prelude.{◌≡◌, ◌++◌, IfOk, OnOk, slice_get, string_bytes};
+ghost use Rattle.std.specs.Prelude.{◌≡◌, ◌++◌, IfOk, OnOk, string_bytes};
 ghost use Rattle.std.specs.List.{flat_map};
 ghost use Rattle.mpd_model.specs.steps.World.{rank_numbers};
-ghost use Rattle.mpd_model.specs.steps.Next.{waits, is_at_barrier as at_barrier};
+ghost use Rattle.mpd_model.specs.steps.Next.{is_at_barrier as at_barrier};
 ghost use Rattle.mpd_explain.specs.Requests.{requests as requested};
 ghost use Rattle.mpd_page.specs.Reasons as spec;
 
 use crate::changes::push_other;
 use mpd_core::Core;
 use mpd_explain::requests;
-use mpd_model::{Activity, CallId, CallKind, is_barrier};
+use mpd_model::{CallId, CallKind, is_barrier};
+use mpd_names::is_blocked;
 use std::alloc::{AllocError, Global};
 
 /// Adds the call that holds a match back, where one does.
@@ -93,16 +94,6 @@ fn push_entries(core: &Core<'_>, out: &mut String, calls: &[CallId]) -> Result<(
     };
     push_entry(core, out, *first)?;
     push_entries_after(core, out, rest)
-}
-
-/// Whether a rank is blocked.
-fn is_blocked(core: &Core<'_>, rank: usize) -> bool
-    ensures { result ≡ waits (slice_get core.now.world.ranks rank) }
-{
-    match core.activity(rank) {
-        None | Some(Activity::Running) | Some(Activity::Trapped(_)) => false,
-        Some(Activity::Blocked) => true,
-    }
 }
 
 /// Whether a rank is blocked on a barrier.

@@ -45,7 +45,7 @@ main { display: grid; grid-template-columns: minmax(20rem, 36%) minmax(0, 1fr); 
 .badge.blocked { background: var(--paper); color: var(--c); border-style: dashed; }\n\
 .badge.trapped { background: var(--paper); color: var(--bad); border: 3px double var(--bad); }\n\
 .badge.ended { opacity: .75; }\n\
-#lanes { max-height: 46vh; }\n\
+#lanes { max-height: 48vh; }\n\
 #lanes svg, #tree svg { display: block; }\n\
 #tree { max-height: 28vh; overflow: auto; }\n\
 text { font: 12px system-ui, \"DejaVu Sans\", sans-serif; fill: var(--ink); }\n\
@@ -70,7 +70,7 @@ td { padding: .2rem .5rem; border-top: 1px solid var(--rule); vertical-align: to
 .why td { border: 0; padding-top: 0; font-size: .9rem; }\n\
 mark { background: var(--mark); color: inherit; border-bottom: 2px solid var(--ink); }\n\
 .value { display: inline-block; margin-right: .9rem; }\n\
-.token { display: inline-block; white-space: nowrap; border: 1px solid var(--rule); border-left: .3rem solid var(--c); border-radius: .25rem; padding: 0 .3rem; margin: 0 .2rem .15rem 0; }\n\
+.token { display: inline-block; border: 1px solid var(--rule); border-left: .3rem solid var(--c); border-radius: .25rem; padding: 0 .3rem; margin: 0 .2rem .15rem 0; }\n\
 .token.may { border-color: var(--choice); background: var(--tint); font-weight: 700; }\n\
 .box { margin: .5rem; padding: .5rem .7rem; border: 2px solid currentColor; border-radius: .4rem; }\n\
 .box > * { color: var(--ink); } .box > h3 { color: inherit; }\n\
@@ -78,6 +78,7 @@ mark { background: var(--mark); color: inherit; border-bottom: 2px solid var(--i
 #choice button { display: flex; gap: .6rem; align-items: center; width: 100%; margin: .3rem 0; padding: .2rem .6rem; text-align: left; }\n\
 #choice button.on { background: var(--tint); border: 2px solid var(--choice); font-weight: 700; }\n\
 #choice button > :last-child { margin-left: auto; white-space: nowrap; font-weight: 400; }\n\
+#choice button:disabled { flex-wrap: wrap; } #choice button:disabled > :last-child { flex-basis: 100%; margin: 0 0 0 1.6rem; white-space: normal; }\n\
 .told { display: flex; gap: .8rem; align-items: center; }\n\
 .told > div { flex: 1; }\n\
 .told p { padding-left: 2ch; text-indent: -2ch; }\n\
@@ -88,7 +89,7 @@ footer button { padding: .25rem .6rem; font-weight: 700; }\n\
 #track { position: relative; padding-top: 1.15rem; } #track input { width: 100%; margin: 0; display: block; }\n\
 #marks { position: absolute; left: 8px; right: 8px; top: 0; }\n\
 #marks span { position: absolute; transform: translateX(-50%); cursor: pointer; font-size: .95rem; line-height: 1.2; } #marks .choice { color: var(--choice); }\n\
-@media (max-width: 1100px) { .token { white-space: normal; } footer { grid-template-columns: auto minmax(0, 1fr); } #keys { grid-column: 1 / -1; } }\n\
+@media (max-width: 1100px) { footer { grid-template-columns: auto minmax(0, 1fr); } #keys { grid-column: 1 / -1; } }\n\
 @media print { :root { color-scheme: light; font-size: 11pt; } html, body { height: auto; } body, main, .side { display: block; background: #fff; } footer, #treepane, #table { display: none; }\n\
 \x20 .pane { border: 0; overflow: visible; max-height: none !important; break-inside: avoid; } #lanes svg { width: 100%; height: auto; } * { print-color-adjust: exact; } }\n\
 </style>\n\
@@ -101,13 +102,13 @@ footer button { padding: .25rem .6rem; font-weight: 700; }\n\
 <section class=\"pane\" id=\"treepane\" aria-labelledby=\"h-tree\"><h2 id=\"h-tree\">Runs</h2><div id=\"tree\" tabindex=\"0\"></div></section>\n\
 </div>\n\
 <div class=\"side\" id=\"right\">\n\
-<section class=\"pane\" id=\"lanes\" aria-label=\"Lanes of the ranks\" tabindex=\"0\"></section>\n\
-<section class=\"pane\" aria-label=\"What happens now\" tabindex=\"0\"><div id=\"choice\" class=\"box\" hidden></div><div id=\"told\" hidden></div><table id=\"table\"></table></section>\n\
-</div>\n\
-</main>\n";
+<section class=\"pane\" id=\"lanes\" aria-label=\"Lanes of the ranks\" tabindex=\"0\"></section>\n";
 
 /// What stands before the data: part 3 of 3.
 pub const HEAD_2: &str = "\
+<section class=\"pane\" aria-label=\"What happens now\" tabindex=\"0\"><div id=\"choice\" class=\"box\" hidden></div><div id=\"told\" hidden></div><table id=\"table\"></table></section>\n\
+</div>\n\
+</main>\n\
 <footer><span><button data-go=\"start\" title=\"To the start (Home)\">|&lt;</button> <button data-go=\"back\" title=\"A step back (left)\">&lt;</button> <button data-go=\"on\" title=\"A step on (right)\">&gt;</button> <button data-go=\"end\" title=\"To the end (End)\">&gt;|</button></span>\n\
 <div id=\"track\"><div id=\"marks\"></div><input type=\"range\" id=\"slider\" min=\"0\" value=\"0\" aria-label=\"Step\"></div>\n\
 <span id=\"keys\" class=\"soft\">&larr; &rarr; step &ensp; c u choice &ensp; 1 2 .. take &ensp; b decides<span id=\"uncover\"></span></span></footer>\n\
@@ -160,10 +161,13 @@ function apply(s, node) {\n\
 \x20 if (kind === 'match') { callOf(s, first).partner = second; callOf(s, second).partner = first; }\n\
 }\n\
 const callOf = (s, id) => { const [p, i] = two(id); return s.calls[p][i]; };\n\
+// The text of a call of rank p, with the call that a wait is for, and the name of a waitany's array: `wait for 1.0`, `waitany r`.\n\
+const handleNames = D ? D.handles.flatMap(([name, size]) => Array(size === null ? 1 : size).fill(name)) : [];\n\
+const named = (text, p) => text.replace(/^wait (\\d+)/, (_, i) => `wait for ${p}.${i}`).replace(/^waitany (\\d+) \\d+/, (_, i) => `waitany ${handleNames[i]}`);\n\
 const isSend = call => /^i?s?send/.test(call.text), isReceive = call => /^i?recv/.test(call.text);\n\
 const target = call => +call.text.split(' ')[2]; // the rank that a send goes to\n\
 const message = call => { const w = call.text.split(' '); return `value ${w[6]}, tag ${w[4]}`; };\n\
-const calledAt = (s, id) => `line ${callOf(s, id).line}, ${esc(callOf(s, id).text)} <span class=\"soft\">(${id})</span>`;\n\
+const calledAt = (s, id) => `line ${callOf(s, id).line}, ${esc(named(callOf(s, id).text, two(id)[0]))} <span class=\"soft\">(${id})</span>`;\n\
 \n\
 function stateOf(path) {\n\
 \x20 const s = blank();\n\
@@ -178,7 +182,10 @@ function factOf(s, node) {\n\
 \x20 if (kind === 'release') return { kind, lines: s.place.map(place => place[0]) };\n\
 \x20 fact.rank = +first;\n\
 \x20 fact.lines = [s.place[fact.rank][0]];\n\
-\x20 if (node.c) Object.assign(fact, { call: `${first}.${s.calls[fact.rank].length}`, text: node.c[1], line: node.c[0] });\n\
+\x20 if (node.c) Object.assign(fact, { call: `${first}.${s.calls[fact.rank].length}`, text: node.c[1], line: node.c[0] });\n";
+
+/// What stands after the data: part 2 of 8.
+pub const TAIL_1: &str = "\
 \x20 if (kind === 'wakeany') fact.by = requestOf(s, fact.rank, +second);\n\
 \x20 return fact;\n\
 }\n\
@@ -189,12 +196,9 @@ function requestOf(s, p, i) {\n\
 }\n\
 const shows = fact => fact.call !== undefined || fact.kind === 'match' || fact.kind === 'release';\n\
 \n\
-function inWords(fact, s) {\n";
-
-/// What stands after the data: part 2 of 8.
-pub const TAIL_1: &str = "\
+function inWords(fact, s) {\n\
 \x20 const p = fact.rank, code = text => `<code>${esc(text)}</code>`;\n\
-\x20 if (fact.call) return `rank ${p} runs line ${fact.line}: ${code(fact.text)} (${fact.call})`;\n\
+\x20 if (fact.call) return `rank ${p} runs line ${fact.line}: ${code(named(fact.text, p))} (${fact.call})`;\n\
 \x20 if (fact.kind === 'local') return `rank ${p} runs line ${fact.lines[0]}: ${code((D.script[fact.lines[0] - 1] || '').trim())}`;\n\
 \x20 if (fact.kind === 'match') return `rank ${p}, line ${fact.lines[1]}, takes the message of rank ${two(fact.send)[0]}, line ${fact.lines[0]}: <b>${message(callOf(s, fact.send))}</b>`;\n\
 \x20 if (fact.kind === 'release') return 'all ranks leave the barrier';\n\
@@ -249,24 +253,24 @@ function source() {\n\
 \x20 el('source').innerHTML = D.script.map((text, i) => {\n\
 \x20   const cut = text.indexOf('#') < 0 ? text.length : text.indexOf('#');\n\
 \x20   return `<div class=\"line ${now.has(i + 1) ? 'now' : ''}\"><span>${(at[i + 1] || []).join('')}</span><span class=\"soft\">${i + 1}</span>` +\n\
-\x20     `<span>${esc(text.slice(0, cut)) || ' '}<span class=\"soft\">${esc(text.slice(cut))}</span></span></div>`;\n\
+\x20     `<span>${esc(text.slice(0, cut))}<span class=\"soft\">${esc(text.slice(cut)) || ' '}</span></span></div>`;\n\
 \x20 }).join('') + (at[0] ? `<div class=\"line\"><span></span><span></span><span class=\"soft\">ended: ${at[0].join('')}</span></div>` : '');\n\
 \x20 const line = el('source').children[(k ? Math.max(...facts[k].lines) : 1) - 1];\n\
 \x20 if (line) line.scrollIntoView({ block: 'nearest' });\n\
 }\n\
 \n\
 // ---- lanes: time goes to the right, a lane for each rank\n\
-const TOP = 36, NAME = N > 10 ? 74 : 64;\n\
+const TOP = 36, NAME = N > 10 ? 80 : 64;\n\
 let xs = [], gap = 60, wide = 60, unit = 1;\n\
-\n\
+\n";
+
+/// What stands after the data: part 3 of 8.
+pub const TAIL_2: &str = "\
 // The place of each step: those that show something get more room.\n\
 function layout() {\n\
 \x20 unit = parseFloat(getComputedStyle(document.documentElement).fontSize) / 16;\n\
 \x20 const room = Math.max(300, el('lanes').clientWidth / unit - NAME - 60), many = facts.slice(1).filter(shows).length, few = last() - many;\n\
-\x20 const small = Math.min(14, Math.max(7, room / (many * 3.5 + few + 1)));\n";
-
-/// What stands after the data: part 3 of 8.
-pub const TAIL_2: &str = "\
+\x20 const small = Math.min(14, Math.max(7, room / (many * 3.5 + few + 1)));\n\
 \x20 wide = Math.min(78, Math.max(34, (room - few * small) / Math.max(1, many)));\n\
 \x20 xs = [NAME + 14];\n\
 \x20 for (let d = 1; d <= last(); d++) xs.push(xs[d - 1] + (shows(facts[d]) ? wide : small));\n\
@@ -294,7 +298,7 @@ function glyph(x, y, word) {\n\
 function lanes() {\n\
 \x20 const box = el('lanes'), now = xs[k], height = TOP + gap * N + 14, large = gap > 28;\n\
 \x20 const left = printing ? Math.max(0, now - 1200) : box.scrollLeft / unit, room = printing ? Math.min(1260, Math.max(500, now + 60)) : box.clientWidth / unit;\n\
-\x20 const width = printing ? room : Math.max(xs[last()] + 50, room - 2), seen = (a, b) => b > left - 200 && a < left + room + 200;\n\
+\x20 const width = printing ? room : Math.max(xs[last()] + 44, room - 2), seen = (a, b) => b > left - 200 && a < left + room + 200;\n\
 \x20 const under = [], over = [], names = [], issued = {}, since = Array(N).fill(null), stops = Array(N).fill(now);\n\
 \x20 const waits = (p, to) => {\n\
 \x20   const thick = `stroke-width=\"${Math.min(11, gap * .42)}\"`;\n\
@@ -307,19 +311,19 @@ function lanes() {\n\
 \x20   if (fact.call) {\n\
 \x20     const word = fact.text.split(' ')[0], isUp = /send/.test(word) && target(fact) < p;\n\
 \x20     issued[fact.call] = { x, p, text: fact.text, to: null };\n\
-\x20     if (seen(x, x)) over.push(svgGroup(p, `line ${fact.line}, ${fact.call} ${fact.text}`, halo + glyph(x, y, word) + (large ? svgText(x, isUp ? y + 21 : y - (word === 'barrier' ? gap * .3 + 4 : 11), wide > 50 ? `${fact.line} ${word}` : fact.line, isNew ? 'mid bold' : 'mid') : ''), isNew));\n\
+\x20     if (seen(x, x)) over.push(svgGroup(p, `line ${fact.line}, ${fact.call} ${named(fact.text, p)}`, halo + glyph(x, y, word) + (large ? svgText(x, isUp ? y + 21 : y - (word === 'barrier' ? gap * .3 + 4 : 11), wide > 50 ? `${fact.line} ${word}` : fact.line, isNew ? 'mid bold' : 'mid') : ''), isNew));\n\
 \x20     if ((nodes[run[d]].d || []).some(([q, , how]) => q === p && how === 'blocked')) since[p] = x;\n\
 \x20   } else if (fact.kind === 'match') {\n\
 \x20     const send = issued[fact.send], value = send.text.split(' ')[6];\n\
 \x20     send.to = issued[fact.receive].to = x;\n\
-\x20     if (seen(send.x, x)) {\n\
-\x20       const lx = send.x + (x - send.x) * .5, ly = laneY(send.p) + (y - laneY(send.p)) * .5 + (send.p === p ? gap * .5 : 0), w = 8 * value.length + 8;\n\
-\x20       over.push(svgGroup(send.p, `${fact.send} to ${fact.receive}: ${message(send)}`, arrow(send.x, laneY(send.p), x, y) + `<rect x=\"${lx - w / 2}\" y=\"${ly - 8}\" width=\"${w}\" height=\"16\" rx=\"4\" class=\"open\" style=\"stroke-width:1\"/>` + svgText(lx, ly + 4, value, 'mid bold'), isNew));\n\
-\x20     }\n\
-\x20   } else if (fact.kind === 'release') {\n";
+\x20     if (seen(send.x, x)) {\n";
 
 /// What stands after the data: part 4 of 8.
 pub const TAIL_3: &str = "\
+\x20       const lx = send.x + (x - send.x) * .5, ly = laneY(send.p) + (y - laneY(send.p)) * .5 + (send.p === p ? gap * .5 : 0), w = 8 * value.length + 8;\n\
+\x20       over.push(svgGroup(send.p, `${fact.send} to ${fact.receive}: ${message(send)}`, arrow(send.x, laneY(send.p), x, y) + `<rect x=\"${lx - w / 2}\" y=\"${ly - 8}\" width=\"${w}\" height=\"16\" rx=\"4\" class=\"open\" style=\"stroke-width:1\"/>` + svgText(lx, ly + 4, value, 'mid bold'), isNew));\n\
+\x20     }\n\
+\x20   } else if (fact.kind === 'release') {\n\
 \x20     if (seen(x, x)) over.push(`<g><title>release: all ranks leave the barrier</title>${svgLine(x, laneY(0) - 12, x, laneY(N - 1) + 12, 'bar')}</g>`);\n\
 \x20     for (let q = 0; q < N; q++) waits(q, x);\n\
 \x20   } else if (fact.kind === 'local') {\n\
@@ -360,7 +364,10 @@ function follow() {\n\
 \n\
 // ---- the choice, and the step that decides\n\
 const SIGN = { done: '\\u2714', leftovers: '\\u25b2', cut: '\\u2026', deadlock: '\\u2716', trap: '\\u2716' };\n\
-const wordOf = outcome => outcome.split(' ')[0];\n\
+const wordOf = outcome => outcome.split(' ')[0];\n";
+
+/// What stands after the data: part 5 of 8.
+pub const TAIL_4: &str = "\
 const kindOf = outcome => /^(deadlock|trap)/.test(outcome) ? 'bad' : wordOf(outcome) === 'done' ? 'good' : 'warn';\n\
 const sign = outcome => covered ? '?' : `<b class=\"${kindOf(outcome)}\">${SIGN[wordOf(outcome)]}</b> ${wordOf(outcome)}`;\n\
 \n\
@@ -369,10 +376,7 @@ function howEnds(list) {\n\
 \x20 for (const e of list) { const s = sign(ends[e].outcome); counts[s] = (counts[s] || 0) + 1; }\n\
 \x20 return Object.entries(counts).map(([s, count]) => covered ? s : (count > 1 ? `${count} \\u00d7 ` : '') + s).join(' &ensp;');\n\
 }\n\
-function candidate(step) {\n";
-
-/// What stands after the data: part 5 of 8.
-pub const TAIL_4: &str = "\
+function candidate(step) {\n\
 \x20 const fact = factOf(S, { s: step }), p = fact.rank;\n\
 \x20 if (fact.kind === 'match') return `message of <b>rank ${two(fact.send)[0]}</b>, line ${fact.lines[0]}: <b>${message(callOf(S, fact.send))}</b> \\u2192 rank ${p}, line ${fact.lines[1]}`;\n\
 \x20 if (fact.kind === 'release') return 'all ranks leave the barrier';\n\
@@ -382,7 +386,8 @@ pub const TAIL_4: &str = "\
 // The page that takes candidate c here, as a command, where the run is told by its choices.\n\
 function otherWay(c) {\n\
 \x20 const numbers = run.slice(1, k + 1).map(i => nodes[i].n).filter(n => n !== undefined);\n\
-\x20 return D.walk === 'words' ? 'not on this page' : `on another page: <code>page/make.py ${esc(D.name)} ${D.walk === 'wide' ? '--ends ' : ''}--choices '${[...numbers, c].join(' ')}'</code>`;\n\
+\x20 const words = [D.name, ...(D.mode === 'rendezvous' ? [] : ['--mode', D.mode]), ...(D.walk === 'wide' ? ['--ends'] : []), `--choices '${[...numbers, c].join(' ')}'`];\n\
+\x20 return D.walk === 'words' ? 'not on this page' : `on another page: <code>mpdbg page ${esc(words.join(' '))}</code>`;\n\
 }\n\
 function choice() {\n\
 \x20 const i = run[k], box = el('choice'), steps = isChoice(i) ? nodes[i].k : [], found = covered ? null : deciding(), isDecided = found && found[0] === k;\n\
@@ -394,7 +399,7 @@ function choice() {\n\
 }\n\
 \n\
 // ---- the end of a run, and who waits for whom\n\
-const TITLE = { done: 'The run ends well: all ranks have ended', leftovers: 'All ranks have ended, but calls are left over', deadlock: 'Deadlock: these ranks wait for ever', trap: 'A rank has trapped', cut: 'The record ends here' };\n\
+const TITLE = { done: 'The run ends well: all ranks have ended', leftovers: 'All ranks have ended, but calls are left over', deadlock: 'Deadlock: these ranks wait for ever', trap: 'A rank has trapped', cut: 'The record ends here, but the run goes on' };\n\
 \n\
 function told() {\n\
 \x20 const box = el('told'), end = k === last() ? ends[endOf()] : null;\n\
@@ -413,15 +418,15 @@ function waitGraph(lines) {\n\
 \x20   return found ? [...found[2].matchAll(/rank (\\d+)( \\(ended\\))?/g)].map(m => [+found[1], +m[1], !!m[2]]) : [];\n\
 \x20 });\n\
 \x20 if (!edges.length) return '';\n\
-\x20 const ranks = [...new Set(edges.flatMap(([a, b]) => [a, b]))].sort((a, b) => a - b), R = 26 + 6 * ranks.length, C = R + 30, at = {};\n\
+\x20 const ranks = [...new Set(edges.flatMap(([a, b]) => [a, b]))].sort((a, b) => a - b), R = 26 + 6 * ranks.length, C = R + 30, at = {};\n";
+
+/// What stands after the data: part 6 of 8.
+pub const TAIL_5: &str = "\
 \x20 ranks.forEach((p, i) => { const turn = 2 * Math.PI * i / ranks.length - Math.PI / 2; at[p] = [C + R * Math.cos(turn), C + R * Math.sin(turn)]; });\n\
 \x20 const edge = ([a, b, isOver]) => {\n\
 \x20   const [x1, y1] = at[a], [x2, y2] = at[b], far = Math.hypot(x2 - x1, y2 - y1) || 1, ux = (x2 - x1) / far, uy = (y2 - y1) / far, off = edges.some(([c, d]) => c === b && d === a) ? 6 : 0;\n\
 \x20   if (a === b) return `<circle cx=\"${x1 + 15}\" cy=\"${y1 - 13}\" r=\"10\" class=\"arrow\" style=\"--c:var(--ink)\"/>`;\n\
-\x20   const px = x2 - 17 * ux - off * uy, py = y2 - 17 * uy + off * ux, tip = side => `${px - 9 * ux + side * 4.5 * uy} ${py - 9 * uy - side * 4.5 * ux}`;\n";
-
-/// What stands after the data: part 6 of 8.
-pub const TAIL_5: &str = "\
+\x20   const px = x2 - 17 * ux - off * uy, py = y2 - 17 * uy + off * ux, tip = side => `${px - 9 * ux + side * 4.5 * uy} ${py - 9 * uy - side * 4.5 * ux}`;\n\
 \x20   return `<g style=\"--c:var(--ink)\">${svgLine(x1 + 15 * ux - off * uy, y1 + 15 * uy + off * ux, px, py, 'arrow', isOver ? 'stroke-dasharray=\"4 3\"' : '')}<path d=\"M${px} ${py}L${tip(1)}L${tip(-1)}z\" class=\"full\"/></g>`;\n\
 \x20 };\n\
 \x20 const spot = p => {\n\
@@ -448,7 +453,7 @@ function token(p, i, text, may) {\n\
 }\n\
 function request(p, cell) {\n\
 \x20 const call = S.calls[p][S.requests[p][cell]];\n\
-\x20 return call ? `${call.text.split(' ')[0]}, line ${call.line}${call.partner ? ' \\u2714' : ''}` : '-';\n\
+\x20 return call ? `${call.text.split(' ')[0]} line ${call.line}${call.partner ? ' \\u2714' : ''}` : '-';\n\
 }\n\
 function stateText(p) {\n\
 \x20 const [line, word] = S.place[p], how = doing(S.place[p]);\n\
@@ -463,18 +468,18 @@ function table() {\n\
 \x20   ['printed', p => S.printed[p].map((value, i) => marked(`o${p}.${i}`, value)).join(' '), +nodes.some(node => node.o)],\n\
 \x20 ].filter(column => column[2] !== 0);\n\
 \x20 const rows = S.place.map((_, p) => `<tr>${columns.map(([, show]) => `<td>${show(p)}</td>`).join('')}</tr>` +\n\
-\x20   (S.why[p] ? `<tr class=\"why soft\"><td></td><td colspan=\"${columns.length - 1}\">${whyText(p)}</td></tr>` : ''));\n\
+\x20   (S.why[p] ? `<tr class=\"why soft\"><td></td><td colspan=\"${columns.length - 1}\">${whyText(p)}</td></tr>` : ''));\n";
+
+/// What stands after the data: part 7 of 8.
+pub const TAIL_6: &str = "\
 \x20 el('table').innerHTML = `<caption>Ranks (what the last step changed is underlined)</caption><tr>${columns.map(([name]) => `<th scope=\"col\">${name}</th>`).join('')}</tr>${rows.join('')}`;\n\
 }\n\
 // Why a rank waits: for each call that it waits for, with what that can be matched.\n\
 function whyText(p) {\n\
-\x20 const calls = S.calls[p], own = `<code>${esc(calls[calls.length - 1].text)}</code>`, isEnd = k === last() && !covered;\n\
+\x20 const calls = S.calls[p], own = `<code>${esc(named(calls[calls.length - 1].text, p))}</code>`, isEnd = k === last() && !covered && ends[endOf()].outcome !== 'cut';\n\
 \x20 const parts = S.why[p].map(([call, ...found]) => {\n\
 \x20   const name = two(call)[1] === calls.length - 1 || call === 'barrier' ? '' : `for ${calledAt(S, call)}: `;\n\
-\x20   if (call === 'barrier') return found.length ? `not there: ${found.map(q => `rank ${q}`).join(', ')}` : 'all ranks are there';\n";
-
-/// What stands after the data: part 7 of 8.
-pub const TAIL_6: &str = "\
+\x20   if (call === 'barrier') return found.length ? `not there: ${found.map(q => `rank ${q}`).join(', ')}` : 'all ranks are there';\n\
 \x20   if (found[0] === 'complete') return `${name}<b>complete</b>`;\n\
 \x20   if (!found.length) return name + (isEnd ? 'nothing fits' : 'nothing that fits has come yet');\n\
 \x20   const texts = found.map(text => { const [other, by] = text.split(' '); return by ? `fits ${calledAt(S, other)}, but <b>held back</b> by ${calledAt(S, by)}` : `can be matched with ${calledAt(S, other)}`; });\n\
@@ -505,7 +510,8 @@ function treeShape() {\n\
 }\n\
 function tree() {\n\
 \x20 shape = shape || treeShape();\n\
-\x20 const { points, rows, deep } = shape, on = new Set(run), column = Math.min(110, Math.max(26, 220 / Math.max(1, deep))), X = t => 18 + column * t.deep, Y = t => 14 + 23 * t.row, parts = [];\n\
+\x20 const { points, rows, deep } = shape, on = new Set(run), label = e => covered ? `run ${e + 1}` : ends[e].outcome, tail = 40 + 7 * Math.max(...ends.map((_, e) => label(e).length)),\n\
+\x20   column = Math.min(110, Math.max(26, 220 / Math.max(1, deep))), X = t => 18 + column * t.deep, Y = t => 14 + 23 * t.row, parts = [];\n\
 \x20 for (const t of points) for (const u of t.kids) {\n\
 \x20   const isOn = on.has(t.node) && on.has(u.node);\n\
 \x20   parts.push(`<path d=\"M${X(t)} ${Y(t)}C${X(t) + column / 2} ${Y(t)} ${X(t) + column * .4} ${Y(u)} ${X(u)} ${Y(u)}\" class=\"twig ${isOn ? 'on' : ''}\"/>${svgText(X(u) - 15, Y(u) - 3, u.number, isOn ? 'mid bold' : 'mid')}`);\n\
@@ -515,17 +521,17 @@ function tree() {\n\
 \x20   if (end === undefined) { parts.push(`<g data-node=\"${t.node}\"><title>a choice of ${nodes[t.node].k.length}</title><path d=\"M${X(t)} ${Y(t) - 8}l8 8l-8 8l-8 -8z\" class=\"dia ${isHere}\"/></g>`); continue; }\n\
 \x20   const outcome = ends[end].outcome, kind = covered ? '' : kindOf(outcome), isOn = end === endOf();\n\
 \x20   const disc = kind === 'bad' ? `<rect x=\"${X(t) - 8}\" y=\"${Y(t) - 8}\" width=\"16\" height=\"16\" rx=\"2\" class=\"bad\"/>` : `<circle cx=\"${X(t)}\" cy=\"${Y(t)}\" r=\"8.5\" class=\"${kind}\"/>`;\n\
-\x20   parts.push(`<g data-end=\"${end}\" style=\"cursor:pointer\"><title>run ${end + 1}</title>${disc}<text x=\"${X(t)}\" y=\"${Y(t) + 4.5}\" class=\"mid bold\" style=\"fill:var(--paper)\">${covered ? '?' : SIGN[wordOf(outcome)]}</text>${svgText(X(t) + 15, Y(t) + 4.5, covered ? `run ${end + 1}` : esc(outcome), isOn ? 'bold' : '')}</g>`);\n\
-\x20 }\n\
-\x20 el('tree').innerHTML = `<svg width=\"${(X({ deep }) + 200) * unit}\" height=\"${(rows * 23 + 8) * unit}\" viewBox=\"0 0 ${X({ deep }) + 200} ${rows * 23 + 8}\" role=\"img\"><title>Runs by their choices: ${ends.length}</title>${parts.join('')}</svg>` + (D.more ? '<p class=\"soft\" style=\"font-size:.85rem;padding:0 .7rem .3rem\">there are more runs than these</p>' : '');\n\
+\x20   parts.push(`<g data-end=\"${end}\" style=\"cursor:pointer\"><title>run ${end + 1}</title>${disc}<text x=\"${X(t)}\" y=\"${Y(t) + 4.5}\" class=\"mid bold\" style=\"fill:var(--paper)\">${covered ? '?' : SIGN[wordOf(outcome)]}</text>${svgText(X(t) + 15, Y(t) + 4.5, esc(label(end)), isOn ? 'bold' : '')}</g>`);\n\
+\x20 }\n";
+
+/// What stands after the data: part 8 of 8.
+pub const TAIL_7: &str = "\
+\x20 el('tree').innerHTML = `<svg width=\"${(X({ deep }) + tail) * unit}\" height=\"${(rows * 23 + 8) * unit}\" viewBox=\"0 0 ${X({ deep }) + tail} ${rows * 23 + 8}\" role=\"img\"><title>Runs by their choices: ${ends.length}</title>${parts.join('')}</svg>` + (D.more ? '<p class=\"soft\" style=\"font-size:.85rem;padding:0 .7rem .3rem\">there are more runs than these</p>' : '');\n\
 \x20 const mine = points.find(t => endAt.get(t.node) === endOf()), box = el('tree'), y = Y(mine) * unit;\n\
 \x20 if (y < box.scrollTop || y > box.scrollTop + box.clientHeight - 15) box.scrollTop = y - box.clientHeight / 2;\n\
 }\n\
 function marks() {\n\
-\x20 const found = covered ? null : deciding(), at = (d, kind, text, title) => `<span class=\"${kind}\" data-step=\"${d}\" style=\"left:${100 * d / Math.max(1, last())}%\" title=\"${title}\">${text}</span>`, outcome = ends[endOf()].outcome;\n";
-
-/// What stands after the data: part 8 of 8.
-pub const TAIL_7: &str = "\
+\x20 const found = covered ? null : deciding(), at = (d, kind, text, title) => `<span class=\"${kind}\" data-step=\"${d}\" style=\"left:${100 * d / Math.max(1, last())}%\" title=\"${title}\">${text}</span>`, outcome = ends[endOf()].outcome;\n\
 \x20 el('marks').innerHTML = choices().filter(d => !found || d !== found[0]).map(d => at(d, 'choice', '\\u25c6', 'a choice')).join('') + (found ? at(found[0], 'warn', '<b>\\u25bc</b>', 'the step that decides') : '') + at(last(), covered ? '' : kindOf(outcome), covered ? '?' : SIGN[wordOf(outcome)], 'the end');\n\
 }\n\
 \n\
@@ -551,9 +557,9 @@ function clicked(event) {\n\
 \x20 if (data.end) choose(+data.end, Infinity);\n\
 \x20 if (data.node) choose(run.includes(+data.node) ? endOf() : under[+data.node][0], pathTo(+data.node).length - 1);\n\
 }\n\
-// To the moment that the address names.\n\
+// To the moment that the address names; else to the start of the first run that goes wrong, or of the first run where ends are covered.\n\
 function come() {\n\
-\x20 const at = new URLSearchParams(location.hash.slice(1)), bad = ends.findIndex(end => kindOf(end.outcome) === 'bad');\n\
+\x20 const at = new URLSearchParams(location.hash.slice(1)), bad = covered ? 0 : ends.findIndex(end => kindOf(end.outcome) === 'bad');\n\
 \x20 choose(Math.min(ends.length - 1, at.has('run') ? +at.get('run') || 0 : Math.max(0, bad)), +at.get('step') || 0);\n\
 }\n\
 function title() {\n\

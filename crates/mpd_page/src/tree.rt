@@ -2,7 +2,6 @@
 
 ghost use Rattle.std.specs.Prelude.{◌≡◌, ◌≤◌, ◌<◌, OnOk, IfSome, length};
 ghost use Rattle.std.specs.List.{position};
-ghost use Rattle.mpd_model.specs.runs.Trail.{step_eq};
 ghost use Rattle.mpd_page.specs.Trees as spec;
 
 use mpd_model::Step;
@@ -38,18 +37,11 @@ impl From<AllocError> for PageFault {
     }
 }
 
-/// Whether two steps are one.
-pub(crate) fn is_same(one: Step, other: Step) -> bool
-    ensures { result ≡ step_eq one other }
-{
-    one == other
-}
-
 /// Whether a step leads there from a state.
 fn is_branch(at: usize, step: Step, branch: Branch) -> bool
     ensures { result ≡ spec.is_branch at step branch }
 {
-    branch.from == at && is_same(branch.step, step)
+    branch.from == at && branch.step == step
 }
 
 /// The place of such a state in a list, from 0.
