@@ -22,7 +22,7 @@ use std::alloc::{AllocError, Global};
 /// The step that decided how a run ends.
 #[derive(Clone, Copy)]
 pub struct Decided {
-    /// How many steps of the run stand before it.
+    /// How many steps of the run come before it.
     pub depth: usize,
     /// The step.
     pub taken: Step,
@@ -30,24 +30,25 @@ pub struct Decided {
     pub other: Step,
 }
 
-/// Where it was decided how a run ends. To end well is to end done, also where messages are left over; to end badly is to end in a
-/// deadlock or with a trap.
+/// Where it was decided how a run ends. A run ends well if it ends done, also with messages left
+/// over; it ends badly if it ends in a deadlock or with a trap.
 #[derive(Clone, Copy)]
 pub enum Blame {
     /// By this step: before it some run ends well, and from there on every run ends badly.
     At(Decided),
     /// From the start of the script on every run ends badly.
     FromStart,
-    /// After more than so many steps every run ends badly. Of the runs after so many steps none was found that ends well, and some were
-    /// not come to or are cut.
+    /// After more than this many steps every run ends badly. Of the runs after this many steps none
+    /// was found that ends well, but some were not visited or are cut.
     OrEarlier(usize),
     /// From the end of the run some run still ends well.
     Open,
-    /// Of the runs from the end of the run none was found that ends well, and some were not come to or are cut.
+    /// Of the runs from the end of the run none was found that ends well, but some were not visited
+    /// or are cut.
     Unknown,
 }
 
-/// Whether two steps are one.
+/// Whether two steps are the same.
 fn is_same(one: Step, other: Step) -> bool
     ensures { result ≡ step_eq one other }
 {
@@ -82,7 +83,7 @@ fn last_step(debugger: &Debugger<'_>) -> Step
     debugger.steps()[last]
 }
 
-/// Takes the last step back, and answers it.
+/// Takes the last step back, and returns it.
 fn step_back(debugger: &mut Debugger<'_>) -> Step
     requires clean { length debugger.old.trail.steps ≡ debugger.old.trail.depth }
     requires some { 0 < debugger.old.trail.depth }
@@ -98,7 +99,8 @@ fn step_back(debugger: &mut Debugger<'_>) -> Step
     step
 }
 
-/// What is told of a step that was taken after so many steps, if anything: nothing where every run from there ends badly.
+/// What is known of a step that was taken after `depth` others: nothing if every run from there
+/// ends badly.
 fn told(depth: usize, taken: Step, sight: Sight) -> Option<Blame>
     requires { sight ≡ sight_is.Well None → ⊥ }
     ensures { result ≡ tells depth taken sight }
@@ -117,7 +119,7 @@ fn told(depth: usize, taken: Step, sight: Sight) -> Option<Blame>
     }
 }
 
-/// How a search is limited after so many states.
+/// The limits of a search after `visited` states.
 fn limits_after(limits: StateLimits, visited: usize) -> StateLimits
     ensures fuel { result.fuel ≡ limits.fuel }
     ensures visited { result.visited ≡ limits.visited - visited }
@@ -128,8 +130,8 @@ fn limits_after(limits: StateLimits, visited: usize) -> StateLimits
     }
 }
 
-/// Takes a step back, and says what is told then, if anything: nothing where every run from there ends badly, too. So many states more are
-/// come to at most, and these are counted.
+/// Takes a step back, and returns what is known then: nothing if every run from there ends badly,
+/// too. The states that are visited are counted off the limits.
 fn turn(
     alloc: Global,
     debugger: &mut Debugger<'_>,
@@ -159,7 +161,8 @@ fn turn(
     Ok(told(debugger.depth(), taken, sight))
 }
 
-/// The same, step after step, from the end of a run from which every run ends badly, as was found by coming to so many states.
+/// The same, step after step, from the end of a run from which every run ends badly, as was found
+/// by visiting `visited` states.
 fn turns(
     alloc: Global,
     debugger: &mut Debugger<'_>,
@@ -186,10 +189,11 @@ fn turns(
     Ok(Blame::FromStart)
 }
 
-/// The step that decided how the run ends that a debugger has taken from the start of its script. Each run has as many steps as the fuel says
-/// at most, those of the run that stand before it among them; so many states are come to at most, from all states of the run together. An
-/// `Err` is want of memory, and comes only where a state may be come to. The debugger is left on the way back along its run: where the step
-/// was decided, where that is told.
+/// The step that decided how the run ends that a debugger has taken from the start of its script.
+/// Each run that is looked at has at most `fuel` steps, counted from the start of the script. At
+/// most `visited` states are visited, from all states of the run together. `Err` means that memory
+/// was refused, which happens only if a state may be visited. On return the debugger is on the way
+/// back along its run: in the state before the deciding step, if one is found.
 pub fn blame_run(
     alloc: Global,
     debugger: &mut Debugger<'_>,

@@ -25,19 +25,19 @@ use std::alloc::{AllocError, Global};
 /// What is known of the runs from a state.
 #[derive(Clone, Copy)]
 pub(crate) enum Sight {
-    /// Some run ends well. The first of those has this first step; none where it ends where it begins.
+    /// Some run ends well. The first of those has this first step; none if it ends where it begins.
     Well(Option<Step>),
     /// Every run ends in a deadlock or with a trap.
     Doomed,
-    /// None was found that ends well, and some were not come to or are cut.
+    /// None was found that ends well, but some were not visited or are cut.
     Unknown,
 }
 
-/// What came of looking at the runs from a state.
+/// The result of looking at the runs from a state.
 #[derive(Clone, Copy)]
 pub(crate) struct Looked {
     pub(crate) sight: Sight,
-    /// How many states were come to.
+    /// How many states were visited.
     pub(crate) visited: usize,
 }
 
@@ -65,7 +65,8 @@ fn all_badly(leaves: &[Leaf]) -> bool
     true
 }
 
-/// The first step of the run that a leaf's choices tell, where it has one. The debugger is left anywhere beyond where it stood.
+/// The first step of the run that a leaf's choices tell, if it has one. On return the debugger may
+/// be at any later state.
 fn first_step_there(
     alloc: Global,
     debugger: &mut Debugger<'_>,
@@ -105,7 +106,8 @@ fn first_step(
     step
 }
 
-/// What the ways tell that the runs from here end. An `Err` is want of memory, and comes only where a way is told.
+/// What the ways tell that the runs from here end. `Err` means that memory was refused, which
+/// happens only if a way is told.
 fn sight_of(
     alloc: Global,
     debugger: &mut Debugger<'_>,
@@ -150,8 +152,9 @@ fn limits_at(limits: StateLimits, depth: usize) -> StateLimits
     }
 }
 
-/// Looks at the runs from here, which end within so many steps from the start of the script. The debugger is left as found. An `Err` is want
-/// of memory, and comes only where a state may be come to; else nothing is known.
+/// Looks at the runs from here, which end within `fuel` steps from the start of the script. The
+/// debugger is left as found. `Err` means that memory was refused, which happens only if a state
+/// may be visited; else nothing is known.
 pub(crate) fn look(
     alloc: Global,
     debugger: &mut Debugger<'_>,

@@ -66,9 +66,10 @@ fn line_there(
     line_here(alloc, debugger, limits)
 }
 
-/// The line of the step that decided how the run of a leaf of the wide walk ends, where that is a deadlock or a trap; else no text. The
-/// debugger stands at the start of its script, with no undone step, and is left as found, also where memory is refused, which is what an `Err`
-/// says; that comes only where the leaf ends so. The fuel is at most 1,000,000 steps.
+/// The line of the step that decided how the run of a leaf of the wide walk ends, if that is a
+/// deadlock or a trap; else no text. Requires a debugger at the start of its script, with no undone
+/// step. It is left as found, also on `Err`, which means that memory was refused; this happens only
+/// if the leaf ends so. Requires a fuel of at most 1,000,000 steps.
 pub fn line_of_leaf(
     alloc: Global,
     debugger: &mut Debugger<'_>,
@@ -92,9 +93,10 @@ pub fn line_of_leaf(
     line
 }
 
-/// For each of some leaves of the wide walk the line of the step that decided how its run ends; no text for one that is no deadlock and no
-/// trap. The debugger stands at the start of its script, with no undone step, and is left as found, also where memory is refused, which is
-/// what an `Err` says; that comes only where there is a leaf. The fuel is at most 1,000,000 steps.
+/// For each of some leaves of the wide walk the line of the step that decided how its run ends; no
+/// text for one that is no deadlock and no trap. Requires a debugger at the start of its script,
+/// with no undone step. It is left as found, also on `Err`, which means that memory was refused;
+/// this happens only if there is a leaf. Requires a fuel of at most 1,000,000 steps.
 pub fn blame_lines(
     alloc: Global,
     debugger: &mut Debugger<'_>,

@@ -56,7 +56,7 @@ fn push_wake(core: &Core<'_>, out: &mut String, rank: usize) -> Result<(), Alloc
     out.push_str(", goes on")
 }
 
-/// Adds the request that a rank goes on by, where it has a call.
+/// Adds the request that a rank goes on by, if it has a call.
 fn push_by(core: &Core<'_>, out: &mut String, call: Option<CallId>) -> Result<(), AllocError>
     ensures { OnOk result (string_bytes out.new ≡ string_bytes out.old ++ spec.by_words core.now.program core.now.world.board call) }
 {
@@ -67,7 +67,8 @@ fn push_by(core: &Core<'_>, out: &mut String, call: Option<CallId>) -> Result<()
     push_placed(core, out, call)
 }
 
-/// The call of the request of an index, of the waitany that a rank has issued last, where its handle has one.
+/// The call of the request of an index, of the waitany that a rank has issued last, if its handle
+/// has one.
 fn request_call(core: &Core<'_>, rank: usize, index: usize) -> Option<CallId>
     ensures { result ≡ any_call core.now.world rank index }
 {
@@ -109,7 +110,7 @@ fn push_deed(core: &Core<'_>, out: &mut String, step: Step) -> Result<(), AllocE
     }
 }
 
-/// The send of a step that matches the same receive as another does, where it is such a one.
+/// The send of a step that matches the same receive as another does, if it is such a one.
 fn other_send(taken: Step, other: Step) -> Option<CallId>
     ensures { result ≡ spec.other_send taken other }
 {
@@ -180,7 +181,7 @@ fn push_decided(core: &Core<'_>, out: &mut String, decided: Decided) -> Result<(
     push_well(out)
 }
 
-/// Adds that it was decided after so many steps, or earlier.
+/// Adds that it was decided after `depth` steps, or earlier.
 fn push_earlier(out: &mut String, depth: usize) -> Result<(), AllocError>
     ensures { OnOk result (string_bytes out.new ≡ string_bytes out.old ++ spec.earlier_words depth) }
 {
@@ -190,7 +191,8 @@ fn push_earlier(out: &mut String, depth: usize) -> Result<(), AllocError>
     )
 }
 
-/// Adds where it was decided how a run ends, where the core is in the state before the step that decided it. An `Err` is want of memory.
+/// Adds where it was decided how a run ends. The core is in the state before the step that decided
+/// it. `Err` means that memory was refused.
 pub fn push_blame(core: &Core<'_>, out: &mut String, blame: Blame) -> Result<(), AllocError>
     ensures { OnOk result (string_bytes out.new ≡ string_bytes out.old ++ spec.blame_words core.now.program core.now.world blame) }
 {

@@ -46,7 +46,7 @@ fn is_comparison(op: BinaryOp) -> bool
     )
 }
 
-/// Whether C evaluates these operands in the order of the script where its own operator stands between them.
+/// Whether C's own operator between these operands evaluates them in the order of the script.
 fn stands_between(op: BinaryOp, left: &Expr, right: &Expr) -> bool
     ensures { result ≡ stands_between op left.now right.now }
 {
@@ -84,7 +84,7 @@ pub(crate) fn push_name(out: &mut String, decls: &[Decl], place: Place) -> Resul
     Ok(())
 }
 
-/// Adds an expression; as an operand of an operator of C, in brackets where it has one itself.
+/// Adds an expression; as an operand of an operator of C, in brackets if it has one itself.
 fn push_term(
     out: &mut String,
     decls: &[Decl],

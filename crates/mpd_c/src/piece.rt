@@ -271,7 +271,7 @@ pub(crate) enum Piece {
     Begun,
     /// What stands between how many processes run it and their number.
     RunWith,
-    /// The head behind that, up to the function of a trap.
+    /// The head after that, up to the function of a trap.
     Trap,
     /// The operand that is held, and sums, differences and products.
     Held,
@@ -287,7 +287,7 @@ pub(crate) enum Piece {
     Names,
     /// How `main` begins, up to the number of processes.
     Main,
-    /// Where there is another number of processes.
+    /// If there is another number of processes.
     WrongSize,
     /// How that ends.
     Refused,

@@ -10,7 +10,8 @@ use crate::stmt::push_stmts;
 use mpd_model::{Decl, DeclKind, Script};
 use std::alloc::{AllocError, Global};
 
-/// A script as one file of C with MPI calls (docs/FORMATS.md, "A script in C"). An `Err` is want of memory.
+/// A script as one file of C with MPI calls (docs/FORMATS.md, "A script in C"). `Err` means that
+/// memory was refused.
 pub fn print_c(alloc: Global, script: &Script) -> Result<String, AllocError>
     ensures { IfOk result (λ t. string_bytes t ≡ c_text script.now) }
 {
@@ -33,7 +34,7 @@ fn push_started(out: &mut String, ranks: usize) -> Result<(), AllocError>
     write!(out, "{ranks}")
 }
 
-/// Adds so many processes.
+/// Adds the number of processes in words.
 fn push_processes(out: &mut String, ranks: usize) -> Result<(), AllocError>
     ensures { OnOk result (string_bytes out.new ≡ string_bytes out.old ++ processes ranks) }
 {
@@ -67,7 +68,7 @@ fn has_handle(decls: &[Decl]) -> bool
         .any(|decl| matches!(decl.kind, DeclKind::Handle))
 }
 
-/// Adds the part on requests where a handle is declared.
+/// Adds the part on requests if a handle is declared.
 fn push_requests(out: &mut String, decls: &[Decl]) -> Result<(), AllocError>
     ensures { OnOk result (string_bytes out.new ≡ string_bytes out.old ++ requests_text decls.now) }
 {
@@ -77,7 +78,7 @@ fn push_requests(out: &mut String, decls: &[Decl]) -> Result<(), AllocError>
     out.push_str(text_of(Piece::Requests))
 }
 
-/// Adds the names, where there are any.
+/// Adds the names, if there are any.
 fn push_names(out: &mut String, decls: &[Decl]) -> Result<(), AllocError>
     ensures { OnOk result (string_bytes out.new ≡ string_bytes out.old ++ names_text decls.now) }
 {
@@ -119,7 +120,7 @@ fn type_name(kind: DeclKind) -> &'static str
     }
 }
 
-/// Adds how many elements an array has; one where it has none, since C has no such array.
+/// Adds how many elements an array has; one if it has none, since C has no such array.
 fn push_elements(out: &mut String, size: Option<usize>) -> Result<(), AllocError>
     ensures { OnOk result (string_bytes out.new ≡ string_bytes out.old ++ elements_text size) }
 {

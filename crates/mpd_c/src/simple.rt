@@ -221,7 +221,7 @@ fn push_taken(
     push_checked_or_any(out, decls, level, tag, &recv.tag)
 }
 
-/// Adds the lines of a receive with a status, behind its source and its tag.
+/// Adds the lines of a receive with a status, after its source and its tag.
 fn push_with_status(
     out: &mut String,
     decls: &[Decl],
@@ -239,7 +239,7 @@ fn push_with_status(
     Ok(())
 }
 
-/// Adds the lines of a receive behind its source and its tag.
+/// Adds the lines of a receive, after its source and its tag.
 fn push_received(
     out: &mut String,
     decls: &[Decl],
@@ -404,7 +404,7 @@ fn push_assign(
     }
 }
 
-/// Adds the lines of a statement that holds no other, behind the one that tells its line.
+/// Adds the lines of a statement that holds no other, after the one that gives its line.
 pub(crate) fn push_simple(
     out: &mut String,
     decls: &[Decl],

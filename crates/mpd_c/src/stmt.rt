@@ -57,7 +57,7 @@ fn push_while(
     out.push_str(") {\n")
 }
 
-/// Adds statements at a level, from a number on, and answers the number behind them.
+/// Adds statements at a level, from a number on, and returns the number after them.
 #[tactic(auto, using(crate::proofs::PrintLemmas::counting))]
 #[cycle(trees)]
 pub(crate) fn push_stmts(
@@ -79,7 +79,7 @@ pub(crate) fn push_stmts(
     Ok(next)
 }
 
-/// Adds a statement, and answers the number behind it.
+/// Adds a statement, and returns the number after it.
 #[cycle(trees)]
 fn push_stmt(
     out: &mut String,
@@ -116,7 +116,8 @@ fn push_stmt(
     }
 }
 
-/// Adds the second block of an `if` behind the first, and nothing if it is empty; answers the number behind it.
+/// Adds the second block of an `if` after the first, and nothing if it is empty; returns the number
+/// after it.
 #[cycle(trees)]
 fn push_else(
     out: &mut String,

@@ -7,8 +7,8 @@ use mpd_lines::{EngineFault, Sink, write_all};
 use mpd_model::Script;
 use std::alloc::Global;
 
-/// Writes a script as a C program with MPI calls (docs/FORMATS.md, "A script in C"). `WriteFailed` (46) comes only where a write failed,
-/// and `Memory` only before anything is written.
+/// Writes a script as a C program with MPI calls (docs/FORMATS.md, "A script in C"). `WriteFailed`
+/// (46) comes only if a write failed, and `Memory` only before anything is written.
 pub fn write_c<W: Sink>(alloc: Global, script: &Script, sink: &mut W) -> Result<(), EngineFault>
     ensures { WroteC script.now (W.seen sink.old) (W.seen sink.new) result }
 {

@@ -50,19 +50,21 @@ impl Tally {
         !self.more && self.cut == 0
     }
 
-    /// Whether it tells, where it is of all pieces, every way in which its script can end in a mode: the report is whole, and its runs are
-    /// those of the wide walk (`is_wide`), or no waitany stands in the script and the mode's buffers don't run out. What a waitany takes, and
-    /// which sends get a buffer where these are few, depends on the order of steps, of which the walk by the decisions tries one. A piece that
-    /// is whole tells nothing of the others. Of modes that are tried in turn it is asked whether the report of each is whole, and not this
-    /// (`Tried::verdict`).
+    /// Whether a report of all pieces lists every way in which its script can end in a mode. It
+    /// does if it is whole, and its runs are those of the wide walk (`is_wide`), or the script has
+    /// no waitany and the mode's buffers don't run out. For what a waitany takes, and which sends
+    /// get one of few buffers, depends on the order of steps, of which the walk by the decisions
+    /// tries one. A whole report of one piece says nothing of the others. For modes that are tried
+    /// in turn, `Tried::verdict` asks only whether the report of each is whole.
     pub fn tells_all(self, subject: Subject<'_>, is_wide: bool) -> bool
         ensures { Decides result (TellsAll is_wide subject.entry.code.now.program subject.entry.mode self) }
     {
         self.is_whole() && leaves_out_none(subject, is_wide)
     }
 
-    /// The verdict of a check of this script in a mode, by runs of the wide walk or not: bad where a deadlock or a trap is listed; else not
-    /// whole where the report must tell every way in which the script can end, and doesn't; else good.
+    /// The verdict of a check of this script in a mode, by runs of the wide walk or not: bad if a
+    /// deadlock or a trap is listed; else not whole if the report must list every way in which the
+    /// script can end, and doesn't; else good.
     #[tactic(auto, using(crate::proofs::VerdictLemmas::telling))]
     pub fn verdict(self, complete: bool, subject: Subject<'_>, is_wide: bool) -> Verdict
         ensures { (all : Bool) → Decides all (TellsAll is_wide subject.entry.code.now.program subject.entry.mode self) → result ≡ verdict_of complete all self }
@@ -87,7 +89,7 @@ fn leaves_out_none(subject: Subject<'_>, is_wide: bool) -> bool
     subject.code.has_no_waitany() && !subject.mode.is_limited()
 }
 
-/// Whether a run ends so.
+/// Whether a run ends in this kind.
 fn is_of(kind: Kind, leaf: &Leaf) -> bool
     ensures { result ≡ is_of kind leaf.now }
 {

@@ -79,7 +79,7 @@ pub type Thief = Stealer<usize, Global, Hand, EachOnce>;
 /// What a worker draws by.
 pub type WorkerPass = Pass<usize, Hand>;
 
-/// A deque that holds the numbers below a bound.
+/// A deque that holds the numbers from 0 to one below a bound. `Err` means that memory was refused.
 pub fn filled(alloc: Global, bound: usize) -> Result<Owner, AllocError>
     ensures { IfOk result (λ w. worker_view w ≡ hand true true bound) }
 {

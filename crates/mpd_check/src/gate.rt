@@ -2,7 +2,7 @@
 
 /// Who is told how far an exploration by pieces is, by whoever explores. No contract speaks of these calls, and nothing depends on them.
 pub trait Gate: Sync {
-    /// So many pieces there are. It is told once, before the first of them is begun.
+    /// There are this many pieces. Called once, before the first of them is begun.
     fn cut(&self, _pieces: usize) {}
 
     /// A piece is about to be computed.
@@ -14,7 +14,7 @@ pub trait Gate: Sync {
     /// A piece is computed, or memory was refused for it.
     fn end(&self, _piece: usize) {}
 
-    /// Nothing more will be told. Who explores and then writes a report calls it between the two.
+    /// No more calls will come. Who explores and then writes a report calls it between the two.
     fn done(&self) {}
 }
 

@@ -60,7 +60,7 @@ fn add(all: &mut Report, report: Report) -> Result<(), AllocError>
     Ok(())
 }
 
-/// Adds the report of a piece, and answers whether the report of all ends with it.
+/// Adds the report of a piece, and returns whether the report of all ends with it.
 fn add_piece<G: Gate>(
     alloc: Global,
     debugger: &mut Debugger<'_>,
@@ -112,8 +112,8 @@ fn add_all<G: Gate>(
     Ok(())
 }
 
-/// The report of all pieces, in order, up to the first bad leaf where a list ends with that. What nobody brought is computed here. The
-/// debugger is left as found.
+/// The report of all pieces, in order, up to the first bad leaf if a list ends with that. What
+/// nobody brought is computed here. The debugger is left as found.
 pub(crate) fn join_all<G: Gate>(
     alloc: Global,
     debugger: &mut Debugger<'_>,

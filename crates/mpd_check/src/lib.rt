@@ -59,14 +59,14 @@ pub(crate) fn refused(fault: PoolFault) -> CheckFault
     }
 }
 
-/// Whether so many workers there may be: 1 to 16.
+/// Whether this number of workers is taken: 1 to 16.
 pub fn is_crew(workers: usize) -> bool
     ensures { result ≡ true ↔ IsCrew workers }
 {
     workers > 0 && workers <= WORKERS_MAX
 }
 
-/// Writes the text of a report, and answers what it tells.
+/// Writes the text of a report, and returns what it tells.
 pub(crate) fn put<W: Sink>(told: Told, sink: &mut W) -> Result<Tally, CheckFault>
     ensures { Put (string_bytes told.text) told.tally (W.seen sink.old) (W.seen sink.new) result }
 {
@@ -76,7 +76,7 @@ pub(crate) fn put<W: Sink>(told: Told, sink: &mut W) -> Result<Tally, CheckFault
     Ok(told.tally)
 }
 
-/// Explores a script from its start by so many workers, and has them make the report's text.
+/// Explores a script from its start by the workers of a crew, and has them make the report's text.
 fn tell<G: Gate, R: Threads + Sync>(
     crew: Crew<'_, R>,
     alloc: Global,
@@ -111,12 +111,13 @@ fn tell<G: Gate, R: Threads + Sync>(
     }
 }
 
-/// Explores a script from its start in a mode, by 1 to 16 workers, and writes the report to a sink (docs/FORMATS.md, "Reports"): the
-/// same for every number of workers. It answers what the report tells: how many runs it lists, how many of them end in a deadlock, with
-/// a trap, or cut, and whether there are more. It is refused where there are to be no workers or more than 16 (35), then where there are
-/// more than 1,024 pieces (31); `WriteFailed` (46) comes only where a write failed, and `Memory` only before anything is written. The fuel
-/// is at most 1,000,000 steps. `gate` is told how far the exploration is, and of its end before anything is written; nothing else
-/// depends on it.
+/// Explores a script from its start in a mode, by 1 to 16 workers, and writes the report to a sink
+/// (docs/FORMATS.md, "Reports"): the same for every number of workers. Returns what the report
+/// tells: how many runs it lists, how many of them end in a deadlock, with a trap, or cut, and
+/// whether there are more. Refused if the number of workers is not 1 to 16 (35), then if there are
+/// more than 1,024 pieces (31); `WriteFailed` (46) comes only if a write failed, and `Memory` only
+/// before anything is written. Requires a fuel of at most 1,000,000 steps. `gate` is told how far
+/// the exploration is, and of its end before anything is written; nothing else depends on it.
 pub fn check<W: Sink, G: Gate, R: Threads + Sync>(
     crew: Crew<'_, R>,
     alloc: Global,

@@ -57,7 +57,8 @@ pub struct SamplePlan {
     pub limits: Limits,
 }
 
-/// The explanations of the leaves of a report, where they are asked for. The debugger is left as found.
+/// The explanations of the leaves of a report, if they are asked for. The debugger is left as
+/// found.
 pub(crate) fn explanations_of<S: Schedule>(
     alloc: Global,
     schedule: &S,
@@ -77,7 +78,8 @@ pub(crate) fn explanations_of<S: Schedule>(
     explain_all(alloc, schedule, debugger, report, fuel)
 }
 
-/// The limits by which a report is made: where it is grouped, no texts of witnesses, since those of the first leaves are made afterwards.
+/// The limits by which a report is made: if it is grouped, no texts of witnesses, since those of
+/// the first leaves are made afterwards.
 pub(crate) fn limits_for(limits: Limits, telling: Telling) -> Limits
     ensures { result ≡ record limits { witnesses = limits.witnesses && not telling.group } }
 {
@@ -87,8 +89,8 @@ pub(crate) fn limits_for(limits: Limits, telling: Telling) -> Limits
     }
 }
 
-/// The text of a report whose leaves were listed along a schedule. Where it is grouped, the first leaf of each group alone is explained,
-/// and has a witness.
+/// The text of a report whose leaves were listed along a schedule. If it is grouped, the first leaf
+/// of each group alone is explained, and has a witness.
 fn text_of<S: Schedule>(
     alloc: Global,
     schedule: &S,
@@ -138,7 +140,8 @@ fn told_of<S: Schedule>(
     Ok(Told { text, tally })
 }
 
-/// The text of a report that was made with these limits, and what it tells. Where it is grouped, it may be without the texts of witnesses.
+/// The text of a report that was made with these limits, and what it tells. If it is grouped, it
+/// may be without the texts of witnesses.
 pub(crate) fn told_by(
     alloc: Global,
     debugger: &mut Debugger<'_>,
@@ -159,7 +162,7 @@ pub(crate) fn told_by(
     told_of(alloc, &Plain, debugger, report, limits, telling)
 }
 
-/// Explores a script from its start by so many workers, and makes the text of the report.
+/// Explores a script from its start by the workers of a crew, and makes the text of the report.
 fn tell_listing<G: Gate, R: Threads + Sync>(
     crew: Crew<'_, R>,
     alloc: Global,
@@ -203,8 +206,8 @@ fn tell_listing<G: Gate, R: Threads + Sync>(
     }
 }
 
-/// Explores a script from its start in a mode, as `check` does, and writes the report with what is asked for beside its leaves
-/// (docs/FORMATS.md, "Reports"). It is refused as `check` is.
+/// Explores a script from its start in a mode, as `check` does, and writes the report with what is
+/// asked for beside its leaves (docs/FORMATS.md, "Reports"). Refused as `check` is.
 pub fn check_listing<W: Sink, G: Gate, R: Threads + Sync>(
     crew: Crew<'_, R>,
     alloc: Global,
@@ -248,7 +251,7 @@ fn tell_sample<P: Watch>(
     told
 }
 
-/// Writes the text of a sample, and answers what it tells.
+/// Writes the text of a sample, and returns what it tells.
 fn put_sample<W: Sink>(told: Told, sink: &mut W) -> Result<Tally, EngineFault>
     ensures { PutSample (string_bytes told.text) told.tally (W.seen sink.old) (W.seen sink.new) result }
 {
@@ -258,11 +261,12 @@ fn put_sample<W: Sink>(told: Told, sink: &mut W) -> Result<Tally, EngineFault>
     Ok(told.tally)
 }
 
-/// Draws as many runs of the wide walk of a script from its start in a mode as the plan says, by a generator that is seeded with its
-/// number, and writes the report with what is asked for beside its leaves (docs/FORMATS.md, "Samples"): each different list of choices
-/// once, in order. It answers what the report tells. `WriteFailed` (46) comes only where a write failed, and `Memory` only before anything
-/// is written. The fuel is at most 1,000,000 steps. `watch` is told of each run that is drawn, and of the end before anything is written;
-/// nothing else depends on it.
+/// Draws as many runs of the wide walk of a script from its start in a mode as the plan says, by a
+/// generator that is seeded with its number, and writes the report with what is asked for beside
+/// its leaves (docs/FORMATS.md, "Samples"): each different list of choices once, in order. Returns
+/// what the report tells. `WriteFailed` (46) comes only if a write failed, and `Memory` only before
+/// anything is written. Requires a fuel of at most 1,000,000 steps. `watch` is told of each run
+/// that is drawn, and of the end before anything is written; nothing else depends on it.
 pub fn check_sample<W: Sink, P: Watch>(
     alloc: Global,
     subject: Subject<'_>,

@@ -31,7 +31,7 @@ pub struct Tried {
 }
 
 impl Tried {
-    /// Before the first.
+    /// Nothing tried yet.
     pub fn none() -> Tried
         ensures { result ≡ record { is_bad = false; are_whole = true; least = None } }
     {
@@ -42,7 +42,7 @@ impl Tried {
         }
     }
 
-    /// With what the report of one mode more tells.
+    /// The same with the report of one more mode.
     pub fn and(self, mode: Mode, tally: Tally) -> Tried
         ensures { result ≡ tried_more self mode tally }
     {
@@ -58,9 +58,10 @@ impl Tried {
         }
     }
 
-    /// The verdict of a check of these modes: bad where a deadlock or a trap is listed in one of them; else not whole where the report of
-    /// each must be, and one isn't; else good. A whole report needn't tell every way in which the script can end (`Tally::tells_all`), but
-    /// by the wide walk it does.
+    /// The verdict of a check of these modes: bad if a deadlock or a trap is listed in one of them;
+    /// else not whole if the report of each must be, and one isn't; else good. A whole report
+    /// needn't list every way in which the script can end (`Tally::tells_all`), but by the wide
+    /// walk it does.
     pub fn verdict(self, complete: bool) -> Verdict
         ensures { result ≡ judged complete self.are_whole self.is_bad }
     {
@@ -174,8 +175,9 @@ fn tally_in<G: Gate, R: Threads + Sync>(
     }
 }
 
-/// Explores a script from its start in a mode, as `check` does, and writes one line of what the report tells: how many runs it lists,
-/// how many of them end in a deadlock, with a trap, or cut, and whether there are more. It is refused as `check` is.
+/// Explores a script from its start in a mode, as `check` does, and writes one line of what the
+/// report tells: how many runs it lists, how many of them end in a deadlock, with a trap, or cut,
+/// and whether there are more. Refused as `check` is.
 pub fn check_mode<W: Sink, G: Gate, R: Threads + Sync>(
     crew: Crew<'_, R>,
     alloc: Global,
@@ -225,8 +227,9 @@ pub(crate) fn put_text<W: Sink>(text: String, sink: &mut W) -> Result<(), CheckF
     Ok(())
 }
 
-/// Writes which of the modes that were tried is the first without a deadlock or a trap: `least slots:2`, or `least none`. `WriteFailed`
-/// (46) comes only where a write failed, and `Memory` only before anything is written.
+/// Writes which of the modes that were tried is the first without a deadlock or a trap: `least
+/// slots:2`, or `least none`. `WriteFailed` (46) comes only if a write failed, and `Memory` only
+/// before anything is written.
 pub fn put_least<W: Sink>(
     alloc: Global,
     least: Option<Mode>,

@@ -42,7 +42,7 @@ pub struct OutcomesFound {
     pub tally: Tally,
     /// How many of all runs end in each way.
     pub counts: WayCounts,
-    /// How many states were come to. It says nothing of the runs.
+    /// How many states were visited. It says nothing of the runs.
     pub states: usize,
 }
 
@@ -128,7 +128,8 @@ fn found_in(outcomes: &Outcomes) -> OutcomesFound
     }
 }
 
-/// The lines of the steps that decided how the first runs end, where these are explained. The debugger is left as found.
+/// The lines of the steps that decided how the first runs end, if these are explained. The debugger
+/// is left as found.
 fn lines_of(
     alloc: Global,
     debugger: &mut Debugger<'_>,
@@ -215,7 +216,7 @@ fn tell_mode(
     Ok(ToldOutcomes { text, found })
 }
 
-/// Writes the text, where it was told, and answers what was found.
+/// Writes the text, if it was told, and returns what was found.
 fn put_outcomes<W: Sink>(
     told: Result<ToldOutcomes, AllocError>,
     sink: &mut W,
@@ -231,11 +232,13 @@ fn put_outcomes<W: Sink>(
     Ok(told.found)
 }
 
-/// Looks for the ways that the runs of the wide walk of a script end, from its start in a mode, and writes a line for each, with how many
-/// runs end so and the first of them, and with what is asked for behind it; and at last how many runs there are (docs/FORMATS.md,
-/// "Outcomes"). Where the limits name an end, it is told of the runs up to the first that ends so. It answers what the first runs tell, as
-/// a report of them does, how many of all runs end in each way, and how many states were come to. `WriteFailed` (46) comes only where a write failed, and `Memory` only before
-/// anything is written. The fuel is at most 1,000,000 steps.
+/// Looks for the ways that the runs of the wide walk of a script end, from its start in a mode, and
+/// writes a line for each, with how many runs end so and the first of them, and with what is asked
+/// for after it; last, how many runs there are (docs/FORMATS.md, "Outcomes"). If the limits name an
+/// end, the report is of the runs up to the first that ends so. Returns what a report of the first runs
+/// would tell, how many of all runs end in each way, and how many states were visited.
+/// `WriteFailed` (46) comes only if a write failed, and `Memory` only before anything is written.
+/// Requires a fuel of at most 1,000,000 steps.
 pub fn check_outcomes<W: Sink>(
     alloc: Global,
     subject: Subject<'_>,
@@ -248,9 +251,10 @@ pub fn check_outcomes<W: Sink>(
     put_outcomes(tell_from_start(alloc, subject, plan), sink)
 }
 
-/// Looks for the same ways, and writes one line of what they tell (docs/FORMATS.md, "Modes tried in turn"): how many there are, how many of
-/// them are deadlocks, traps, such as leave messages over, and cut, and whether there are runs that were not come to. It answers what `check_outcomes` does, and is
-/// refused as that is.
+/// Looks for the same ways, and writes one line of what they tell (docs/FORMATS.md, "Modes tried in
+/// turn"): how many there are, how many of them are deadlocks, traps, such as leave messages over,
+/// and cut, and whether there are runs that were not visited. Returns what `check_outcomes` does,
+/// and is refused as that is.
 pub fn check_mode_outcomes<W: Sink>(
     alloc: Global,
     subject: Subject<'_>,

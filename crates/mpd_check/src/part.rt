@@ -69,9 +69,9 @@ fn count_text(alloc: Global, count: usize) -> Result<String, AllocError>
     Ok(out)
 }
 
-/// Writes into how many pieces the runs of a script from its start are cut, as `pieces 225`. It is refused where there are more than
-/// 1,024 (31); `WriteFailed` (46) comes only where a write failed, and `Memory` only before anything is written. The fuel is at most
-/// 1,000,000 steps.
+/// Writes into how many pieces the runs of a script from its start are cut, as `pieces 225`.
+/// Refused if there are more than 1,024 (31); `WriteFailed` (46) comes only if a write failed, and
+/// `Memory` only before anything is written. Requires a fuel of at most 1,000,000 steps.
 pub fn count_pieces<W: Sink>(
     alloc: Global,
     subject: Subject<'_>,
@@ -115,7 +115,7 @@ fn tell_at<P: Watch>(
     told
 }
 
-/// The same of the piece of a number, where there is one. The debugger is at the start of the script.
+/// The same of the piece of a number, if there is one. The debugger is at the start of the script.
 fn tell_number<P: Watch>(
     alloc: Global,
     debugger: &mut Debugger<'_>,
@@ -182,12 +182,14 @@ fn write_piece<W: Sink, P: Watch>(
     }
 }
 
-/// Explores the runs of a script that the piece of a number has, and writes its part of the report to a sink: its leaves numbered from
-/// 0, with what is asked for beside them, and whether it has more. Where nothing is asked for beside them, the parts of all pieces joined
-/// in their order, with their leaves numbered through, are the report of `check`. It is refused where there are more than 1,024 pieces
-/// (31), or no piece has the number; `WriteFailed` (46) comes only where a write failed, and `Memory` only before anything is written.
-/// The fuel is at most 1,000,000 steps. `watch` is told of each leaf as it is found, and of the end before anything is written; nothing
-/// else depends on it.
+/// Explores the runs of a script that the piece of a number has, and writes its part of the report
+/// to a sink: its leaves numbered from 0, with what is asked for beside them, and whether it has
+/// more. If nothing is asked for beside them, the parts of all pieces joined in their order, with
+/// their leaves numbered through, are the report of `check`. Refused if there are more than 1,024
+/// pieces (31), or if no piece has the number; `WriteFailed` (46) comes only if a write failed, and
+/// `Memory` only before anything is written. Requires a fuel of at most 1,000,000 steps. `watch` is
+/// told of each leaf as it is found, and of the end before anything is written; nothing else
+/// depends on it.
 pub fn check_piece<W: Sink, P: Watch>(
     alloc: Global,
     subject: Subject<'_>,

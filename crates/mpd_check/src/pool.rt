@@ -49,16 +49,16 @@ pub struct CheckPlan {
 /// Why there is no report.
 #[derive(Clone, Copy, PartialEq, Eq, Debug)]
 pub enum PoolFault {
-    /// There are to be no workers, or more than 16.
+    /// The number of workers is not 1 to 16.
     BadWorkers,
     /// There are more than 1,024 pieces.
     TooManyPieces,
-    /// A growth was refused.
+    /// Memory was refused.
     Memory,
 }
 
 impl PoolFault {
-    /// Its number; 0 for want of memory, which has none here.
+    /// Its number: 35 for workers, 31 for pieces; 0 for refused memory, which has none here.
     pub fn number(self) -> u8
         ensures { result ≡ pool_fault_number self }
     {
@@ -69,7 +69,7 @@ impl PoolFault {
         }
     }
 
-    /// Its name.
+    /// Its name: `bad-workers`, `too-many-pieces` or `memory`.
     pub fn name(self) -> &'static str
         ensures { result.now ≡ pool_fault_name self }
     {
@@ -93,7 +93,7 @@ impl fmt::Display for PoolFault {
 
 impl Error for PoolFault {}
 
-/// Adds a worker, with a copy of the debugger and a pass.
+/// Adds a worker, with a copy of the debugger and a pass to draw by.
 fn add_job<'c>(
     debugger: &Debugger<'c>,
     owner: &mut Owner,
@@ -116,7 +116,7 @@ fn add_job<'c>(
     Ok(())
 }
 
-/// So many workers; one that memory is refused for is left out.
+/// `workers` workers; one for which memory is refused is left out.
 fn jobs<'c>(
     alloc: Global,
     debugger: &Debugger<'c>,
@@ -230,15 +230,19 @@ fn cut(alloc: Global, debugger: &mut Debugger<'_>, plan: CheckPlan) -> Result<Ve
     }
 }
 
-/// The first leaves of the runs from here, by so many workers: the runs are cut into pieces by their first choices, and the reports of
-/// these are joined in order (docs/DEFINITIONS.md, "Pieces"), whatever the number of workers and whoever comes first. Where each end is
-/// looked for once (`ends`), the runs are those of the wide walk. Fuel counts from here, and `runs` is for each piece; there is more where
-/// some piece has more. Where a list ends with the first deadlock or trap, the report does, and there is more where some run isn't listed;
-/// who has found one explores no piece after it. No undone step is kept, and the depth and the fuel are at most 1,000,000 steps together.
-/// Each leaf has a run, and each deadlock and each trap a witness, as those of `explore` do, with their texts where these are wanted. It is refused where
-/// there are to be no workers or more than 16 (35), where there are more than 1,024 pieces (31), or for want of memory. A worker that wants
-/// memory stops, and what it doesn't bring is computed here, as far as it is listed. The debugger is left as found, also where it is
-/// refused. `gate` is told how many pieces there are, and by whoever computes one of it before and after that, and of each leaf.
+/// The first leaves of the runs from here, found by the workers of a crew. The runs are cut into
+/// pieces by their first choices, and the reports of the pieces are joined in order
+/// (docs/DEFINITIONS.md, "Pieces"), whatever the number of workers and whoever is first. With
+/// `ends` the runs are those of the wide walk. Fuel counts from here, and `runs` is for each piece;
+/// there is more if some piece has more. If a list ends with the first deadlock or trap, so does
+/// the report, and there is more if some run isn't listed; a worker that has found one explores no
+/// piece after it. Requires that no step is undone, and that depth and fuel together are at most
+/// 1,000,000 steps. Each leaf has a run, and each deadlock and each trap a witness, as those of
+/// `explore`, with their texts if these are wanted. Refused if the number of workers is not 1 to 16
+/// (35), if there are more than 1,024 pieces (31), or if memory is refused. A worker that is
+/// refused memory stops, and what it doesn't bring is computed here, as far as it is listed. The
+/// debugger is left as found, also on a refusal. `gate` is told how many pieces there are, and by
+/// whoever computes one of it before and after that, and of each leaf.
 pub fn check_by_workers<G: Gate, R: Threads + Sync>(
     crew: Crew<'_, R>,
     alloc: Global,

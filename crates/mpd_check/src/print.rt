@@ -40,7 +40,8 @@ fn joined(mut front: String, back: &str) -> Result<String, AllocError>
     Ok(front)
 }
 
-/// The lines of leaves, of which the first has this number, by so many threads at most: each makes those of a part.
+/// The lines of leaves, of which the first has this number, by at most `workers` threads: each
+/// makes those of a part.
 fn lines<R: Threads + Sync>(
     rt: &R,
     alloc: Global,
@@ -88,8 +89,8 @@ fn told<R: Threads + Sync>(
     Ok(out)
 }
 
-/// A report as text, as `print_report` of `mpd_explore` makes it, by as many threads at most as there are workers, however few or
-/// many. An `Err` is want of memory.
+/// A report as text, as `print_report` of `mpd_explore` makes it, by as many threads at most as
+/// there are workers, however few or many. `Err` means that memory was refused.
 pub fn print_report<R: Threads + Sync>(
     crew: Crew<'_, R>,
     alloc: Global,

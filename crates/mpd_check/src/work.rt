@@ -108,7 +108,8 @@ pub(crate) fn compute<G: Gate>(
     found
 }
 
-/// Adds the report of a piece to those that are brought, and answers whether nothing after that piece is listed.
+/// Adds the report of a piece to those that are brought, and returns whether nothing after that
+/// piece is listed.
 fn bring<G: Gate>(
     alloc: Global,
     debugger: &mut Debugger<'_>,
@@ -132,8 +133,8 @@ fn bring<G: Gate>(
     Ok(is_last)
 }
 
-/// Does with a number that was drawn what a worker does: it explores the piece, or drops the number. It answers whether it drops the
-/// numbers after it.
+/// Does with a number that was drawn what a worker does: it explores the piece, or drops the
+/// number. Returns whether it drops the numbers after it.
 fn take_number<G: Gate>(
     alloc: Global,
     debugger: &mut Debugger<'_>,
@@ -154,9 +155,9 @@ fn take_number<G: Gate>(
     bring(alloc, debugger, task, number, brought)
 }
 
-/// Draws numbers until none is left, memory is refused, or it has drawn 1,025 times, and explores the piece of each. Behind a piece with
-/// which a report ends numbers are drawn and dropped: they are drawn in rising order, so those that are still needed are with others
-/// already.
+/// Draws numbers until none is left, memory is refused, or it has drawn 1,025 times, and explores
+/// the piece of each. After a piece with which a report ends, numbers are drawn and dropped: they
+/// are drawn in rising order, so those that are still needed are with others already.
 pub(crate) fn work<G: Gate>(alloc: Global, thief: &Thief, task: Task<'_, G>, job: Job<'_>) -> Batch
     requires can { CanStart (stealer_deque thief.now) task.limits task.pieces.now job }
     ensures pass { IsPassOf (stealer_deque thief.now) result.pass × (view result.pass ≡ hand false true (length task.entry.pieces.now)) }

@@ -71,7 +71,7 @@ fn are_of_first(nodes: &[Node]) -> bool
 }
 
 impl Code {
-    /// The node of a number. There is none at the end, where nothing is left to run.
+    /// The node of a number, below `nodes()`. The end has none, since nothing is left to run there.
     #[tactic(auto, using(crate::proofs::NodeLemmas::at_node))]
     pub fn node(&self, number: usize) -> Option<&Node>
         ensures some { IfSome result (λ node. Stands (left_at self.now.program) number node.now) }
@@ -81,7 +81,8 @@ impl Code {
         self.nodes.get(number)
     }
 
-    /// The number at which a rank starts.
+    /// The number of the node at which a rank starts; the number of the end if the script has no
+    /// statement.
     #[tactic(auto, using(crate::proofs::NodeLemmas::at_node))]
     pub fn start(&self) -> usize
         ensures body { left_at self.now.program result ≡ numbered 0 self.now.program.body }
@@ -90,7 +91,8 @@ impl Code {
         0
     }
 
-    /// How many nodes there are, which is the number of the end.
+    /// How many nodes there are, 0 to 4,096: one for each statement. It is also the number of the
+    /// end.
     #[tactic(auto, using(crate::proofs::NodeLemmas::at_node))]
     pub fn nodes(&self) -> usize
         ensures value { result ≡ statements_in (block_of self.now.program.body) }
@@ -100,7 +102,7 @@ impl Code {
         self.nodes.len()
     }
 
-    /// The line of a node's statement, from 1.
+    /// The line of the statement of a node that exists, counted from 1.
     pub fn line(&self, number: usize) -> usize
         requires { number < statements_in (block_of self.now.program.body) }
         ensures { slice_get self.now.program.lines number ≡ Some result }
@@ -108,7 +110,7 @@ impl Code {
         self.lines[number]
     }
 
-    /// The lines of all nodes, in their order.
+    /// The lines of the statements of all nodes, in the order of the nodes.
     pub fn lines(&self) -> &[usize]
         ensures { result.now ≡ self.now.program.lines }
     {
@@ -124,7 +126,7 @@ impl Code {
         self.ranks
     }
 
-    /// How many cells its variables have.
+    /// How many cells the variables of a rank have, 0 to 1,024.
     pub fn cells(&self) -> usize
         ensures value { result ≡ variables_in self.now.program.decls }
         ensures bound { result ≤ CELLS_MAX }
@@ -132,7 +134,7 @@ impl Code {
         self.cells
     }
 
-    /// How many handles it has.
+    /// How many handles a rank has, 0 to 256.
     pub fn handles(&self) -> usize
         ensures value { result ≡ handles_in self.now.program.decls }
         ensures bound { result ≤ HANDLES_MAX }
@@ -148,7 +150,7 @@ impl Code {
         are_of_first(&self.nodes)
     }
 
-    /// What it declares, in text order.
+    /// The declarations of the script, in text order.
     pub fn decls(&self) -> &[Decl]
         ensures { result.now ≡ self.now.program.decls }
     {

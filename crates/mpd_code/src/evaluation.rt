@@ -14,7 +14,8 @@ use mpd_model::{
     WaitanyCall, WaitanyStmt,
 };
 
-/// The value of an expression, or the trap that it ends in. What has no part is answered here, with no call.
+/// The value of an expression, or the trap that it ends in. An expression without parts is
+/// evaluated here, with no call.
 #[inline(always)]
 #[cycle(eval)]
 pub fn eval(expr: &Expr, env: &Env<'_>) -> Result<i64, Trap>
@@ -140,7 +141,7 @@ fn send_call(
     }))
 }
 
-/// The source of a receive, where it isn't any.
+/// The source of a receive, if it isn't any.
 fn eval_source(from: &Option<Expr>, env: &Env<'_>) -> Result<Option<usize>, Trap>
     ensures { result ≡ source_value from.now env.now }
 {
@@ -153,7 +154,7 @@ fn eval_source(from: &Option<Expr>, env: &Env<'_>) -> Result<Option<usize>, Trap
     }
 }
 
-/// The tag of a receive, where it isn't any.
+/// The tag of a receive, if it isn't any.
 fn eval_any_tag(tag: &Option<Expr>, env: &Env<'_>) -> Result<Option<usize>, Trap>
     ensures { result ≡ any_tag_value tag.now env.now }
 {
@@ -166,7 +167,7 @@ fn eval_any_tag(tag: &Option<Expr>, env: &Env<'_>) -> Result<Option<usize>, Trap
     }
 }
 
-/// The cells of a status, where there is one: the index of the source's is evaluated first.
+/// The cells of a status, if there is one: the index of the source's is evaluated first.
 fn eval_status(status: &Option<StatusStmt>, env: &Env<'_>) -> Result<Option<StatusCells>, Trap>
     ensures { result ≡ status_cells status.now env.now }
 {
@@ -250,7 +251,8 @@ fn waitany_call(waitany: &WaitanyStmt, env: &Env<'_>) -> Result<CallKind, Trap>
     }))
 }
 
-/// What a `send` issues.
+/// What a `send` issues (MPI 4.0, section 3.2.1), or the trap that its value, destination or tag
+/// ends in, in this order.
 pub fn eval_send(send: &SendStmt, env: &Env<'_>) -> Result<Issue, Trap>
     ensures { result ≡ send_issue send.now env.now }
 {
@@ -258,7 +260,7 @@ pub fn eval_send(send: &SendStmt, env: &Env<'_>) -> Result<Issue, Trap>
     Ok(Issue { kind, handle: None })
 }
 
-/// What an `ssend` issues.
+/// What an `ssend` issues (MPI 4.0, section 3.4), or a trap as for `eval_send`.
 pub fn eval_ssend(send: &SendStmt, env: &Env<'_>) -> Result<Issue, Trap>
     ensures { result ≡ ssend_issue send.now env.now }
 {
@@ -266,7 +268,8 @@ pub fn eval_ssend(send: &SendStmt, env: &Env<'_>) -> Result<Issue, Trap>
     Ok(Issue { kind, handle: None })
 }
 
-/// What a `recv` issues.
+/// What a `recv` issues (MPI 4.0, section 3.2.4), or the trap that the index of its target, its
+/// source, its tag or its status ends in, in this order.
 pub fn eval_recv(recv: &RecvStmt, env: &Env<'_>) -> Result<Issue, Trap>
     ensures { result ≡ recv_issue recv.now env.now }
 {
@@ -310,7 +313,7 @@ pub fn eval_irecv(irecv: &IrecvStmt, env: &Env<'_>) -> Result<Issue, Trap>
     })
 }
 
-/// What a `wait` for the request of a handle issues.
+/// What a `wait` issues (MPI 4.0, section 3.7.3), or the trap that the index of its handle ends in.
 pub fn eval_wait(handle: &Target, env: &Env<'_>) -> Result<Issue, Trap>
     ensures { result ≡ wait_issue handle.now env.now }
 {
@@ -318,7 +321,8 @@ pub fn eval_wait(handle: &Target, env: &Env<'_>) -> Result<Issue, Trap>
     Ok(Issue { kind, handle: None })
 }
 
-/// What a `waitany` for the requests of a declaration issues.
+/// What a `waitany` issues (MPI 4.0, section 3.7.5), or the trap that the index of the place that
+/// it writes ends in.
 pub fn eval_waitany(waitany: &WaitanyStmt, env: &Env<'_>) -> Result<Issue, Trap>
     ensures { result ≡ waitany_issue waitany.now env.now }
 {

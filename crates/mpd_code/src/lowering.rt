@@ -132,7 +132,7 @@ fn place_all(nodes: &mut Vec<Node>, block: Vec<Stmt>, next: u32) -> Result<(), A
     Ok(())
 }
 
-/// Lowers a script. An `Err` is want of memory, and the script is dropped.
+/// Lowers a script. `Err` means that memory was refused; the script is dropped.
 pub fn lower(alloc: Global, script: Script) -> Result<Code, AllocError>
     ensures { IfOk result (λ code. code.program ≡ script) }
 {

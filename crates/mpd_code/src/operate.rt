@@ -5,7 +5,7 @@ ghost use Rattle.mpd_model.specs.script.Term.{truth, bounded, division, combined
 
 use mpd_model::{BinaryOp, Trap, UnaryOp};
 
-/// 1 where it holds, and 0 where it doesn't.
+/// 1 if it holds, else 0.
 fn truth(holds: bool) -> i64
     ensures { result ≡ truth holds }
 {

@@ -1,5 +1,5 @@
 -- A short run shows few glyphs.
-use Rattle.std.proofs.Common.{◌≡◌, ◌≤◌, ◌*◌, ℕ, suc, Bool, true, false, cond, if◌then◌else◌, List, [], ◌∷◌, ◌++◌, length, Option, Some, None, refl, subst, arith}
+use Rattle.std.proofs.Common.{◌≡◌, ◌≤◌, ◌*◌, ℕ, suc, Bool, true, false, cond, if◌then◌else◌, List, [], ◌∷◌, ◌++◌, length, Option, Some, None, slice_get, refl, subst, arith}
 use Rattle.std.specs.List.{flat_map}
 use Rattle.std.specs.Option.{option_map}
 use Rattle.std.proofs.lemmas.Bool.Decides.{nat_tests}
@@ -13,7 +13,7 @@ use Rattle.mpd_model.specs.declared.step.Step.TheVariants.{Local, Match, Wake, W
 use Rattle.mpd_model.specs.script.Program.{Program}
 use Rattle.mpd_model.specs.steps.World.{World, Board, start, eligible, rank_numbers}
 use Rattle.mpd_model.specs.steps.Next.{Ran, local_at, stepped, with_issued, can_wake, woken, can_wake_any, woken_any, can_release, released, with_set, next}
-use Rattle.mpd_picture.specs.Glyphs.{issues, calls_before, step_glyphs, went_on, led, row_behind, glyphs_behind, glyphs_of}
+use Rattle.mpd_picture.specs.Glyphs.{issues, before_step, deed_of, noted, step_glyphs, went_on, led, row_behind, glyphs_behind, glyphs_of}
 use Rattle.mpd_complete.specs.Drawn.{DrawnRunsAreFew}
 
 -- ---- no step takes a rank its list of calls
@@ -46,37 +46,44 @@ each_one : {A : Type 0} (f : ℕ → List A) (xs : List ℕ) → ((x : ℕ) → 
 each_one f [] h = refl
 each_one f (x ∷ xs) h = let one = h x in let rest = each_one f xs h in let both = length-append (f x) (flat_map f xs) in omega (arith, one, rest, both)
 
-issued_few : {A : Type 0} (b : Bool) (g : A) → length (if b then g ∷ [] else []) ≤ 17
-issued_few true g = omega arith
-issued_few false g = omega arith
+if_issued : {A : Type 0} (b : Bool) (g : A) (others : List A) → length others ≤ 17 → length (if b then g ∷ [] else others) ≤ 17
+if_issued true g others h = omega arith
+if_issued false g others h = h
 
-step_few : (before : ℕ) (b : Board) (row : ℕ) (a : Step) → length b.calls ≤ 16 → length (step_glyphs before b row a) ≤ 17
-step_few before b row (Local p) h = issued_few (issues before b p) _
-step_few before b row (Match s r) h = omega arith
-step_few before b row (Wake p) h = omega arith
-step_few before b row (WakeAny p i) h = omega arith
-step_few before b row Release h =
-    let all = each_one (went_on b row) (rank_numbers b) (λ p. refl) in
-    let ranks = length-range_with_len 0 (length b.calls) in
+noted_few : (lines : List ℕ) (w v : World) (a : Step) (row p : ℕ) → length (noted (before_step lines w a).line row p (deed_of (before_step lines w a).printed (slice_get v.ranks p))) ≤ 17
+noted_few lines w v a row p =
+    elim (deed_of (before_step lines w a).printed (slice_get v.ranks p)) as (λ o. length (noted (before_step lines w a).line row p o) ≤ 17) [
+      | None ↦ omega arith
+      | Some d ↦ omega arith
+    ]
+
+step_few : (lines : List ℕ) (w v : World) (row : ℕ) (a : Step) → calls_in v ≤ 16 → length (step_glyphs (before_step lines w a) v row a) ≤ 17
+step_few lines w v row (Local p) h = if_issued (issues (before_step lines w (Local p)).calls v.board p) _ _ (noted_few lines w v (Local p) row p)
+step_few lines w v row (Match s r) h = omega arith
+step_few lines w v row (Wake p) h = omega arith
+step_few lines w v row (WakeAny p i) h = omega arith
+step_few lines w v row Release h =
+    let all = each_one (went_on v.board row) (rank_numbers v.board) (λ p. refl) in
+    let ranks = length-range_with_len 0 (length v.board.calls) in
     omega (arith, h, all, ranks)
 
 -- ---- what a run shows
 
-shown_few : (w : World) (row : ℕ) (steps : List Step) → calls_in w ≤ 16 → length (glyphs_behind w row steps) ≤ 17 * length steps
-shown_few w row [] h = omega arith
-shown_few w row (a ∷ steps) h =
-    elim (next w a) as (λ o. next w a ≡ o → length (led (λ v. step_glyphs (calls_before w a) v.board row a ++ glyphs_behind v (row_behind (calls_before w a) v.board row a) steps) o) ≤ 17 * suc (length steps)) [
+shown_few : (lines : List ℕ) (w : World) (row : ℕ) (steps : List Step) → calls_in w ≤ 16 → length (glyphs_behind lines w row steps) ≤ 17 * length steps
+shown_few lines w row [] h = omega arith
+shown_few lines w row (a ∷ steps) h =
+    elim (next w a) as (λ o. next w a ≡ o → length (led (λ v. step_glyphs (before_step lines w a) v row a ++ glyphs_behind lines v (row_behind (before_step lines w a) v row a) steps) o) ≤ 17 * suc (length steps)) [
       | None ↦ λ e. omega arith
       | Some v ↦ λ e.
           let same = next_calls w a v e in
-          let step = step_few (calls_before w a) v.board row a (omega (arith, same, h)) in
-          let rest = shown_few v (row_behind (calls_before w a) v.board row a) steps (omega (arith, same, h)) in
-          let both = length-append (step_glyphs (calls_before w a) v.board row a) (glyphs_behind v (row_behind (calls_before w a) v.board row a) steps) in
+          let step = step_few lines w v row a (omega (arith, same, h)) in
+          let rest = shown_few lines v (row_behind (before_step lines w a) v row a) steps (omega (arith, same, h)) in
+          let both = length-append (step_glyphs (before_step lines w a) v row a) (glyphs_behind lines v (row_behind (before_step lines w a) v row a) steps) in
           omega (arith, step, rest, both)
     ] refl
 
 pub drawn_few : DrawnRunsAreFew
 drawn_few s mode steps ranks drawn =
     let calls = length-replicate {A = List Call} s.ranks [] in
-    let shown = shown_few (start s mode) 0 steps (omega (arith, calls, ranks)) in
+    let shown = shown_few s.lines (start s mode) 0 steps (omega (arith, calls, ranks)) in
     grind (arith, nat_tests)

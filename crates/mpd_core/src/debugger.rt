@@ -28,12 +28,12 @@ pub enum ApplyFault {
     NotEnabled,
     /// The step is enabled, and the trail has 1,000,000 steps that are not undone.
     Full,
-    /// A growth was refused.
+    /// Memory was refused.
     Memory,
 }
 
 impl ApplyFault {
-    /// Its number, as docs/FORMATS.md lists them.
+    /// Its number: 21, 22 or 23 (docs/FORMATS.md, "Faults and statuses").
     pub fn number(self) -> u8
         ensures { result ≡ apply_fault_number self }
     {
@@ -44,7 +44,7 @@ impl ApplyFault {
         }
     }
 
-    /// Its name.
+    /// Its name: `not-enabled`, `full` or `memory`.
     pub fn name(self) -> &'static str
         ensures { result.now ≡ apply_fault_name self }
     {
@@ -79,19 +79,19 @@ impl From<StepFault> for ApplyFault {
     }
 }
 
-/// Nothing is left to be undone (24).
+/// There is no step to undo (24).
 #[derive(Clone, Copy, PartialEq, Eq, Debug)]
 pub struct AtStart;
 
 impl AtStart {
-    /// Its number, as docs/FORMATS.md lists them.
+    /// Its number, 24 (docs/FORMATS.md, "Faults and statuses").
     pub fn number(self) -> u8
         ensures { result ≡ 24 }
     {
         24
     }
 
-    /// Its name.
+    /// Its name, `at-start`.
     pub fn name(self) -> &'static str
         ensures { result.now ≡ at_start_name }
     {
@@ -116,12 +116,12 @@ impl Error for AtStart {}
 pub enum RedoFault {
     /// No step is undone.
     NoRedo,
-    /// A growth was refused.
+    /// Memory was refused.
     Memory,
 }
 
 impl RedoFault {
-    /// Its number, as docs/FORMATS.md lists them.
+    /// Its number: 25, or 23 for refused memory (docs/FORMATS.md, "Faults and statuses").
     pub fn number(self) -> u8
         ensures { result ≡ redo_fault_number self }
     {
@@ -131,7 +131,7 @@ impl RedoFault {
         }
     }
 
-    /// Its name.
+    /// Its name: `no-redo` or `memory`.
     pub fn name(self) -> &'static str
         ensures { result.now ≡ redo_fault_name self }
     {
@@ -154,19 +154,19 @@ impl fmt::Display for RedoFault {
 
 impl Error for RedoFault {}
 
-/// The depth to go back to is above the present one (26).
+/// The depth to go back to is greater than the present one (26).
 #[derive(Clone, Copy, PartialEq, Eq, Debug)]
 pub struct NotBefore;
 
 impl NotBefore {
-    /// Its number, as docs/FORMATS.md lists them.
+    /// Its number, 26 (docs/FORMATS.md, "Faults and statuses").
     pub fn number(self) -> u8
         ensures { result ≡ 26 }
     {
         26
     }
 
-    /// Its name.
+    /// Its name, `not-before`.
     pub fn name(self) -> &'static str
         ensures { result.now ≡ not_before_name }
     {
@@ -186,13 +186,14 @@ impl fmt::Display for NotBefore {
 
 impl Error for NotBefore {}
 
-/// The steps that were taken, and where they lead; contracts see it as a `DebuggerView`: its trail, its world, the room that is
-/// kept for steps, and how many writes its core has counted.
+/// The steps that were taken, and where they lead; contracts see it as a `DebuggerView`: its trail,
+/// its world, the room that is reserved for steps, and how many writes its core has counted.
 #[derive(Drop)]
 pub struct Debugger<'c> {
     mode: Mode,
     core: Core<'c>,
-    /// What takes each step back that is not undone, beside the step itself, the newest last: local steps, and others.
+    /// What takes back each step that is not undone, apart from the step itself, the newest last:
+    /// of local steps here, of all others in `others`.
     locals: Vec<LocalRecord>,
     others: Vec<OtherRecord>,
     steps: Vec<Step>,
@@ -218,15 +219,15 @@ impl<'c> Model for Debugger<'c> {
     ghost invariant = { λ d. Keeps d.core.program (start d.core.program d.mode) d.locals.items d.others.items d.steps.items d.core.world };
 }
 
-/// Whether two steps are one.
+/// Whether two steps are the same.
 fn is_same(a: Step, b: Step) -> bool
     ensures { result ≡ step_eq a b }
 {
     a == b
 }
 
-/// Has a step as the one at a depth: what stands there already stays, with all after it. Where the depth is the end, the room
-/// that was kept is taken.
+/// Puts a step at a depth. If it is there already, it stays, with all after it. If the depth is the
+/// end, reserved room is taken.
 #[tactic(auto, using(crate::proofs::TrailLemmas::noting))]
 fn note(steps: &mut Vec<Step>, depth: usize, step: Step)
     requires within { depth ≤ vec_len steps.old }
@@ -244,7 +245,8 @@ fn note(steps: &mut Vec<Step>, depth: usize, step: Step)
     }
 }
 
-/// Keeps room for one record more of each kind, and for its step where none stands there. An `Err` is want of memory.
+/// Reserves room for one more record of each kind, and for its step if none is there. `Err` means
+/// that memory was refused.
 fn keep_next(
     locals: &mut Vec<LocalRecord>,
     others: &mut Vec<OtherRecord>,
@@ -269,7 +271,7 @@ fn keep_next(
 }
 
 impl<'c> Debugger<'c> {
-    /// No step was taken. An `Err` is want of memory.
+    /// A debugger at the start of a script: no step was taken. `Err` means that memory was refused.
     pub fn start(alloc: Global, code: &'c Code, mode: Mode) -> Result<Debugger<'c>, AllocError>
         ensures standing { IfOk result (λ d. standing_of d ≡ first_standing code.now.program mode) }
         ensures reached { IfOk result (λ d. IsReached (standing_of d)) }
@@ -292,7 +294,7 @@ impl<'c> Debugger<'c> {
         self.locals.len() + self.others.len()
     }
 
-    /// All steps kept, undone ones included.
+    /// All steps that are kept, in order: first those that are not undone, then those that are.
     pub fn steps(&self) -> &[Step]
         ensures { result.now ≡ self.now.trail.steps }
     {
@@ -326,8 +328,8 @@ impl<'c> Debugger<'c> {
         &self.core
     }
 
-    /// The law of where a debugger stands, which holds at all times: the steps not undone lead from the start to its state, and
-    /// the undone ones lead on from there. It does nothing.
+    /// A law, which always holds: the steps not undone lead from the start to the debugger's state,
+    /// and the undone ones lead on from there. A call does nothing.
     #[inline(always)]
     #[tactic(auto, using(crate::proofs::KeptLemmas::keeping))]
     pub fn state_is_reached(&self)
@@ -336,8 +338,8 @@ impl<'c> Debugger<'c> {
         let _ = &self.core;
     }
 
-    /// Keeps room for one step, whatever it is. An `Err` is want of memory, and comes only where no such room was kept; where the
-    /// debugger stands stays as it was.
+    /// Reserves room for one step of any kind. `Err` means that memory was refused, which happens
+    /// only if no such room was reserved. The debugger's state and steps stay as they were.
     #[tactic(auto, using(crate::proofs::KeptLemmas::keeping))]
     pub fn keep_room(&mut self) -> Result<(), AllocError>
         ensures room { OnOk result (1 ≤ self.new.room) }
@@ -352,11 +354,11 @@ impl<'c> Debugger<'c> {
         self.steps.reserve(1)
     }
 
-    /// Takes a step, or refuses it: `NotEnabled` (21) exactly where the relation of steps has none, `Full` (22)
-    /// exactly where the step is enabled and 1,000,000 steps are not undone, `Memory` (23) where a growth was
-    /// refused, which is nowhere where room was kept. A step that stands next among those undone is taken again and
-    /// keeps the rest; another drops them. A step takes 1 to 16 writes, a release two more for each rank at most, and a
-    /// refusal none.
+    /// Takes a step, or refuses it. `NotEnabled` (21): exactly if the relation of steps has no such
+    /// step. `Full` (22): exactly if the step is enabled and 1,000,000 steps are not undone.
+    /// `Memory` (23): memory was refused, which never happens if room was reserved. If the step is
+    /// the next of those undone, it is taken again and the rest stay; any other step drops them. A
+    /// step takes 1 to 16 writes, a release at most two more for each rank, a refusal none.
     #[tactic(auto, using(crate::proofs::KeptLemmas::keeping))]
     pub fn apply(&mut self, step: Step) -> Result<(), ApplyFault>
         ensures taken { StepApplied step self.old self.new result }
@@ -395,8 +397,8 @@ impl<'c> Debugger<'c> {
         }
     }
 
-    /// Takes the last step back, in 1 to 16 writes, a release in two more for each rank at most. It is refused only where no
-    /// step is left (24), and so never for want of memory.
+    /// Takes the last step back, in 1 to 16 writes, a release in at most two more for each rank.
+    /// Refused only if no step is left (24), and so never because of memory.
     #[tactic(auto, using(crate::proofs::KeptLemmas::keeping))]
     pub fn undo(&mut self) -> Result<(), AtStart>
         ensures undone { LastUndone self.old self.new result }
@@ -421,8 +423,8 @@ impl<'c> Debugger<'c> {
         }
     }
 
-    /// Takes a step that is enabled, as `apply` does, where fewer than 1,000,000 steps are not undone. An `Err` is want of memory,
-    /// and comes only where no room was kept.
+    /// Takes a step that is enabled, as `apply` does, if fewer than 1,000,000 steps are not undone.
+    /// `Err` means that memory was refused, which happens only if no room was reserved.
     pub fn forward(&mut self, step: Step) -> Result<(), AllocError>
         requires enabled { IsSome (next self.old.world step) }
         requires few { self.old.trail.depth < STEPS_MAX }
@@ -436,8 +438,9 @@ impl<'c> Debugger<'c> {
         }
     }
 
-    /// Takes the step again that was undone last, or refuses it: `NoRedo` (25) exactly where no step is undone, `Memory` (23)
-    /// where a growth was refused, which is nowhere where room was kept. All steps stay. It takes as many writes as `apply` does.
+    /// Takes the step again that was undone last, or refuses it. `NoRedo` (25): exactly if no step
+    /// is undone. `Memory` (23): memory was refused, which never happens if room was reserved. All
+    /// steps stay. Takes as many writes as `apply`.
     #[tactic(auto, using(crate::proofs::KeptLemmas::keeping))]
     pub fn redo(&mut self) -> Result<(), RedoFault>
         ensures taken { NextRedone self.old self.new result }
@@ -455,8 +458,9 @@ impl<'c> Debugger<'c> {
         }
     }
 
-    /// Takes steps back, the last first, until so many are left that are not undone. It is refused exactly where there are fewer
-    /// (26), and so never for want of memory. Each step takes as many writes as `undo` does.
+    /// Takes steps back, the last first, until `depth` are left that are not undone. Refused
+    /// exactly if there are fewer (26), and so never because of memory. Each step takes as many
+    /// writes as `undo`.
     pub fn undo_to(&mut self, depth: usize) -> Result<(), NotBefore>
         ensures undone { UndoneTo depth self.old self.new result }
         ensures before { IsOk result ↔ (depth ≤ self.old.trail.depth) }
@@ -471,7 +475,7 @@ impl<'c> Debugger<'c> {
         Ok(())
     }
 
-    /// Drops the steps that are undone. It takes no memory.
+    /// Drops the steps that are undone. Takes no memory.
     #[tactic(auto, using(crate::proofs::KeptLemmas::keeping))]
     pub fn forget_undone(&mut self)
         ensures trail { self.new.trail ≡ forgotten self.old.trail }
@@ -486,8 +490,9 @@ impl<'c> Debugger<'c> {
         self.steps.truncate(self.locals.len() + self.others.len());
     }
 
-    /// Has these steps as the ones that are kept. They begin with those that are not undone, and lead on from there; those behind
-    /// the depth are then undone ones, which `redo` takes again. It takes no memory.
+    /// Replaces the steps that are kept. The new ones begin with those that are not undone, and
+    /// lead on from there; those after the depth count as undone, and `redo` takes them again.
+    /// Takes no memory.
     #[tactic(auto, using(crate::proofs::KeptLemmas::keeping))]
     pub fn put_steps(&mut self, steps: Vec<Step>)
         requires begins { take self.old.trail.depth steps.items ≡ done_steps self.old.trail }
@@ -503,8 +508,8 @@ impl<'c> Debugger<'c> {
         self.steps = steps;
     }
 
-    /// A debugger of its own at the same state, with the steps that are not undone and no others. Its writes count from 0. An
-    /// `Err` is want of memory.
+    /// A separate debugger at the same state, with the steps that are not undone and no others. Its
+    /// writes count from 0. `Err` means that memory was refused.
     #[tactic(auto, using(crate::proofs::KeptLemmas::keeping))]
     pub fn copy(&self) -> Result<Debugger<'c>, AllocError>
         ensures trail { IfOk result (λ d. d.trail ≡ forgotten self.now.trail) }

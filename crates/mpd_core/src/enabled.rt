@@ -11,7 +11,7 @@ use mpd_model::Step;
 use std::alloc::{AllocError, Global};
 
 impl<'c> Core<'c> {
-    /// Adds a step, where it is enabled.
+    /// Adds a step, if it is enabled.
     fn push_if_enabled(&self, step: Step, out: &mut Vec<Step>) -> Result<(), AllocError>
         ensures ok { OnOk result (out.new.items ≡ out.old.items ++ (if is_enabled self.now.world step then step ∷ [] else [])) }
         ensures memory { OnErr result (0 < length (if is_enabled self.now.world step then step ∷ [] else [])) }
@@ -46,8 +46,8 @@ impl<'c> Core<'c> {
         Ok(())
     }
 
-    /// Adds the steps of the waitany that a rank has issued last that are enabled, by index. An `Err` is want of memory for the list,
-    /// and comes only where there is such a step.
+    /// Adds the steps of the waitany that a rank has issued last that are enabled, by index. `Err`
+    /// means that memory for the list was refused, which happens only if there is such a step.
     pub fn push_any_wakes_of(&self, rank: usize, out: &mut Vec<Step>) -> Result<(), AllocError>
         ensures ok { OnOk result (out.new.items ≡ out.old.items ++ filter (is_enabled self.now.world) (any_wakes_of self.now.world.board rank)) }
         ensures memory { OnErr result (0 < length (filter (is_enabled self.now.world) (any_wakes_of self.now.world.board rank))) }
@@ -74,9 +74,10 @@ impl<'c> Core<'c> {
         Ok(())
     }
 
-    /// The enabled steps (docs/DEFINITIONS.md, "Steps"): all local steps, by rank, the release, all wakes, by rank, those of waitanys,
-    /// by rank and index, then the matches by receiver, receive and sender. Lists of free calls are walked, and no others. An `Err` is want of memory for the list, and
-    /// comes only where it has an entry.
+    /// The enabled steps (docs/DEFINITIONS.md, "Steps"): all local steps, by rank, the release, all
+    /// wakes, by rank, those of waitanys, by rank and index, then the matches by receiver, receive
+    /// and sender. Lists of free calls are walked, and no others. `Err` means that memory for the
+    /// list was refused, which happens only if it has an entry.
     #[tactic(auto, using(crate::proofs::EnabledLemmas::enabling))]
     pub fn enabled(&self, alloc: Global) -> Result<Vec<Step>, AllocError>
         ensures ok { IfOk result (λ listed. listed.items ≡ enabled self.now.world) }

@@ -55,7 +55,7 @@ impl<'c> Core<'c> {
         false
     }
 
-    /// Whether some rank is.
+    /// Whether some rank is blocked on a waitany of which some request is complete.
     #[tactic(auto, using(crate::proofs::RangeLemmas::any_joined))]
     fn can_choose_any(&self) -> bool
         ensures { result ≡ list_any (is_enabled self.now.world) (any_wakes_in self.now.world.board) }
@@ -92,7 +92,7 @@ impl<'c> Core<'c> {
         false
     }
 
-    /// Whether no step is enabled.
+    /// Whether no step is enabled, so that the run has ended.
     #[tactic(auto, using(crate::proofs::RangeLemmas::stuck_by))]
     pub fn is_stuck(&self) -> bool
         ensures { result ≡ is_stuck self.now.world }
@@ -104,7 +104,7 @@ impl<'c> Core<'c> {
             || self.can_match_any())
     }
 
-    /// Adds a rank, where it is trapped.
+    /// Adds a rank, if it is trapped.
     fn push_trap(&self, rank: usize, out: &mut Vec<TrappedRank>) -> Result<(), AllocError>
         ensures ok { OnOk result (out.new.items ≡ out.old.items ++ traps_at rank (slice_get self.now.world.ranks rank)) }
         ensures memory { OnErr result (0 < length (traps_at rank (slice_get self.now.world.ranks rank))) }
@@ -134,7 +134,8 @@ impl<'c> Core<'c> {
         Ok(traps)
     }
 
-    /// A call with the statement that issued it. One that there isn't would be told as the first's, and none such is told.
+    /// A call with the statement that issued it. A call that doesn't exist would get the first
+    /// statement; no caller asks for one.
     fn issued_call(&self, id: CallId) -> IssuedCall
         ensures { result ≡ issued_call self.now.world.board id }
     {
@@ -171,7 +172,7 @@ impl<'c> Core<'c> {
         Ok(calls)
     }
 
-    /// Adds a call, where it is free.
+    /// Adds a call, if it is free.
     fn push_if_free(&self, id: CallId, out: &mut Vec<IssuedCall>) -> Result<(), AllocError>
         ensures ok { OnOk result (out.new.items ≡ out.old.items ++ (if is_free self.now.world.board id then issued_call self.now.world.board id ∷ [] else [])) }
         ensures memory { OnErr result (0 < length (if is_free self.now.world.board id then issued_call self.now.world.board id ∷ [] else [])) }
@@ -209,7 +210,7 @@ impl<'c> Core<'c> {
         Ok(calls)
     }
 
-    /// What a state without a trapped rank is.
+    /// The outcome of a state without a trapped rank.
     #[tactic(auto, using(crate::proofs::RangeLemmas::listing))]
     fn untrapped(&self, alloc: Global) -> Result<Outcome, AllocError>
         ensures ok { IfOk result (λ o. o ≡ untrapped self.now.world) }
@@ -227,8 +228,9 @@ impl<'c> Core<'c> {
         Ok(Outcome::Leftovers(IssuedList { items: free }))
     }
 
-    /// What a state is in which no step is enabled (docs/DEFINITIONS.md, "Outcomes"). It is not asked whether one is. An `Err` is
-    /// want of memory for the list of an outcome, and comes only where that list has an entry.
+    /// The outcome of a state in which no step is enabled (docs/DEFINITIONS.md, "Outcomes").
+    /// Whether one is enabled is not checked. `Err` means that memory for the list of an outcome
+    /// was refused, which happens only if that list has an entry.
     #[tactic(auto, using(crate::proofs::RangeLemmas::listing))]
     pub fn ending(&self, alloc: Global) -> Result<Outcome, AllocError>
         ensures ok { IfOk result (λ o. o ≡ ending self.now.world) }
@@ -241,8 +243,9 @@ impl<'c> Core<'c> {
         Ok(Outcome::Trap(TrapList { items: traps }))
     }
 
-    /// How the run has ended, where no step is enabled (docs/DEFINITIONS.md, "Outcomes"). An `Err` is want of memory for the list
-    /// of an outcome, and comes only where that list has an entry.
+    /// How the run has ended, if no step is enabled (docs/DEFINITIONS.md, "Outcomes"). `Err` means
+    /// that memory for the list of an outcome was refused, which happens only if that list has an
+    /// entry.
     pub fn outcome(&self, alloc: Global) -> Result<Option<Outcome>, AllocError>
         ensures ok { IfOk result (λ o. o ≡ outcome self.now.world) }
         ensures memory { OnErr result (0 < listed (outcome self.now.world)) }

@@ -13,12 +13,12 @@ use std::fmt;
 pub enum StepFault {
     /// The relation of steps has no step there.
     NotEnabled,
-    /// A growth was refused.
+    /// Memory was refused.
     Memory,
 }
 
 impl StepFault {
-    /// Its number, as docs/FORMATS.md lists them.
+    /// Its number: 21, or 23 for refused memory (docs/FORMATS.md, "Faults and statuses").
     pub fn number(self) -> u8
         ensures { result ≡ step_fault_number self }
     {
@@ -28,7 +28,7 @@ impl StepFault {
         }
     }
 
-    /// Its name.
+    /// Its name: `not-enabled` or `memory`.
     pub fn name(self) -> &'static str
         ensures { result.now ≡ step_fault_name self }
     {

@@ -24,7 +24,7 @@ use mpd_model::{Activity, Call, RANKS_MAX};
 use mpd_rank::{Cells, LocalRecord, RankState, WakeRecord};
 use std::alloc::{AllocError, Global};
 
-/// So many ranks before their first step.
+/// `size` ranks before their first step.
 #[tactic(auto, using(crate::proofs::RankLemmas::starting))]
 pub(crate) fn start_ranks(
     alloc: Global,
@@ -59,8 +59,8 @@ pub(crate) fn copy_ranks(ranks: &Vec<RankState>) -> Result<Vec<RankState>, Alloc
     Ok(copied)
 }
 
-/// The call that a rank issues, if it does, joins the board. It answers the call's number, or 0 where there is no call. An `Err`
-/// is want of memory.
+/// The call that a rank issues, if it does, joins the board. Returns the call's number, or 0 if
+/// there is no call. `Err` means that memory was refused.
 #[tactic(auto, using(crate::proofs::StepLemmas::issuing))]
 fn issue_on(board: &mut Board, rank: usize, call: Option<Call>) -> Result<u32, AllocError>
     requires rank { rank < length board.old.board.calls }
@@ -88,7 +88,7 @@ fn issue_on(board: &mut Board, rank: usize, call: Option<Call>) -> Result<u32, A
     Ok(board.issue(rank, call))
 }
 
-/// The local step of one rank, whatever it issues, in the room that was kept there.
+/// The local step of one rank, whatever it issues, in reserved room there.
 #[inline(never)]
 #[tactic(auto, using(crate::proofs::StepLemmas::stepping, crate::proofs::TagLemmas::tagging))]
 fn step_call(
@@ -168,7 +168,7 @@ pub(crate) fn step_one(
     step_rank(code, state, board)
 }
 
-/// Wakes one rank, and answers what takes that back.
+/// Wakes one rank, and returns what takes that back.
 #[tactic(auto, using(crate::proofs::RankLemmas::at_rank))]
 pub(crate) fn wake_one(
     ranks: &mut Vec<RankState>,
@@ -245,7 +245,7 @@ pub(crate) fn block_all(ranks: &mut Vec<RankState>)
     }
 }
 
-/// Keeps room for one step of each rank.
+/// Reserves room for one step of each rank.
 #[tactic(auto, using(crate::proofs::RoomLemmas::keeping))]
 pub(crate) fn keep_rooms(ranks: &mut Vec<RankState>) -> Result<(), AllocError>
     ensures same { (s : Program) → ranks_in s ranks.new.items ≡ ranks_in s ranks.old.items }
@@ -277,7 +277,7 @@ pub(crate) fn all_ended(code: &Code, ranks: &[RankState]) -> bool
     true
 }
 
-/// A rank, where there is one.
+/// A rank, if there is one.
 #[tactic(auto, using(crate::proofs::RankLemmas::reading))]
 pub(crate) fn rank_at(ranks: &[RankState], rank: usize) -> Option<&RankState>
     ensures world { (s : Program) → slice_get (ranks_in s ranks.now) rank ≡ option_map (λ r. rank_of s r.now) result }

@@ -22,7 +22,7 @@ pub enum TrailCommand {
     Undo,
     /// Take the step again that was undone last.
     Redo,
-    /// Take steps back until so many are left that are not undone.
+    /// Take steps back until this many are left that are not undone.
     UndoTo(usize),
 }
 
@@ -73,9 +73,9 @@ pub fn answer(debugger: &mut Debugger<'_>, command: TrailCommand) -> Reply
     }
 }
 
-/// Carries out a list of commands, with the reply to each. One is answered `Memory` only where no room was left, so none is
-/// where room was kept for as many steps as the list takes. An `Err` is want of memory for the replies, and then no command was
-/// carried out.
+/// Carries out a list of commands, with the reply to each. A reply is `Memory` only if no room was
+/// left, so none is if room was reserved for as many steps as the list takes. `Err` means that
+/// memory for the replies was refused; then no command was carried out.
 #[tactic(auto, using(crate::proofs::RunLemmas::spending))]
 pub fn follow(
     alloc: Global,
@@ -99,8 +99,9 @@ pub fn follow(
     Ok(replies)
 }
 
-/// Carries out a list of commands as `follow` does, and keeps room for a step before each, so that none is refused memory. An `Err`
-/// is want of memory for the replies, or for a step; commands before it were carried out.
+/// Carries out a list of commands as `follow` does, and reserves room for a step before each, so
+/// that none is refused memory. `Err` means that memory for the replies or for a step was refused;
+/// the commands before that were carried out.
 #[tactic(auto, using(crate::proofs::RunLemmas::keeping_room))]
 fn follow_with_room(
     alloc: Global,
@@ -122,10 +123,11 @@ fn follow_with_room(
     Ok(answered)
 }
 
-/// The headline: from the start of any script, a list of steps taken, taken back and taken again gets the replies of
-/// docs/DEFINITIONS.md, "Trails", each within its writes and its room, and the state in the end is exactly where the relation of
-/// steps leads along those not undone. Room for a step is kept before each command, so none of them is refused memory. An `Err` is
-/// want of memory.
+/// The headline: from the start of any script, a list of steps taken, taken back and taken again
+/// gets the replies of docs/DEFINITIONS.md, "Trails", each within its writes and its room, and the
+/// state in the end is exactly if the relation of steps leads along those not undone. Room for a
+/// step is reserved before each command, so none of them is refused memory. `Err` means that memory
+/// was refused.
 #[tactic(auto, using(crate::proofs::RunLemmas::replaying))]
 pub fn replay<'c>(
     alloc: Global,

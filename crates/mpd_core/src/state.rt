@@ -30,14 +30,16 @@ use mpd_rank::{Cells, LocalChange, LocalRecord, RankState};
 use std::alloc::{AllocError, Global};
 use std::marker::Model;
 
-/// The state of a run, which contracts see as a `CoreView`: its program, its world, the room that is kept for steps, and how many
-/// writes and looks there were. All that a step changes stands in tapes and lists, which count their writes.
+/// The state of a run, which contracts see as a `CoreView`: its program, its world, the room that
+/// is reserved for steps, and how many writes and looks there were. All that a step changes is in
+/// tapes and lists, which count their writes.
 #[derive(Drop)]
 pub struct Core<'c> {
     code: &'c Code,
     ranks: Vec<RankState>,
     board: Board,
-    /// At lists of free calls, to know whether a match is enabled that was asked for.
+    /// Looks at lists of free calls, made to find out whether a match that was asked for is
+    /// enabled.
     looks: Counter,
 }
 
@@ -102,7 +104,7 @@ fn writes_of(kind: Option<CallKind>, message: Option<Message>) -> Cells
 impl<'c> Core<'c> {
     ghost use Rattle.mpd_core.specs.Undone.{CanUndo};
 
-    /// Every rank before its first step. An `Err` is want of memory.
+    /// The start of a run: every rank before its first step. `Err` means that memory was refused.
     #[tactic(auto, using(crate::proofs::RankLemmas::board))]
     pub fn start(alloc: Global, code: &'c Code, mode: Mode) -> Result<Core<'c>, AllocError>
         ensures program { IfOk result (λ core. core.program ≡ code.now.program) }
@@ -119,7 +121,8 @@ impl<'c> Core<'c> {
         })
     }
 
-    /// The same state, in memory of its own. The copy counts its writes and looks from 0. An `Err` is want of memory.
+    /// The same state, in memory of its own. The copy counts its writes and looks from 0. `Err`
+    /// means that memory was refused.
     #[tactic(auto, using(crate::proofs::RankLemmas::board))]
     pub fn copy(&self) -> Result<Core<'c>, AllocError>
         ensures program { IfOk result (λ core. core.program ≡ self.now.program) }
@@ -135,14 +138,14 @@ impl<'c> Core<'c> {
         })
     }
 
-    /// The code that is run.
+    /// The code of the script that is run.
     pub fn code(&self) -> &'c Code
         ensures { result.now.program ≡ self.now.program }
     {
         self.code
     }
 
-    /// What memory is taken from.
+    /// Where memory is taken from.
     pub(crate) fn allocator(&self) -> Global {
         *self.ranks.allocator()
     }
@@ -164,7 +167,7 @@ impl<'c> Core<'c> {
         self.ranks.len()
     }
 
-    /// The law that all ranks of the program are there, which holds at all times. It does nothing.
+    /// A law, which always holds: all ranks of the program are there. A call does nothing.
     #[inline(always)]
     #[tactic(auto, using(crate::proofs::RankLemmas::all_there))]
     pub fn all_ranks_are_there(&self)
@@ -173,7 +176,7 @@ impl<'c> Core<'c> {
         let _ = &self.board;
     }
 
-    /// What a rank is doing, where there is one.
+    /// Whether a rank is running, blocked or trapped; `None` if there is no such rank.
     pub fn activity(&self, rank: usize) -> Option<Activity>
         ensures { result ≡ option_map (λ r. r.activity) (slice_get self.now.world.ranks rank) }
     {
@@ -190,7 +193,7 @@ impl<'c> Core<'c> {
         ranks::all_ended(self.code, &self.ranks)
     }
 
-    /// A rank, which is there: what it holds, and what it has printed.
+    /// The state of a rank that exists: what it holds, and what it has printed.
     #[tactic(auto, using(crate::proofs::RankLemmas::reading, crate::proofs::RankLemmas::numbered))]
     pub fn rank(&self, rank: usize) -> &RankState
         requires { rank < length self.now.world.ranks }
@@ -200,7 +203,7 @@ impl<'c> Core<'c> {
         &self.ranks[rank]
     }
 
-    /// The number of the next statement of a rank, where it has one.
+    /// The number, in text order, of the next statement of a rank that exists, if it has one.
     pub fn next_statement(&self, rank: usize) -> Option<usize>
         requires { rank < length self.now.world.ranks }
         ensures { IfSome (slice_get self.now.world.ranks rank) (λ r. result ≡ first_number r.rest) }
@@ -228,14 +231,16 @@ impl<'c> Core<'c> {
         self.is_waiting(rank) && self.board.is_complete(self.board.last_call(rank))
     }
 
-    /// How many requests the waitany has that a rank has issued last; 0 where its last call is another.
+    /// How many requests the waitany has that a rank has issued last; 0 if its last call is
+    /// another.
     pub(crate) fn request_count(&self, rank: usize) -> usize
         ensures { result ≡ next_specs.requests_of (kind_at self.now.world.board (last_call self.now.world.board rank)) }
     {
         requests_of(self.board.kind(self.board.last_call(rank)))
     }
 
-    /// The request of an index, of the waitany that a rank has issued last, where its handle has a call.
+    /// The request of an index, of the waitany that a rank has issued last, if its handle has a
+    /// call.
     #[tactic(auto, using(crate::proofs::RankLemmas::reading, crate::proofs::AnyLemmas::requesting))]
     pub fn request(&self, rank: usize, index: usize) -> Option<Request>
         ensures handle { IfSome result (λ request. any_handle self.now.world rank index ≡ Some request.handle) }
@@ -252,7 +257,7 @@ impl<'c> Core<'c> {
         })
     }
 
-    /// The request of an index, where a rank is blocked on a waitany and that request is complete.
+    /// The request of an index, if a rank is blocked on a waitany and that request is complete.
     #[tactic(auto, using(crate::proofs::AnyLemmas::requesting))]
     fn ready_request(&self, rank: usize, index: usize) -> Option<Request>
         ensures can { is_some result ≡ can_wake_any self.now.world rank index }
@@ -304,7 +309,7 @@ impl<'c> Core<'c> {
         }
     }
 
-    /// Whether a step is enabled.
+    /// Whether a step is enabled in this state (docs/DEFINITIONS.md, "Steps").
     #[inline(always)]
     pub fn is_enabled(&self, step: Step) -> bool
         ensures { result ≡ is_enabled self.now.world step }
@@ -321,7 +326,7 @@ impl<'c> Core<'c> {
         }
     }
 
-    /// A local step, as `apply` takes it. It answers what takes the step back, but for the rank.
+    /// A local step, as `apply` takes it. Returns what takes the step back, apart from the rank.
     #[inline(always)]
     pub fn step_local(&mut self, rank: usize) -> Result<LocalRecord, StepFault>
         ensures stepped { CoreStepped (Record.Local rank) (Step.Local rank) self.old self.new result }
@@ -359,8 +364,8 @@ impl<'c> Core<'c> {
         }
     }
 
-    /// The cells that a rank writes which goes on by the request of an index, each with its new value: what a wait for that
-    /// call writes, and the index behind that.
+    /// The cells that a rank writes as it goes on by the request of an index, each with its new
+    /// value: what a wait for that call writes, then the index.
     #[tactic(auto, using(crate::proofs::TagLemmas::tagging))]
     fn any_writes(&self, rank: usize, index: usize, call: CallId) -> Cells
         requires low { index < HANDLES_MAX }
@@ -430,8 +435,8 @@ impl<'c> Core<'c> {
         Ok(OtherRecord::Released)
     }
 
-    /// Keeps room for one step, whatever it is. An `Err` is want of memory, and comes only where no such room was kept; the state
-    /// stays as it was.
+    /// Reserves room for one step of any kind. `Err` means that memory was refused, which happens
+    /// only if no such room was reserved. The state stays as it was.
     #[tactic(auto, using(crate::proofs::RoomLemmas::keeping, crate::proofs::TagLemmas::tagging))]
     pub fn keep_room(&mut self) -> Result<(), AllocError>
         ensures room { OnOk result (1 ≤ self.new.room) }
@@ -446,7 +451,8 @@ impl<'c> Core<'c> {
         ranks::keep_rooms(&mut self.ranks)
     }
 
-    /// A step that isn't local, as `apply` takes it.
+    /// A step that isn't local, as `apply` takes it, with its refusals. Returns what takes the step
+    /// back.
     #[tactic(auto, using(crate::proofs::StepLemmas::writing))]
     pub fn step_other(&mut self, step: OtherStep) -> Result<OtherRecord, StepFault>
         ensures stepped { CoreStepped Record.Other (other_step step) self.old self.new result }
@@ -460,10 +466,11 @@ impl<'c> Core<'c> {
         }
     }
 
-    /// Takes a step, or refuses it: `NotEnabled` (21) exactly where the relation of steps has none, `Memory` (23) where a
-    /// growth was refused, which is nowhere where room was kept. On a refusal the state is as before
-    /// (docs/DEFINITIONS.md, "Steps"). A step takes 1 to 16 writes, a release two more for each rank at most, and looks at lists
-    /// of free calls only for a match that fits: at most at their cells, and twice more.
+    /// Takes a step, or refuses it. `NotEnabled` (21): exactly if the relation of steps has no such
+    /// step. `Memory` (23): memory was refused, which never happens if room was reserved. On a
+    /// refusal the state is as before (docs/DEFINITIONS.md, "Steps"). A step takes 1 to 16 writes,
+    /// a release at most two more for each rank. It looks at lists of free calls only for a match
+    /// that fits: at most once at each of their cells, and twice more.
     pub fn apply(&mut self, step: Step) -> Result<Record, StepFault>
         ensures stepped { CoreStepped (λ done. done) step self.old self.new result }
         ensures writes { StepWrote step self.old self.new result }
@@ -477,7 +484,8 @@ impl<'c> Core<'c> {
         }
     }
 
-    /// Takes a local step of a rank back, as `undo` does.
+    /// Takes a local step of a rank back, as `undo` does: the last step that is not undone, by its
+    /// record.
     #[inline(always)]
     #[tactic(auto, using(crate::proofs::RoomLemmas::sparing, crate::proofs::TagLemmas::tagging))]
     pub fn undo_local(&mut self, rank: usize, done: &LocalRecord)
@@ -501,7 +509,8 @@ impl<'c> Core<'c> {
         ranks::block_all(&mut self.ranks);
     }
 
-    /// Takes a step back that isn't local, as `undo` does.
+    /// Takes back a step that isn't local, as `undo` does: the last step that is not undone, by its
+    /// record.
     #[tactic(auto, using(crate::proofs::RoomLemmas::sparing, crate::proofs::TagLemmas::tagging))]
     pub fn undo_other(&mut self, done: &OtherRecord)
         requires { CanUndo self.old.world (Record.Other done.now) }
@@ -517,8 +526,9 @@ impl<'c> Core<'c> {
         }
     }
 
-    /// Takes back the step that a record is of, the record of the last step not undone. It can't be refused memory. The state is
-    /// the one before that step. It takes 1 to 16 writes, for a release two more for each rank at most.
+    /// Takes back the last step that is not undone, by its record. Memory can't be refused. The
+    /// state is the one before that step. Takes 1 to 16 writes, for a release at most two more for
+    /// each rank.
     pub fn undo(&mut self, done: Record)
         requires { CanUndo self.old.world done }
         ensures { CoreUndone done self.old self.new }

@@ -27,7 +27,7 @@ pub enum AnyStep {
 }
 
 impl AnyStep {
-    /// A step, told apart.
+    /// The same step, told apart by whether it is local.
     #[inline(always)]
     pub fn of(step: Step) -> AnyStep
         ensures { any_step result ≡ step }

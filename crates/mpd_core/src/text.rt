@@ -58,7 +58,8 @@ impl<'c> Core<'c> {
         Ok(())
     }
 
-    /// A call as `show` prints it behind its name, where it exists. An `Err` is want of memory.
+    /// A call as `show` prints it after its name, if it exists. `Err` means that memory was
+    /// refused.
     fn text_of_call(&self, id: CallId) -> Result<String, AllocError>
         ensures { IfOk result (λ t. string_bytes t ≡ call_text self.now.world.board id) }
     {
@@ -72,7 +73,8 @@ impl<'c> Core<'c> {
         Ok(text)
     }
 
-    /// Adds a call as `show` prints it behind its name. An `Err` is want of memory, and then `out` is as before.
+    /// Adds a call as `show` prints it after its name. `Err` means that memory was refused; then
+    /// `out` is as before.
     pub fn push_call(&self, out: &mut String, id: CallId) -> Result<(), AllocError>
         ensures ok { OnOk result (string_bytes out.new ≡ string_bytes out.old ++ call_text self.now.world.board id) }
         ensures err { OnErr result (string_bytes out.new ≡ string_bytes out.old) }
@@ -81,7 +83,7 @@ impl<'c> Core<'c> {
         out.push_str(&text)
     }
 
-    /// Adds what a rank is doing. An `Err` is want of memory, and then `out` is as before.
+    /// Adds what a rank is doing. `Err` means that memory was refused; then `out` is as before.
     pub fn push_rank(&self, out: &mut String, rank: usize) -> Result<(), AllocError>
         requires { rank < length self.now.world.ranks }
         ensures ok { OnOk result (string_bytes out.new ≡ string_bytes out.old ++ rank_text self.now.program self.now.world rank) }
@@ -91,8 +93,8 @@ impl<'c> Core<'c> {
         out.push_str(&text)
     }
 
-    /// A call as `show` prints it behind its name: what it is, its partner, and the value that a receive got. An `Err` is want
-    /// of memory.
+    /// A call as `show` prints it after its name: what it is, its partner, and the value that a
+    /// receive got. `Err` means that memory was refused.
     pub fn call_text(&self, id: CallId) -> Result<String, AllocError>
         requires { IsSome (call_at self.now.world.board id) }
         ensures { IfOk result (λ t. string_bytes t ≡ call_text self.now.world.board id) }
@@ -100,8 +102,8 @@ impl<'c> Core<'c> {
         self.text_of_call(id)
     }
 
-    /// What a rank is doing: `at` and a line, `ended`, `blocked` and a call's number, or `trapped` and a name. An `Err` is want
-    /// of memory.
+    /// What a rank is doing: `at` and a line, `ended`, `blocked` and a call's number, or `trapped`
+    /// and a name. `Err` means that memory was refused.
     pub fn rank_text(&self, rank: usize) -> Result<String, AllocError>
         requires { rank < length self.now.world.ranks }
         ensures { IfOk result (λ t. string_bytes t ≡ rank_text self.now.program self.now.world rank) }
@@ -125,7 +127,7 @@ impl<'c> Core<'c> {
         Ok(text)
     }
 
-    /// The match set at a place, from 0, in the order formed. An `Err` is want of memory.
+    /// The match set at a place, from 0, in the order formed. `Err` means that memory was refused.
     pub fn set_text(&self, place: usize) -> Result<String, AllocError>
         requires { place < length self.now.world.board.sets }
         ensures { IfOk result (λ t. IfSome (slice_get self.now.world.board.sets place) (λ m. string_bytes t ≡ set_text m)) }

@@ -13,7 +13,7 @@ pub struct Request {
     pub call: CallId,
 }
 
-/// How many requests it waits for, where it is a waitany.
+/// How many requests it waits for, if it is a waitany.
 pub(crate) fn requests_of(kind: Option<CallKind>) -> usize
     ensures { result ≡ next_specs.requests_of kind }
 {
@@ -23,7 +23,7 @@ pub(crate) fn requests_of(kind: Option<CallKind>) -> usize
     }
 }
 
-/// The handle of the request of an index, where it is one of so many handles.
+/// The handle of the request of an index, if it is below `handles`.
 pub(crate) fn request_handle(kind: Option<CallKind>, index: usize, handles: usize) -> Option<usize>
     ensures some { IfSome result (λ handle. next_specs.request_handle kind index ≡ Some handle) }
     ensures within { IfSome result (λ handle. handle < handles) }
@@ -49,7 +49,7 @@ pub(crate) fn own_writes(kind: Option<CallKind>) -> Cells
     }
 }
 
-/// Some cells, and behind them the one of the index that was chosen.
+/// The given writes, and after them that of the index that was chosen.
 pub(crate) fn with_index(writes: Cells, kind: Option<CallKind>, index: usize) -> Cells
     requires few { length writes ≤ 3 }
     requires low { index < HANDLES_MAX }

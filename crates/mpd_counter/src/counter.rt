@@ -27,7 +27,8 @@ impl Model for Chain {
     ghost size_decreases = { λ a h. Prim.grind arith };
 }
 
-/// How often something was done, as a write or a look. It takes no bytes, and only `tick` adds to it.
+/// Counts how often something was done, such as a write or a look. It takes no bytes, and only
+/// `tick` adds to it.
 #[derive(Drop)]
 pub struct Counter {
     ticks: Snapshot<Chain>,
@@ -42,7 +43,7 @@ impl Model for Counter {
 }
 
 impl Counter {
-    /// Nothing was done yet.
+    /// A counter at 0.
     pub fn new() -> Counter
         ensures { result ≡ 0 }
     {
@@ -51,7 +52,7 @@ impl Counter {
         }
     }
 
-    /// It was done once more.
+    /// Adds 1.
     pub fn tick(&mut self)
         ensures { self.new ≡ self.old + 1 }
     {

@@ -48,7 +48,7 @@ fn push_sender(core: &Core<'_>, out: &mut String, send: CallId) -> Result<(), Al
     push_in_line(core, out, send)
 }
 
-/// Adds a match by its message, and by its receive where this isn't told for all candidates.
+/// Adds a match by its message, and by its receive if this isn't told for all candidates.
 fn push_message(
     core: &Core<'_>,
     out: &mut String,
@@ -117,7 +117,7 @@ fn push_request_name(out: &mut String, decls: &[Decl], handle: usize) -> Result<
     push_cell_name(out, decls, DeclKind::Handle, handle)
 }
 
-/// Adds a request of a rank, by its index in a waitany, where its handle has a call.
+/// Adds a request of a rank, by its index in a waitany, if its handle has a call.
 fn push_request(
     core: &Core<'_>,
     out: &mut String,
@@ -133,7 +133,8 @@ fn push_request(
     push_got(core, out, request.call)
 }
 
-/// Adds a wake from a waitany by its request, and by its rank where the waitany isn't told for all candidates.
+/// Adds a wake from a waitany by its request, and by its rank if the waitany isn't told for all
+/// candidates.
 fn push_wake(
     core: &Core<'_>,
     out: &mut String,
@@ -178,8 +179,8 @@ fn push_told(core: &Core<'_>, out: &mut String, is_one: bool, step: Step) -> Res
     }
 }
 
-/// Adds a step that is enabled by what it does, with its trace word behind that. Where it is one of candidates that are all for one call, this
-/// call isn't told. An `Err` is want of memory.
+/// Adds an enabled step by what it does, and its trace word after that. If it is one of candidates
+/// that are all for one call, that call isn't repeated. `Err` means that memory was refused.
 pub fn push_candidate(
     core: &Core<'_>,
     out: &mut String,

@@ -20,7 +20,8 @@ use mpd_model::STEPS_MAX;
 use mpd_policy::{Schedule, follow, put_back};
 use std::alloc::{AllocError, Global};
 
-/// Goes along the run of a leaf, and tells how it has ended. The debugger is left anywhere beyond where it stood.
+/// Goes along the run of a leaf, and tells how it has ended. On return the debugger may be at any
+/// later state.
 fn retell<S: Schedule>(
     alloc: Global,
     schedule: &S,
@@ -37,10 +38,11 @@ fn retell<S: Schedule>(
     told(alloc, debugger.core(), &leaf.ending)
 }
 
-/// The explanation of a leaf that was listed along a schedule, where that is a deadlock or a trap, or has leftovers: its run is made again
-/// from where the debugger stands, and what is told is read off its end. Of any other leaf it is the empty text. The fuel is the one of that
-/// exploration. The debugger is left as found, also where memory is refused, which is what an `Err` says; that comes only where the leaf is
-/// one of these three.
+/// The explanation of a leaf that was listed along a schedule, if that is a deadlock or a trap, or
+/// has leftovers: its run is made again from the debugger's state, and what is told is read off its
+/// end. Of any other leaf it is the empty text. The fuel is the one of that exploration. The
+/// debugger is left as found, also on `Err`, which means that memory was refused; this happens only
+/// if the leaf is one of these three.
 pub fn explain<S: Schedule>(
     alloc: Global,
     schedule: &S,
@@ -65,8 +67,9 @@ pub fn explain<S: Schedule>(
     text
 }
 
-/// The explanations of all leaves of a report that was made along a schedule with this fuel from where the debugger stands, one for each.
-/// The debugger is left as found, also where memory is refused, which is what an `Err` says; that comes only where there is a leaf.
+/// The explanations of all leaves of a report that was made along a schedule with this fuel from
+/// the debugger's state, one for each. The debugger is left as found, also on `Err`, which means
+/// that memory was refused; this happens only if there is a leaf.
 pub fn explain_all<S: Schedule>(
     alloc: Global,
     schedule: &S,

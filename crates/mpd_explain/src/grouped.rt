@@ -33,8 +33,8 @@ pub struct Beside {
     pub explain: bool,
 }
 
-/// Goes along the run of a leaf, and makes the text of its witness, empty where it is neither a deadlock nor a trap. The debugger is left anywhere beyond
-/// where it stood.
+/// Goes along the run of a leaf, and makes the text of its witness, empty if it is neither a
+/// deadlock nor a trap. On return the debugger may be at any later state.
 fn witness_there<S: Schedule>(
     alloc: Global,
     schedule: &S,
@@ -72,7 +72,8 @@ fn witness_text_of<S: Schedule>(
     text
 }
 
-/// The text of the witness of the leaf of this number, where that is asked for. The debugger is left as found.
+/// The text of the witness of the leaf of this number, if that is asked for. The debugger is left
+/// as found.
 #[tactic(auto, using(crate::proofs::FirstLemmas::witnessed))]
 fn witness_at<S: Schedule>(
     alloc: Global,
@@ -99,9 +100,9 @@ fn witness_at<S: Schedule>(
     witness_text_of(alloc, schedule, debugger, beside.fuel, leaf)
 }
 
-/// The explanation of the leaf of this number, where there is such a leaf, and that is asked for; else the empty text. The report was made
-/// along the schedule, with this fuel, from where the debugger stands, which is left as found, also where memory is refused, which is what an
-/// `Err` says.
+/// The explanation of the leaf of this number, if there is such a leaf, and that is asked for; else
+/// the empty text. The report was made along the schedule, with this fuel, from the debugger's
+/// state, which is left as found, also on `Err`, which means that memory was refused.
 #[tactic(auto, using(crate::proofs::FirstLemmas::asking))]
 pub fn explanation_at<S: Schedule>(
     alloc: Global,
@@ -128,8 +129,8 @@ pub fn explanation_at<S: Schedule>(
     explain(alloc, schedule, debugger, leaf, beside.fuel)
 }
 
-/// What stands after the line of the leaf of this number: the line of its witness and its explanation, where these are asked for. The
-/// debugger is left as found.
+/// What stands after the line of the leaf of this number: the line of its witness and its
+/// explanation, if these are asked for. The debugger is left as found.
 #[tactic(auto, using(crate::proofs::PrintLemmas::numbered_by))]
 fn after_leaf<S: Schedule>(
     alloc: Global,
@@ -153,7 +154,7 @@ fn after_leaf<S: Schedule>(
     Ok(out)
 }
 
-/// The same of the leaves of these numbers, and of no others.
+/// The same for the leaves of these numbers, and for no others.
 fn after_leaves<S: Schedule>(
     alloc: Global,
     schedule: &S,
@@ -177,11 +178,13 @@ fn after_leaves<S: Schedule>(
     Ok(texts)
 }
 
-/// A report that was made along a schedule from where the debugger stands, as text: each leaf that ends as none before it does has a line in
-/// the place of the leaves, in their order: how many leaves end so, with the same calls or traps at the same statements, and its number; its
-/// witness and explanation follow as they would in the report that isn't grouped, whether that report has the texts of witnesses or not;
-/// and at last how many leaves there are, and whether there are others. Of leaves that aren't the first to end so, nothing is made again.
-/// The debugger is left as found, also where memory is refused, which is what an `Err` says.
+/// A report that was made along a schedule from the debugger's state, as text, grouped by ends.
+/// Each leaf that ends as none before it does has a line, in order: how many leaves end so, with
+/// the same calls or traps at the same statements, and its number. Its witness and explanation
+/// follow as in the report that isn't grouped, whether that report has the texts of witnesses or
+/// not. Last, how many leaves there are, and whether there are others. Of leaves that aren't the
+/// first to end so, nothing is made again. The debugger is left as found, also on `Err`, which
+/// means that memory was refused.
 pub fn print_grouped<S: Schedule>(
     alloc: Global,
     schedule: &S,

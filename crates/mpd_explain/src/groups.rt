@@ -33,8 +33,8 @@ fn has_end(leaves: &[Leaf], ending: &Ending, numbers: &[usize]) -> bool
         .any(|number| ends_so(leaves, ending, *number))
 }
 
-/// The numbers of the leaves that end as no leaf before them does. Each leaf is compared with those that were found, and with no others. An
-/// `Err` is want of memory.
+/// The numbers of the leaves that end as no leaf before them does. Each leaf is compared with those
+/// that were found, and with no others. `Err` means that memory was refused.
 pub(crate) fn first_numbers(alloc: Global, leaves: &[Leaf]) -> Result<Vec<usize>, AllocError>
     ensures { IfOk result (λ numbers. numbers.items ≡ map (before leaves.now) (firsts leaves.now)) }
 {
@@ -89,7 +89,7 @@ fn push_line(
     write!(out, "end {place} leaves {count} first {number} {end}\n")
 }
 
-/// Adds the line of the end of the leaf of this number, where there is one.
+/// Adds the line of the end of the leaf of this number, if there is one.
 #[tactic(auto, using(crate::proofs::GroupLemmas::reading))]
 fn push_line_at(
     alloc: Global,
@@ -139,8 +139,8 @@ fn push_ends(
     Ok(())
 }
 
-/// The text of a report by the numbers of the leaves that end as none before them does, and what stands after the line of each. An `Err` is
-/// want of memory.
+/// The text of a report by the numbers of the leaves that end as none before them does, and what
+/// stands after the line of each. `Err` means that memory was refused.
 pub(crate) fn print_groups(
     alloc: Global,
     report: &Report,

@@ -11,7 +11,7 @@ use mpd_core::{Core, Debugger};
 use mpd_model::Step;
 use std::alloc::{AllocError, Global};
 
-/// Adds a step in words, on the state before it, with its number, where so many stand before it.
+/// Adds a step in words, on the state before it, with its number, after `place` others.
 fn push_numbered(
     core: &Core<'_>,
     out: &mut String,
@@ -58,7 +58,7 @@ fn push_undone(debugger: &mut Debugger<'_>, out: &mut String) -> Result<(), Allo
     Ok(())
 }
 
-/// Takes steps back until so many are left, and adds all behind those. No step was undone before.
+/// Takes steps back until `first` are left, and adds all after those. No step was undone before.
 #[tactic(auto, using(crate::proofs::PastLemmas::going_back))]
 fn push_behind(
     debugger: &mut Debugger<'_>,
@@ -73,7 +73,7 @@ fn push_behind(
     push_undone(debugger, out)
 }
 
-/// Adds the steps behind the first so many that are not undone.
+/// Adds the steps that are not undone, after the first `first`.
 #[tactic(auto, using(crate::proofs::PastLemmas::going_back))]
 fn push_last(debugger: &Debugger<'_>, out: &mut String, first: usize) -> Result<(), AllocError>
     requires { first ≤ debugger.now.trail.depth }
@@ -89,8 +89,8 @@ fn push_last(debugger: &Debugger<'_>, out: &mut String, first: usize) -> Result<
     }
 }
 
-/// Adds the last so many steps that are not undone, in words, or that no step is taken. They are told by a copy of the debugger that
-/// goes back and takes them again. An `Err` is want of memory.
+/// Adds the last `count` steps that are not undone, in words, or that no step is taken. A copy of
+/// the debugger goes back and takes them again. `Err` means that memory was refused.
 pub fn push_history(
     debugger: &Debugger<'_>,
     out: &mut String,
@@ -115,7 +115,8 @@ fn push_each_word(out: &mut String, steps: &[Step]) -> Result<(), AllocError>
     Ok(())
 }
 
-/// Adds the steps that are not undone as trace words, a line each. An `Err` is want of memory.
+/// Adds the steps that are not undone as trace words, a line each. `Err` means that memory was
+/// refused.
 pub fn push_words(debugger: &Debugger<'_>, out: &mut String) -> Result<(), AllocError>
     ensures { OnOk result (string_bytes out.new ≡ string_bytes out.old ++ past.words_text debugger.now.trail) }
 {

@@ -34,7 +34,7 @@ pub(crate) fn push_all_left(
     Ok(())
 }
 
-/// Adds a blocked call, and those that it is for where it is a wait or a waitany.
+/// Adds a blocked call and, if it is a wait or a waitany, the requests that it waits for.
 fn push_awaited(core: &Core<'_>, calls: &mut Vec<CallId>, blocked: CallId) -> Result<(), AllocError>
     ensures { OnOk result (calls.new.items ≡ calls.old.items ++ spec.awaited_by core.now.world blocked) }
 {
@@ -42,7 +42,7 @@ fn push_awaited(core: &Core<'_>, calls: &mut Vec<CallId>, blocked: CallId) -> Re
     push_requested(core, calls, blocked.rank, core.board().kind(blocked))
 }
 
-/// Some blocked calls, each with those that it is for where it is a wait or a waitany.
+/// Blocked calls, each with the requests that it waits for if it is a wait or a waitany.
 pub(crate) fn awaited(
     alloc: Global,
     core: &Core<'_>,
@@ -64,7 +64,7 @@ fn is_left(core: &Core<'_>, told: &[CallId], call: CallId) -> bool
     core.board().is_free(call) && !is_among(told, call)
 }
 
-/// Adds the line of a call, where it is free, and none of those of which something is told.
+/// Adds the line of a call, if it is free, and none of those of which something is told.
 fn push_if_left(
     core: &Core<'_>,
     out: &mut String,

@@ -12,7 +12,7 @@ pub(crate) fn push_text(texts: &mut Vec<String>, text: String) -> Result<(), All
     Ok(())
 }
 
-/// Adds a number, where it is chosen.
+/// Adds a number, if it is chosen.
 pub(crate) fn push_if(
     numbers: &mut Vec<usize>,
     number: usize,

@@ -58,7 +58,7 @@ fn push_trapped(
     Ok(())
 }
 
-/// What is told of a rank that is blocked, where its call is complete or not.
+/// What is told of a blocked rank, by whether its call is complete.
 fn blocked_words(can_wake: bool) -> &'static str
     ensures { result.now ≡ shown.blocked_words can_wake }
 {
@@ -93,7 +93,7 @@ fn push_rank(core: &Core<'_>, out: &mut String, rank: usize) -> Result<(), Alloc
     out.push('\n')
 }
 
-/// Adds what each rank is doing. An `Err` is want of memory.
+/// Adds a line for each rank: what it is doing, and where. `Err` means that memory was refused.
 pub fn push_ranks(core: &Core<'_>, out: &mut String) -> Result<(), AllocError>
     ensures { OnOk result (string_bytes out.new ≡ string_bytes out.old ++ shown.ranks_text core.now.program core.now.world) }
 {
@@ -104,7 +104,7 @@ pub fn push_ranks(core: &Core<'_>, out: &mut String) -> Result<(), AllocError>
     Ok(())
 }
 
-/// Adds the line of a call. An `Err` is want of memory.
+/// Adds the line of a call. `Err` means that memory was refused.
 pub fn push_call(core: &Core<'_>, out: &mut String, call: CallId) -> Result<(), AllocError>
     ensures { OnOk result (string_bytes out.new ≡ string_bytes out.old ++ shown.call_line core.now.program core.now.world.board call) }
 {
@@ -146,7 +146,8 @@ fn push_calls_of(core: &Core<'_>, out: &mut String, rank: Option<usize>) -> Resu
     }
 }
 
-/// Adds the calls of a rank, or of all, or that there is none. A rank that isn't there has none. An `Err` is want of memory.
+/// Adds the calls of a rank, or of all, or that there is none. A rank that isn't there has none.
+/// `Err` means that memory was refused.
 pub fn push_calls(core: &Core<'_>, out: &mut String, rank: Option<usize>) -> Result<(), AllocError>
     ensures { OnOk result (string_bytes out.new ≡ string_bytes out.old ++ shown.calls_text core.now.program core.now.world.board rank) }
 {
@@ -180,7 +181,7 @@ fn is_posted(core: &Core<'_>, rank: usize, index: usize) -> bool
     }
 }
 
-/// Adds the line of a call of a rank, where it is a free send to another.
+/// Adds the line of a call of a rank, if it is a free send to another.
 fn push_if_pending(
     core: &Core<'_>,
     out: &mut String,
@@ -205,7 +206,7 @@ fn push_if_pending(
     out.push('\n')
 }
 
-/// Adds the line of a call of a rank, where it is a free receive.
+/// Adds the line of a call of a rank, if it is a free receive.
 fn push_if_posted(
     core: &Core<'_>,
     out: &mut String,
@@ -290,7 +291,8 @@ fn push_free(core: &Core<'_>, out: &mut String) -> Result<(), AllocError>
     push_all_posted(core, out)
 }
 
-/// Adds the sends and the receives that are free, or that there is none. An `Err` is want of memory.
+/// Adds the sends and the receives that are free, or that there is none. `Err` means that memory
+/// was refused.
 pub fn push_queues(core: &Core<'_>, out: &mut String) -> Result<(), AllocError>
     ensures { OnOk result (string_bytes out.new ≡ string_bytes out.old ++ shown.queues_text core.now.program core.now.world.board) }
 {
@@ -317,7 +319,7 @@ fn push_enabled_steps(alloc: Global, core: &Core<'_>, out: &mut String) -> Resul
     push_steps(core, out, &steps)
 }
 
-/// Adds the steps that are enabled, or that there is none. An `Err` is want of memory.
+/// Adds the steps that are enabled, or that there is none. `Err` means that memory was refused.
 pub fn push_enabled(alloc: Global, core: &Core<'_>, out: &mut String) -> Result<(), AllocError>
     ensures { OnOk result (string_bytes out.new ≡ string_bytes out.old ++ shown.enabled_text core.now.program core.now.world) }
 {

@@ -55,7 +55,7 @@ fn has_request(calls: &[Call]) -> bool
     calls.iter().any(|call| is_request(Some(call.kind)))
 }
 
-/// Notes that the call of a number is kept, where there is one.
+/// Notes that the call of a number is kept, if there is one.
 #[tactic(auto, using(crate::proofs::LostLemmas::keeping))]
 fn keep(kept: &mut [bool], number: Option<usize>)
     ensures count { length kept.new ≡ length kept.old }
@@ -113,7 +113,8 @@ fn is_send(kind: Option<CallKind>) -> bool
     }
 }
 
-/// Whether a request of a rank is lost, where it is known whether it is kept and whether the rank has issued a waitany.
+/// Whether a request of a rank is lost, if it is known whether it is kept and whether the rank has
+/// issued a waitany.
 fn is_lost(core: &Core<'_>, call: CallId, is_kept: bool, has_waitany: bool) -> bool
     requires kept { is_kept ≡ lost.is_kept core.now.world call }
     requires waitany { has_waitany ≡ lost.has_waitany (calls_of core.now.world.board call.rank) }
@@ -125,7 +126,7 @@ fn is_lost(core: &Core<'_>, call: CallId, is_kept: bool, has_waitany: bool) -> b
         && !((is_send(kind) || has_waitany) && core.board().is_complete(call))
 }
 
-/// Lists a call where it is lost.
+/// Lists a call if it is lost.
 fn list_if_lost(
     core: &Core<'_>,
     calls: &mut Vec<CallId>,
@@ -143,7 +144,7 @@ fn list_if_lost(
     Ok(())
 }
 
-/// Lists the calls of a rank that are lost, where it is known of each whether it is kept.
+/// Lists the calls of a rank that are lost, if it is known of each whether it is kept.
 fn list_lost_of(
     core: &Core<'_>,
     calls: &mut Vec<CallId>,
@@ -185,7 +186,7 @@ fn list_lost(core: &Core<'_>, calls: &mut Vec<CallId>, rank: usize) -> Result<()
     list_lost_of(core, calls, rank, &kept, has_waitany(issued))
 }
 
-/// The requests that are lost, by rank and call. An `Err` is want of memory.
+/// The requests that are lost, by rank and call. `Err` means that memory was refused.
 pub fn lost_calls(alloc: Global, core: &Core<'_>) -> Result<Vec<CallId>, AllocError>
     ensures { IfOk result (λ calls. calls.items ≡ lost.lost_calls core.now.world) }
 {
@@ -254,7 +255,7 @@ fn push_one(core: &Core<'_>, out: &mut String, call: CallId) -> Result<(), Alloc
     push_placed(core, out, call)
 }
 
-/// Adds that so many are lost.
+/// Adds how many are lost.
 fn push_many(out: &mut String, count: usize) -> Result<(), AllocError>
     ensures { OnOk result (string_bytes out.new ≡ string_bytes out.old ++ lost.many_words count) }
 {
@@ -280,7 +281,7 @@ fn push_first(core: &Core<'_>, out: &mut String, call: CallId) -> Result<(), All
     Ok(())
 }
 
-/// Adds that so many requests of a line are lost, and the first of them.
+/// Adds how many requests of a line are lost, and the first of them.
 fn push_several(
     core: &Core<'_>,
     out: &mut String,
@@ -295,7 +296,7 @@ fn push_several(
     Ok(())
 }
 
-/// Adds that a request is lost, or so many of its line.
+/// Adds that a request is lost, or how many of its line are.
 fn push_loss(
     core: &Core<'_>,
     out: &mut String,
@@ -311,7 +312,7 @@ fn push_loss(
     }
 }
 
-/// Adds the line of so many requests that are lost, of which this is the first.
+/// Adds the line of `count` requests that are lost, of which this is the first.
 fn push_lost_line(
     core: &Core<'_>,
     out: &mut String,
@@ -326,7 +327,7 @@ fn push_lost_line(
     out.push('\n')
 }
 
-/// Adds that line, where the call is the first of its line, and none of it was lost before.
+/// Adds that line, if the call is the first of its line, and none of it was lost before.
 fn push_lost_entry(
     core: &Core<'_>,
     out: &mut String,
@@ -342,8 +343,8 @@ fn push_lost_entry(
     Ok(())
 }
 
-/// Adds a line for each line of the script of which a rank has lost requests, of all that are lost, but for those of which some were lost
-/// before. An `Err` is want of memory.
+/// Adds a line for each line of the script of which a rank has lost requests, of all that are lost,
+/// but for those of which some were lost before. `Err` means that memory was refused.
 pub fn push_lost_told(
     core: &Core<'_>,
     out: &mut String,
@@ -358,7 +359,8 @@ pub fn push_lost_told(
     Ok(())
 }
 
-/// Adds the requests of a rank that are lost. Of a rank that isn't there it adds nothing. An `Err` is want of memory.
+/// Adds the requests of a rank that are lost. Of a rank that isn't there it adds nothing. `Err`
+/// means that memory was refused.
 pub fn push_lost(core: &Core<'_>, out: &mut String, rank: usize) -> Result<(), AllocError>
     ensures { OnOk result (string_bytes out.new ≡ string_bytes out.old ++ lost.lost_text core.now.program core.now.world rank) }
 {
@@ -367,7 +369,7 @@ pub fn push_lost(core: &Core<'_>, out: &mut String, rank: usize) -> Result<(), A
     push_lost_told(core, out, &[], &calls)
 }
 
-/// Adds those of all ranks. An `Err` is want of memory.
+/// Adds the requests of all ranks that are lost. `Err` means that memory was refused.
 pub fn push_all_lost(core: &Core<'_>, out: &mut String) -> Result<(), AllocError>
     ensures { OnOk result (string_bytes out.new ≡ string_bytes out.old ++ lost.lost_lines core.now.program core.now.world) }
 {

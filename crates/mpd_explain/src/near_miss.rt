@@ -12,7 +12,8 @@ use mpd_match::is_any_or;
 use mpd_model::{Activity, CallId, CallKind, MatchSet};
 use std::alloc::{AllocError, Global};
 
-/// In what alone a send and a receive don't fit: the tag, the source that the receive names, or the rank that the send goes to.
+/// The one thing in which a send and a receive don't fit: the tag, the source that the receive
+/// names, or the rank that the send goes to.
 #[derive(Clone, Copy)]
 pub(crate) enum Miss {
     Tag,
@@ -20,7 +21,7 @@ pub(crate) enum Miss {
     Destination,
 }
 
-/// What is not so, where exactly one of three isn't.
+/// Which of three things fails, if exactly one does.
 fn miss_of(to: bool, from: bool, tag: bool) -> Option<Miss>
     ensures { result ≡ missed.miss_of to from tag }
 {
@@ -36,7 +37,7 @@ fn miss_of(to: bool, from: bool, tag: bool) -> Option<Miss>
     }
 }
 
-/// In what alone a send of one rank and a receive of another don't fit.
+/// The one thing in which a send of one rank and a receive of another don't fit.
 fn missing(
     one: Option<CallKind>,
     other: Option<CallKind>,
@@ -55,7 +56,7 @@ fn missing(
     }
 }
 
-/// In what alone two calls don't fit, of which either may be the send.
+/// The one thing in which two calls don't fit, of which either may be the send.
 fn near_miss(core: &Core<'_>, call: CallId, other: CallId) -> Option<Miss>
     ensures { result ≡ missed.near_miss core.now.world.board call other }
 {
@@ -67,7 +68,7 @@ fn near_miss(core: &Core<'_>, call: CallId, other: CallId) -> Option<Miss>
     }
 }
 
-/// In what alone a free call doesn't fit another.
+/// The one thing in which a free call doesn't fit another.
 fn free_miss(core: &Core<'_>, call: CallId, other: CallId) -> Option<Miss>
     ensures { result ≡ missed.free_miss core.now.world.board call other }
 {
@@ -78,7 +79,7 @@ fn free_miss(core: &Core<'_>, call: CallId, other: CallId) -> Option<Miss>
     }
 }
 
-/// Adds a call, where it is free and nearly fits another.
+/// Adds a call, if it is free and nearly fits another.
 fn push_miss(
     core: &Core<'_>,
     call: CallId,
@@ -214,7 +215,7 @@ fn is_due(alloc: Global, core: &Core<'_>, call: CallId) -> Result<bool, AllocErr
     Ok(is_at_once(core.board().kind(call)) || waited)
 }
 
-/// Adds a near miss, where it is due.
+/// Adds a near miss, if it is due.
 fn push_if_due(
     alloc: Global,
     core: &Core<'_>,
@@ -230,7 +231,7 @@ fn push_if_due(
     Ok(())
 }
 
-/// Adds a call, where it is free and due, and nearly fits another.
+/// Adds a call, if it is free and due, and nearly fits another.
 fn push_due(
     alloc: Global,
     core: &Core<'_>,
@@ -275,8 +276,9 @@ fn due(alloc: Global, core: &Core<'_>, call: CallId) -> Result<Vec<(CallId, Miss
     Ok(found)
 }
 
-/// The free call that fits a call but for one thing, where there is one: one that is due before one that isn't; the tag before a call of the
-/// rank that is waited for, and that before one of another rank (docs/FORMATS.md, "Near misses"). An `Err` is want of memory.
+/// The free call that fits a call but for one thing, if there is one: one that is due before one
+/// that isn't; the tag before a call of the rank that is waited for, and that before one of another
+/// rank (docs/FORMATS.md, "Near misses"). `Err` means that memory was refused.
 pub(crate) fn nearest(
     alloc: Global,
     core: &Core<'_>,
@@ -336,7 +338,7 @@ fn taken_of(core: &Core<'_>, call: CallId, set: MatchSet) -> Option<(CallId, Cal
     }
 }
 
-/// The later one, where there is one.
+/// The later one, if there is one.
 fn later(
     found: Option<(CallId, CallId)>,
     next: Option<(CallId, CallId)>,

@@ -16,7 +16,7 @@ use mpd_names::{issue_line, push_end, push_source, rank_line};
 use mpd_policy::sole;
 use std::alloc::{AllocError, Global};
 
-/// Adds two lines of the script, the second where it is another.
+/// Adds two lines of the script, the second if it is another.
 fn push_sources(out: &mut String, text: &[u8], one: usize, other: usize) -> Result<(), AllocError>
     ensures { OnOk result (string_bytes out.new ≡ string_bytes out.old ++ standing.sources text.now one other) }
 {
@@ -62,7 +62,7 @@ fn push_ahead_line(
     out.push('\n')
 }
 
-/// Adds that, with its lines of the script, where a step is undone.
+/// Adds that, with its lines of the script, if a step is undone.
 fn push_ahead(
     core: &Core<'_>,
     text: &[u8],
@@ -107,7 +107,7 @@ fn are_all_for(core: &Core<'_>, steps: &[Step], call: CallId) -> bool
     steps.iter().all(|step| is_call(chooser(core, *step), call))
 }
 
-/// The one call that all candidates are chosen for, where there is one.
+/// The one call that all candidates are chosen for, if there is one.
 fn one_chooser(core: &Core<'_>, steps: &[Step]) -> Option<CallId>
     ensures { result ≡ standing.one_chooser core.now.world.board steps.now }
 {
@@ -133,7 +133,7 @@ fn push_chooser(core: &Core<'_>, out: &mut String, call: CallId) -> Result<(), A
     out.push_str("; next N takes one:\n")
 }
 
-/// Adds for which call it is chosen, and its line of the script, where it is one.
+/// Adds for which call it is chosen, and its line of the script, if it is one.
 fn push_choice_head(
     core: &Core<'_>,
     text: &[u8],
@@ -149,7 +149,7 @@ fn push_choice_head(
     push_source(out, text, issue_line(core, call))
 }
 
-/// Adds a candidate, where so many stand before it.
+/// Adds a candidate with its number, after `place` others.
 fn push_numbered(
     core: &Core<'_>,
     out: &mut String,
@@ -229,7 +229,7 @@ fn push_next_line(core: &Core<'_>, out: &mut String, step: Step) -> Result<(), A
     out.push('\n')
 }
 
-/// Adds that, with its lines of the script, where no step is undone.
+/// Adds that, with its lines of the script, if no step is undone.
 fn push_next(
     core: &Core<'_>,
     text: &[u8],
@@ -280,8 +280,9 @@ fn push_decided(
     }
 }
 
-/// Adds where a debugger stands, given the text of the script and what is decided there: the steps that are undone, and the choice, the end,
-/// or the step that comes next. An `Err` is want of memory.
+/// Adds where a debugger stands, given the text of the script and what is decided there: the steps
+/// that are undone, and the choice, the end, or the step that comes next. `Err` means that memory
+/// was refused.
 #[tactic(auto, using(crate::proofs::StandingLemmas::stood))]
 pub fn push_standing(
     alloc: Global,

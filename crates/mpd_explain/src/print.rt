@@ -31,7 +31,7 @@ pub(crate) fn push_numbered(out: &mut String, number: usize, text: &str) -> Resu
     write!(out, "witness {number}{text}")
 }
 
-/// Adds the line of the witness of this number, where there is a text of it that isn't empty.
+/// Adds the line of the witness of this number, if there is a text of it that isn't empty.
 #[tactic(auto, using(crate::proofs::PrintLemmas::numbered_by))]
 fn push_witness(out: &mut String, number: usize, witnesses: &[String]) -> Result<(), AllocError>
     ensures { OnOk result (string_bytes out.new ≡ string_bytes out.old ++ numbered_at number (slice_get (map string_bytes witnesses.now) number)) }
@@ -39,7 +39,7 @@ fn push_witness(out: &mut String, number: usize, witnesses: &[String]) -> Result
     push_numbered(out, number, text_at(witnesses, number))
 }
 
-/// The text of this number, the empty one where there is none.
+/// The text of this number, from 0; the empty text if there is none.
 #[tactic(auto, using(crate::proofs::PrintLemmas::placing))]
 pub fn text_at(texts: &[String], number: usize) -> &str
     ensures { result.now ≡ told.text_at (slice_get (map string_bytes texts.now) number) }
@@ -50,8 +50,8 @@ pub fn text_at(texts: &[String], number: usize) -> &str
     texts[number].as_str()
 }
 
-/// Adds what stands behind the line of the leaf of this number: the line of its witness, and its explanation, where there are texts of
-/// them. An `Err` is want of memory.
+/// Adds what stands after the line of the leaf of this number: the line of its witness, and its
+/// explanation, if there are texts of them. `Err` means that memory was refused.
 pub fn push_behind(
     out: &mut String,
     number: usize,
@@ -99,8 +99,8 @@ fn has_end(text: &str, ends: &[String], numbers: &[usize]) -> bool
         .any(|number| is_same(text, text_at(ends, *number)))
 }
 
-/// The numbers of the texts that are the first of their kind. Each is compared with those that were found, and with no others. An `Err` is
-/// want of memory.
+/// The numbers of the texts that are the first of their kind. Each is compared with those that were
+/// found, and with no others. `Err` means that memory was refused.
 pub fn firsts(alloc: Global, ends: &[String]) -> Result<Vec<usize>, AllocError>
     ensures numbers { IfOk result (λ numbers. numbers.items ≡ told.firsts (map string_bytes ends.now)) }
 {
@@ -123,8 +123,9 @@ fn explained(alloc: Global, report: &Report, texts: &[String]) -> Result<String,
     Ok(out)
 }
 
-/// A report as text: behind the line of each leaf that of its witness, where the report has their texts, and the leaf's explanation,
-/// where there is a text of its number; and at last how many leaves there are, and whether there are others. An `Err` is want of memory.
+/// A report as text: after the line of each leaf that of its witness, if the report has their
+/// texts, and the leaf's explanation, if there is a text of its number; last, how many leaves there
+/// are, and whether there are others. `Err` means that memory was refused.
 pub fn print_explained(
     alloc: Global,
     report: &Report,

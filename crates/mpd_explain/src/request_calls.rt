@@ -9,7 +9,7 @@ use mpd_core::Core;
 use mpd_model::{Activity, CallId, CallKind, WaitanyCall, is_barrier};
 use std::alloc::{AllocError, Global};
 
-/// Adds the call of a rank with that number, where there is a number.
+/// Adds the call of a rank with that number, if there is a number.
 fn push_target(
     calls: &mut Vec<CallId>,
     rank: usize,

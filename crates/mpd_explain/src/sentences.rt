@@ -75,7 +75,8 @@ fn push_request_wish(out: &mut String, rank: usize, target: Option<usize>) -> Re
     write!(out, "for request {call}")
 }
 
-/// Adds what a call of a rank waits for.
+/// Adds what a call of a rank waits for, by its kind; `for nothing` if there is no such call. `Err`
+/// means that memory was refused.
 pub fn push_wish(out: &mut String, rank: usize, kind: Option<CallKind>) -> Result<(), AllocError>
     ensures { OnOk result (string_bytes out.new ≡ string_bytes out.old ++ explained.wish rank kind) }
 {
@@ -107,7 +108,7 @@ fn push_request(core: &Core<'_>, out: &mut String, call: CallId) -> Result<(), A
     push_placed_wish(core, out, call)
 }
 
-/// Adds the line of the call that nearly fits another, where there is one.
+/// Adds the line of the call that nearly fits another, if there is one.
 fn push_miss(
     core: &Core<'_>,
     out: &mut String,
@@ -125,7 +126,8 @@ fn push_miss(
     out.push_str("\n")
 }
 
-/// Adds the line of the call that would have fitted another, where there is one, with the call that has it.
+/// Adds the line of the call that would have fitted another, if there is one, with the call that
+/// has it.
 fn push_taken(
     core: &Core<'_>,
     out: &mut String,
@@ -144,7 +146,8 @@ fn push_taken(
     Ok(())
 }
 
-/// Adds what nearly fits a call, and what would have fitted it.
+/// Adds what nearly fits a call, and what would have fitted it (docs/FORMATS.md, "Near misses").
+/// `Err` means that memory was refused.
 pub fn push_helps(
     alloc: Global,
     core: &Core<'_>,
@@ -249,7 +252,7 @@ fn push_absent(core: &Core<'_>, out: &mut String, rank: usize) -> Result<(), All
     push_absence_line(core, out, rank)
 }
 
-/// Adds a line for each rank that is not at a barrier.
+/// Adds a line for each rank that is not at a barrier. `Err` means that memory was refused.
 pub fn push_all_absent(core: &Core<'_>, out: &mut String) -> Result<(), AllocError>
     ensures { OnOk result (string_bytes out.new ≡ string_bytes out.old ++ flat_map (explained.absent_line core.now.program core.now.world) (rank_numbers core.now.world.board)) }
 {
@@ -260,7 +263,7 @@ pub fn push_all_absent(core: &Core<'_>, out: &mut String) -> Result<(), AllocErr
     Ok(())
 }
 
-/// Adds the lines behind that of a blocked call.
+/// Adds the lines after that of a blocked call.
 fn push_details(
     alloc: Global,
     core: &Core<'_>,
@@ -380,8 +383,9 @@ pub(crate) fn tells_of(ending: &Ending) -> bool
     }
 }
 
-/// Adds what is told of a run that ends so in this state. An `Err` is want of memory, and comes only where it ends in a deadlock, with a
-/// trap, or with leftovers: of other ends nothing is told.
+/// Adds what is told of a run that ends so in this state. `Err` means that memory was refused,
+/// which happens only if it ends in a deadlock, with a trap, or with leftovers: of other ends
+/// nothing is told.
 pub fn push_told(
     alloc: Global,
     core: &Core<'_>,
@@ -405,7 +409,7 @@ pub fn push_told(
     }
 }
 
-/// What is told of a run that ends so in this state. An `Err` is want of memory.
+/// What is told of a run that ends so in this state. `Err` means that memory was refused.
 pub(crate) fn told(alloc: Global, core: &Core<'_>, ending: &Ending) -> Result<String, AllocError>
     ensures { IfOk result (λ t. string_bytes t ≡ explained.told core.now.program core.now.world ending.now) }
 {

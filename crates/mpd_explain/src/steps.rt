@@ -40,7 +40,8 @@ fn push_match(
     push_issuer(core, out, recv)
 }
 
-/// The call of the request of an index, of the waitany that a rank has issued last, where its handle has one.
+/// The call of the request of an index, of the waitany that a rank has issued last, if its handle
+/// has one.
 fn request_call(core: &Core<'_>, rank: usize, index: usize) -> Option<CallId>
     ensures { result ≡ any_call core.now.world rank index }
 {
@@ -48,7 +49,7 @@ fn request_call(core: &Core<'_>, rank: usize, index: usize) -> Option<CallId>
     Some(request.call)
 }
 
-/// Adds the request that a rank goes on by, where it has a call.
+/// Adds the request that a rank goes on by, if it has a call.
 fn push_by(core: &Core<'_>, out: &mut String, call: Option<CallId>) -> Result<(), AllocError>
     ensures { OnOk result (string_bytes out.new ≡ string_bytes out.old ++ words.by_words core.now.program core.now.world.board call) }
 {
@@ -73,7 +74,7 @@ fn push_wake_any(
     push_by(core, out, request_call(core, rank, index))
 }
 
-/// Adds a step in words, on the state before it. An `Err` is want of memory.
+/// Adds a step in words, on the state before it. `Err` means that memory was refused.
 pub fn push_step(core: &Core<'_>, out: &mut String, step: Step) -> Result<(), AllocError>
     ensures { OnOk result (string_bytes out.new ≡ string_bytes out.old ++ words.step_words core.now.program core.now.world step) }
 {

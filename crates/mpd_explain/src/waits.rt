@@ -34,14 +34,14 @@ fn is_partner(rank: usize, kind: Option<CallKind>, other: usize) -> bool
     }
 }
 
-/// Whether one of some calls is.
+/// Whether one of some calls can be matched by rank `other`.
 fn is_partner_of_any(core: &Core<'_>, calls: &[CallId], other: usize) -> bool
     ensures { result ≡ list_any (λ d. waits.is_partner d.rank (kind_at core.now.world.board d) other) calls.now }
 {
     calls.iter().any(|call| is_partner(call.rank, core.board().kind(*call), other))
 }
 
-/// Whether a call, or one of those that it is for, is.
+/// Whether `call`, or a request that it waits for, can be matched by rank `other`.
 fn is_awaited(core: &Core<'_>, call: CallId, calls: &[CallId], other: usize) -> bool
     ensures { result ≡ waits.is_awaited core.now.world.board call calls.now other }
 {
@@ -60,7 +60,7 @@ fn absent(alloc: Global, core: &Core<'_>) -> Result<Vec<usize>, AllocError>
     Ok(ranks)
 }
 
-/// The ranks that a call waits for which is no barrier, and is for these calls.
+/// The ranks that a call waits for, which is no barrier and waits for these requests.
 fn awaited_by(
     alloc: Global,
     core: &Core<'_>,
@@ -89,7 +89,7 @@ fn awaited_ranks(alloc: Global, core: &Core<'_>, call: CallId) -> Result<Vec<usi
     awaited_by(alloc, core, call, &calls)
 }
 
-/// That a rank has ended, where it has.
+/// That a rank has ended, if it has.
 #[tactic(auto, using(crate::proofs::TellLemmas::telling))]
 fn end_words(core: &Core<'_>, rank: usize) -> &'static str
     ensures { result.now ≡ waits.end_words (slice_get core.now.world.ranks rank) }
@@ -183,7 +183,7 @@ pub(crate) fn push_waits_line(
     out.push('\n')
 }
 
-/// The one of some ranks, where there is one alone.
+/// The one of some ranks, if there is one alone.
 fn only(ranks: &[usize]) -> Option<usize>
     ensures { result ≡ waits.only ranks.now }
 {
@@ -194,7 +194,7 @@ fn only(ranks: &[usize]) -> Option<usize>
     }
 }
 
-/// The rank that a blocked rank waits for, where it waits for one alone.
+/// The rank that a blocked rank waits for, if it waits for one alone.
 fn single(alloc: Global, core: &Core<'_>, rank: usize) -> Result<Option<usize>, AllocError>
     ensures { IfOk result (λ o. o ≡ waits.single core.now.world rank) }
 {
@@ -227,7 +227,7 @@ fn singles(alloc: Global, core: &Core<'_>) -> Result<Vec<Option<usize>>, AllocEr
     Ok(next)
 }
 
-/// The rank that a rank waits for alone, where there is one.
+/// The rank that a rank waits for alone, if there is one.
 fn next_of(next: &[Option<usize>], rank: Option<usize>) -> Option<usize>
     ensures { result ≡ option_and_then (λ q. slice_index_or next.now q None) rank }
 {
@@ -237,7 +237,7 @@ fn next_of(next: &[Option<usize>], rank: Option<usize>) -> Option<usize>
     }
 }
 
-/// Where one comes from a rank, going so many times to the rank that is waited for.
+/// The rank that is reached from a rank by going `count` times to the rank that is waited for.
 fn after(next: &[Option<usize>], rank: usize, count: usize) -> Option<usize>
     ensures { result ≡ waits.after next.now rank count }
 {
@@ -255,7 +255,7 @@ fn is_number(number: Option<usize>, wanted: usize) -> bool
     number == Some(wanted)
 }
 
-/// By how many such steps at least one comes back to a rank.
+/// The least number of such steps that leads back to a rank, if any does.
 fn round(next: &[Option<usize>], rank: usize) -> Option<usize>
     ensures { result ≡ waits.round next.now rank }
 {
@@ -269,7 +269,7 @@ fn round(next: &[Option<usize>], rank: usize) -> Option<usize>
     None
 }
 
-/// Adds a rank, where there is one.
+/// Adds a rank, if there is one.
 fn push_step(out: &mut Vec<usize>, rank: Option<usize>) -> Result<(), AllocError>
     ensures { OnOk result (out.new.items ≡ out.old.items ++ waits.step_ranks rank) }
 {
@@ -279,7 +279,7 @@ fn push_step(out: &mut Vec<usize>, rank: Option<usize>) -> Result<(), AllocError
     Ok(())
 }
 
-/// The ranks from one on, so many.
+/// The first `count` ranks along such steps, from a rank on.
 fn ring(
     alloc: Global,
     next: &[Option<usize>],
@@ -302,7 +302,7 @@ fn is_lowest(rank: usize, ranks: &[usize]) -> bool
     ranks.iter().all(|other| *other >= rank)
 }
 
-/// Adds ranks, each with a comma and a space behind it.
+/// Adds ranks, each with a comma and a space after it.
 fn push_named(out: &mut String, ranks: &[usize]) -> Result<(), AllocError>
     ensures { OnOk result (string_bytes out.new ≡ string_bytes out.old ++ flat_map waits.named ranks.now) }
 {
@@ -312,7 +312,7 @@ fn push_named(out: &mut String, ranks: &[usize]) -> Result<(), AllocError>
     Ok(())
 }
 
-/// Adds the line of a cycle, where the rank is its lowest.
+/// Adds the line of a cycle, if the rank is its lowest.
 fn push_ring_line(out: &mut String, rank: usize, ranks: &[usize]) -> Result<(), AllocError>
     ensures { OnOk result (string_bytes out.new ≡ string_bytes out.old ++ waits.ring_line rank ranks.now) }
 {
@@ -324,7 +324,7 @@ fn push_ring_line(out: &mut String, rank: usize, ranks: &[usize]) -> Result<(), 
     write!(out, "rank {rank}\n")
 }
 
-/// Adds the line of the cycle that a rank is on, where it is the lowest of it.
+/// Adds the line of the cycle that a rank is on, if it is the lowest of it.
 fn push_cycle_line(
     alloc: Global,
     out: &mut String,

@@ -12,7 +12,7 @@ use mpd_model::{CallId, CallKind};
 use mpd_names::{can_wake, is_blocked, push_placed};
 use std::alloc::{AllocError, Global};
 
-/// Adds the call that holds a match back, where one does.
+/// Adds the call that holds a match back, if one does.
 fn push_holder(core: &Core<'_>, out: &mut String, holder: Option<CallId>) -> Result<(), AllocError>
     ensures { OnOk result (string_bytes out.new ≡ string_bytes out.old ++ whys.holder_words core.now.program core.now.world.board holder) }
 {
@@ -116,7 +116,7 @@ fn push_free(
     push_partners_or_lonely(alloc, core, out, call, &why.partners)
 }
 
-/// Adds a call, and what is told of it where it is free.
+/// Adds a call, and what is told of it if it is free.
 fn push_match(
     alloc: Global,
     core: &Core<'_>,
@@ -212,7 +212,8 @@ fn push_waited(
     }
 }
 
-/// Adds why a call isn't matched. Of a call that isn't there it adds nothing. An `Err` is want of memory.
+/// Adds why a call isn't matched. Of a call that isn't there it adds nothing. `Err` means that
+/// memory was refused.
 pub fn push_why(
     alloc: Global,
     core: &Core<'_>,
@@ -235,7 +236,7 @@ fn push_no_call(out: &mut String, rank: usize) -> Result<(), AllocError>
     write!(out, "rank {rank} waits for no call\n")
 }
 
-/// Adds that a rank can go on, where its call is complete.
+/// Adds that a rank can go on, if its call is complete.
 fn push_woken(core: &Core<'_>, out: &mut String, rank: usize) -> Result<(), AllocError>
     ensures { OnOk result (string_bytes out.new ≡ string_bytes out.old ++ whys.woken_line core.now.world rank) }
 {
@@ -245,7 +246,7 @@ fn push_woken(core: &Core<'_>, out: &mut String, rank: usize) -> Result<(), Allo
     write!(out, "  the call is complete: rank {rank} can go on\n")
 }
 
-/// Adds why the last call of a rank isn't matched, and that the rank can go on, where it can.
+/// Adds why the last call of a rank isn't matched, and that the rank can go on, if it can.
 fn push_waited_by(
     alloc: Global,
     core: &Core<'_>,
@@ -258,7 +259,8 @@ fn push_waited_by(
     push_woken(core, out, rank)
 }
 
-/// Adds why the call that a rank waits for isn't matched, or that it waits for none. An `Err` is want of memory.
+/// Adds why the call that a rank waits for isn't matched, or that it waits for none. `Err` means
+/// that memory was refused.
 pub fn push_why_rank(
     alloc: Global,
     core: &Core<'_>,
@@ -274,7 +276,7 @@ pub fn push_why_rank(
     }
 }
 
-/// Adds why the call that a rank waits for isn't matched, where it waits for one.
+/// Adds why the call that a rank waits for isn't matched, if it waits for one.
 fn push_waiting(
     alloc: Global,
     core: &Core<'_>,
@@ -300,7 +302,8 @@ fn push_all_waiting(alloc: Global, core: &Core<'_>, out: &mut String) -> Result<
     Ok(())
 }
 
-/// Adds why the calls that ranks wait for aren't matched, by rank, or that no rank waits for one. An `Err` is want of memory.
+/// Adds why the calls that ranks wait for aren't matched, by rank, or that no rank waits for one.
+/// `Err` means that memory was refused.
 pub fn push_why_ranks(alloc: Global, core: &Core<'_>, out: &mut String) -> Result<(), AllocError>
     ensures { OnOk result (string_bytes out.new ≡ string_bytes out.old ++ whys.why_ranks_text core.now.program core.now.world) }
 {

@@ -1,4 +1,4 @@
-//! What is asleep at the candidates of a choice, and the first of them that is awake.
+//! The sleep sets at the candidates of a choice, and the first candidate that is awake.
 
 ghost use Rattle.std.specs.Prelude.{◌≡◌, ◌≤◌, ◌&&◌, ◌||◌, ◌++◌, if◌then◌else◌, IfOk, length, reverse, take};
 ghost use Rattle.std.specs.List.{list_any};
@@ -21,7 +21,8 @@ pub fn is_asleep<S: Schedule>(schedule: &S, asleep: &[Step], candidate: Step) ->
     false
 }
 
-/// Whether a candidate is asleep: as one of these steps, or, where those that were tried fall asleep, as one of the candidates before it.
+/// Whether a candidate is asleep: as one of these steps, or, if those that were tried fall asleep,
+/// as one of the candidates before it.
 fn dozes<S: Schedule>(
     schedule: &S,
     sleeps: bool,
@@ -34,7 +35,8 @@ fn dozes<S: Schedule>(
     is_asleep(schedule, asleep, candidate) || (sleeps && is_asleep(schedule, before, candidate))
 }
 
-/// The first candidate that is awake, from one on; how many there are where none is.
+/// The index of the first candidate that is awake, from `from` on; the number of candidates if none
+/// is.
 pub(crate) fn first_awake<S: Schedule>(
     schedule: &S,
     sleeps: bool,
@@ -68,7 +70,7 @@ fn fallen(alloc: Global, tried: &[Step], asleep: &[Step]) -> Result<Vec<Step>, A
     Ok(items)
 }
 
-/// The candidates before one, where those that were tried fall asleep.
+/// The candidates before one, if those that were tried fall asleep.
 fn tried(sleeps: bool, candidates: &[Step], index: usize) -> &[Step]
     requires { index ≤ length candidates.now }
     ensures { result.now ≡ take (if sleeps then index else 0) candidates.now }
@@ -78,8 +80,8 @@ fn tried(sleeps: bool, candidates: &[Step], index: usize) -> &[Step]
     before
 }
 
-/// What is asleep at a candidate of a choice: what was asleep there, and, where those that were tried fall asleep, the candidates before it.
-/// An `Err` is want of memory.
+/// What is asleep at a candidate of a choice: what was asleep there, and, if those that were tried
+/// fall asleep, the candidates before it. `Err` means that memory was refused.
 pub fn asleep_at(
     alloc: Global,
     sleeps: bool,

@@ -36,7 +36,8 @@ fn join(report: &mut Report, found: Report) -> Result<(), AllocError>
     Ok(())
 }
 
-/// Explores the runs of a piece, and adds what is found to a report. It answers whether the report ends there.
+/// Explores the runs of a piece, and adds what is found to a report. Returns whether the report
+/// ends there.
 fn add_part<W: Watch>(
     alloc: Global,
     debugger: &mut Debugger<'_>,
@@ -119,8 +120,8 @@ fn have_run(
     Ok(false)
 }
 
-/// Whether there is a run after so many of some pieces, at which a report ends. Where not each end is looked for once, each piece has
-/// one. The debugger is left as found.
+/// Whether there is a run in the pieces after the first `place`, with which a report ends. Unless
+/// each end is looked for once (`ends`), each piece has a run. The debugger is left as found.
 pub fn is_left(
     alloc: Global,
     debugger: &mut Debugger<'_>,
@@ -144,7 +145,8 @@ pub fn is_left(
     have_run(alloc, debugger, behind, limits)
 }
 
-/// Whether there is more where a report ends: one of its pieces has more, or there is a run after them.
+/// Whether there is more after the end of a report: one of its pieces has more, or there is a run
+/// after them.
 pub fn is_more(more: bool, left: bool) -> bool
     ensures { result ≡ (more || left) }
 {
@@ -185,11 +187,12 @@ fn explore_pieces<W: Watch>(
     Ok(report)
 }
 
-/// The parts of all pieces of the runs from here, joined in order, and whether one of them has more (docs/DEFINITIONS.md, "Pieces"):
-/// a part has `runs` leaves at most. Where a list ends with the first deadlock or trap, the report does, no piece after it is explored,
-/// and there is more where some run isn't listed. It is refused where there are more than 1,024 pieces (31), or for want of memory. No
-/// undone step is kept, and the depth and the fuel are at most 1,000,000 steps together. The debugger is left as found, also where it is
-/// refused.
+/// The parts of all pieces of the runs from here, joined in order, and whether one of them has more
+/// (docs/DEFINITIONS.md, "Pieces"): a part has at most `runs` leaves. If a list ends with the first
+/// deadlock or trap, so does the report: no piece after it is explored, and there is more if some
+/// run isn't listed. Refused if there are more than 1,024 pieces (31), or if memory is refused.
+/// Requires that no step is undone, and that depth and fuel together are at most 1,000,000 steps.
+/// The debugger is left as found, also on a refusal.
 pub fn explore_by_pieces<W: Watch>(
     alloc: Global,
     debugger: &mut Debugger<'_>,

@@ -7,7 +7,7 @@ use crate::report::{Ending, RankTrap, RankTrapList, WitnessEnd};
 use mpd_model::{Outcome, TrappedRank};
 use std::alloc::{AllocError, Global};
 
-/// What a witness tells of trapped ranks. An `Err` is want of memory.
+/// What a witness tells of trapped ranks. `Err` means that memory was refused.
 pub(crate) fn rank_traps(alloc: Global, ranks: &[TrappedRank]) -> Result<RankTrapList, AllocError>
     ensures { IfOk result (λ l. l ≡ map rank_trap ranks.now) }
 {
@@ -21,7 +21,8 @@ pub(crate) fn rank_traps(alloc: Global, ranks: &[TrappedRank]) -> Result<RankTra
     Ok(RankTrapList { items })
 }
 
-/// What a run leads to that ends so, where that is a deadlock or a trap. An `Err` is want of memory, and comes only there.
+/// What a run leads to that ends so, if that is a deadlock or a trap. `Err` means that memory was
+/// refused, which happens only there.
 pub(crate) fn end_of(alloc: Global, ending: &Ending) -> Result<Option<WitnessEnd>, AllocError>
     ensures end { IfOk result (λ o. o ≡ end_of ending.now) }
     ensures memory { OnErr result (IsSome (end_of ending.now)) }

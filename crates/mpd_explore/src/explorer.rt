@@ -1,4 +1,4 @@
-//! Exploring from where a debugger stands.
+//! Exploring from a debugger's state.
 
 ghost use Rattle.std.specs.Prelude.{◌≡◌, ◌+◌, ◌<◌, ◌≤◌, ◌⊎◌, true, false, [], ◌∷◌, ◌++◌, if◌then◌else◌, map, IfOk, OnOk, OnErr, IsTrue, length, reverse, string_bytes};
 ghost use Rattle.std.specs.List.{AllByRecursion};
@@ -45,7 +45,8 @@ fn leaf_here(alloc: Global, stack: &[Open], ending: Ending) -> Result<Leaf, Allo
     }
 }
 
-/// The first leaf from here: the candidates that its run takes, and how it ends; none where there is no run any more.
+/// The first leaf from here: the candidates that its run takes, and how it ends; none if there is
+/// no run any more.
 fn next_leaf<S: Schedule>(
     alloc: Global,
     schedule: &S,
@@ -92,7 +93,7 @@ fn is_none(steps: &StepList) -> bool
     steps.items.is_empty()
 }
 
-/// Whether there is a run from here. Where nothing is asleep, there is.
+/// Whether there is a run from here. If nothing is asleep, there is.
 fn is_left<S: Schedule>(
     alloc: Global,
     schedule: &S,
@@ -112,7 +113,7 @@ fn is_left<S: Schedule>(
     is_more(alloc, schedule, debugger, bounds, frontier)
 }
 
-/// Adds the text of the witness of a run that ends here so, where texts are asked for.
+/// Adds the text of the witness of a run that ends here so, if texts are asked for.
 fn add_text(
     alloc: Global,
     debugger: &Debugger<'_>,
@@ -130,7 +131,8 @@ fn add_text(
     Ok(())
 }
 
-/// Adds a leaf, at which the debugger stands, to a report, and the text of its witness, where texts are asked for.
+/// Adds a leaf, at which the debugger stands, to a report, and the text of its witness, if texts
+/// are asked for.
 fn list_leaf(
     alloc: Global,
     debugger: &Debugger<'_>,
@@ -149,8 +151,9 @@ fn list_leaf(
     Ok(())
 }
 
-/// Gathers the leaves from here that are to be listed, each told as it is found, where none is gathered and no choice is open. It
-/// answers whether there are others. The debugger is left anywhere above the base.
+/// Gathers the leaves from here that are to be listed, and tells `watch` of each as it is found. No
+/// leaf is gathered and no choice is open before. Returns whether there are others. On return the
+/// debugger may be at any state from the base on.
 fn gather<S: Schedule, W: Watch>(
     alloc: Global,
     schedule: &S,
@@ -189,8 +192,9 @@ fn gather<S: Schedule, W: Watch>(
     Ok(is_left)
 }
 
-/// The leaves from here that are to be listed, while these steps are asleep, one at least, each told as it is found, and whether there are
-/// others. The debugger is left anywhere above the base.
+/// The leaves from here that are to be listed, while these steps are asleep, one at least, each
+/// told as it is found, and whether there are others. On return the debugger may be at any state
+/// from the base on.
 fn collect<S: Schedule, W: Watch>(
     alloc: Global,
     schedule: &S,
@@ -266,8 +270,8 @@ fn is_idle(limits: Limits, asleep: &[Step]) -> bool
     limits.runs == 0 && asleep.is_empty()
 }
 
-/// The leaves from here that are to be listed, each told as it is found, and whether there are others. The debugger is left anywhere
-/// above the base.
+/// The leaves from here that are to be listed, each told as it is found, and whether there are
+/// others. On return the debugger may be at any state from the base on.
 fn find<S: Schedule, W: Watch>(
     alloc: Global,
     schedule: &S,
@@ -293,10 +297,12 @@ fn find<S: Schedule, W: Watch>(
     Ok(report)
 }
 
-/// The first leaves of the runs from here along a schedule, while some steps are asleep, and whether there are others. It is as `explore`
-/// in all else; no choice takes one of these before it wakes, whether what was tried falls asleep too (`ends`) or not, and a forced step is
-/// taken all the same (docs/DEFINITIONS.md, "What a walk says of all runs"). There may be no run, and then none is listed. An `Err` is want
-/// of memory, which comes only where a leaf is asked for, or a step is asleep.
+/// The first leaves of the runs from here along a schedule, with a sleep set at the start, and
+/// whether there are others. It is as `explore` in all else. No choice takes one of these steps
+/// before it wakes, whether tried candidates fall asleep too (`ends`) or not; a forced step is
+/// taken all the same (docs/DEFINITIONS.md, "What a walk says of all runs"). There may be no run,
+/// and then none is listed. `Err` means that memory was refused, which happens only if a leaf is
+/// asked for, or a step is asleep.
 pub fn explore_with<S: Schedule, W: Watch>(
     alloc: Global,
     schedule: &S,
@@ -327,15 +333,18 @@ pub fn explore_with<S: Schedule, W: Watch>(
     found
 }
 
-/// The first leaves of the runs from here, in the order of their choices, and whether there are others (docs/DEFINITIONS.md, "Runs of a
-/// script"): so many at most, and where that is asked for up to the first deadlock or trap, behind which nothing is looked for but whether
-/// there is another. Where each end is looked for once (`ends`), the runs are those of the wide walk, of which two steps that do not
-/// conflict are taken in one order alone ("What a walk says of all runs" there), and a leaf's choices are numbers of candidates among all
-/// of a wide choice, also of those that are asleep. Fuel counts from here. The debugger is left as found, also where memory is refused,
-/// which is what an `Err` says; that comes only where a leaf is asked for. No undone step is kept, and the depth and the fuel are at most
-/// 1,000,000 steps together. Each leaf has a run, and each deadlock and each trap a witness, which `witness_of` makes and `verify` accepts; where
-/// witnesses are wanted, their texts are made as the leaves are found. `watch` is told of each leaf as it is found: once, in order, with
-/// how many there are so far; nothing else depends on it.
+/// The first leaves of the runs from here, in the order of their choices, and whether there are
+/// others (docs/DEFINITIONS.md, "Runs of a script"). At most `runs` leaves are listed. With
+/// `until_bad` the list ends with the first deadlock or trap; after it, only whether there is
+/// another run is looked for. With `ends` the runs are those of the wide walk, which takes two
+/// steps that do not conflict in one order alone ("What a walk says of all runs" there); a leaf's
+/// choices then number all candidates of a wide choice, also those that are asleep. Fuel counts
+/// from here. The debugger is left as found, also on `Err`, which means that memory was refused;
+/// this happens only if a leaf is asked for. Requires that no step is undone, and that depth and
+/// fuel together are at most 1,000,000 steps. Each leaf has a run, and each deadlock and each trap
+/// a witness, which `witness_of` makes and `verify` accepts. With `witnesses` their texts are made
+/// as the leaves are found. `watch` is told of each leaf as it is found: once, in order, with how
+/// many there are so far; nothing else depends on it.
 pub fn explore<W: Watch>(
     alloc: Global,
     debugger: &mut Debugger<'_>,

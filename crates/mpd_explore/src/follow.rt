@@ -1,4 +1,4 @@
-//! Following choices from where a debugger stands.
+//! Following choices from a debugger's state.
 
 ghost use Rattle.std.specs.Prelude.{◌≡◌, ◌-◌, ◌<◌, ◌≤◌, IfOk, OnErr, Some, [], length};
 ghost use Rattle.mpd_core.specs.DebuggerViews.{standing_of};
@@ -14,8 +14,8 @@ use mpd_model::{STEPS_MAX, Step, StepList};
 use mpd_policy::{Chooser, Schedule, walk};
 use std::alloc::{AllocError, Global};
 
-/// Takes the candidates that some choices name, in order, and notes what is asleep after each, and after each step that nobody has to
-/// choose. `left` are those that are still to be made.
+/// Takes the candidates that some choices name, in order, and notes what is asleep after each, and
+/// after each forced step. `left` are those that are still to be made.
 #[derive(Drop)]
 struct ByPiece<'a, S: Schedule> {
     alloc: Global,
@@ -62,8 +62,9 @@ impl<'a, S: Schedule> Chooser for ByPiece<'a, S> {
     }
 }
 
-/// Goes along choices, and after the last of them on to the next choice or to the end of the run, and answers what is asleep there. With no
-/// choice to be made it stays. An `Err` is want of memory, and comes only where there is a choice.
+/// Goes along choices, and after the last of them on to the next choice or to the end of the run,
+/// and returns what is asleep there. With no choice to be made it stays. `Err` means that memory
+/// was refused, which happens only if there is a choice.
 pub(crate) fn follow<S: Schedule>(
     alloc: Global,
     schedule: &S,

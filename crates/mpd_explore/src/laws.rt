@@ -17,7 +17,7 @@ pub fn no_choice_is_the_whole()
     ensures { law.NoChoiceIsTheWhole }
 {}
 
-/// Where there is no more, the report of a split has the leaf of each run, in the order of the walk.
+/// If there is no more, the report of a split has the leaf of each run, in the order of the walk.
 pub fn no_more_is_the_whole()
     ensures { law.NoMoreIsTheWhole }
 {}

@@ -32,7 +32,8 @@ fn put_choices(alloc: Global, leaf: &mut Leaf, choices: &[usize]) -> Result<(), 
     Ok(())
 }
 
-/// Puts choices in front of those of each leaf. An `Err` is want of memory, and comes only where there is a leaf.
+/// Puts choices in front of those of each leaf. `Err` means that memory was refused, which happens
+/// only if there is a leaf.
 fn put_in_front(alloc: Global, leaves: &mut Vec<Leaf>, choices: &[usize]) -> Result<(), AllocError>
     ensures leaves { OnOk result (leaves.new.items ≡ map (behind choices.now) leaves.old.items) }
     ensures memory { OnErr result (0 < length leaves.old.items) }
@@ -56,7 +57,8 @@ fn nothing_found(alloc: Global) -> Report
     }
 }
 
-/// The first leaves of the runs along a schedule that begin with some choices. The debugger is left anywhere beyond where it stood.
+/// The first leaves of the runs along a schedule that begin with some choices. On return the
+/// debugger may be at any later state.
 fn explore_behind<S: Schedule, W: Watch>(
     alloc: Global,
     schedule: &S,
@@ -125,11 +127,13 @@ fn explore_piece<S: Schedule, W: Watch>(
     found
 }
 
-/// The first leaves of the runs from here that begin with some choices, and whether there are others of these (docs/DEFINITIONS.md,
-/// "Pieces"). Fuel counts from here, and so do the choices and the text of each leaf, which has a run, and a deadlock or a trap a witness, as those
-/// of `explore` do. Some run has these choices, as those of each piece of `split` by these limits; no undone step is kept, and the depth and
-/// the fuel are at most 1,000,000 steps together. The debugger is left as found, also where memory is refused, which is what an `Err` says;
-/// that comes only where a leaf is asked for, or there is a choice. `watch` is told of each leaf as `explore` tells it, counted from 1.
+/// The first leaves of the runs from here that begin with some choices, and whether there are
+/// others of these (docs/DEFINITIONS.md, "Pieces"). Fuel, choices and texts count from here. Each
+/// leaf has a run, and each deadlock and each trap a witness, as those of `explore`. Requires that
+/// some run has these choices, as those of each piece of `split` by these limits; that no step is
+/// undone; and that depth and fuel together are at most 1,000,000 steps. The debugger is left as
+/// found, also on `Err`, which means that memory was refused; this happens only if a leaf is asked
+/// for, or there is a choice. `watch` is told of each leaf as by `explore`, counted from 1.
 pub fn explore_at<W: Watch>(
     alloc: Global,
     debugger: &mut Debugger<'_>,

@@ -30,7 +30,7 @@ fn push_decimal(out: &mut String, number: usize) -> Result<(), AllocError>
     Ok(())
 }
 
-/// Adds choices, with one space between two. An `Err` is want of memory.
+/// Adds choices, with one space between two. `Err` means that memory was refused.
 pub fn push_choices(out: &mut String, choices: &[usize]) -> Result<(), AllocError>
     ensures { OnOk result (string_bytes out.new ≡ string_bytes out.old ++ choices_text choices.now) }
 {
@@ -59,7 +59,8 @@ fn push_ending(alloc: Global, out: &mut String, ending: &Ending) -> Result<(), A
     Ok(())
 }
 
-/// Adds the text of a leaf: its choices, and how it ends, as `[0 2] deadlock 0.1 1.0`. An `Err` is want of memory.
+/// Adds the text of a leaf: its choices, and how it ends, as `[0 2] deadlock 0.1 1.0`. `Err` means
+/// that memory was refused.
 pub fn push_leaf_text(alloc: Global, out: &mut String, leaf: &Leaf) -> Result<(), AllocError>
     ensures { OnOk result (string_bytes out.new ≡ string_bytes out.old ++ leaf_text leaf.now) }
 {
@@ -123,8 +124,8 @@ fn push_steps(out: &mut String, steps: &[Step]) -> Result<(), AllocError>
     Ok(())
 }
 
-/// The text of the witness that these steps are of a run that ends so: what its line has behind the number, with the line feed, and
-/// nothing where the run ends neither in a deadlock nor with a trap.
+/// The text of the witness that these steps make of a run that ends so: what its line has after the
+/// number, with the line feed; empty if the run ends neither in a deadlock nor with a trap.
 #[tactic(auto, using(crate::proofs::PrintLemmas::witnessing))]
 fn witness_text(alloc: Global, steps: &[Step], ending: &Ending) -> Result<String, AllocError>
     ensures { IfOk result (λ t. string_bytes t ≡ behind_number (witness_by steps.now ending.now)) }
@@ -139,8 +140,9 @@ fn witness_text(alloc: Global, steps: &[Step], ending: &Ending) -> Result<String
     Ok(out)
 }
 
-/// The text of the witness of a run that ends so where a debugger stands, as a line of a report has it after its number, with the line
-/// feed: empty where that is neither a deadlock nor a trap. An `Err` is want of memory.
+/// The text of the witness of a run that ends so in the debugger's state, as a line of a report has
+/// it after its number, with the line feed; empty if that is neither a deadlock nor a trap. `Err`
+/// means that memory was refused.
 pub fn witness_here(
     alloc: Global,
     debugger: &Debugger<'_>,
@@ -165,7 +167,7 @@ fn push_numbered(out: &mut String, number: usize, text: &str) -> Result<(), Allo
     out.push_str(text)
 }
 
-/// Adds the line of the witness of this number, where there is a text of it that isn't empty.
+/// Adds the line of the witness of this number, if there is a text of it that isn't empty.
 fn push_witness(out: &mut String, number: usize, texts: &[String]) -> Result<(), AllocError>
     ensures { OnOk result (string_bytes out.new ≡ string_bytes out.old ++ numbered_at number (slice_get (map string_bytes texts.now) number)) }
 {
@@ -175,8 +177,8 @@ fn push_witness(out: &mut String, number: usize, texts: &[String]) -> Result<(),
     push_numbered(out, number, texts[number].as_str())
 }
 
-/// Adds the lines of leaves, of which the first has this number, each with the line of its witness, where there is a text of its
-/// number that isn't empty. An `Err` is want of memory.
+/// Adds the lines of leaves, of which the first has this number, each with the line of its witness,
+/// if there is a text of its number that isn't empty. `Err` means that memory was refused.
 pub fn push_leaves(
     alloc: Global,
     out: &mut String,
@@ -196,7 +198,8 @@ pub fn push_leaves(
     Ok(())
 }
 
-/// Adds the last line of a report: how many leaves there are, and whether there are others. An `Err` is want of memory.
+/// Adds the last line of a report: how many leaves there are, and whether there are others. `Err`
+/// means that memory was refused.
 pub fn push_total(out: &mut String, report: &Report) -> Result<(), AllocError>
     ensures { OnOk result (string_bytes out.new ≡ string_bytes out.old ++ total_line report.now.leaves.items report.now.more) }
 {
@@ -215,8 +218,9 @@ fn told(alloc: Global, report: &Report) -> Result<String, AllocError>
     Ok(out)
 }
 
-/// A report as text: a line for each leaf, behind each deadlock and each trap a line with its witness, where the report has their texts, and at last
-/// how many leaves there are, and whether there are others. An `Err` is want of memory.
+/// A report as text: a line for each leaf; after each deadlock and each trap a line with its
+/// witness, if the report has their texts; last, how many leaves there are, and whether there are
+/// others. `Err` means that memory was refused.
 pub fn print_report(alloc: Global, report: &Report) -> Result<String, AllocError>
     ensures told { IfOk result (λ t. string_bytes t ≡ told_text (map string_bytes report.now.witnesses.items) report.now.leaves.items report.now.more) }
     ensures text { (decide : World → Decision) (asked : Bool) (before : List Step) (fuel : ℕ) (w : World) → map string_bytes report.now.witnesses.items ≡ witness_texts decide asked before fuel w report.now.leaves.items → IfOk result (λ t. string_bytes t ≡ report_text decide asked before fuel w report.now.leaves.items report.now.more) }

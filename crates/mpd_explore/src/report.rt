@@ -57,7 +57,7 @@ pub(crate) fn is_bad(ending: &Ending) -> bool
 }
 
 impl Leaf {
-    /// Whether it is a deadlock or a trap.
+    /// Whether the run of this leaf ends in a deadlock or with a trap.
     pub fn is_bad(&self) -> bool
         ensures { result ≡ is_bad self.now.ending }
     {
@@ -70,8 +70,9 @@ impl Leaf {
 pub struct Report {
     pub leaves: Vec<Leaf>,
     pub more: bool,
-    /// Where witnesses are wanted a text for each leaf, in order: for a deadlock or a trap what the line of its witness has behind the
-    /// number, with the line feed; for any other leaf the empty text. Else there are none.
+    /// If witnesses are wanted, a text for each leaf, in order: for a deadlock or a trap what the
+    /// line of its witness has after the number, with the line feed; for any other leaf the empty
+    /// text. Else there are none.
     pub witnesses: Vec<String>,
 }
 
@@ -88,7 +89,7 @@ fn any_bad(leaves: &[Leaf]) -> bool
 }
 
 impl Report {
-    /// Whether a leaf of it is a deadlock or a trap.
+    /// Whether the run of one of its leaves ends in a deadlock or with a trap.
     pub fn has_bad(&self) -> bool
         ensures { result ≡ any_bad self.now.leaves.items }
     {
@@ -97,14 +98,16 @@ impl Report {
 }
 
 impl Limits {
-    /// Whether a list ends with a leaf, whatever comes after it.
+    /// Whether a list ends with this leaf: lists end with the first deadlock or trap (`until_bad`), and
+    /// this leaf is one.
     pub fn ends_with(self, leaf: &Leaf) -> bool
         ensures { result ≡ (self.until_bad && is_bad leaf.now.ending) }
     {
         self.until_bad && leaf.is_bad()
     }
 
-    /// Whether a list of reports ends with one, whatever comes after it.
+    /// Whether a list of reports ends with this one: lists end with the first deadlock or trap
+    /// (`until_bad`), and this report has one.
     pub fn ends_with_report(self, report: &Report) -> bool
         ensures { result ≡ (self.until_bad && any_bad report.now.leaves.items) }
     {

@@ -14,7 +14,8 @@ use mpd_policy::{Chooser, Schedule, ending_of, walk};
 use std::alloc::{AllocError, Global};
 use std::mem;
 
-/// A choice that is open: the depth where it is, its candidates, the one that is taken, and what was asleep there.
+/// An open choice: its depth, its candidates, the index of the one that is taken, and its sleep
+/// set.
 #[derive(Drop)]
 pub(crate) struct Open {
     pub(crate) depth: usize,
@@ -23,7 +24,8 @@ pub(crate) struct Open {
     pub(crate) asleep: StepList,
 }
 
-/// The depth where a search begins, the one where its fuel ends, and whether the candidates that were tried fall asleep.
+/// The depth at which a search begins, the one at which its fuel ends, and whether the candidates
+/// that were tried fall asleep.
 #[derive(Clone, Copy)]
 pub(crate) struct Bounds {
     pub(crate) base: usize,
@@ -31,7 +33,8 @@ pub(crate) struct Bounds {
     pub(crate) sleeps: bool,
 }
 
-/// What is still to be tried: the open choices, the innermost last, and what is asleep where the debugger stands.
+/// What is still to be tried: the open choices, the innermost last, and the sleep set of the
+/// debugger's state.
 #[derive(Drop)]
 pub(crate) struct Frontier {
     pub(crate) stack: Vec<Open>,
@@ -49,8 +52,9 @@ fn take_asleep(alloc: Global, frontier: &mut Frontier) -> StepList
     mem::replace(&mut frontier.asleep, none)
 }
 
-/// Opens a choice, at which the debugger stands, at its first candidate that is awake, from the one that it names on, and answers that
-/// candidate; none where all these are asleep. An `Err` is want of memory.
+/// Opens the choice of the debugger's state at its first candidate that is awake, from the index
+/// that it names on, and returns that candidate; none if all of these are asleep. `Err` means that
+/// memory was refused.
 fn open_choice<S: Schedule>(
     alloc: Global,
     schedule: &S,
@@ -140,7 +144,8 @@ fn go_back(debugger: &mut Debugger<'_>, depth: usize)
     let _ = debugger.undo_to(depth);
 }
 
-/// Goes on to the end of a run from here; none where it comes to a choice whose candidates are all asleep.
+/// Goes on to the end of a run from here; none if it comes to a choice whose candidates are all
+/// asleep.
 fn descend<S: Schedule>(
     alloc: Global,
     schedule: &S,
@@ -165,7 +170,8 @@ fn descend<S: Schedule>(
     Ok(ending)
 }
 
-/// Goes back to the innermost open choice with a candidate left that is awake, and takes that; false where there is none.
+/// Goes back to the innermost open choice with a candidate left that is awake, and takes that;
+/// false if there is none.
 pub(crate) fn advance<S: Schedule>(
     alloc: Global,
     schedule: &S,
@@ -201,7 +207,7 @@ pub(crate) fn advance<S: Schedule>(
     Ok(false)
 }
 
-/// Goes on to the end of the first run from here; none where there is no run any more.
+/// Goes on to the end of the first run from here; none if there is no run any more.
 pub(crate) fn seek<S: Schedule>(
     alloc: Global,
     schedule: &S,

@@ -1,5 +1,5 @@
-//! What is asleep after some choices: where those that were tried fall asleep, the candidates before those that were taken, as long as
-//! no step wakes them.
+//! The sleep set after some choices: if tried candidates fall asleep, the candidates before those
+//! that were taken, as long as no step wakes them.
 
 ghost use Rattle.std.specs.Prelude.{◌≡◌, ◌||◌, [], false};
 ghost use Rattle.std.specs.List.{list_any};
@@ -32,7 +32,8 @@ impl Sleep {
         }
     }
 
-    /// Notes that a candidate is taken where a debugger stands, at which these steps are asleep. It may be one of them.
+    /// Notes that a candidate is taken in the debugger's state, whose sleep set these steps are. It
+    /// may be one of them.
     pub(crate) fn take<S: Schedule>(
         &mut self,
         schedule: &S,
@@ -48,7 +49,7 @@ impl Sleep {
         schedule.keep_asleep(debugger, step, &mut self.steps);
     }
 
-    /// Notes that a step is taken where a debugger stands, which nobody has to choose.
+    /// Notes that a forced step is taken in the debugger's state.
     pub(crate) fn pass<S: Schedule>(&mut self, schedule: &S, debugger: &Debugger<'_>, step: Step)
         ensures steps { self.new.steps ≡ S.keeps debugger.now.world step self.old.steps }
         ensures passed { self.new.is_passed ≡ self.old.is_passed }

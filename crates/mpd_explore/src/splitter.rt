@@ -33,12 +33,12 @@ pub struct Piece {
 pub enum SplitFault {
     /// There are more than 1,024.
     TooManyPieces,
-    /// A growth was refused.
+    /// Memory was refused.
     Memory,
 }
 
 impl SplitFault {
-    /// Its number; 0 for want of memory, which has none here.
+    /// Its number: 31 for too many pieces; 0 for refused memory, which has none here.
     pub fn number(self) -> u8
         ensures { result ≡ split_fault_number self }
     {
@@ -48,7 +48,7 @@ impl SplitFault {
         }
     }
 
-    /// Its name.
+    /// Its name: `too-many-pieces` or `memory`.
     pub fn name(self) -> &'static str
         ensures { result.now ≡ split_fault_name self }
     {
@@ -81,7 +81,8 @@ impl From<AllocError> for SplitFault {
     }
 }
 
-/// Takes a forced step, or answers how many candidates there are to choose from; none of them where the run has ended.
+/// Takes a forced step, or returns how many candidates there are to choose from: 0 if the run has
+/// ended.
 fn look<S: Schedule>(
     alloc: Global,
     schedule: &S,
@@ -102,7 +103,8 @@ fn look<S: Schedule>(
     }
 }
 
-/// Goes on by forced steps to the next choice, and answers how many candidates it has; 0 where the run ends before it, or its fuel.
+/// Goes on by forced steps to the next choice, and returns how many candidates it has; 0 if the run
+/// or its fuel ends before it.
 fn look_ahead<S: Schedule>(
     alloc: Global,
     schedule: &S,
@@ -124,7 +126,8 @@ fn look_ahead<S: Schedule>(
     Ok(0)
 }
 
-/// Goes on after some choices to the next one, and answers how many candidates that has, as `look_ahead` does.
+/// Goes on after some choices to the next one, and returns how many candidates that has, as
+/// `look_ahead` does.
 fn look_behind<S: Schedule>(
     alloc: Global,
     schedule: &S,
@@ -166,7 +169,7 @@ fn candidates_behind<S: Schedule>(
     found
 }
 
-/// Adds a piece, or refuses it where there are 1,024.
+/// Adds a piece, or refuses it if there are 1,024.
 fn push_piece(made: &mut Vec<Piece>, choices: ChoiceList) -> Result<(), SplitFault>
     requires few { length made.old.items ≤ PIECES_MAX }
     ensures ok { OnOk result (Adds made.old.items (choices ∷ []) made.new.items) }
@@ -199,7 +202,7 @@ fn with_one_more(alloc: Global, choices: &[usize], choice: usize) -> Result<Choi
     Ok(ChoiceList { items })
 }
 
-/// Adds a piece for each of so many candidates after some choices.
+/// Adds a piece for each of `count` candidates after some choices.
 fn push_each(
     alloc: Global,
     made: &mut Vec<Piece>,
@@ -220,7 +223,8 @@ fn push_each(
     Ok(())
 }
 
-/// Adds what some choices become with one more, of so many candidates: one piece for each, or the choices alone where there is none.
+/// Adds what some choices become with one more, of `count` candidates: one piece for each, or the
+/// choices alone if there is none.
 fn push_longer(
     alloc: Global,
     made: &mut Vec<Piece>,
@@ -239,7 +243,7 @@ fn push_longer(
     push_piece(made, own)
 }
 
-/// Adds what some choices become with one more, and answers whether there was one to be made.
+/// Adds what some choices become with one more, and returns whether there was one to be made.
 fn push_grown<S: Schedule>(
     alloc: Global,
     schedule: &S,
@@ -360,11 +364,13 @@ fn split_by<S: Schedule>(
     Ok(made)
 }
 
-/// The runs from here cut into pieces by their first choices, so many of them (docs/DEFINITIONS.md, "Pieces"): those of the walk, or where
-/// each end is looked for once (`ends`) those of the wide walk. Fuel counts from here, and of the limits nothing else matters. A run that
-/// ends before that, or whose fuel does, is a piece by the choices that it makes. The pieces are numbered from 0, in order. No undone step
-/// is kept, and the depth and the fuel are at most 1,000,000 steps together. It is refused where there are more than 1,024 pieces (31), or
-/// for want of memory. The debugger is left as found, also where it is refused.
+/// Cuts the runs from here into pieces by their first `choices` choices (docs/DEFINITIONS.md,
+/// "Pieces"): the runs of the walk, or with `ends` those of the wide walk. Fuel counts from here;
+/// of the limits nothing else matters. A run that makes fewer choices, since it ends or its fuel
+/// does, is a piece by those that it makes. The pieces are numbered from 0, in order. Requires that
+/// no step is undone, and that depth and fuel together are at most 1,000,000 steps. Refused if
+/// there are more than 1,024 pieces (31), or if memory is refused. The debugger is left as found,
+/// also on a refusal.
 pub fn split(
     alloc: Global,
     debugger: &mut Debugger<'_>,

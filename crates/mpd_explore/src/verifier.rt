@@ -24,16 +24,16 @@ use std::fmt;
 pub enum WitnessFault {
     /// The step at this place, from 0, is not enabled there.
     NoSuchStep(usize),
-    /// The steps don't lead to a deadlock, or, where the witness says so, to a trap.
+    /// The steps don't lead to a deadlock, or, if the witness says so, to a trap.
     NotStuck,
     /// Other calls are blocked in that deadlock, or other ranks trapped, or trapped otherwise.
     WrongBlocked,
-    /// A growth was refused.
+    /// Memory was refused.
     Memory,
 }
 
 impl WitnessFault {
-    /// Its number, as docs/FORMATS.md lists them; 0 for want of memory, which has none here.
+    /// Its number, as docs/FORMATS.md lists them; 0 for refused memory, which has none here.
     pub fn number(self) -> u8
         ensures { result ≡ witness_fault_number self }
     {
@@ -45,7 +45,7 @@ impl WitnessFault {
         }
     }
 
-    /// Its name.
+    /// Its name: `no-such-step`, `not-stuck`, `wrong-blocked` or `memory`.
     pub fn name(self) -> &'static str
         ensures { result.now ≡ witness_fault_name self }
     {
@@ -70,7 +70,7 @@ impl fmt::Display for WitnessFault {
 
 impl Error for WitnessFault {}
 
-/// Whether two lists of calls are one.
+/// Whether two lists of calls are equal.
 fn is_same(a: &[CallId], b: &[CallId]) -> bool
     ensures { IsTrue result ↔ (a.now ≡ b.now) }
 {
@@ -143,7 +143,8 @@ fn check_traps(traps: &[TrappedRank], end: &WitnessEnd) -> Result<(), WitnessFau
     }
 }
 
-/// Whether a run that has this outcome, or none, has come to what a witness says. `Memory` comes only where the outcome lists something.
+/// Whether a run that has this outcome, or none, has come to what a witness says. `Memory` comes
+/// only if the outcome lists something.
 fn check_outcome(
     alloc: Global,
     outcome: &Option<Outcome>,
@@ -167,7 +168,8 @@ fn check_outcome(
     }
 }
 
-/// Whether a state is what a witness says that its steps lead to. `Memory` comes only where how the run has ended lists something.
+/// Whether a state is what a witness says that its steps lead to. `Memory` comes only if the
+/// outcome lists something.
 fn check_end(alloc: Global, core: &Core<'_>, end: &WitnessEnd) -> Result<(), WitnessFault>
     ensures ok { OnOk result (end_in (outcome core.now.world) ≡ Some end.now) }
     ensures fault { IfErr result (λ e. e ≢ WitnessFault.Memory → FaultAtEnd (end_in (outcome core.now.world)) end.now e) }
@@ -182,7 +184,8 @@ fn check_end(alloc: Global, core: &Core<'_>, end: &WitnessEnd) -> Result<(), Wit
     checked
 }
 
-/// Takes the step of a witness that stands at this place. `Memory` comes only where the relation of steps has that step.
+/// Takes the step of a witness that stands at this place. `Memory` comes only if the relation of
+/// steps has that step.
 fn take_step(core: &mut Core<'_>, step: Step, place: usize) -> Result<(), WitnessFault>
     ensures ok { OnOk result (next core.old.world step ≡ Some core.new.world) }
     ensures fault { IfErr result (λ e. e ≢ WitnessFault.Memory → (e ≡ WitnessFault.NoSuchStep place) × (next core.old.world step ≡ None)) }
@@ -209,9 +212,10 @@ fn take_steps(core: &mut Core<'_>, steps: &[Step]) -> Result<(), WitnessFault>
     Ok(())
 }
 
-/// The same as `verify`, from where a core stands, which is left where the steps have led: behind those before the one that isn't
-/// enabled (32), else behind all. `Memory` comes only where the step that is next there is one that the relation of steps has, or where
-/// none is left and how the run has ended lists something.
+/// The same as `verify`, from the state of a core, which is left where the steps have led: after
+/// those before the one that isn't enabled (32), else after all. `Memory` comes only if the next
+/// step there is one that the relation of steps has, or if none is left and the outcome lists
+/// something.
 pub fn verify_from(
     alloc: Global,
     core: &mut Core<'_>,
@@ -227,9 +231,11 @@ pub fn verify_from(
     check_end(alloc, core, &witness.end)
 }
 
-/// Whether a witness is one (docs/DEFINITIONS.md, "Witnesses"): its steps are taken from the start, and none is taken back. It is
-/// refused for the first step that is not enabled where it stands (32), else where the end is no deadlock, or no trap where the witness says
-/// that it is one (33), else where other calls are blocked in it, or other ranks trapped, or trapped otherwise (34). `Memory` is that a growth was refused, for the start or where `verify_from` says.
+/// Checks a witness (docs/DEFINITIONS.md, "Witnesses"): its steps are taken from the start, and
+/// none is taken back. Refused for the first step that is not enabled in its place (32); else if
+/// the end is no deadlock, or no trap although the witness says so (33); else if other calls are
+/// blocked in it, or other ranks trapped, or trapped otherwise (34). `Memory` means that memory was
+/// refused, for the start or where `verify_from` says.
 pub fn verify(alloc: Global, code: &Code, mode: Mode, witness: &Witness) -> Result<(), WitnessFault>
     ensures ok { OnOk result (IsWitness code.now.program mode witness.now) }
     ensures fault { IfErr result (λ e. e ≢ WitnessFault.Memory → HasFault (start code.now.program mode) 0 witness.now.steps witness.now.end e) }

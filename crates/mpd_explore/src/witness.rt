@@ -25,7 +25,7 @@ fn steps_here(alloc: Global, debugger: &Debugger<'_>) -> Result<StepList, AllocE
     Ok(StepList { items })
 }
 
-/// All steps from the start to the end of a run. The debugger is left anywhere beyond where it stood.
+/// All steps from the start to the end of a run. On return the debugger may be at any later state.
 fn retrace<S: Schedule>(
     alloc: Global,
     schedule: &S,
@@ -64,9 +64,10 @@ fn retraced<S: Schedule>(
     found
 }
 
-/// The witness of a leaf that was listed along a schedule, where that is a deadlock or a trap: the steps of its run, made again from where
-/// the debugger stands, behind those that led here, and what they lead to. The fuel is the one of that exploration. The debugger is left as
-/// found, also where memory is refused, which is what an `Err` says; that comes only where the leaf is a deadlock or a trap.
+/// The witness of a leaf that was listed along a schedule, if it is a deadlock or a trap: the steps
+/// that led to the debugger's state, then those of the leaf's run, made again, and what they lead
+/// to. `fuel` is that of the exploration. The debugger is left as found, also on `Err`, which means
+/// that memory was refused; this happens only if the leaf is a deadlock or a trap.
 pub fn witness_of<S: Schedule>(
     alloc: Global,
     schedule: &S,

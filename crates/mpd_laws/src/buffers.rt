@@ -2,7 +2,8 @@
 
 ghost use Rattle.mpd_laws.specs.BufferLaws as law;
 
-/// In every run of a mode whose buffers don't run out, a send is done where it is paired, or where it is a standard one and the mode buffers them all (MPI 4.0, section 3.4).
+/// In every run of a mode whose buffers don't run out, a send is done if it is paired, or if it is
+/// a standard one and the mode buffers them all (MPI 4.0, section 3.4).
 pub fn sends_are_done_by_match_or_mode()
     ensures { law.SendsAreDoneByMatchOrMode }
 {}
@@ -22,7 +23,8 @@ pub fn no_slot_is_held_in_rendezvous()
     ensures { law.NoSlotIsHeldInRendezvous }
 {}
 
-/// In every run of the mode that buffers all, a rank holds a slot for each of its standard sends that no pair names.
+/// In every run of the mode that buffers all, a rank holds a slot for each of its standard sends
+/// that are in no pair.
 pub fn each_free_standard_send_holds_one()
     ensures { law.EachFreeStandardSendHoldsOne }
 {}

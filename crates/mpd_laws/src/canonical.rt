@@ -3,12 +3,13 @@
 ghost use Rattle.mpd_model.specs.grammar.Printable as printable;
 ghost use Rattle.mpd_model.specs.grammar.ReaderLaws.{WrittenScriptsAreRead, ScriptsAreWritten};
 
-/// Where what is written as a script is read as that, the canonical text of a printable script is read as that script, with the lines of this text.
+/// If each text that the grammar writes as a script is read as that script, the canonical text of a
+/// printable script is read as that script, with the lines of this text.
 pub fn canonical_is_read_again()
     ensures { WrittenScriptsAreRead → printable.CanonicalIsReadAgain }
 {}
 
-/// Where what is read as a script is written so, it is printable.
+/// If each script that is read is also written so by the grammar, it is printable.
 pub fn read_scripts_are_printable()
     ensures { ScriptsAreWritten → printable.ReadScriptsArePrintable }
 {}

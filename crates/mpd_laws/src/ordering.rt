@@ -2,7 +2,8 @@
 
 ghost use Rattle.mpd_laws.specs.OrderLaws as law;
 
-/// Where one call completes before another, every run shows them in that order: match sets name the first one earlier, and a wait for it comes when it is done (MPI 4.0, sections 3.5 and 3.7.4).
+/// If one call completes before another, every run shows them in that order: match sets name the
+/// first one earlier, and a wait for it comes when it is done (MPI 4.0, sections 3.5 and 3.7.4).
 pub fn calls_complete_in_order()
     ensures { law.CallsCompleteInOrder }
 {}

@@ -2,17 +2,19 @@
 
 ghost use Rattle.mpd_model.specs.grammar.ReaderLaws as law;
 
-/// What is read as an expression is written so.
+/// What is read as an expression is also written so by the grammar.
 pub fn expressions_are_written()
     ensures { law.ExpressionsAreWritten }
 {}
 
-/// What is read as statements is written so, and each is noted with the line of its first token, in text order.
+/// What is read as statements is also written so by the grammar, and each is noted with the line of
+/// its first token, in text order.
 pub fn statements_are_written()
     ensures { law.StatementsAreWritten }
 {}
 
-/// What is read as a script is written so, from the first token of the text to its last.
+/// What is read as a script is also written so by the grammar, from the first token of the text to
+/// its last.
 pub fn scripts_are_written()
     ensures { law.ScriptsAreWritten }
 {}
@@ -27,7 +29,8 @@ pub fn scripts_are_of_version()
     ensures { law.ScriptsAreOfVersion }
 {}
 
-/// Want of memory is no fault of a text: where `read` gives another fault, the definition gives that one and no other.
+/// Refused memory is no fault of a text: if `read` gives another fault, the definition gives that
+/// one and no other.
 pub fn no_text_is_memory()
     ensures { law.NoTextIsMemory }
 {}
@@ -52,7 +55,8 @@ pub fn blocks_decide_depth_alone()
     ensures { law.BlocksDecideDepthAlone }
 {}
 
-/// What is written as an expression is read as that, where its brackets and operators are within the budget and no operator goes on behind it.
+/// What the grammar writes as an expression is read as that, if its brackets and operators are
+/// within the budget and no operator follows it.
 pub fn written_expressions_are_read()
     ensures { law.WrittenExpressionsAreRead }
 {}

@@ -13,7 +13,8 @@ pub fn read_scripts_are_printable()
     canonical::read_scripts_are_printable();
 }
 
-/// The canonical text of what can be printed is read as that, in every field but the lines, where it isn't too long.
+/// The canonical text of what can be printed is read as that, in every field but the lines, if it
+/// isn't too long.
 pub fn canonical_is_read_again()
     ensures { printable.CanonicalIsReadAgain }
 {

@@ -13,17 +13,18 @@ use mpd_queue::Tape;
 use std::alloc::{AllocError, Global};
 use std::marker::Model;
 
-/// The calls of all ranks, the partner of each, the match sets, and the lines that free calls wait in.
+/// The calls of all ranks, the partner of each, the match sets, and the lines that free calls wait
+/// in.
 ///
-/// Contracts see a `BoardView`: a board, for how many changes of any kind room is kept, and the number of writes since
-/// the board was made. Everything that changes is counted. What the definitions look up is one look at a tape here, and
-/// no change takes memory.
+/// Contracts see a `BoardView`: the board, the number of changes of any kind for which room is
+/// reserved, and the number of writes since the board was made. Every change is counted. What the
+/// definitions look up takes one look at a tape here. No change takes memory.
 #[derive(Drop)]
 pub struct Board {
     pub(crate) mode: Mode,
     pub(crate) sides: Vec<Side>,
     pub(crate) sets: Tape<MatchSet>,
-    /// How many slots each rank holds: as many as it has buffered sends that no pair names.
+    /// How many slots each rank holds: as many as it has buffered sends that are in no pair.
     pub(crate) slots: Tape<usize>,
 }
 
@@ -44,7 +45,8 @@ impl Model for Board {
 }
 
 impl Board {
-    /// So many ranks, at most `RANKS_MAX`, before any call. An `Err` is want of memory.
+    /// A board of `ranks` ranks, at most `RANKS_MAX`, before any call. `Err` means that memory was
+    /// refused.
     pub fn new(alloc: Global, ranks: usize, mode: Mode) -> Result<Board, AllocError>
         requires { ranks ≤ RANKS_MAX }
         ensures board { IfOk result (λ b. b.board ≡ start_board ranks mode) }
@@ -58,7 +60,8 @@ impl Board {
         })
     }
 
-    /// Keeps room for one change, whatever it is. An `Err` is want of memory, and comes only where there was no such room.
+    /// Reserves room for one change of any kind. `Err` means that memory was refused, which happens
+    /// only if there was no such room.
     pub fn keep_room(&mut self) -> Result<(), AllocError>
         ensures board { self.new.board ≡ self.old.board }
         ensures writes { self.new.writes ≡ self.old.writes }
@@ -70,8 +73,9 @@ impl Board {
         sides::keep_rooms(&mut self.sides)
     }
 
-    /// A rank issues a call. A send or a receive joins its line, at the end; a standard send is marked as buffered where the
-    /// mode has a buffer for it now, and then holds a slot of its rank. It answers the call's number, which is below 4,294,967,295. `unissue` gives the board before.
+    /// A rank issues a call. A send or a receive joins the end of its line. A standard send is
+    /// marked as buffered if the mode has a buffer for it now, and then holds a slot of its rank.
+    /// Returns the call's number, which is below 4,294,967,295. `unissue` restores the board.
     pub fn issue(&mut self, rank: usize, call: Call) -> u32
         requires rank { rank < length self.old.board.calls }
         requires receiver { HasReceiver (length self.old.board.calls) call.kind }
@@ -90,7 +94,8 @@ impl Board {
         self.add_call(rank, Call { kind, ..call })
     }
 
-    /// Whether a standard send of a rank is buffered, were it issued now (MPI 4.0, section 3.4).
+    /// Whether a standard send of this rank would be buffered if it were issued now (MPI 4.0,
+    /// section 3.4).
     fn has_buffer(&self, rank: usize) -> bool
         ensures { result ≡ has_buffer self.now.board rank }
     {
@@ -120,7 +125,7 @@ impl Board {
         number
     }
 
-    /// The last call of a rank is taken back, which no pair names, and with it the slot that it holds.
+    /// Takes back the last call of a rank, which is in no pair, and with it the slot that it holds.
     #[inline(never)]
     pub fn unissue(&mut self, rank: usize)
         requires some { 0 < length (calls_of self.old.board rank) }
@@ -136,7 +141,8 @@ impl Board {
         slots::give_slot_back(&mut self.slots, rank, kind);
     }
 
-    /// A send and a receive are paired (MPI 4.0, section 3.5). The slot that the send holds is free again. `unpair` with the record gives the board before.
+    /// Pairs a send and a receive (MPI 4.0, section 3.5). The slot that the send holds is free
+    /// again. `unpair` with the record restores the board.
     pub fn pair(&mut self, send: CallId, recv: CallId) -> PairRecord
         requires eligible { eligible self.old.board send recv ≡ true }
         requires room { 1 ≤ self.old.room }
@@ -159,7 +165,8 @@ impl Board {
         }
     }
 
-    /// The last match set, a pair, is taken back: its calls are free again, where they stood, and the send holds its slot again.
+    /// Takes back the last match set, a pair: its calls are free again, at their old places in
+    /// their lines, and the send holds its slot again.
     pub fn unpair(&mut self, done: PairRecord)
         requires { Recorded (without_last_set self.old.board) done (last_set self.old.board) }
         ensures board { self.new.board ≡ without_last_set self.old.board }
@@ -176,7 +183,8 @@ impl Board {
         slots::take_slot(&mut self.slots, send.rank, kind);
     }
 
-    /// A rank that was blocked on this call went on.
+    /// Notes that the rank that was blocked on this call went on. One write; the room for one
+    /// change is used. `unwoke` restores the board.
     pub fn woke(&mut self, call: CallId)
         requires { 1 ≤ self.old.room }
         ensures board { self.new.board ≡ with_set self.old.board (MatchSet.Woke call) }
@@ -188,7 +196,7 @@ impl Board {
         self.add_set(MatchSet::Woke(call));
     }
 
-    /// The last match set, a wake, is taken back.
+    /// Takes back the last match set, which must be a wake. One write.
     pub fn unwoke(&mut self)
         requires { is_woke (last_set self.old.board) ≡ true }
         ensures board { self.new.board ≡ without_last_set self.old.board }
@@ -198,7 +206,7 @@ impl Board {
         self.drop_set();
     }
 
-    /// A match set that pairs no calls joins the others.
+    /// Adds a match set that pairs no calls.
     pub(crate) fn add_set(&mut self, set: MatchSet)
         requires lone { is_lone (Some set) ≡ true }
         requires room { 1 ≤ self.old.room }
@@ -211,7 +219,7 @@ impl Board {
         self.sets.push_kept(set);
     }
 
-    /// The last match set, which pairs no calls, is taken back.
+    /// Takes back the last match set, which pairs no calls.
     pub(crate) fn drop_set(&mut self)
         requires { is_lone (last_set self.old.board) ≡ true }
         ensures board { self.new.board ≡ without_last_set self.old.board }
@@ -221,7 +229,8 @@ impl Board {
         let _ = self.sets.pop();
     }
 
-    /// The same board, in memory of its own. The copy counts its writes from 0. An `Err` is want of memory.
+    /// The same board, in memory of its own. The copy counts its writes from 0. `Err` means that
+    /// memory was refused.
     pub fn copy(&self) -> Result<Board, AllocError>
         ensures board { IfOk result (λ b. b.board ≡ self.now.board) }
         ensures writes { IfOk result (λ b. b.writes ≡ 0) }

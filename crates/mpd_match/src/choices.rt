@@ -12,11 +12,13 @@ use mpd_counter::Counter;
 use mpd_model::{CallId, Step};
 use std::alloc::AllocError;
 
-/// From how many free receives of a rank on the tags of the free sends to it are marked beforehand.
+/// If a rank has at least this many free receives, the tags of the free sends to it are marked
+/// first.
 const MANY: usize = 8;
 
 impl Board {
-    /// The match of a receive that names its source, where one is enabled. It looks at the sends of that source, and no others.
+    /// The match of a receive that names its source, if one is enabled. It looks at the sends of
+    /// that source, and no others.
     #[tactic(auto, using(crate::proofs::Picked::naming))]
     pub(crate) fn named_match(&self, recv: CallId) -> Option<Step>
         ensures { result ≡ first_in (picked_with is_named_match self.now.board recv) }
@@ -59,8 +61,8 @@ impl Board {
         None
     }
 
-    /// Whether a rank has so many free receives that the free sends to it are worth a walk beforehand. Which way is gone changes
-    /// nothing that is found.
+    /// Whether a rank has so many free receives that a first walk along the free sends to it pays.
+    /// The answer changes the time taken, and nothing that is found.
     fn has_many_posted(&self, receiver: usize) -> bool
         requires { receiver < length self.now.board.calls }
     {
@@ -108,7 +110,7 @@ impl Board {
         None
     }
 
-    /// Adds the matches of a receive, by sender, where it is one of any source.
+    /// Adds the matches of a receive, by sender, if it is one of any source.
     #[tactic(auto, using(crate::proofs::Picked::opening))]
     fn push_open_matches_with(&self, recv: CallId, out: &mut Vec<Step>) -> Result<(), AllocError>
         ensures ok { OnOk result (out.new.items ≡ out.old.items ++ picked_with is_open_match self.now.board recv) }
@@ -141,8 +143,8 @@ impl Board {
         Ok(())
     }
 
-    /// Adds all enabled matches of receives of any source, by receiver, receive and sender. An `Err` is want of memory for the
-    /// list, and comes only where there is such a match.
+    /// Adds all enabled matches of receives of any source, by receiver, receive and sender. `Err`
+    /// means that memory for the list was refused, which happens only if there is such a match.
     pub fn push_open_matches(&self, out: &mut Vec<Step>) -> Result<(), AllocError>
         ensures ok { OnOk result (out.new.items ≡ out.old.items ++ filter (is_open_match self.now.board) (matches_on self.now.board)) }
         ensures memory { OnErr result (0 < length (filter (is_open_match self.now.board) (matches_on self.now.board))) }

@@ -15,7 +15,7 @@ impl Board {
         self.partner(id).is_some() || kinds::is_buffered(self.kind(id))
     }
 
-    /// The call that a rank waits for which is blocked on this one, where it waits for one.
+    /// The call that a rank waits for while it is blocked on this one, if it waits for one.
     pub fn awaited(&self, id: CallId) -> Option<CallId>
         ensures { result ≡ awaited self.now.board id }
     {

@@ -9,7 +9,7 @@ ghost use Rattle.mpd_match.specs.Picked.{named_source as source_in};
 
 use mpd_model::{CallId, CallKind, Message, RANKS_MAX, SendCall, is_barrier};
 
-/// The line of a side that a call waits in while it is free, where it waits in one.
+/// The line of a side that a call waits in while it is free, if it waits in one.
 pub(crate) fn line_of(kind: CallKind) -> Option<usize>
     requires { (line : ℕ) → line_in (Some kind) ≡ Some line → line ≤ RANKS_MAX }
     ensures { result ≡ line_in (Some kind) }
@@ -124,7 +124,7 @@ pub(crate) fn is_buffered(kind: Option<CallKind>) -> bool
     }
 }
 
-/// The call with the buffer that there is, where it is a standard send (MPI 4.0, section 3.4).
+/// The call with the buffer that there is, if it is a standard send (MPI 4.0, section 3.4).
 pub(crate) fn buffered_by(room: bool, kind: CallKind) -> CallKind
     ensures value { result ≡ given_buffer room kind }
     ensures receiver { (ranks : ℕ) → HasReceiver ranks kind → HasReceiver ranks result }
@@ -139,7 +139,7 @@ pub(crate) fn buffered_by(room: bool, kind: CallKind) -> CallKind
     }
 }
 
-/// The call that a rank waits for which is blocked on a call of this kind.
+/// The call that a rank waits for while it is blocked on a call of this kind, if any.
 pub(crate) fn awaited_by(id: CallId, kind: Option<CallKind>) -> Option<CallId>
     ensures { result ≡ awaited_in id kind }
 {

@@ -8,7 +8,7 @@ use mpd_model::{CallId, Step};
 use std::alloc::AllocError;
 
 impl Board {
-    /// Adds the match of a receive with a send of that rank, where one is eligible.
+    /// Adds the match of a receive with a send of that rank, if one is eligible.
     #[tactic(auto, using(crate::proofs::Listed::matching))]
     fn push_match_from(
         &self,
@@ -48,8 +48,9 @@ impl Board {
         Ok(())
     }
 
-    /// Adds the matches of a receiver, by receive and sender. Its free receives are walked, and no others. An `Err` is want of
-    /// memory for the list, and comes only where there is a match.
+    /// Adds the matches of a receiver, by receive and sender. Its free receives are walked, and no
+    /// others. `Err` means that memory for the list was refused, which happens only if there is a
+    /// match.
     pub fn push_matches_at(&self, receiver: usize, out: &mut Vec<Step>) -> Result<(), AllocError>
         requires { receiver < length self.now.board.calls }
         ensures ok { OnOk result (out.new.items ≡ out.old.items ++ listed.matches_at self.now.board receiver) }
@@ -68,8 +69,8 @@ impl Board {
         Ok(())
     }
 
-    /// Adds all enabled matches, by receiver, receive and sender. An `Err` is want of memory for the list, and comes only where
-    /// there is a match.
+    /// Adds all enabled matches, by receiver, receive and sender. `Err` means that memory for the
+    /// list was refused, which happens only if there is a match.
     pub fn push_matches(&self, out: &mut Vec<Step>) -> Result<(), AllocError>
         ensures ok { OnOk result (out.new.items ≡ out.old.items ++ listed.matches_on self.now.board) }
         ensures memory { OnErr result (0 < length (listed.matches_on self.now.board)) }

@@ -76,12 +76,13 @@ fn is_blocking(kind: Option<CallKind>) -> bool
 }
 
 impl Board {
-    /// Whether the first of two calls completes before the second: one rank issued both, the first one earlier, and both
-    /// are sends of the same destination and tag, or receives of which the first takes each message that the second takes;
-    /// or the second is a wait for the first, or the rank waits for the first, as for each barrier (MPI 4.0, sections 3.5,
-    /// 3.7.4 and 6.3). A call that doesn't exist stands in no order.
+    /// Whether the first of two calls completes before the second: one rank issued both, the first
+    /// one earlier, and both are sends of the same destination and tag, or receives of which the
+    /// first takes each message that the second takes; or the second is a wait for the first, or
+    /// the rank waits for the first, as for each barrier (MPI 4.0, sections 3.5, 3.7.4 and 6.3). A
+    /// call that doesn't exist stands in no order.
     ///
-    /// Where it is so, every run that leads to this board shows the two in that order.
+    /// If so, every run that leads to this board shows the two in that order.
     pub fn before(&self, first: CallId, second: CallId) -> bool
         ensures before { result ≡ before self.now.board first second }
         ensures order { (s : Program) → (mode : Mode) → (steps : List Step) → (w : World) → fold (start s mode) steps ≡ Some w → w.board ≡ self.now.board → result ≡ true → Ordered self.now.board first second }

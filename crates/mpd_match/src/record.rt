@@ -2,7 +2,8 @@
 
 use mpd_queue::Spot;
 
-/// Where the calls of a pair stood before it, in the lists of free calls. It takes eight bytes.
+/// Where the calls of a pair were in the lists of free calls before they were paired. It takes
+/// eight bytes.
 #[derive(Clone, Copy)]
 pub struct PairRecord {
     pub send_spot: Spot,

@@ -7,8 +7,8 @@ use crate::board::Board;
 use mpd_model::MatchSet;
 
 impl Board {
-    /// All ranks left the barrier that they were blocked on (MPI 4.0, section 6.3). No call is paired by it, and none leaves
-    /// its line. `unreleased` gives the board before.
+    /// Notes that all ranks left the barrier that they were blocked on (MPI 4.0, section 6.3). This
+    /// pairs no call, and none leaves its line. `unreleased` restores the board.
     pub fn released(&mut self)
         requires { 1 ≤ self.old.room }
         ensures board { self.new.board ≡ with_set self.old.board MatchSet.Barrier }
@@ -20,7 +20,7 @@ impl Board {
         self.add_set(MatchSet::Barrier);
     }
 
-    /// The last match set, a release, is taken back.
+    /// Takes back the last match set, which must be a release. One write.
     pub fn unreleased(&mut self)
         requires { last_set self.old.board ≡ Some MatchSet.Barrier }
         ensures board { self.new.board ≡ without_last_set self.old.board }

@@ -41,7 +41,7 @@ impl Model for Side {
 }
 
 impl Side {
-    /// No call, and so many lines. An `Err` is want of memory.
+    /// No call, and `lines` empty lines. `Err` means that memory was refused.
     pub(crate) fn new(alloc: Global, lines: usize) -> Result<Side, AllocError>
         requires { lines ≤ suc RANKS_MAX }
         ensures calls { IfOk result (λ s. s.calls ≡ []) }
@@ -57,7 +57,7 @@ impl Side {
         })
     }
 
-    /// Keeps room for one call more. An `Err` is want of memory.
+    /// Reserves room for one call more. `Err` means that memory was refused.
     pub(crate) fn keep_room(&mut self) -> Result<(), AllocError>
         ensures calls { self.new.calls ≡ self.old.calls }
         ensures marks { self.new.marks ≡ self.old.marks }
@@ -74,7 +74,7 @@ impl Side {
         self.lists.keep_room(next)
     }
 
-    /// A call is issued. A send or a receive joins its line, at the end. It answers the call's number.
+    /// Issues a call. A send or a receive joins the end of its line. Returns the call's number.
     pub(crate) fn issue(&mut self, call: Call) -> u32
         requires line { (line : ℕ) → line_in (Some call.kind) ≡ Some line → line < self.old.lines }
         requires room { 0 < self.old.room }
@@ -98,7 +98,7 @@ impl Side {
         number
     }
 
-    /// The last call is taken back, which no pair names.
+    /// Takes back the last call, which is in no pair.
     #[inline(never)]
     pub(crate) fn unissue(&mut self)
         requires some { 0 < length self.old.calls }
@@ -134,7 +134,7 @@ impl Side {
         self.lists.unlink(line, index)
     }
 
-    /// A paired call is free again, where it stood.
+    /// A paired call is free again, at its old place in its line.
     pub(crate) fn unpair(&mut self, line: usize, index: usize, spot: Spot)
         requires line { line_in (kind_in self.old.calls index) ≡ Some line }
         requires paired { is_none (mark_in self.old.marks index) ≡ false }
@@ -158,14 +158,14 @@ impl Side {
         self.calls.items()
     }
 
-    /// A call, where it exists.
+    /// A call, if it exists.
     pub(crate) fn call(&self, index: usize) -> Option<Call>
         ensures { result ≡ slice_get self.now.calls index }
     {
         self.calls.get(index)
     }
 
-    /// What a call is, where it exists.
+    /// What a call is, if it exists.
     pub(crate) fn kind(&self, index: usize) -> Option<CallKind>
         ensures { result ≡ kind_in self.now.calls index }
     {
@@ -182,7 +182,7 @@ impl Side {
         self.calls.len()
     }
 
-    /// The partner of a call, where it has one.
+    /// The partner of a call, if it has one.
     #[tactic(auto, using(crate::proofs::InLines::marks_read))]
     pub(crate) fn partner(&self, index: usize) -> Option<CallId>
         ensures { result ≡ mark_in self.now.marks index }
@@ -212,7 +212,8 @@ impl Side {
         self.lists.next(index, looks)
     }
 
-    /// The same calls and partners, in memory of their own. The copy counts its writes from 0. An `Err` is want of memory.
+    /// The same calls and partners, in memory of their own. The copy counts its writes from 0.
+    /// `Err` means that memory was refused.
     pub(crate) fn copy(&self) -> Result<Side, AllocError>
         ensures calls { IfOk result (λ s. s.calls ≡ self.now.calls) }
         ensures marks { IfOk result (λ s. s.marks ≡ self.now.marks) }

@@ -12,7 +12,7 @@ use mpd_model::{Call, CallId, CallKind, RANKS_MAX};
 use mpd_queue::Spot;
 use std::alloc::{AllocError, Global};
 
-/// What a call is, where it exists.
+/// What a call is, if it exists.
 pub(crate) fn kind_on(sides: &Vec<Side>, id: CallId) -> Option<CallKind>
     ensures { result ≡ kind_on sides.now.items id }
 {
@@ -20,7 +20,7 @@ pub(crate) fn kind_on(sides: &Vec<Side>, id: CallId) -> Option<CallKind>
     side.kind(id.index)
 }
 
-/// So many sides without calls.
+/// `ranks` sides without calls.
 #[tactic(auto, using(crate::proofs::AtSide::copying))]
 pub(crate) fn new_sides(alloc: Global, ranks: usize) -> Result<Vec<Side>, AllocError>
     requires few { ranks ≤ RANKS_MAX }
@@ -36,7 +36,7 @@ pub(crate) fn new_sides(alloc: Global, ranks: usize) -> Result<Vec<Side>, AllocE
     Ok(sides)
 }
 
-/// Keeps room for one call more of each rank.
+/// Reserves room for one call more of each rank.
 #[tactic(auto, using(crate::proofs::AtSide::keeping))]
 pub(crate) fn keep_rooms(sides: &mut Vec<Side>) -> Result<(), AllocError>
     ensures calls { calls_in sides.new.items ≡ calls_in sides.old.items }
@@ -55,7 +55,7 @@ pub(crate) fn keep_rooms(sides: &mut Vec<Side>) -> Result<(), AllocError>
     Ok(())
 }
 
-/// A rank issues a call. It answers the call's number.
+/// A rank issues a call. Returns the call's number.
 pub(crate) fn issue_at(sides: &mut Vec<Side>, rank: usize, call: Call) -> u32
     requires within { rank < length sides.old.items }
     requires lines { lines_in sides.old.items ≡ replicate (length sides.old.items) (suc (length sides.old.items)) }
@@ -105,7 +105,7 @@ pub(crate) fn pair_at(sides: &mut Vec<Side>, line: usize, id: CallId, partner: C
     side.pair(line, id.index, partner)
 }
 
-/// A paired call is free again, where it stood.
+/// A paired call is free again, at its old place in its line.
 pub(crate) fn unpair_at(sides: &mut Vec<Side>, line: usize, id: CallId, spot: Spot)
     requires within { id.rank < length sides.old.items }
     requires line { line_in (kind_on sides.old.items id) ≡ Some line }

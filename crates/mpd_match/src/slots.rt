@@ -6,7 +6,7 @@ use crate::kinds;
 use mpd_model::CallKind;
 use mpd_queue::Tape;
 
-/// A rank holds a slot more, where a call of this kind holds one. One write at most.
+/// A rank holds one slot more if a call of this kind holds one. One write at most.
 pub(crate) fn take_slot(slots: &mut Tape<usize>, rank: usize, kind: Option<CallKind>)
     requires within { rank < length slots.old.items }
     requires few { held_in slots.old.items rank + slots_of kind ≤ 4294967295 }
@@ -20,7 +20,7 @@ pub(crate) fn take_slot(slots: &mut Tape<usize>, rank: usize, kind: Option<CallK
     }
 }
 
-/// A rank holds a slot less, where a call of this kind held one. One write at most.
+/// A rank holds one slot less if a call of this kind held one. One write at most.
 pub(crate) fn give_slot_back(slots: &mut Tape<usize>, rank: usize, kind: Option<CallKind>)
     requires within { rank < length slots.old.items }
     requires some { slots_of kind ≤ held_in slots.old.items rank }

@@ -15,19 +15,22 @@ use mpd_model::{CallId, CallKind, RANKS_MAX, Step};
 /// How many places there are for the tags of all senders: as many as there are tags.
 const PLACES: usize = 32_768;
 
-/// How far apart one tag of two senders is placed. Tags below 128 of 16 senders stay apart, also where there are few words.
+/// How far apart one tag of two senders is placed. Tags below 128 of 16 senders stay apart, also if
+/// there are few words.
 const APART: usize = 2_176;
 
 /// How many places a word has, one in each bit.
 const WORD_PLACES: usize = 64;
 
-/// How many words there are where a rank has few free receives. Places that are 2,048 apart share a bit there.
+/// How many words there are if a rank has few free receives. Places that are 2,048 apart share a
+/// bit there.
 const FEW_WORDS: usize = 32;
 
-/// How many words there are where it may have many: enough for all places.
+/// How many words there are if it may have many: enough for all places.
 const MANY_WORDS: usize = 512;
 
-/// A rank may have many free receives where it has so many calls from its first free receive on.
+/// A rank may have many free receives if it has at least this many calls from its first free
+/// receive on.
 const MANY: usize = 128;
 
 /// The place of a tag of a sender. No two tags of one sender share a place.
@@ -38,7 +41,7 @@ fn place_of(sender: usize, tag: usize) -> usize
     (tag % PLACES + sender % RANKS_MAX * APART) % PLACES
 }
 
-/// Marks a place. Where there are few words, it is marked for all places that share it.
+/// Marks a place. If there are few words, it is marked for all places that share it.
 #[inline(always)]
 fn mark(marks: &mut [u64], place: usize)
     requires { 0 < length marks.old }
@@ -131,8 +134,8 @@ impl Board {
         }
     }
 
-    /// The match of a receive that names its source, where one is enabled, found without a walk where no send of its tag is
-    /// marked.
+    /// The match of a receive that names its source, if one is enabled, found without a walk if no
+    /// send of its tag is marked.
     #[tactic(auto, using(crate::proofs::Tags::seeing))]
     #[inline(always)]
     fn named_match_by(&self, recv: CallId, marks: &[u64]) -> Option<Step>
@@ -146,8 +149,8 @@ impl Board {
         self.named_match(recv)
     }
 
-    /// The first match of the receiver's receives that name their source, where the tags of all free sends to it are marked. Its
-    /// free receives are walked.
+    /// The first match of the receiver's receives that name their source, if the tags of all free
+    /// sends to it are marked. Its free receives are walked.
     #[inline(always)]
     fn named_match_past(&self, receiver: usize, marks: &[u64]) -> Option<Step>
         requires receiver { receiver < length self.now.board.calls }
@@ -171,7 +174,8 @@ impl Board {
         None
     }
 
-    /// The first match of the receiver's receives that name their source, by few words, which are cleared in next to no time.
+    /// The first match of the receiver's receives that name their source, by few words, which are
+    /// cleared quickly.
     fn named_match_of_few(&self, receiver: usize) -> Option<Step>
         requires { receiver < length self.now.board.calls }
         ensures { result ≡ first_in (picked_at is_named_match self.now.board receiver) }
@@ -192,8 +196,9 @@ impl Board {
         self.named_match_past(receiver, &marks)
     }
 
-    /// Whether a rank may have so many free receives that words for all places are worth clearing, by its calls from the first
-    /// of them on. Which way is gone changes nothing that is found.
+    /// Whether a rank may have so many free receives that words for all places are worth clearing,
+    /// by its calls from the first of them on. The answer changes the time taken, and nothing that
+    /// is found.
     fn may_have_many_posted(&self, receiver: usize) -> bool
         requires { receiver < length self.now.board.calls }
     {

@@ -46,8 +46,9 @@ impl Side {
 }
 
 impl Board {
-    /// Whether the two may be paired (MPI 4.0, section 3.5: messages don't overtake). The line of the send is walked up to
-    /// it, and that of the receive. No other send of the sender may then be paired with the receive.
+    /// Whether a send and a receive may be paired (MPI 4.0, section 3.5: messages don't overtake).
+    /// Walks the lines of both, up to them. If they may, no other send of that sender may be paired
+    /// with the receive.
     pub fn eligible(&self, send: CallId, recv: CallId, looks: &mut Counter) -> bool
         ensures eligible { result ≡ eligible_on self.now.board send recv }
         ensures one_send { result ≡ true → (i : ℕ) → eligible_on self.now.board (call_id send.rank i) recv ≡ true → i ≡ send.index }
@@ -82,7 +83,7 @@ impl Board {
         !receiver.has_earlier(0, recv.index, send_kind, send.rank, recv.rank, looks)
     }
 
-    /// The number of the sender's first free send to the receiver, where there is one. One look.
+    /// The number of the sender's first free send to the receiver, if there is one. One look.
     pub fn first_pending(
         &self,
         sender: usize,
@@ -97,7 +98,7 @@ impl Board {
         self.sides[sender].first(receiver + 1, looks)
     }
 
-    /// The number of the rank's first free receive, where there is one. One look.
+    /// The number of the rank's first free receive, if there is one. One look.
     pub fn first_posted(&self, rank: usize, looks: &mut Counter) -> Option<usize>
         requires { rank < length self.now.board.calls }
         ensures first { result ≡ first_of (posted self.now.board rank) }
@@ -106,8 +107,8 @@ impl Board {
         self.sides[rank].first(0, looks)
     }
 
-    /// The number of the next free call behind this one, which is free: the same rank's next send to the same receiver, or
-    /// its next receive. One look.
+    /// The number of the next free call after this free one: the same rank's next send to the same
+    /// receiver, or its next receive, if there is one. One look.
     pub fn next_free(&self, id: CallId, looks: &mut Counter) -> Option<usize>
         requires { is_free_on self.now.board id ≡ true }
         ensures pending { (receiver : ℕ) → is_pending self.now.board id.rank receiver id.index ≡ true → result ≡ next_of (pending self.now.board id.rank receiver) id.index }
@@ -117,8 +118,8 @@ impl Board {
         self.sides[id.rank].next(id.index, looks)
     }
 
-    /// The number of the sender's first free send to the receive's rank that fits the receive, where there is one. One look,
-    /// and one for each free send ahead of it.
+    /// The number of the sender's first free send to the receive's rank that fits the receive, if
+    /// there is one. One look, and one for each free send before it.
     pub(crate) fn first_send(
         &self,
         sender: usize,
@@ -145,8 +146,8 @@ impl Board {
         None
     }
 
-    /// The number of the rank's first free receive that fits the send, where there is one. One look, and one for each free
-    /// receive ahead of it.
+    /// The number of the rank's first free receive that fits the send, if there is one. One look,
+    /// and one for each free receive before it.
     pub(crate) fn first_recv(&self, send: CallId, rank: usize, looks: &mut Counter) -> Option<usize>
         requires { rank < length self.now.board.calls }
         ensures first { result ≡ first_recv_on self.now.board send rank }
@@ -164,9 +165,10 @@ impl Board {
         None
     }
 
-    /// The number of the sender's send that is eligible with the receive, where there is one: its first free send that fits,
-    /// if no earlier free receive fits that (MPI 4.0, section 3.5). The sender's line is walked up to that send, and the
-    /// receiver's up to the first that fits it. A call that is no free receive, or names another source, takes no look.
+    /// The number of the sender's send that is eligible with the receive, if there is one: its
+    /// first free send that fits, if no earlier free receive fits that (MPI 4.0, section 3.5). The
+    /// sender's line is walked up to that send, and the receiver's up to the first that fits it. A
+    /// call that is no free receive, or names another source, takes no look.
     pub fn candidate(&self, sender: usize, recv: CallId, looks: &mut Counter) -> Option<usize>
         requires { sender < length self.now.board.calls }
         ensures found { filter (λ i. eligible_on self.now.board (call_id sender i) recv) (call_numbers self.now.board sender) ≡ option_to_list result }
@@ -192,7 +194,7 @@ impl Board {
         Some(index)
     }
 
-    /// Whether some send of the sender is eligible with the receive.
+    /// Whether some send of the sender may be paired with the receive now (MPI 4.0, section 3.5).
     pub fn can_match_from(&self, sender: usize, recv: CallId) -> bool
         requires { sender < length self.now.board.calls }
         ensures { result ≡ list_any (λ i. eligible_on self.now.board (call_id sender i) recv) (call_numbers self.now.board sender) }

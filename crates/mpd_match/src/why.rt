@@ -11,8 +11,8 @@ use mpd_model::{CallId, CallKind};
 use std::alloc::{AllocError, Global};
 use std::marker::Model;
 
-/// The free calls that fit a free call, by rank and then by number, each with the earlier call that holds back their match:
-/// None where the two are eligible. Contracts see a list.
+/// The free calls that fit a free call, by rank and then by number, each with the earlier call that
+/// holds back their match: `None` if the two are eligible. Contracts see a list.
 #[derive(Drop)]
 pub struct Why {
     pub partners: Vec<(CallId, Option<CallId>)>,
@@ -28,9 +28,10 @@ impl Model for Why {
 }
 
 impl Board {
-    /// The free calls that a free send or receive could be paired with, and what holds each back (MPI 4.0, section 3.5): an
-    /// earlier free send of that sender that fits the receive, else an earlier free receive of that rank that fits the send.
-    /// Of any other call the list is empty. An `Err` is want of memory for the list, and comes only where it has an entry.
+    /// The free calls that a free send or receive could be paired with, and what holds each back
+    /// (MPI 4.0, section 3.5): an earlier free send of that sender that fits the receive, else an
+    /// earlier free receive of that rank that fits the send. Of any other call the list is empty.
+    /// `Err` means that memory for the list was refused, which happens only if it has an entry.
     pub fn why(&self, alloc: Global, call: CallId) -> Result<Why, AllocError>
         ensures why { IfOk result (λ w. w ≡ why_on self.now.board call) }
         ensures missing { OnErr result (0 < length (why_on self.now.board call)) }
@@ -126,7 +127,7 @@ impl Board {
         Ok(())
     }
 
-    /// Adds the partner, which is the send or the receive, where the two fit.
+    /// Adds the partner, which is the send or the receive, if the two fit.
     fn push_partner(
         &self,
         partner: CallId,
@@ -158,7 +159,8 @@ impl Board {
         self.earlier_recv(send, recv)
     }
 
-    /// The earliest free send of the sender to the receive's rank that fits the receive, where one is before the send.
+    /// The earliest free send of the sender to the receive's rank that fits the receive, if one is
+    /// before the send.
     fn earlier_send(&self, send: CallId, recv: CallId) -> Option<CallId>
         requires sender { send.rank < length self.now.board.calls }
         requires receiver { recv.rank < length self.now.board.calls }
@@ -175,7 +177,7 @@ impl Board {
         })
     }
 
-    /// The earliest free receive of the receiver that fits the send, where one is before the receive.
+    /// The earliest free receive of the receiver that fits the send, if one is before the receive.
     fn earlier_recv(&self, send: CallId, recv: CallId) -> Option<CallId>
         requires { recv.rank < length self.now.board.calls }
         ensures { result ≡ earlier_recv_on self.now.board send recv }

@@ -7,7 +7,7 @@ ghost use Rattle.mpd_meaning.specs.ReadingLaws as law;
 use mpd_laws::reading::{statements_are_of_version, turns_are_enough, written_scripts_are_read};
 use mpd_laws::round_trip::read_scripts_are_printable;
 
-/// A text is read as a program exactly where its tokens write that and all limits are kept.
+/// A text is read as a program exactly if its tokens write that and all limits are kept.
 pub fn what_is_read_is_written_within_the_limits()
     ensures { law.ReadIsWrittenWithin }
 {
@@ -16,14 +16,15 @@ pub fn what_is_read_is_written_within_the_limits()
     written_scripts_are_read();
 }
 
-/// A fault is decided by the tokens up to it, and one more where it is of too many: a text that begins so has the same.
+/// A fault is decided by the tokens up to it, and by one more if it is a fault of too many: each
+/// text that begins with these has the same fault.
 pub fn tokens_up_to_it_decide_a_fault()
     ensures { fault.TokensUpToItDecideAFault }
 {
     turns_are_enough();
 }
 
-/// So do the bytes up to the one behind that token.
+/// It is also decided by the bytes up to the one after that token.
 pub fn text_up_to_it_decides_a_fault()
     ensures { fault.TextUpToItDecidesAFault }
 {

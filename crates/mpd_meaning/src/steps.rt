@@ -7,7 +7,7 @@ pub fn reached_worlds_have_calls()
     ensures { law.ReachedWorldsHaveCalls }
 {}
 
-/// A step is in the list of enabled steps exactly where the relation of steps has a world after it.
+/// A step is in the list of enabled steps exactly if the relation of steps has a world after it.
 pub fn every_step_that_leads_on_is_listed()
     ensures { law.EveryStepThatLeadsOnIsListed }
 {}
@@ -17,7 +17,7 @@ pub fn no_step_is_listed_twice()
     ensures { law.NoStepIsListedTwice }
 {}
 
-/// A run has ended exactly where no step leads on.
+/// A run has ended exactly if no step leads on.
 pub fn a_run_has_ended_where_no_step_leads_on()
     ensures { law.EndedWhereNoStepLeadsOn }
 {}

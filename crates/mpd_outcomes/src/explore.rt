@@ -30,7 +30,7 @@ use mpd_policy::{Wide, follow, put_back, wide_decisions_can_be_followed};
 use std::alloc::{AllocError, Global};
 use std::mem;
 
-/// What is told round an open choice.
+/// What is known of the runs around an open choice.
 fn outer_of(choice: Open) -> Sums
     ensures { result ≡ choice.outer }
 {
@@ -46,7 +46,8 @@ fn outer_of(choice: Open) -> Sums
     outer
 }
 
-/// Puts what is told of some runs before what is told of others. An `Err` is want of memory, and comes only where counts are told of these.
+/// Puts what is told of some runs before what is told of others. `Err` means that memory was
+/// refused, which happens only if counts are told of these.
 fn join(all: &mut Tally, level: Sums) -> Result<(), AllocError>
     ensures counts { OnOk result (all.new.counts.items ≡ added level.tally.counts.items all.old.counts.items) }
     ensures total { OnOk result (all.new.total ≡ plus level.tally.total all.old.total) }
@@ -64,8 +65,8 @@ fn join(all: &mut Tally, level: Sums) -> Result<(), AllocError>
     Ok(())
 }
 
-/// What is told of all runs that were come to: those by the candidates that were tried at each open choice. An `Err` is want of memory, and
-/// comes only where a choice is open.
+/// What is told of all runs that were come to: those by the candidates that were tried at each open
+/// choice. `Err` means that memory was refused, which happens only if a choice is open.
 fn gather(alloc: Global, front: &mut Front) -> Result<Tally, AllocError>
     ensures counts { IfOk result (λ t. t.counts.items ≡ gathered (reverse front.old.stack.items) front.old.sums.tally.counts.items []) }
     ensures total { IfOk result (λ t. t.total ≡ gathered_total (reverse front.old.stack.items) front.old.sums.tally.total (count_is.Exactly 0)) }
@@ -83,7 +84,8 @@ fn gather(alloc: Global, front: &mut Front) -> Result<Tally, AllocError>
     Ok(mem::replace(&mut front.sums.tally, Tally::none(alloc)))
 }
 
-/// What is told where a search has stopped. An `Err` is want of memory, and comes only where a choice is open or a way is found.
+/// What is told if a search has stopped. `Err` means that memory was refused, which happens only if
+/// a choice is open or a way is found.
 fn told_at(alloc: Global, front: &mut Front, reach: Reach) -> Result<Outcomes, AllocError>
     ensures leaves { IfOk result (λ o. o.firsts.leaves.items ≡ front.old.ways.items) }
     ensures more { IfOk result (λ o. o.firsts.more ≡ reach.more) }
@@ -127,8 +129,9 @@ fn beginning(alloc: Global, depth: usize, kept: usize) -> Front
     }
 }
 
-/// What is told of the runs that a search comes to, to where it stops. The debugger is left anywhere above the base. An `Err` is want of
-/// memory, and comes only where the search may come to a state, or a choice is open, or a way is found.
+/// What is told of the runs that a search comes to, to where it stops. On return the debugger may
+/// be at any state from the base on. `Err` means that memory was refused, which happens only if the
+/// search may visit a state, or a choice is open, or a way is found.
 fn find_in(
     alloc: Global,
     debugger: &mut Debugger<'_>,
@@ -153,8 +156,8 @@ fn find_in(
     Ok(outcomes)
 }
 
-/// The ways that the runs from here end. The debugger is left anywhere above the base. An `Err` is want of memory, and comes only where the
-/// search may come to a state.
+/// The ways that the runs from here end. On return the debugger may be at any state from the base
+/// on. `Err` means that memory was refused, which happens only if the search may visit a state.
 fn find(
     alloc: Global,
     debugger: &mut Debugger<'_>,
@@ -179,7 +182,8 @@ fn find(
     told
 }
 
-/// The text of the witness of a run that its choices tell, where that is a deadlock or a trap. The debugger is left anywhere beyond where it stood.
+/// The text of the witness of a run that its choices tell, if that is a deadlock or a trap. On
+/// return the debugger may be at any later state.
 fn text_there(
     alloc: Global,
     debugger: &mut Debugger<'_>,
@@ -215,8 +219,8 @@ fn text_of(
     told
 }
 
-/// The texts of the witnesses of runs, where they are asked for. The debugger is left as found. An `Err` is want of memory, and comes only
-/// where there is a leaf.
+/// The texts of the witnesses of runs, if they are asked for. The debugger is left as found. `Err`
+/// means that memory was refused, which happens only if there is a leaf.
 fn texts_of(
     alloc: Global,
     debugger: &mut Debugger<'_>,
@@ -242,8 +246,8 @@ fn texts_of(
     Ok(texts)
 }
 
-/// The ways that the runs from here end, without the texts of witnesses. The debugger is left as found. An `Err` is want of memory, and
-/// comes only where the search may come to a state.
+/// The ways that the runs from here end, without the texts of witnesses. The debugger is left as
+/// found. `Err` means that memory was refused, which happens only if the search may visit a state.
 fn found_from(
     alloc: Global,
     debugger: &mut Debugger<'_>,
@@ -270,12 +274,15 @@ fn found_from(
     found
 }
 
-/// The ways that the runs from here end, along the wide walk (docs/DEFINITIONS.md, "Outcomes of a script"): for each how many runs end so,
-/// and the first of them. Where a limit stops the search, this is told of the first runs of the walk, and there are more. So it is where it
-/// stops for an end: of these runs none but the last ends so. Fuel counts from here. The debugger is left as found, also where an
-/// `Err` says that memory was refused: for what may come next, a step, an open choice, counts, or what is told. That comes only where the
-/// search may come to a state; where it may come to none, no way is told, and there are more runs. A state that memory is refused for isn't
-/// kept, and the table gives up all the others. No undone step is kept, and the depth and the fuel are at most 1,000,000 steps together.
+/// The ways in which the runs from here end, along the wide walk (docs/DEFINITIONS.md, "Outcomes of
+/// a script"): for each, how many runs end so, and the first of them. If a limit stops the search,
+/// this describes the first runs of the walk, and there are more. The same holds if the search
+/// stops for a goal (`until`): of these runs only the last ends so. Fuel counts from here. The
+/// debugger is left as found, also on `Err`, which means that memory was refused: for a decision, a
+/// step, an open choice, counts, or the result. This happens only if the search may visit a state.
+/// If it may visit none, no way is listed, and there are more runs. A state for which memory is
+/// refused isn't kept, and the table gives up all the others. Requires that no step is undone, and
+/// that depth and fuel together are at most 1,000,000 steps.
 pub fn explore_outcomes(
     alloc: Global,
     debugger: &mut Debugger<'_>,

@@ -36,7 +36,7 @@ fn push_place(words: &mut Vec<i64>, state: &RankState, code: &Code) -> Result<()
     ])
 }
 
-/// Forgets what a cell holds, where there is such a cell.
+/// Forgets what a cell holds, if there is such a cell.
 fn blank(vars: &mut [i64], cell: usize)
     ensures { vars.new ≡ slice_set vars.old cell (pos 0) }
 {
@@ -77,8 +77,8 @@ fn push_blocked_variables(
     }
 }
 
-/// Adds the variables of a rank that may still be read: none where it has no statement left or is trapped. Where it is blocked, those
-/// that its last call overwrites aren't told.
+/// Adds the variables of a rank that may still be read: none if it has no statement left or is
+/// trapped. If it is blocked, those that its last call overwrites aren't told.
 fn push_live(
     alloc: Global,
     words: &mut Vec<i64>,
@@ -155,7 +155,7 @@ fn open_call(board: &Board, call: CallId) -> Option<Call>
     }
 }
 
-/// Adds a call, where it is free: its number, the statement that issued it, and what it asks for.
+/// Adds a call, if it is free: its number, the statement that issued it, and what it asks for.
 fn push_free(words: &mut Vec<i64>, board: &Board, call: CallId) -> Result<(), AllocError>
     ensures { OnOk result (words.new.items ≡ words.old.items ++ spec.free_words board.now.board call.rank call.index) }
 {
@@ -205,7 +205,7 @@ fn push_target(
     }
 }
 
-/// The statement that issued the last call of a rank, 0 where it has issued none.
+/// The statement that issued the last call of a rank, 0 if it has issued none.
 fn last_statement(board: &Board, rank: usize) -> usize
     ensures { result ≡ statement_last board.now.board rank }
 {
@@ -215,7 +215,8 @@ fn last_statement(board: &Board, rank: usize) -> usize
     }
 }
 
-/// Adds what a rank is blocked on, where it is blocked: the statement that issued its last call, and what may still be learnt there.
+/// Adds what a rank is blocked on, if it is blocked: the statement that issued its last call, and
+/// what may still be learnt there.
 fn push_blocked(words: &mut Vec<i64>, board: &Board, state: &RankState) -> Result<(), AllocError>
     ensures { OnOk result (words.new.items ≡ words.old.items ++ spec.blocked_words board.now.board state.now.rank (is_blocked state.now.activity)) }
 {
@@ -258,7 +259,7 @@ fn write_part(
     push_blocked(part, board, state)
 }
 
-/// Adds the part of a rank, behind its length. It is written to `part` first.
+/// Adds the part of a rank, after its length. It is written to `part` first.
 fn push_rank(
     alloc: Global,
     part: &mut Vec<i64>,
@@ -292,7 +293,7 @@ fn push_ranks(
     Ok(())
 }
 
-/// The key of a state. An `Err` is want of memory.
+/// The key of a state. `Err` means that memory was refused.
 pub(crate) fn key_of(alloc: Global, core: &Core<'_>) -> Result<Vec<i64>, AllocError>
     ensures { IfOk result (λ k. spec.IsKey core.now.program core.now.world k.items) }
 {
@@ -303,13 +304,14 @@ pub(crate) fn key_of(alloc: Global, core: &Core<'_>) -> Result<Vec<i64>, AllocEr
     Ok(key)
 }
 
-/// The law that the key tells all that the future depends on: two states of a script in one mode that have the same key have the same
-/// future. It does nothing.
+/// A law: the key has all that the future depends on. Two states of a script in one mode that have
+/// the same key have the same future. A call does nothing.
 pub(crate) fn one_key_tells_one_future()
     ensures { spec.OneKeyOneFuture }
 {}
 
-/// The law that the key tells nothing else: states with the same future have the same key. It does nothing.
+/// A law: the key has nothing else. States with the same future have the same key. A call does
+/// nothing.
 pub(crate) fn one_future_has_one_key()
     ensures { spec.OneFutureOneKey }
 {}

@@ -1,5 +1,5 @@
-//! The ways that the runs of a script end, found by coming to each state once (docs/DEFINITIONS.md, "Outcomes of a script"); and the laws
-//! of states that have the same future.
+//! The ways in which the runs of a script end, found by visiting each state once
+//! (docs/DEFINITIONS.md, "Outcomes of a script"); and the laws of states that have the same future.
 #![tactic(auto)]
 
 mod explore;
@@ -20,8 +20,9 @@ pub use explore::explore_outcomes;
 pub use report::{Count, Goal, Outcomes, StateLimits};
 pub use text::push_count;
 
-/// In two states that runs of a script reach, and that have the same future, the same steps are enabled, the same comes next, along the
-/// walk and along the wide walk, and they end alike where they end; each step leads to states with the same future.
+/// Two states that runs of a script reach, and that have the same future: the same steps are
+/// enabled, the same comes next, along the walk and along the wide walk, and they end alike if they
+/// end; each step leads to states with the same future.
 pub fn same_futures_go_on_alike()
     ensures { law.SameFuturesGoOnAlike }
 {}
@@ -32,7 +33,8 @@ pub fn same_futures_have_one_walk()
     ensures { law.SameFuturesHaveOneWalk }
 {}
 
-/// Where the longest run of a wide walk has no more steps than there is fuel, the walk is the same with any fuel that is enough for it.
+/// If the longest run of a wide walk has no more steps than there is fuel, the walk is the same
+/// with any fuel that is enough for it.
 pub fn enough_fuel_is_enough()
     ensures { law.EnoughFuelIsEnough }
 {}

@@ -90,14 +90,14 @@ impl Parts {
         let _map = &self.map;
     }
 
-    /// The number of a part, where it is kept.
+    /// The number of a part, if it is kept.
     fn number(&self, part: &[i64]) -> Option<usize>
         ensures { result ≡ number_of self.now part.now }
     {
         self.map.get(part).copied()
     }
 
-    /// Keeps a part that is new, by a new number. An `Err` is want of memory.
+    /// Keeps a part that is new, by a new number. `Err` means that memory was refused.
     fn add(&mut self, part: Vec<i64>) -> Result<usize, AllocError>
         requires { number_of self.old part.items ≡ None }
         ensures more { HasMoreParts self.old self.new }
@@ -117,7 +117,7 @@ impl Parts {
         }
     }
 
-    /// The number of a part, which is kept from now on. An `Err` is want of memory.
+    /// The number of a part, which is kept from now on. `Err` means that memory was refused.
     fn keep(&mut self, alloc: Global, part: &[i64]) -> Result<usize, AllocError>
         ensures more { HasMoreParts self.old self.new }
         ensures number { IfOk result (λ n. number_of self.new part.now ≡ Some n) }
@@ -128,7 +128,7 @@ impl Parts {
         self.add(Vec::from_slice(alloc, part)?)
     }
 
-    /// The numbers of the parts of a key, where all are kept and there is memory for them.
+    /// The numbers of the parts of a key, if all are kept and there is memory for them.
     pub(crate) fn numbers(&self, alloc: Global, key: &[i64]) -> Option<Vec<usize>>
         ensures { IfSome result (λ ns. numbers_of self.now (length key.now) key.now ≡ Some ns.items) }
     {
@@ -145,7 +145,8 @@ impl Parts {
         Some(numbers)
     }
 
-    /// The numbers of the parts of a key, which are kept from now on. An `Err` is want of memory.
+    /// The numbers of the parts of a key, which are kept from now on. `Err` means that memory was
+    /// refused.
     pub(crate) fn keep_all(&mut self, alloc: Global, key: &[i64]) -> Result<Vec<usize>, AllocError>
         ensures more { HasMoreParts self.old self.new }
         ensures numbers { IfOk result (λ ns. numbers_of self.new (length key.now) key.now ≡ Some ns.items) }

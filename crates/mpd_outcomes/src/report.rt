@@ -10,14 +10,14 @@ use mpd_model::Outcome;
 /// How many runs there are.
 #[derive(Clone, Copy, PartialEq, Eq)]
 pub enum Count {
-    /// So many.
+    /// Exactly this many.
     Exactly(u64),
     /// More than 18,446,744,073,709,551,615.
     More,
 }
 
 impl Count {
-    /// How many there are of both.
+    /// The sum of both; `More` if it exceeds 18,446,744,073,709,551,615, or one of them is `More`.
     pub fn plus(self, other: Count) -> Count
         ensures { result ≡ plus self other }
     {
@@ -31,7 +31,7 @@ impl Count {
     }
 }
 
-/// How a run ends for which a search stops.
+/// An end of a run for which a search stops.
 #[derive(Clone, Copy)]
 pub enum Goal {
     /// In a deadlock.
@@ -40,12 +40,12 @@ pub enum Goal {
     Trap,
     /// In a deadlock or with a trap.
     Bad,
-    /// Done, also where messages are left over.
+    /// Done, also with messages left over.
     Well,
 }
 
 impl Goal {
-    /// Whether a run that ends so meets it.
+    /// Whether a run that ends so is one for which the search stops.
     pub fn is_met(self, ending: &Ending) -> bool
         ensures { result ≡ meets self ending.now }
     {
@@ -58,30 +58,31 @@ impl Goal {
     }
 }
 
-/// How far a search goes that comes to each state once.
+/// The limits of a search that visits each state once.
 #[derive(Clone, Copy)]
 pub struct StateLimits {
     /// How many steps a run has at most.
     pub fuel: usize,
     /// How many states are kept at most.
     pub kept: usize,
-    /// How many states are come to at most, kept or not.
+    /// How many states are visited at most, kept or not.
     pub visited: usize,
     /// Whether the witnesses of deadlocks and traps are wanted.
     pub witnesses: bool,
-    /// For which end the search stops, as soon as a run is found that ends so. Without one all runs are come to.
+    /// The end for which the search stops, as soon as a run is found that ends so. Without one, all
+    /// runs are visited.
     pub until: Option<Goal>,
 }
 
 /// The ways that runs end, in the order of the first run of each.
 #[derive(Drop)]
 pub struct Outcomes {
-    /// The first run of each way, and whether there are runs that were not come to.
+    /// The first run of each way, and whether there are runs that were not visited.
     pub firsts: Report,
     /// How many runs end so, for each of the first runs, in order.
     pub counts: Vec<Count>,
     /// How many runs there are in all.
     pub total: Count,
-    /// How many states were come to: choices and ends. It says nothing of the runs.
+    /// How many states were visited: choices and ends. It says nothing of the runs.
     pub visited: usize,
 }

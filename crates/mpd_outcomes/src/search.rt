@@ -28,15 +28,16 @@ use mpd_policy::{wide_decide, wide_decisions_can_be_followed};
 use std::alloc::{AllocError, Global};
 use std::mem;
 
-/// The depth where a search begins, and the one where its fuel ends.
+/// The depth at which a search begins, and the one at which its fuel ends.
 #[derive(Clone, Copy)]
 pub(crate) struct Bounds {
     pub(crate) base: usize,
     pub(crate) limit: usize,
 }
 
-/// A choice that is open: the depth where it is, its candidates, the one that is taken, the key of its state, where memory was there for it,
-/// and what is told of the runs round it: those by the candidates that were tried at the choice above.
+/// An open choice: its depth, its candidates, the index of the one that is taken, the key of its
+/// state, if there was memory for it, and what is known of the runs around it: those by the
+/// candidates that were tried at the choice above.
 #[derive(Drop)]
 pub(crate) struct Open {
     pub(crate) depth: usize,
@@ -46,8 +47,9 @@ pub(crate) struct Open {
     pub(crate) outer: Sums,
 }
 
-/// Where a search stands: the open choices, the innermost last; what is told of the runs by the candidates that were tried at the innermost
-/// one, or of all runs where no choice is open; the first run of each way that runs end so far; and the table.
+/// Where a search stands: the open choices, the innermost last; what is told of the runs by the
+/// candidates that were tried at the innermost one, or of all runs if no choice is open; the first
+/// run of each way that runs end so far; and the table.
 #[derive(Drop)]
 pub(crate) struct Front {
     pub(crate) stack: Vec<Open>,
@@ -65,7 +67,7 @@ pub(crate) enum Arrived {
     End(Ending),
 }
 
-/// What stands at the limit: the end of a run, which is cut where a step is left.
+/// What stands at the limit: the end of a run, which is cut if a step is left.
 fn at_limit(alloc: Global, debugger: &Debugger<'_>) -> Result<Arrived, AllocError>
     ensures { (limit : ℕ) → limit ≡ debugger.now.trail.depth → IfOk result (λ a. IsArrived limit (standing_of debugger.now) a) }
 {
@@ -76,7 +78,7 @@ fn at_limit(alloc: Global, debugger: &Debugger<'_>) -> Result<Arrived, AllocErro
     }
 }
 
-/// Goes on by the steps that nobody has to choose.
+/// Goes on by the forced steps.
 fn go_down(alloc: Global, debugger: &mut Debugger<'_>, limit: usize) -> Result<Arrived, AllocError>
     requires within { debugger.old.trail.depth ≤ limit }
     requires few { limit ≤ STEPS_MAX }
@@ -107,7 +109,7 @@ fn choices_here(alloc: Global, stack: &[Open]) -> Result<ChoiceList, AllocError>
     Ok(ChoiceList { items })
 }
 
-/// The number of the way that a run ends which ends so here: a new one where it is the first.
+/// The number of the way that a run ends which ends so here: a new one if it is the first.
 fn number_here(alloc: Global, ending: Ending, front: &mut Front) -> Result<usize, AllocError>
     ensures way { IfOk result (λ number. IsWay front.new.ways.items ending number) }
     ensures ways { OnOk result (front.new.ways.items ≡ ways_with front.old.ways.items (picked (open_in front.old)) ending) }
@@ -183,7 +185,8 @@ fn push_choice(
     Ok(())
 }
 
-/// Tells the runs of a state from the table, where what was found of it holds with what is left of the fuel; false where there is nothing.
+/// Tells the runs of a state from the table, if what was found of it holds with what is left of the
+/// fuel; false if there is nothing.
 fn recall(
     key: &Option<Vec<i64>>,
     limit: usize,
@@ -205,7 +208,7 @@ fn recall(
     Ok(true)
 }
 
-/// A candidate of a choice, where it has one of that number.
+/// A candidate of a choice, if it has one of that number.
 fn candidate(candidates: &StepList, number: usize) -> Option<Step>
     ensures { result ≡ slice_get candidates.now number }
 {
@@ -216,7 +219,7 @@ fn candidate(candidates: &StepList, number: usize) -> Option<Step>
     }
 }
 
-/// The candidate after that of a number, and its number, where there is one.
+/// The candidate after that of a number, and its number, if there is one.
 fn candidate_after(candidates: &StepList, number: usize) -> Option<(usize, Step)>
     ensures some { IfSome result (λ it. (it.0 ≡ number + 1) × (slice_get candidates.now (number + 1) ≡ Some it.1)) }
     ensures none { IfNone result (length candidates.now ≤ number + 1) }
@@ -239,7 +242,8 @@ fn go_back(debugger: &mut Debugger<'_>, depth: usize)
     let _ = debugger.undo_to(depth);
 }
 
-/// The key of where a debugger stands. Where memory is refused there is none, and the table gives up what it keeps.
+/// The key of the debugger's state. If memory is refused there is none, and the table gives up what
+/// it keeps.
 fn key_here(alloc: Global, debugger: &Debugger<'_>, table: &mut Table) -> Option<Vec<i64>>
     ensures key { IfSome result (λ key. IsKey debugger.now.trail.program debugger.now.world key.items) }
     ensures less { KeepsLess table.old table.new }
@@ -253,7 +257,7 @@ fn key_here(alloc: Global, debugger: &Debugger<'_>, table: &mut Table) -> Option
     }
 }
 
-/// A choice is come to: its runs are told from the table, or it is opened, which is what is answered.
+/// Visits a choice: its runs are known from the table, or it is opened. Returns which.
 fn meet(
     alloc: Global,
     debugger: &mut Debugger<'_>,
@@ -286,7 +290,7 @@ fn meet(
     Ok(true)
 }
 
-/// Keeps what was found of the state of a key, where there is one.
+/// Keeps what was found of the state of a key, if there is one.
 fn keep_by(alloc: Global, key: Option<Vec<i64>>, found: Found, table: &mut Table)
     ensures { KeptBy table.old key found table.new }
 {
@@ -324,8 +328,8 @@ fn close(
     Ok(())
 }
 
-/// Goes back to the innermost open choice with a candidate left, closing those that have none, and takes that candidate; false where no
-/// choice is open any more.
+/// Goes back to the innermost open choice with a candidate left, closing those that have none, and
+/// takes that candidate; false if no choice is open any more.
 fn advance(
     alloc: Global,
     debugger: &mut Debugger<'_>,
@@ -367,7 +371,7 @@ fn advance(
     Ok(false)
 }
 
-/// Goes on from a choice that is come to; false where all runs are come to.
+/// Goes on from a choice that is visited; false if all runs are visited.
 fn go_on_at_choice(
     alloc: Global,
     debugger: &mut Debugger<'_>,
@@ -389,7 +393,7 @@ fn go_on_at_choice(
     advance(alloc, debugger, bounds, front)
 }
 
-/// Goes on from the end of a run; false where all runs are come to.
+/// Goes on from the end of a run; false if all runs are visited.
 fn go_on_at_end(
     alloc: Global,
     debugger: &mut Debugger<'_>,
@@ -410,7 +414,8 @@ fn go_on_at_end(
     advance(alloc, debugger, bounds, front)
 }
 
-/// Comes to the next state, a choice or an end, and goes on from there; false where all runs are come to.
+/// Visits the next state, a choice or an end, and goes on from there; false if all runs are
+/// visited.
 fn turn(
     alloc: Global,
     debugger: &mut Debugger<'_>,
@@ -428,15 +433,16 @@ fn turn(
     }
 }
 
-/// How a search ends: how many states it came to, and whether there are runs that it did not come to.
+/// How a search ends: how many states it visited, and whether there are runs that it did not visit.
 #[derive(Clone, Copy)]
 pub(crate) struct Reach {
     pub(crate) visited: usize,
     pub(crate) more: bool,
 }
 
-/// Comes to so many states at most, and to none after a run that ends as is looked for. An `Err` is want of memory, and comes only where it
-/// may come to a state; where it may come to none, nothing changes, and there are more runs.
+/// Visits at most as many states as the limits say, and none after a run that ends as is looked
+/// for. `Err` means that memory was refused, which happens only if it may visit a state. If it may
+/// visit none, nothing changes, and there are more runs.
 pub(crate) fn search(
     alloc: Global,
     debugger: &mut Debugger<'_>,

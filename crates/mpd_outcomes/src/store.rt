@@ -60,7 +60,8 @@ impl Store {
         self.parts.words()
     }
 
-    /// What was found of the state of a key. Where memory is refused for the numbers of its parts, it isn't looked for.
+    /// What was found of the state of a key. If memory is refused for the numbers of its parts, it
+    /// isn't looked for.
     pub(crate) fn find(&self, alloc: Global, key: &[i64]) -> Option<&Found>
         ensures { IfSome result (λ found. found_in self.now key.now ≡ Some found.now) }
     {
@@ -68,7 +69,8 @@ impl Store {
         self.kept.get(&numbers)
     }
 
-    /// The numbers of the parts of a key, which are kept from now on. An `Err` is want of memory.
+    /// The numbers of the parts of a key, which are kept from now on. `Err` means that memory was
+    /// refused.
     fn number_parts(&mut self, alloc: Global, key: &[i64]) -> Result<Vec<usize>, AllocError>
         ensures less { KeepsLessIn self.old self.new }
         ensures numbers { IfOk result (λ ns. numbers_of self.new.parts (length key.now) key.now ≡ Some ns.items) }
@@ -76,7 +78,8 @@ impl Store {
         self.parts.keep_all(alloc, key)
     }
 
-    /// Puts what was found of a state there, by the numbers of the parts of its key. An `Err` is want of memory.
+    /// Puts what was found of a state there, by the numbers of the parts of its key. `Err` means
+    /// that memory was refused.
     fn put_by(&mut self, numbers: Vec<usize>, found: Found) -> Result<(), AllocError>
         requires { (key : List ℤ) × (numbers_of self.old.parts (length key) key ≡ Some numbers.items) }
         ensures { (key : List ℤ) → numbers_of self.old.parts (length key) key ≡ Some numbers.items → KeepsAPartIn self.old key found self.new }
@@ -94,7 +97,8 @@ impl Store {
         }
     }
 
-    /// Puts what was found of the state of a key there, and answers how many words that takes. An `Err` is want of memory.
+    /// Puts what was found of the state of a key there, and returns how many words that takes.
+    /// `Err` means that memory was refused.
     pub(crate) fn put(
         &mut self,
         alloc: Global,

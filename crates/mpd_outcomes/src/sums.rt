@@ -15,15 +15,16 @@ pub(crate) struct Tally {
     pub(crate) total: Count,
 }
 
-/// What is told of some runs, and the depth that the longest of them comes to: one more where it is cut.
+/// What is told of some runs, and the depth that the longest of them comes to: one more if it is
+/// cut.
 #[derive(Drop)]
 pub(crate) struct Sums {
     pub(crate) tally: Tally,
     pub(crate) deepest: usize,
 }
 
-/// Adds counts, each to the one of its number. Where there is none, it is 0. An `Err` is want of memory, and comes only where there are
-/// counts to add.
+/// Adds counts, each to the one of its number. If there is none, it is 0. `Err` means that memory
+/// was refused, which happens only if there are counts to add.
 fn add_counts(counts: &mut Vec<Count>, others: &[Count]) -> Result<(), AllocError>
     ensures counts { OnOk result (counts.new.items ≡ added counts.old.items others.now) }
     ensures memory { OnErr result (0 < length others.now) }
@@ -40,7 +41,8 @@ fn add_counts(counts: &mut Vec<Count>, others: &[Count]) -> Result<(), AllocErro
     Ok(())
 }
 
-/// Makes counts as many as there are ways, by zeros at the end. An `Err` is want of memory, and comes only where there are fewer.
+/// Makes counts as many as there are ways, by zeros at the end. `Err` means that memory was
+/// refused, which happens only if there are fewer.
 pub(crate) fn pad(counts: &mut Vec<Count>, many: usize) -> Result<(), AllocError>
     ensures counts { OnOk result (counts.new.items ≡ counts.old.items ++ replicate (many - length counts.old.items) (count_is.Exactly 0)) }
     ensures memory { OnErr result (length counts.old.items < many) }
@@ -78,7 +80,8 @@ impl Tally {
         })
     }
 
-    /// Adds what is told of other runs. An `Err` is want of memory, and comes only where counts are told of them.
+    /// Adds what is told of other runs. `Err` means that memory was refused, which happens only if
+    /// counts are told of them.
     pub(crate) fn add(&mut self, other: &Tally) -> Result<(), AllocError>
         ensures counts { OnOk result (self.new.counts.items ≡ added self.old.counts.items other.now.counts.items) }
         ensures total { OnOk result (self.new.total ≡ plus self.old.total other.now.total) }

@@ -1,4 +1,4 @@
-//! The table of states that were come to, with what was found of their runs.
+//! The table of states that were visited, with what was found of their runs.
 
 ghost use Rattle.std.specs.Prelude.{◌≡◌, ◌≤◌, true, IfSome};
 ghost use Rattle.mpd_outcomes.specs.Table.{found_at, serves, KeepsAPart, KeepsAbove, KeepsLess, NothingKept};
@@ -9,8 +9,8 @@ use mpd_model::STEPS_MAX;
 use std::alloc::Global;
 use std::mem;
 
-/// What was found of the runs from a state with so much fuel: how many end in each way, and how many steps the longest has, one more than
-/// the fuel where it is cut.
+/// What was found of the runs from a state with some fuel: how many end in each way, and how many
+/// steps the longest has, one more than the fuel if it is cut.
 #[derive(Drop)]
 pub(crate) struct Found {
     pub(crate) fuel: usize,
@@ -24,7 +24,8 @@ const ROOM: usize = 134_217_728;
 /// How many words a state or a part of a key takes at most beside its own.
 const WORDS_BESIDE: usize = 16;
 
-/// What was found of states, by their keys: of so many at most, in so many words at most.
+/// What was found of states, by their keys: at most a given number of states, in at most a given
+/// number of words.
 #[derive(Drop)]
 pub(crate) struct Table {
     pub(crate) store: Store,
@@ -33,7 +34,8 @@ pub(crate) struct Table {
 }
 
 impl Found {
-    /// Whether it holds with this much fuel: it is the same, or no run was cut and it is enough for the longest.
+    /// Whether the entry holds with this much fuel: the fuel is the same, or no run was cut and it
+    /// is enough for the longest.
     fn serves(&self, fuel: usize) -> bool
         requires { fuel ≤ STEPS_MAX }
         ensures { result ≡ serves self.now fuel }
@@ -43,7 +45,7 @@ impl Found {
     }
 }
 
-/// How many words a state takes at most, where all parts of its key are new.
+/// How many words a state takes at most, if all parts of its key are new.
 fn words_at_most(key: &[i64], found: &Found) -> usize {
     let counts = found.tally.counts.len().saturating_mul(2);
     let parts = key.len().saturating_mul(WORDS_BESIDE);
@@ -62,7 +64,7 @@ impl Table {
         }
     }
 
-    /// What was found of the state of a key, where it holds with this much fuel.
+    /// What was found of the state of a key, if it holds with this much fuel.
     pub(crate) fn recall(&self, key: &Vec<i64>, fuel: usize) -> Option<&Found>
         requires { fuel ≤ STEPS_MAX }
         ensures found { IfSome result (λ found. found_at self.now key.now ≡ Some found.now) }
@@ -76,7 +78,7 @@ impl Table {
         }
     }
 
-    /// Whether there is room for a state of so many words more.
+    /// Whether there is room for a state of `words` more words.
     fn has_room(&self, words: usize) -> bool {
         self.store.len() < self.most && words <= self.room
     }
@@ -110,7 +112,8 @@ impl Table {
         self.room = ROOM.saturating_sub(self.store.words());
     }
 
-    /// Drops the half of the states with the least height, or somewhat more where many have the same: a high one spares the longest search.
+    /// Drops the half of the states with the least height, or somewhat more if many have the same:
+    /// a high one spares the longest search.
     fn drop_half(&mut self)
         ensures { KeepsLess self.old self.new }
     {
@@ -118,8 +121,9 @@ impl Table {
         self.drop_low(height);
     }
 
-    /// Whether there is room for a state of so many words more. Where there is none, the half of the states with the least height is dropped
-    /// first; or all that is kept, where the parts of keys take most of the room.
+    /// Whether there is room for a state of `words` more words. If there is none, the half of the
+    /// states with the least height is dropped first; or all that is kept, if the parts of keys
+    /// take most of the room.
     fn make_room(&mut self, alloc: Global, words: usize) -> bool
         ensures { KeepsLess self.old self.new }
     {
@@ -142,7 +146,7 @@ impl Table {
         self.room = ROOM;
     }
 
-    /// Puts a state there. Where memory is refused, the table gives up all that it keeps.
+    /// Puts a state there. If memory is refused, the table gives up all that it keeps.
     fn put(&mut self, alloc: Global, key: &Vec<i64>, found: Found)
         ensures { KeepsAPart self.old key.now found self.new }
     {
@@ -152,8 +156,9 @@ impl Table {
         }
     }
 
-    /// Keeps what was found of the state of a key. A full table drops its low half, and where that isn't enough, the state is left out. Where
-    /// memory is refused, the table gives up all that it keeps.
+    /// Keeps what was found of the state of a key. A full table drops its low half, and if that
+    /// isn't enough, the state is left out. If memory is refused, the table gives up all that it
+    /// keeps.
     pub(crate) fn keep(&mut self, alloc: Global, key: Vec<i64>, found: Found)
         ensures { KeepsAPart self.old key found self.new }
     {

@@ -6,7 +6,7 @@ ghost use Rattle.mpd_outcomes.specs.CountText.{count_text};
 use crate::report::Count;
 use std::alloc::AllocError;
 
-/// Adds how many runs there are. An `Err` is want of memory.
+/// Adds a number of runs, in decimal. `Err` means that memory was refused.
 pub fn push_count(out: &mut String, count: Count) -> Result<(), AllocError>
     ensures { OnOk result (string_bytes out.new ≡ string_bytes out.old ++ count_text count) }
 {

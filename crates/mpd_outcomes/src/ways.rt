@@ -8,7 +8,7 @@ ghost use Rattle.mpd_outcomes.specs.Goals.{ends_at};
 use crate::report::Goal;
 use mpd_explore::{Ending, Leaf, same_ending};
 
-/// The number of the first leaf that ends so, where one does.
+/// The number of the first leaf that ends so, if one does.
 pub(crate) fn way_of(leaves: &[Leaf], ending: &Ending) -> Option<usize>
     ensures found { IfSome result (λ number. IsWay leaves.now ending.now number) }
     ensures none { IfNone result (has_end leaves.now ending.now ≡ false) }

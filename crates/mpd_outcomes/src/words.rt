@@ -60,7 +60,7 @@ pub(crate) fn activity_word(activity: Activity) -> i64
     }
 }
 
-/// The cell of a source, as a word; 0 where there is none.
+/// The cell of a source, as a word; 0 if there is none.
 fn source_word(status: Option<StatusCells>) -> i64
     ensures { result ≡ spec.source_word status }
 {
@@ -70,7 +70,7 @@ fn source_word(status: Option<StatusCells>) -> i64
     }
 }
 
-/// The cell of a tag, as a word; 0 where there is none.
+/// The cell of a tag, as a word; 0 if there is none.
 fn tag_word(status: Option<StatusCells>) -> i64
     ensures { result ≡ spec.tag_word status }
 {
@@ -88,7 +88,7 @@ pub(crate) fn push_word(words: &mut Vec<i64>, word: i64) -> Result<(), AllocErro
     Ok(())
 }
 
-/// Adds a list behind its length.
+/// Adds a list after its length.
 pub(crate) fn push_sized(words: &mut Vec<i64>, list: &[i64]) -> Result<(), AllocError>
     ensures { OnOk result (words.new.items ≡ words.old.items ++ spec.sized list.now) }
 {

@@ -42,7 +42,7 @@ impl Link {
         }
     }
 
-    /// The item that it leads to.
+    /// The item that the link leads to, if any.
     pub(crate) fn item(self) -> Option<usize>
         ensures { result ≡ self }
     {

@@ -60,7 +60,7 @@ impl Links {
         }
     }
 
-    /// What comes ahead of an item; at the end of the list, its last item.
+    /// What comes before an item; at the end of the list, its last item.
     pub(crate) fn previous(&self, list: usize, at: Link) -> Link
         requires list { list < vec_len self.now.ends }
         requires at { HasCell (vec_len self.now.cells) at }
@@ -95,7 +95,7 @@ impl Links {
         self.writes.tick();
     }
 
-    /// Writes what comes ahead of an item, or last in the list.
+    /// Writes what comes before an item, or last in the list.
     pub(crate) fn set_previous(&mut self, list: usize, at: Link, to: Link)
         requires list { list < vec_len self.old.ends }
         requires at { HasCell (vec_len self.old.cells) at }

@@ -12,7 +12,7 @@ use std::marker::Model;
 /// The greatest number of cells: a link has 32 bits, and one of its numbers says that it leads nowhere.
 const MOST_CELLS: usize = 4294967295;
 
-/// Where an item stood in its list. Only `unlink` makes one. It takes four bytes.
+/// Where an item was in its list. Only `unlink` makes one. It takes four bytes.
 #[derive(Clone, Copy)]
 pub struct Spot {
     next: Link,
@@ -28,11 +28,12 @@ impl Model for Spot {
     ghost inverse = { λ o. record { next = o } };
 }
 
-/// Lists of items, which are numbers. No item stands in two places. A list is linked both ways, through one vector of
-/// cells. Each link that is written is counted; the counter takes no bytes.
+/// Lists of items, which are numbers. Each item has one place at most. A list is linked both ways,
+/// through one vector of cells. Each link that is written is counted; the counter takes no bytes.
 ///
-/// Contracts see a `ListsView`: the lists, the room (items below it have a cell), and the number of links written since
-/// the lists were made. Every change takes the same few writes, however long the lists are, and no memory.
+/// Contracts see a `ListsView`: the lists, the room (items below it have a cell), and the number of
+/// links written since the lists were made. Every change takes the same few writes, however long
+/// the lists are, and no memory.
 #[derive(Drop)]
 pub struct Lists {
     links: Links,
@@ -53,7 +54,8 @@ impl Model for Lists {
 }
 
 impl Lists {
-    /// So many empty lists, numbered from 0, without room. An `Err` is want of memory.
+    /// `lists` empty lists, numbered from 0, with no room for items. `Err` means that memory was
+    /// refused.
     pub fn new(alloc: Global, lists: usize) -> Result<Lists, AllocError>
         ensures lists { IfOk result (λ s. s.lists ≡ empty_lists lists) }
         ensures room { IfOk result (λ s. s.room ≡ 0) }
@@ -77,8 +79,8 @@ impl Lists {
         })
     }
 
-    /// Makes a cell for each item below `count`. An `Err` is want of memory; more than 4,294,967,295 cells are always
-    /// refused.
+    /// Makes a cell for each item below `count`. `Err` means that memory was refused; more than
+    /// 4,294,967,295 cells are always refused.
     pub fn keep_room(&mut self, count: usize) -> Result<(), AllocError>
         ensures lists { self.new.lists ≡ self.old.lists }
         ensures writes { self.new.writes ≡ self.old.writes }
@@ -103,7 +105,7 @@ impl Lists {
         )
     }
 
-    // Puts an item in ahead of another, or at the end.
+    // Puts an item in before another, or at the end.
     fn insert(&mut self, list: usize, item: usize, next: Link)
         requires list { list < length self.old.lists }
         requires item { item < self.old.room }
@@ -131,7 +133,7 @@ impl Lists {
         self.links.number(item)
     }
 
-    /// Puts an item that stands nowhere at the end of a list. Four writes.
+    /// Puts an item that is in no list at the end of one. Four writes.
     pub fn push_back(&mut self, list: usize, item: usize)
         requires list { list < length self.old.lists }
         requires item { item < self.old.room }
@@ -143,8 +145,8 @@ impl Lists {
         self.insert(list, item, Link::none());
     }
 
-    /// Takes an item out of its list, and answers where it stood. Two writes. `relink` with that spot gives the lists
-    /// before.
+    /// Takes an item out of its list, and returns where it was. Two writes. `relink` with that spot
+    /// restores the lists.
     pub fn unlink(&mut self, list: usize, item: usize) -> Spot
         requires list { list < length self.old.lists }
         requires item { 0 < places_in (list_at self.old.lists list) item }
@@ -165,7 +167,8 @@ impl Lists {
         Spot { next }
     }
 
-    /// Puts an item back where it stood. Four writes.
+    /// Puts an item back where `unlink` found it. Requires that the item is in no list. Four
+    /// writes.
     pub fn relink(&mut self, list: usize, item: usize, spot: Spot)
         requires list { list < length self.old.lists }
         requires item { item < self.old.room }
@@ -195,7 +198,7 @@ impl Lists {
         }
     }
 
-    /// The first item of a list. One look.
+    /// The first item of a list, if it has one. One look, which `looks` counts.
     pub fn first(&self, list: usize, looks: &mut Counter) -> Option<usize>
         requires { list < length self.now.lists }
         ensures first { result ≡ first_of (list_at self.now.lists list) }
@@ -206,7 +209,7 @@ impl Lists {
         first.item()
     }
 
-    /// What comes next after an item in the list that it stands in. One look.
+    /// The item after this one in its list, if there is one. One look, which `looks` counts.
     pub fn next(&self, item: usize, looks: &mut Counter) -> Option<usize>
         requires { 0 < places self.now.lists item }
         ensures next { (list : ℕ) → 0 < places_in (list_at self.now.lists list) item → result ≡ next_of (list_at self.now.lists list) item }
@@ -216,8 +219,8 @@ impl Lists {
         self.links.cells[item].next.item()
     }
 
-    /// The law of disjoint lists, which holds at all times: an item stands in one place at most, and has a cell; there
-    /// are no more cells than a link can name. It does nothing.
+    /// A law of disjoint lists, which always holds: each item has one place at most, and a cell;
+    /// there are no more cells than a link can name. A call does nothing.
     pub fn disjoint(&self)
         ensures once { (item : ℕ) → places self.now.lists item ≤ 1 }
         ensures inside { (item : ℕ) → 0 < places self.now.lists item → item < self.now.room }
@@ -226,7 +229,8 @@ impl Lists {
         let _ = &self.links;
     }
 
-    /// The same lists, in memory of their own. The copy counts its writes from 0. An `Err` is want of memory.
+    /// The same lists, in memory of their own. The copy counts its writes from 0. `Err` means that
+    /// memory was refused.
     pub fn copy(&self) -> Result<Lists, AllocError>
         ensures lists { IfOk result (λ s. s.lists ≡ self.now.lists) }
         ensures room { IfOk result (λ s. s.room ≡ self.now.room) }

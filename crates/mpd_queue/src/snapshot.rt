@@ -10,7 +10,7 @@ use std::snapshot::Snapshot;
 /// One change of disjoint lists.
 #[derive(Clone, Copy)]
 pub(crate) enum Change {
-    /// The item was put into the list, ahead of `next`.
+    /// The item was put into the list, before `next`.
     Inserted {
         list: usize,
         item: usize,
@@ -23,7 +23,8 @@ pub(crate) enum Change {
     },
 }
 
-// So many empty lists, or what a change made of the lists before. A moment is made only to be remembered by a snapshot.
+// The given number of empty lists, or what a change made of the lists before. A moment is made only
+// to be remembered by a snapshot.
 #[derive(Drop)]
 struct Moment {
     before: Option<Snapshot<Snapshot<Moment>>>,
@@ -62,7 +63,7 @@ impl Model for Shown {
 }
 
 impl Shown {
-    /// So many empty lists.
+    /// `lists` empty lists.
     pub(crate) fn empty(lists: usize) -> Shown
         ensures { result ≡ empty_lists lists }
     {

@@ -25,7 +25,7 @@ impl<T: Copy> Model for Tape<T> {
 }
 
 impl<T: Copy> Tape<T> {
-    /// A tape without items and without room. It takes no memory.
+    /// A tape without items and without room. Takes no memory.
     pub fn new(alloc: Global) -> Tape<T>
         ensures items { result.items ≡ [] }
         ensures room { result.room ≡ 0 }
@@ -37,7 +37,8 @@ impl<T: Copy> Tape<T> {
         }
     }
 
-    /// A tape of `count` items that are `value`. An `Err` is want of memory. It counts its writes from 0.
+    /// A tape of `count` items that are `value`. `Err` means that memory was refused. It counts its
+    /// writes from 0.
     pub fn filled(alloc: Global, count: usize, value: T) -> Result<Tape<T>, AllocError>
         ensures items { IfOk result (λ t. t.items ≡ replicate count value) }
         ensures writes { IfOk result (λ t. t.writes ≡ 0) }
@@ -50,7 +51,8 @@ impl<T: Copy> Tape<T> {
         })
     }
 
-    /// Keeps room for `count` items more. An `Err` is want of memory, and comes only where that room was missing.
+    /// Reserves room for `count` more items. `Err` means that memory was refused, which happens
+    /// only if that room was missing.
     pub fn keep_room(&mut self, count: usize) -> Result<(), AllocError>
         ensures items { self.new.items ≡ self.old.items }
         ensures writes { self.new.writes ≡ self.old.writes }
@@ -63,7 +65,8 @@ impl<T: Copy> Tape<T> {
         self.items.reserve(count)
     }
 
-    /// Puts `value` in the place of the item with that index, counted from 0.
+    /// Replaces the item with that index, counted from 0, by `value`. Requires that there is one.
+    /// One write.
     pub fn set(&mut self, index: usize, value: T)
         requires { index < length self.old.items }
         ensures items { self.new.items ≡ slice_set self.old.items index value }
@@ -74,7 +77,7 @@ impl<T: Copy> Tape<T> {
         self.writes.tick();
     }
 
-    /// Puts an item at the end, in room that was kept.
+    /// Adds an item at the end, in reserved room. One write; it takes no memory.
     pub fn push_kept(&mut self, value: T)
         requires { 0 < self.old.room }
         ensures items { self.new.items ≡ self.old.items ++ value ∷ [] }
@@ -85,7 +88,8 @@ impl<T: Copy> Tape<T> {
         self.writes.tick();
     }
 
-    /// Takes the last item off, where there is one. Its room stays. Where there is none, nothing is written.
+    /// Takes the last item off and returns it, if there is one. Its room stays. If there is none,
+    /// nothing is written.
     pub fn pop(&mut self) -> Option<T>
         ensures items { self.old.items ≡ self.new.items ++ option_to_list result }
         ensures last { IfSome result (λ _. (self.new.room ≡ self.old.room + 1) × (self.new.writes ≡ self.old.writes + 1)) }
@@ -96,14 +100,14 @@ impl<T: Copy> Tape<T> {
         Some(item)
     }
 
-    /// The item with that index, counted from 0, where there is one.
+    /// The item with that index, counted from 0, if there is one.
     pub fn get(&self, index: usize) -> Option<T>
         ensures { result ≡ slice_get self.now.items index }
     {
         self.items.get(index).copied()
     }
 
-    /// The items, in order.
+    /// The items, the first one first.
     pub fn items(&self) -> &[T]
         ensures { result.now ≡ self.now.items }
     {
@@ -117,7 +121,8 @@ impl<T: Copy> Tape<T> {
         self.items.len()
     }
 
-    /// The same items, in memory of their own. The copy counts its writes from 0. An `Err` is want of memory.
+    /// The same items, in memory of their own. The copy counts its writes from 0. `Err` means that
+    /// memory was refused.
     pub fn copy(&self) -> Result<Tape<T>, AllocError>
         ensures items { IfOk result (λ t. t.items ≡ self.now.items) }
         ensures writes { IfOk result (λ t. t.writes ≡ 0) }

@@ -78,7 +78,7 @@ impl Cells {
         }
     }
 
-    /// The same and one more, written last.
+    /// The same cells and one more, which is written last. Requires that there are at most three.
     #[tactic(auto, using(crate::proofs::RankLemmas::joining))]
     pub fn and(self, cell: usize, value: i64) -> Cells
         requires { length self ≤ 3 }
@@ -226,7 +226,7 @@ impl OldCells {
         }
     }
 
-    /// The same with a cell that was written behind the others, where there was one.
+    /// The same with a cell that was written after the others, if there was one.
     #[tactic(auto, using(crate::proofs::RankLemmas::packing))]
     pub(crate) fn with(self, old: OldCell) -> OldCells
         requires { length self ≤ 3 }

@@ -2,7 +2,7 @@
 
 use mpd_model::Activity;
 
-/// Where a rank goes on, and what it is doing.
+/// The node at which a rank goes on, and what it is doing.
 #[derive(Clone, Copy)]
 pub struct Control {
     pub node: u32,

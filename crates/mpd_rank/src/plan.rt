@@ -31,7 +31,7 @@ pub enum LocalPlan {
 }
 
 impl LocalPlan {
-    /// The call that it issues, by the statement of a number.
+    /// The call that this step issues, if it issues one, as a call of the statement of a number.
     pub fn call(self, statement: usize) -> Option<Call>
         ensures { result ≡ plan_call statement self }
     {
@@ -83,7 +83,7 @@ fn plan_assert(test: Result<i64, Trap>, next: u32) -> Alone
     }
 }
 
-/// Goes on at one node where the test holds, else at the other.
+/// Goes on at one node if the test holds, else at the other.
 #[inline(always)]
 fn plan_choice(test: Result<i64, Trap>, holds: u32, fails: u32) -> Alone
     ensures { result ≡ choice_plan test holds fails }
@@ -115,7 +115,8 @@ fn plan_simple(simple: &Simple, env: &Env<'_>, next: u32) -> LocalPlan
     }
 }
 
-/// What a statement that holds no other does, and the node that follows it, where it is of a kind that issues no call.
+/// What a statement that holds no other does, and the node that follows it, if it is of a kind that
+/// issues no call.
 #[inline(always)]
 fn plan_own(simple: &Simple, env: &Env<'_>, next: u32) -> Option<Alone>
     ensures { IfSome result (λ plan. LocalPlan.Alone plan ≡ simple_plan simple.now next env.now) }
@@ -128,7 +129,7 @@ fn plan_own(simple: &Simple, env: &Env<'_>, next: u32) -> Option<Alone>
     }
 }
 
-/// What a node does, where it is of a kind that issues no call.
+/// What a node does, if it is of a kind that issues no call.
 #[inline(always)]
 pub(crate) fn plan_alone(node: &Node, env: &Env<'_>) -> Option<Alone>
     ensures { IfSome result (λ plan. LocalPlan.Alone plan ≡ plan_of node.now.action node.now.next env.now) }

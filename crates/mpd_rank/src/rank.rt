@@ -16,8 +16,8 @@ use mpd_queue::Tape;
 use std::alloc::{AllocError, Global};
 use std::marker::Model;
 
-/// One rank, which contracts see as a `RankView`. What it has left to run is what its node stands for. All that a step changes
-/// stands in tapes, which count their writes.
+/// One rank, which contracts see as a `RankView`. What it has left to run is what its node stands
+/// for. All that a step changes is in tapes, which count their writes.
 #[derive(Drop)]
 pub struct RankState {
     rank: u32,
@@ -61,7 +61,8 @@ impl RankState {
     ghost use Rattle.mpd_rank.specs.Undone.{IsOwn, undone_rank, unwoken, blocked_again, entry_at, entries_before, handle_entry, put_entry};
     ghost use Rattle.mpd_rank.specs.Records.{local_record, plan_record, alone_record, wake_record, IsPlanned};
 
-    /// A rank before its first step, with the whole body to run. An `Err` is want of memory.
+    /// A rank before its first step, with the whole body to run. `Err` means that memory was
+    /// refused.
     pub fn start(alloc: Global, code: &Code, rank: u32) -> Result<RankState, AllocError>
         ensures world { IfOk result (λ r. rank_of code.now.program r ≡ start_rank code.now.program) }
         ensures rank { IfOk result (λ r. r.rank ≡ rank) }
@@ -80,8 +81,8 @@ impl RankState {
         })
     }
 
-    /// Keeps room for one step, whatever it is. An `Err` is want of memory, and comes only where no such room was kept; what the
-    /// rank is stays as it was.
+    /// Reserves room for one step of any kind. `Err` means that memory was refused, which happens
+    /// only if no such room was reserved. The rank's state stays as it was.
     pub fn keep_room(&mut self) -> Result<(), AllocError>
         ensures room { OnOk result (1 ≤ self.new.room) }
         ensures never_less { self.old.room ≤ self.new.room }
@@ -91,21 +92,21 @@ impl RankState {
         self.out.keep_room(1)
     }
 
-    /// What it is at.
+    /// The node that the rank is at, and what it is doing.
     fn control(&self) -> Control
         ensures { result ≡ record { node = self.now.node; activity = self.now.activity } }
     {
         self.control.items()[0]
     }
 
-    /// Puts it at a node. One write.
+    /// Moves the rank to a node. One write.
     fn move_to(&mut self, node: u32, activity: Activity)
         ensures after { self.new ≡ record self.old { node = node; activity = activity; writes = self.old.writes + 1 } }
     {
         self.control.set(0, Control { node, activity });
     }
 
-    /// The node of its next statement, where it is running and has one.
+    /// The node of its next statement, if it is running and has one.
     fn next_node<'n>(&self, code: &'n Code) -> Option<&'n Node>
         ensures running { IfSome result (λ _. self.now.activity ≡ Activity.Running) }
         ensures some { IfSome result (λ node. Stands (left_at code.now.program) self.now.node node.now) }
@@ -118,7 +119,7 @@ impl RankState {
         }
     }
 
-    /// What its statements are evaluated in.
+    /// What the statements of this rank are evaluated in.
     fn env<'v>(&'v self, code: &Code) -> Env<'v>
         ensures { result ≡ env_of self.now.rank code.now.program.ranks (rank_of code.now.program self.now) }
     {
@@ -132,7 +133,7 @@ impl RankState {
         }
     }
 
-    /// What the next local step does, where there is one. Nothing changes.
+    /// What the next local step does, if there is one. Nothing changes.
     #[tactic(auto, using(crate::proofs::PlanLemmas::planning))]
     pub fn plan_local(&self, code: &Code) -> Option<LocalPlan>
         ensures step { (count : ℕ) → local self.now.rank code.now.program.ranks count (rank_of code.now.program self.now) ≡ option_map (plan_ran code.now.program (rank_of code.now.program self.now) count self.now.node) result }
@@ -145,7 +146,8 @@ impl RankState {
         Some(plan_node(node, &env))
     }
 
-    /// What the next local step does, where its statement is of a kind that issues no call. Nothing changes.
+    /// What the next local step does, if its statement is of a kind that issues no call. Nothing
+    /// changes.
     #[inline(always)]
     #[tactic(auto, using(crate::proofs::PlanLemmas::planning))]
     fn plan_alone(&self, code: &Code) -> Option<Alone>
@@ -157,8 +159,9 @@ impl RankState {
         plan_alone(node, &env)
     }
 
-    /// Takes the next local step, where its statement is of a kind that issues no call, in the room that was kept. It answers what
-    /// takes the step back, in one or two writes. Where it answers nothing, nothing has changed.
+    /// Takes the next local step, if its statement is of a kind that issues no call, in reserved
+    /// room. Returns what takes the step back, in one or two writes. If it answers nothing, nothing
+    /// has changed.
     #[inline(always)]
     #[tactic(auto, using(crate::proofs::PlanLemmas::stepping))]
     pub fn step_alone(&mut self, code: &Code) -> Option<LocalRecord>
@@ -177,7 +180,7 @@ impl RankState {
         Some(self.commit_alone(plan))
     }
 
-    /// Writes a variable, where there is such a cell, and answers what it held.
+    /// Writes a variable, if there is such a cell, and returns what it held.
     fn write(&mut self, cell: usize, value: i64) -> OldCell
         ensures after { self.new ≡ record self.old { vars = slice_set self.old.vars cell value; writes = self.new.writes } }
         ensures was { result ≡ entry_at self.old.vars cell }
@@ -192,7 +195,7 @@ impl RankState {
         OldCell::of(cell, was)
     }
 
-    /// Writes a variable, where one is named.
+    /// Writes a variable, if one is named.
     fn write_if(&mut self, cell: Option<(usize, i64)>) -> OldCell
         ensures after { self.new ≡ record self.old { vars = write_cells (listed cell) self.old.vars; writes = self.new.writes } }
         ensures was { listed result ≡ entries_before self.old.vars (listed cell) }
@@ -205,7 +208,7 @@ impl RankState {
         }
     }
 
-    /// Writes cells in their order, and answers what they held, the last first.
+    /// Writes cells in their order, and returns what they held, the last first.
     #[tactic(auto, using(crate::proofs::RankLemmas::writing))]
     fn write_all(&mut self, cells: Cells) -> OldCells
         ensures after { self.new ≡ record self.old { vars = write_cells cells self.old.vars; writes = self.new.writes } }
@@ -221,7 +224,7 @@ impl RankState {
         earlier.with(third).with(fourth)
     }
 
-    /// Writes a handle, where there is such a one, and answers what it held.
+    /// Writes a handle, if there is such a one, and returns what it held.
     fn write_handle(&mut self, handle: usize, call: Option<usize>) -> OldHandle
         requires { IsSmall call }
         ensures after { self.new ≡ record self.old { handles = slice_set self.old.handles handle call; writes = self.new.writes } }
@@ -237,7 +240,7 @@ impl RankState {
         OldHandle::of(handle, was)
     }
 
-    /// Writes a handle, where one is named.
+    /// Writes a handle, if one is named.
     fn request(&mut self, handle: Option<usize>, call: Option<usize>) -> OldHandle
         requires { IsSmall call }
         ensures after { self.new ≡ record self.old { handles = requested handle call self.old.handles; writes = self.new.writes } }
@@ -251,7 +254,7 @@ impl RankState {
         }
     }
 
-    /// Writes a cell, where there is such a one, and goes on at a node.
+    /// Writes a cell, if there is such a one, and goes on at a node.
     #[inline(always)]
     fn assign(&mut self, into: usize, value: i64, next: u32) -> LocalRecord
         ensures after { self.new ≡ record self.old { node = next; vars = slice_set self.old.vars into value; writes = self.new.writes } }
@@ -269,7 +272,8 @@ impl RankState {
         LocalRecord::assigned(node, into, was)
     }
 
-    /// Does what was planned and issues no call, in the room that was kept. It answers what takes the step back. One or two writes.
+    /// Does what was planned and issues no call, in reserved room. Returns what takes the step
+    /// back. One or two writes.
     #[inline(always)]
     #[tactic(auto, using(crate::proofs::RankLemmas::committing, crate::proofs::PlanLemmas::owning))]
     fn commit_alone(&mut self, plan: Alone) -> LocalRecord
@@ -302,8 +306,9 @@ impl RankState {
         }
     }
 
-    /// Does what was planned, in the room that was kept, so it can't be refused memory. `call` is the number that a call issued by
-    /// the step has. It answers what takes the step back. One or two writes.
+    /// Does what was planned, in reserved room, so memory can't be refused. `call` is the number of
+    /// the call that the step issues, if it issues one. Returns what takes the step back. One or
+    /// two writes.
     #[tactic(auto, using(crate::proofs::RankLemmas::committing))]
     pub fn commit(&mut self, plan: LocalPlan, call: usize) -> LocalRecord
         requires room { 1 ≤ self.old.room }
@@ -322,7 +327,7 @@ impl RankState {
         }
     }
 
-    /// Goes on at a node behind a call that was issued.
+    /// Goes on at a node after a call that was issued.
     fn issue(&mut self, issue: Issue, call: usize, next: u32) -> LocalRecord
         requires { call < 4294967295 }
         ensures after { self.new ≡ record self.old { node = next; handles = requested issue.handle (Some call) self.old.handles; activity = activity_after issue.kind; writes = self.new.writes } }
@@ -341,8 +346,8 @@ impl RankState {
         LocalRecord::issued(from, handle)
     }
 
-    /// Goes on after a wake, with cells written and a handle cleared. It can't be refused memory. It answers what takes the wake
-    /// back. One to six writes.
+    /// Goes on after a wake, with cells written and a handle cleared. Memory can't be refused.
+    /// Returns what takes the wake back. One to six writes.
     #[tactic(auto, using(crate::proofs::RankLemmas::committing))]
     pub fn complete(&mut self, writes: Cells, handle: Option<usize>) -> WakeRecord
         ensures after { (p : Program) → rank_of p self.new ≡ woken_rank writes handle (rank_of p self.old) }
@@ -371,7 +376,7 @@ impl RankState {
         }
     }
 
-    /// Takes a wake back. It can't be refused memory. One to six writes.
+    /// Takes a wake back. Memory can't be refused. One to six writes.
     #[inline(never)]
     pub fn unwake(&mut self, done: &WakeRecord)
         ensures after { (p : Program) → rank_of p self.new ≡ unwoken (rank_of p self.old) done.now }
@@ -386,7 +391,7 @@ impl RankState {
         self.move_to(node, Activity::Blocked);
     }
 
-    /// Takes a local step of the rank back. It can't be refused memory. One or two writes.
+    /// Takes a local step of the rank back. Memory can't be refused. One or two writes.
     #[inline(always)]
     pub fn restore_local(&mut self, done: &LocalRecord)
         ensures after { (p : Program) → rank_of p self.new ≡ undone_rank p (rank_of p self.old) done.now }
@@ -408,7 +413,7 @@ impl RankState {
         self.move_to(done.from, Activity::Running);
     }
 
-    /// Does this from here on, at the node that it is at. One write.
+    /// Changes what the rank is doing, at its present node. One write.
     fn act(&mut self, activity: Activity)
         ensures { self.new ≡ record self.old { activity = activity; writes = self.old.writes + 1 } }
     {
@@ -416,8 +421,8 @@ impl RankState {
         self.move_to(node, activity);
     }
 
-    /// Goes on at a release, from the barrier that it was blocked on. It takes no memory, and none of the room that was kept. One
-    /// write.
+    /// Goes on at a release, from the barrier that the rank was blocked on. Takes no memory, and
+    /// none of the reserved room. One write.
     pub fn go_on(&mut self)
         ensures after { self.new ≡ record self.old { activity = Activity.Running; writes = self.old.writes + 1 } }
         ensures world { (p : Program) → rank_of p self.new ≡ going_on (rank_of p self.old) }
@@ -426,8 +431,8 @@ impl RankState {
         self.act(Activity::Running);
     }
 
-    /// Takes back what a release made of it: it is blocked again. It takes no memory, and none of the room that was kept. One
-    /// write.
+    /// Takes back a release: the rank is blocked again. Takes no memory, and none of the reserved
+    /// room. One write.
     pub fn block_again(&mut self)
         ensures after { self.new ≡ record self.old { activity = Activity.Blocked; writes = self.old.writes + 1 } }
         ensures world { (p : Program) → rank_of p self.new ≡ blocked_again (rank_of p self.old) }
@@ -435,7 +440,7 @@ impl RankState {
         self.act(Activity::Blocked);
     }
 
-    /// Whether the rank is running and has a statement left.
+    /// Whether the rank is running and has a statement left, so that it has a local step.
     pub fn can_step(&self, code: &Code) -> bool
         ensures { (rank size count : ℕ) → result ≡ is_some (local rank size count (rank_of code.now.program self.now)) }
     {
@@ -457,7 +462,7 @@ impl RankState {
         }
     }
 
-    /// The number of its next statement, where it has one.
+    /// The number, in text order, of the rank's next statement, if it has one.
     pub fn next_statement(&self, code: &Code) -> Option<usize>
         ensures statement { result ≡ first_number (left_at code.now.program self.now.node) }
         ensures node { IfSome result (λ number. number ≡ self.now.node) }
@@ -469,28 +474,29 @@ impl RankState {
         }
     }
 
-    /// Which rank it is, from 0.
+    /// The number of the rank, from 0.
     pub fn number(&self) -> usize
         ensures { result ≡ self.now.rank }
     {
         self.rank as usize
     }
 
-    /// Its variables.
+    /// The values of its variables, cell by cell, in the order of their declarations.
     pub fn variables(&self) -> &[i64]
         ensures { result.now ≡ self.now.vars }
     {
         self.vars.items()
     }
 
-    /// The call of each handle.
+    /// The number of the call that each handle holds, if it holds one, in the order of the
+    /// declarations.
     pub fn handles(&self) -> &[Option<usize>]
         ensures { result.now ≡ self.now.handles }
     {
         self.handles.items()
     }
 
-    /// How many handles it has.
+    /// How many handles the rank has, 0 to 256.
     pub fn handle_count(&self) -> usize
         ensures value { result ≡ length self.now.handles }
         ensures few { result ≤ HANDLES_MAX }
@@ -498,7 +504,7 @@ impl RankState {
         self.handles.len()
     }
 
-    /// The number of the call that a handle has, where it has one.
+    /// The number of the call that a handle has, if it has one.
     pub fn held_call(&self, handle: usize) -> Option<usize>
         ensures { result ≡ slice_index_or self.now.handles handle None }
     {
@@ -510,21 +516,22 @@ impl RankState {
         }
     }
 
-    /// What it has printed.
+    /// The values that the rank has printed, in order.
     pub fn output(&self) -> &[i64]
         ensures { result.now ≡ self.now.out }
     {
         self.out.items()
     }
 
-    /// What it is doing.
+    /// Whether the rank is running, blocked or trapped.
     pub fn activity(&self) -> Activity
         ensures { result ≡ self.now.activity }
     {
         self.control().activity
     }
 
-    /// The same rank, in memory of its own. It counts its writes from 0. An `Err` is want of memory.
+    /// The same rank, in memory of its own. It counts its writes from 0. `Err` means that memory
+    /// was refused.
     pub fn copy(&self) -> Result<RankState, AllocError>
         ensures world { IfOk result (λ r. (p : Program) → rank_of p r ≡ rank_of p self.now) }
         ensures rank { IfOk result (λ r. r.rank ≡ self.now.rank) }

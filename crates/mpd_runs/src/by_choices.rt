@@ -13,7 +13,7 @@ use mpd_model::{STEPS_MAX, StepList};
 use mpd_policy::{ByChoices, Schedule, put_back, walk};
 use std::alloc::Global;
 
-/// Where the run is over no choice may be left.
+/// If the run is over, no choice may be left.
 fn end(left: &[usize], place: usize) -> Result<(), WordsFault>
     ensures { Ends place left.now result }
 {
@@ -47,7 +47,7 @@ fn follow<S: Schedule>(
     end(chooser.left, place)
 }
 
-/// The steps behind the first so many.
+/// The steps after the first `base`.
 fn steps_behind(alloc: Global, debugger: &Debugger<'_>, base: usize) -> Result<StepList, WordsFault>
     requires { base ≤ debugger.now.trail.depth }
     ensures steps { IfOk result (λ steps. steps ≡ drop base (done_steps debugger.now.trail)) }
@@ -63,7 +63,7 @@ fn steps_behind(alloc: Global, debugger: &Debugger<'_>, base: usize) -> Result<S
     }
 }
 
-/// The steps of the run that makes these choices. The debugger is left anywhere behind where it stood.
+/// The steps of the run that makes these choices. On return the debugger may be at any later state.
 #[tactic(auto, using(crate::proofs::AlongLemmas::leading))]
 fn steps_from<S: Schedule>(
     alloc: Global,
@@ -82,11 +82,13 @@ fn steps_from<S: Schedule>(
     steps_behind(alloc, debugger, base)
 }
 
-/// The steps of the run that makes exactly these choices along a schedule, from where a debugger stands to its end or to the fuel, which
-/// counts from here. `BadChoices` says that there is no such run: it tells the place, from 0, of the first choice that is none, since there
-/// are fewer candidates, or the run has ended or its fuel is used up before it; or how many choices there are, where the run wants more.
-/// `Memory` is that a growth was refused. The debugger is left as found, whatever is answered. No undone step is kept, and the depth and
-/// the fuel are at most 1,000,000 steps together.
+/// The steps of the run that makes exactly these choices along a schedule, from the debugger's
+/// state to the end of the run or of its fuel, which counts from here. `BadChoices` means that
+/// there is no such run: it has the index, from 0, of the first choice that can't be made, since
+/// there are fewer candidates, or the run or its fuel ends before it; or the number of choices, if
+/// the run needs more. `Memory` means that memory was refused. The debugger is left as found in
+/// every case. Requires that no step is undone, and that depth and fuel together are at most
+/// 1,000,000 steps.
 pub fn steps_by_choices<S: Schedule>(
     alloc: Global,
     schedule: &S,

@@ -19,7 +19,8 @@ fn is_open(alloc: Global, core: &Core<'_>) -> Result<bool, AllocError>
     }
 }
 
-/// Takes steps back until a choice is open, and answers how many are left then; none where no choice was made.
+/// Takes steps back until a choice is open, and returns how many are left then; none if no choice
+/// was made.
 #[tactic(auto, using(crate::proofs::LastChoiceLemmas::undoing))]
 fn undo_to_choice(alloc: Global, debugger: &mut Debugger<'_>) -> Result<Option<usize>, AllocError>
     ensures { IfOk result (λ o. o ≡ spec.last_choice debugger.old.trail) }
@@ -36,8 +37,8 @@ fn undo_to_choice(alloc: Global, debugger: &mut Debugger<'_>) -> Result<Option<u
     Ok(None)
 }
 
-/// How many steps stand before the last choice that was made, where one was. It is found by a copy of the debugger that goes back. An
-/// `Err` is want of memory.
+/// How many steps come before the last choice that was made, if one was. A copy of the debugger
+/// goes back to find it. `Err` means that memory was refused.
 #[tactic(auto, using(crate::proofs::LastChoiceLemmas::undoing))]
 pub fn last_choice(alloc: Global, debugger: &Debugger<'_>) -> Result<Option<usize>, AllocError>
     ensures { IfOk result (λ o. o ≡ spec.last_choice debugger.now.trail) }
@@ -49,7 +50,7 @@ pub fn last_choice(alloc: Global, debugger: &Debugger<'_>) -> Result<Option<usiz
     found
 }
 
-/// Adds that no choice was made. An `Err` is want of memory.
+/// Adds the line that says that no choice was made. `Err` means that memory was refused.
 pub fn push_no_choice(out: &mut String) -> Result<(), AllocError>
     ensures { OnOk result (string_bytes out.new ≡ string_bytes out.old ++ spec.no_choice_line) }
 {

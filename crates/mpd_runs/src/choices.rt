@@ -22,7 +22,7 @@ fn word_len(text: &[u8]) -> usize
     text.len()
 }
 
-/// What stands before the first space, and what stands behind it, where there is one.
+/// What stands before the first space, and what stands after it, if there is one.
 #[tactic(auto, using(crate::proofs::ChoiceLemmas::cutting))]
 fn cut(text: &[u8]) -> Option<(&[u8], &[u8])>
     ensures parts { MatchOption result (cut_at_spaces text.now ≡ text.now ∷ []) (λ q. cut_at_spaces text.now ≡ q.0.now ∷ cut_at_spaces q.1.now) }
@@ -67,9 +67,10 @@ fn push_words(items: &mut Vec<usize>, text: &[u8]) -> Result<(), ChoicesFault>
     push_word(items, rest)
 }
 
-/// Reads choices from a text, as a report has them between its brackets: numbers of 1 to 9 digits with one space or more between two,
-/// and any before the first and behind the last. The empty text is no choice. `NotANumber` is that a word is none, and `Memory` that a
-/// growth was refused.
+/// Reads choices from a text, as a report has them between its brackets: numbers of 1 to 9 digits,
+/// with one or more spaces between two, and any number of spaces before the first and after the
+/// last. The empty text has no choice. `NotANumber`: a word is no such number. `Memory`: memory was
+/// refused.
 #[tactic(auto, using(crate::proofs::ChoiceLemmas::answering))]
 pub fn choices_of(alloc: Global, text: &[u8]) -> Result<ChoiceList, ChoicesFault>
     ensures { ReadsChoices (choices_of text.now) result }

@@ -40,7 +40,7 @@ impl WayCounts {
     }
 }
 
-/// Whether it is exactly so many.
+/// Whether it is exactly `many`.
 pub fn is_count(count: Count, many: u64) -> bool
     ensures { result ≡ spec.is_count many count }
 {
@@ -85,7 +85,7 @@ fn told_in(way: Way, firsts: &[Leaf], counts: &[Count]) -> Count
     sum
 }
 
-/// How the runs end that were come to by states: how many of all of them in each way.
+/// How the runs end that were visited by states: how many of all of them in each way.
 pub fn counts_told(outcomes: &Outcomes) -> WayCounts
     ensures told { result ≡ spec.told_counts outcomes.now }
     ensures counts { (fuel : ℕ) (w : World) (h : TellsRuns fuel w outcomes.now) → result ≡ spec.counts_of (take h.runs (leaves_from fuel w)) outcomes.now.firsts.more }

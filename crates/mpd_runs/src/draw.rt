@@ -14,7 +14,7 @@ use mpd_policy::{Chooser, Wide, ending_of, walk};
 use rand::{Rng, RngExt};
 use std::alloc::{AllocError, Global};
 
-/// The number of one of so many candidates, each as likely as the other.
+/// The number of one of `count` candidates, each equally likely.
 fn draw_index<R: Rng>(random: &mut R, count: usize) -> usize
     requires some { 0 < count }
     ensures within { result < count }
@@ -23,7 +23,7 @@ fn draw_index<R: Rng>(random: &mut R, count: usize) -> usize
     random.random_range(0..count)
 }
 
-/// Draws one of the candidates, each as likely as the other, and notes its number.
+/// Draws one of the candidates, each equally likely, and notes its number.
 #[derive(Drop)]
 struct Drawer<'a, R: Rng> {
     random: &'a mut R,
@@ -53,7 +53,7 @@ impl<'a, R: Rng> Chooser for Drawer<'a, R> {
     }
 }
 
-/// Draws a run from here to its end, and answers how it ends.
+/// Draws a run from here to its end, and returns how it ends.
 fn draw_run<R: Rng>(
     alloc: Global,
     debugger: &mut Debugger<'_>,
@@ -76,7 +76,7 @@ fn draw_run<R: Rng>(
     Ok(ending)
 }
 
-/// Draws a run, and answers its leaf, at which the debugger stands then.
+/// Draws a run, and returns its leaf, at which the debugger stands then.
 pub(crate) fn draw_leaf<R: Rng>(
     alloc: Global,
     debugger: &mut Debugger<'_>,

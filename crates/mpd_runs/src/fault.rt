@@ -5,9 +5,10 @@ use mpd_lines::EngineFault;
 /// Why the steps of a run are refused.
 #[derive(Clone, Copy)]
 pub enum WordsFault {
-    /// The choice at this place, from 0, is none; or so many were given, and the run wants more.
+    /// The choice at this index, from 0, can't be made; or this many were given, and the run needs
+    /// more.
     BadChoices(usize),
-    /// A growth was refused.
+    /// Memory was refused.
     Memory,
 }
 
@@ -16,14 +17,15 @@ pub enum WordsFault {
 pub enum ChoicesFault {
     /// A word of it is no number of 1 to 9 digits.
     NotANumber,
-    /// A growth was refused.
+    /// Memory was refused.
     Memory,
 }
 
 /// Why a run's words aren't written, or not all of them.
 #[derive(Clone, Copy)]
 pub enum WriteFault {
-    /// The choice at this place, from 0, is none; or so many were given, and the run wants more.
+    /// The choice at this index, from 0, can't be made; or this many were given, and the run needs
+    /// more.
     BadChoices(usize),
     /// A write failed, or memory was refused.
     Engine(EngineFault),

@@ -26,8 +26,9 @@ fn fits(stop: Stop, is_cut: bool) -> Result<(), AllocError>
     }
 }
 
-/// Leads a debugger along the first candidates of a schedule, up to the end of the run, or so many steps. The depth and these are at most
-/// 1,000,000 together. An `Err` is want of memory; the debugger then stands somewhere on that run.
+/// Leads a debugger along the first candidates of a schedule, to the end of the run, or for `fuel`
+/// steps. The depth and these are at most 1,000,000 together. `Err` means that memory was refused;
+/// the debugger is then somewhere on that run.
 pub fn lead_first<S: Schedule>(
     alloc: Global,
     schedule: &S,

@@ -15,7 +15,7 @@ pub enum StepsFault {
     NotEnabled(usize),
     /// There are more than 1,000,000 with those taken before.
     Full,
-    /// A growth was refused.
+    /// Memory was refused.
     Memory,
 }
 
@@ -34,8 +34,8 @@ fn take_at(debugger: &mut Debugger<'_>, place: usize, step: Step) -> Result<(), 
     }
 }
 
-/// Takes steps one after another. `NotEnabled` tells the first that isn't enabled. Where not all are taken the debugger stands behind those
-/// that were.
+/// Takes steps one after another. `NotEnabled` has the index of the first that isn't enabled. If
+/// not all are taken, the debugger is left after those that were.
 #[tactic(auto, using(crate::proofs::GivenLemmas::taking))]
 pub fn take_steps(debugger: &mut Debugger<'_>, steps: &[Step]) -> Result<(), StepsFault>
     ensures taken { OnOk result (done_steps debugger.new.trail ≡ done_steps debugger.old.trail ++ steps.now) }

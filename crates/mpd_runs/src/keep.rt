@@ -119,7 +119,7 @@ fn is_there(leaves: &[Box<Leaf>], place: usize, choices: &[usize]) -> bool
     has_choices(&leaves[place], choices)
 }
 
-/// Adds the text of the witness of a run that ends here so, at a place, where texts are asked for.
+/// Adds the text of the witness of a run that ends here so, at a place, if texts are asked for.
 fn add_text(
     alloc: Global,
     debugger: &Debugger<'_>,
@@ -139,8 +139,8 @@ fn add_text(
     Ok(())
 }
 
-/// Adds a leaf, at which the debugger stands, to those held, which rise, at its place, and the text of its witness, where texts
-/// are asked for. Nothing is added where a leaf with its choices is there.
+/// Adds a leaf, at which the debugger stands, to those held, which rise, at its place, and the text
+/// of its witness, if texts are asked for. Nothing is added if a leaf with its choices is there.
 pub(crate) fn keep_leaf(
     alloc: Global,
     debugger: &Debugger<'_>,

@@ -1,5 +1,6 @@
-//! Runs and their steps: the run that some choices tell, the run of the first candidates, steps or trace words that are given, the runs
-//! from where a debugger stands, the first of them that ends in one way, the last choice that was made, and a sample of all runs.
+//! Runs and their steps: the run that some choices tell, the run of the first candidates, steps or
+//! trace words that are given, the runs from a debugger's state, the first of them that ends in one
+//! way, the last choice that was made, and a sample of all runs.
 #![tactic(auto)]
 
 pub mod by_choices;

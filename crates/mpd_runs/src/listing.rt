@@ -1,4 +1,5 @@
-//! The runs from where a debugger stands, along the wide walk that takes two steps which do not conflict in one order alone, and their text.
+//! The runs from a debugger's state, along the wide walk, which takes two steps that do not
+//! conflict in one order alone; and their text.
 
 ghost use Rattle.std.specs.Prelude.{◌≡◌, ◌≤◌, ◌<◌, ◌+◌, ◌++◌, true, false, IfOk, OnOk, length, string_bytes};
 ghost use Rattle.std.specs.List.{AllByRecursion};
@@ -22,7 +23,7 @@ use std::alloc::{AllocError, Global};
 /// How many steps a run has at most that is tried.
 pub const FUEL: usize = 100_000;
 
-/// How many steps a run may have behind so many: as many as can be kept.
+/// How many steps a run may have after `depth` others: as many as can be kept.
 pub(crate) fn fuel_at(depth: usize) -> usize
     requires { depth ≤ STEPS_MAX }
     ensures value { result ≡ spec.fuel_at depth }
@@ -32,8 +33,8 @@ pub(crate) fn fuel_at(depth: usize) -> usize
     if left < FUEL { left } else { FUEL }
 }
 
-/// The first runs from where a debugger stands, so many at most; where `until_bad`, up to the first deadlock or trap. An `Err` is want of
-/// memory.
+/// The first `runs` runs from the debugger's state, if there are as many; with `until_bad`, up to
+/// the first deadlock or trap. `Err` means that memory was refused.
 pub(crate) fn first_runs(
     alloc: Global,
     debugger: &mut Debugger<'_>,
@@ -58,7 +59,7 @@ pub(crate) fn first_runs(
     explore(alloc, debugger, limits, &mut Unwatched)
 }
 
-/// The first runs from where a debugger stands, in the order of the walk.
+/// The first runs from the debugger's state, in the order of the walk.
 fn runs_from(alloc: Global, debugger: &Debugger<'_>, runs: usize) -> Result<Report, AllocError>
     ensures leaves { IfOk result (λ r. r.leaves.items ≡ spec.first_runs runs (spec.fuel_at debugger.now.trail.depth) debugger.now.world) }
     ensures more { IfOk result (λ r. r.more ≡ spec.are_more runs (spec.fuel_at debugger.now.trail.depth) debugger.now.world) }
@@ -69,7 +70,7 @@ fn runs_from(alloc: Global, debugger: &Debugger<'_>, runs: usize) -> Result<Repo
     first_runs(alloc, &mut copy, runs, fuel, false)
 }
 
-/// Whether so many runs may be asked for.
+/// Whether this number of runs may be asked for.
 pub(crate) fn is_number(runs: usize) -> bool
     ensures { result ≡ spec.is_number runs }
 {
@@ -132,7 +133,7 @@ fn push_ending(out: &mut String, lines: &[usize], ending: &Ending) -> Result<(),
     push_ending_places(out, lines, ending)
 }
 
-/// Adds the line of a run, where so many stand before it.
+/// Adds the line of a run, after `place` others.
 fn push_leaf(out: &mut String, lines: &[usize], place: usize, leaf: &Leaf) -> Result<(), AllocError>
     requires { place < 9223372036854775808 }
     ensures { OnOk result (string_bytes out.new ≡ string_bytes out.old ++ spec.leaf_line lines.now place leaf.now) }
@@ -164,7 +165,7 @@ fn separator(is_first: bool) -> &'static str
     if is_first { " (" } else { ", " }
 }
 
-/// Adds how many runs end in a way, where any does.
+/// Adds how many runs end in a way, if any does.
 fn push_way(out: &mut String, is_first: bool, count: Count, way: Way) -> Result<(), AllocError>
     ensures { OnOk result (string_bytes out.new ≡ string_bytes out.old ++ spec.way_words is_first count way) }
 {
@@ -177,7 +178,7 @@ fn push_way(out: &mut String, is_first: bool, count: Count, way: Way) -> Result<
     out.push_str(way.name())
 }
 
-/// Whether the next way is the first that is told, behind one in which so many runs end.
+/// Whether the next way is still the first that is listed, after one in which this many runs end.
 fn still_first(is_first: bool, count: Count) -> bool
     ensures { result ≡ spec.still_first is_first count }
 {
@@ -236,7 +237,8 @@ fn push_orders(out: &mut String) -> Result<(), AllocError>
     out.push_str("one run for all orders of steps that don't meet; diagnose counts each order\n")
 }
 
-/// Adds the first runs from where a debugger stands, so many at most, or which numbers there are. An `Err` is want of memory.
+/// Adds the first `runs` runs from the debugger's state, or which numbers may be asked for. `Err`
+/// means that memory was refused.
 pub fn push_runs(
     alloc: Global,
     debugger: &Debugger<'_>,
@@ -272,7 +274,7 @@ fn found_words(sees_all: bool) -> &'static str
     }
 }
 
-/// Adds that no run ends in a way, and what was looked at. An `Err` is want of memory.
+/// Adds that no run ends in a way, and what was looked at. `Err` means that memory was refused.
 pub fn push_none(out: &mut String, way: Way, counts: WayCounts) -> Result<(), AllocError>
     ensures { OnOk result (string_bytes out.new ≡ string_bytes out.old ++ spec.none_line way counts) }
 {

@@ -12,7 +12,7 @@ use std::alloc::{AllocError, Global};
 pub enum ReadFault {
     /// The line of this number, from 1, is no step.
     NotAStep(usize),
-    /// A growth was refused.
+    /// Memory was refused.
     Memory,
 }
 

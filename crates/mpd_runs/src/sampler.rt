@@ -1,4 +1,4 @@
-//! Sampling from where a debugger stands.
+//! Sampling from a debugger's state.
 
 ghost use Rattle.std.specs.Prelude.{◌≡◌, ◌+◌, ◌<◌, ◌≤◌, ℕ, true, false, List, [], length, map, take, nat_lt, IfOk, OnOk, OnErr, string_bytes};
 ghost use Rattle.std.specs.List.{AllByRecursion, position};
@@ -25,7 +25,8 @@ use rand::{Rng, SeedableRng};
 use rand_pcg::Pcg64;
 use std::alloc::{AllocError, Global};
 
-/// Draws a run, and adds its leaf to those held; whether the drawing ends behind it. The debugger is left anywhere above where it stood.
+/// Draws a run, and adds its leaf to those held. Returns whether the drawing ends after it. On
+/// return the debugger may be at any later state.
 fn draw_into<R: Rng>(
     alloc: Global,
     debugger: &mut Debugger<'_>,
@@ -45,7 +46,8 @@ fn draw_into<R: Rng>(
     Ok(is_last)
 }
 
-/// Draws a run, adds its leaf to those held, and comes back; whether the drawing ends behind it.
+/// Draws a run, adds its leaf to those held, and goes back. Returns whether the drawing ends after
+/// it.
 fn add_run<R: Rng>(
     alloc: Global,
     debugger: &mut Debugger<'_>,
@@ -151,7 +153,7 @@ fn end_at_bad(limits: Limits, report: &mut Report)
     report.witnesses.truncate(count);
 }
 
-/// Whether there are more runs of the wide walk from here than so many.
+/// Whether there are more runs of the wide walk from here than `count`.
 fn has_more(
     alloc: Global,
     debugger: &mut Debugger<'_>,
@@ -175,13 +177,16 @@ fn has_more(
     Ok(more)
 }
 
-/// A sample of the runs of the wide walk from here, in which no step is asleep: so many are made, one after another, and at each choice of
-/// one a candidate is drawn, each as likely as the other, by a generator that is seeded with this number. The report has each different
-/// list of choices once, in the order of the walk, and `more` says whether the walk has others. If that is asked for, the drawing ends with
-/// the first run drawn that ends in a deadlock or a trap, and so does the report. Fuel counts from here. The debugger is left as found, also where memory is
-/// refused, which is what an `Err` says; that comes only where a run is asked for. No undone step is kept, and the depth and the fuel are
-/// at most 1,000,000 steps together. Each leaf has a run, and each deadlock and each trap a witness; where witnesses are wanted, their texts are made as
-/// the runs are drawn. `watch` is told of each run that is drawn, with how many there are so far; nothing else depends on it.
+/// A sample of the runs of the wide walk from here, in which no step is asleep: `runs` of them are
+/// drawn, one after another. At each choice of a run each candidate is equally likely, by a
+/// generator that is seeded with `seed`. The report has each different list of choices once, in the
+/// order of the walk, and `more` says whether the walk has others. With `until_bad` the drawing
+/// ends with the first run drawn that ends in a deadlock or a trap, and so does the report. Fuel
+/// counts from here. The debugger is left as found, also on `Err`, which means that memory was
+/// refused; this happens only if a run is asked for. Requires that no step is undone, and that
+/// depth and fuel together are at most 1,000,000 steps. Each leaf has a run, and each deadlock and
+/// each trap a witness. With `witnesses` their texts are made as the runs are drawn. `watch` is
+/// told of each run that is drawn, with how many there are so far; nothing else depends on it.
 pub fn sample<W: Watch>(
     alloc: Global,
     debugger: &mut Debugger<'_>,

@@ -1,5 +1,6 @@
-//! The first run that ends in one way, and the run of a number, with their steps from the start of the script. Both are of the wide walk that
-//! takes two steps which do not conflict in one order alone.
+//! The first run that ends in one way, and the run of a number, with their steps from the start of
+//! the script. Both are of the wide walk, which takes two steps that do not conflict in one order
+//! alone.
 
 ghost use Rattle.std.specs.Prelude.{◌≡◌, ◌≤◌, ◌<◌, ◌+◌, ◌++◌, IfOk, IfSome, OnOk, length, slice_get, string_bytes};
 ghost use Rattle.std.specs.List.{AllByRecursion};
@@ -35,13 +36,13 @@ pub struct WholeRun {
 /// Which runs are looked at.
 #[derive(Clone, Copy)]
 pub enum Scope {
-    /// All runs of the wide walk, by coming to each state once.
+    /// All runs of the wide walk, by visiting each state once.
     WideWalk,
     /// The first 65,536 of the runs that are listed, since there are too many states.
     Listed,
 }
 
-/// What came of looking at them.
+/// What the search found among them.
 #[derive(Drop)]
 pub enum Sought {
     /// The first run that ends in the way that was looked for.
@@ -50,14 +51,14 @@ pub enum Sought {
     Nothing(WayCounts),
 }
 
-/// What came of looking for a run.
+/// The result of looking for a run.
 #[derive(Drop)]
 pub struct Search {
     /// Which runs were looked at.
     pub scope: Scope,
-    /// How many states were come to before that.
+    /// How many states were visited before that.
     pub states: usize,
-    /// What came of it.
+    /// The result.
     pub sought: Sought,
 }
 
@@ -94,7 +95,7 @@ fn copy_ending(alloc: Global, ending: &Ending) -> Result<Ending, AllocError>
     }
 }
 
-/// The steps that are not undone, and behind them some others.
+/// The steps that are not undone, and after them some others.
 fn joined(alloc: Global, debugger: &Debugger<'_>, more: StepList) -> Result<StepList, AllocError>
     ensures { IfOk result (λ steps. steps ≡ done_steps debugger.now.trail ++ more) }
 {
@@ -106,7 +107,7 @@ fn joined(alloc: Global, debugger: &Debugger<'_>, more: StepList) -> Result<Step
     Ok(StepList { items })
 }
 
-/// The steps of a leaf's run, behind those that led here.
+/// The steps that led here, then those of a leaf's run.
 #[tactic(auto, using(crate::proofs::SeekLemmas::leading))]
 fn steps_of(
     alloc: Global,
@@ -157,7 +158,8 @@ fn falls_short(report: &Report, way: Way) -> bool
     report.has_bad() && first_in(way, &report.leaves).is_none()
 }
 
-/// The runs that are looked at: up to the first deadlock or trap, and where that is none of those that are looked for, as many as there are.
+/// The runs that are looked at: up to the first deadlock or trap, and if that isn't one that is
+/// looked for, as many as there are.
 #[tactic(auto, using(crate::proofs::LookLemmas::looking))]
 fn look(alloc: Global, copy: &mut Debugger<'_>, fuel: usize, way: Way) -> Result<Report, AllocError>
     requires clean { length copy.old.trail.steps ≡ copy.old.trail.depth }
@@ -221,7 +223,8 @@ fn by_runs(
     }
 }
 
-/// Looks for the first run that ends in a way, by states, and where these are too many among the first runs that are listed.
+/// Looks for the first run that ends in a way, by states, and if these are too many among the first
+/// runs that are listed.
 #[tactic(auto, using(crate::proofs::SeekLemmas::seeking))]
 fn seek_on(
     alloc: Global,
@@ -262,9 +265,10 @@ fn seek_on(
     })
 }
 
-/// Looks for the first run that ends in a way, from where a debugger stands, in the order of the wide walk, and comes to each state once.
-/// Where as many states were come to as may be (`STATES_VISITED`), and none was found, it looks among the first 65,536 of the runs that
-/// are listed. An `Err` is want of memory.
+/// Looks for the first run that ends in a way, from the debugger's state, in the order of the wide
+/// walk, and visits each state once. If `STATES_VISITED` states were visited and no such run was
+/// found, it looks among the first 65,536 of the runs that are listed. `Err` means that memory was
+/// refused.
 #[tactic(auto, using(crate::proofs::SeekLemmas::seeking))]
 pub fn seek(alloc: Global, debugger: &Debugger<'_>, way: Way) -> Result<Search, AllocError>
     ensures search { IfOk result (IsSearch way debugger.now.trail debugger.now.world) }
@@ -302,8 +306,8 @@ fn run_at_place(
     }
 }
 
-/// The run of a number, from 1, among those from where a debugger stands, in the order of the walk; none where there is no such run, or no
-/// such number. An `Err` is want of memory.
+/// The run of a number, from 1, among those from the debugger's state, in the order of the walk;
+/// none if there is no such run, or no such number. `Err` means that memory was refused.
 #[tactic(auto, using(crate::proofs::SeekLemmas::numbering))]
 pub fn numbered_run(
     alloc: Global,
@@ -326,7 +330,7 @@ pub fn numbered_run(
 
 // ---- text
 
-/// Adds how many steps, in words. An `Err` is want of memory.
+/// Adds a number of steps, in words. `Err` means that memory was refused.
 pub fn push_count(out: &mut String, count: usize) -> Result<(), AllocError>
     ensures { OnOk result (string_bytes out.new ≡ string_bytes out.old ++ spec.count_words count) }
 {
@@ -351,8 +355,8 @@ fn push_ahead_words(
     }
 }
 
-/// Adds how the run ends that lies ahead, by how many steps, and where, given the line of each statement; of the run of a number this number,
-/// too. An `Err` is want of memory.
+/// Adds how the run ends that lies ahead, by how many steps, and where, given the line of each
+/// statement; of the run of a number this number, too. `Err` means that memory was refused.
 pub fn push_ahead(
     out: &mut String,
     lines: &[usize],
@@ -369,7 +373,7 @@ pub fn push_ahead(
     out.push('\n')
 }
 
-/// Adds that there is no run of a number. An `Err` is want of memory.
+/// Adds that there is no run of a number. `Err` means that memory was refused.
 pub fn push_no_run(out: &mut String) -> Result<(), AllocError>
     ensures { OnOk result (string_bytes out.new ≡ string_bytes out.old ++ spec.no_run_line) }
 {

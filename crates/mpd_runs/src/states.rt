@@ -1,4 +1,4 @@
-//! The first run that ends in one way, by coming to each state once.
+//! The first run that ends in one way, found by visiting each state once.
 
 ghost use Rattle.std.specs.Prelude.{◌≡◌, ◌≤◌, ◌+◌, IfOk, IfSome, length};
 ghost use Rattle.mpd_model.specs.runs.Trail.{done_steps};
@@ -17,17 +17,17 @@ use std::alloc::{AllocError, Global};
 /// How many states are kept at most.
 pub const STATES_KEPT: usize = 1_000_000;
 
-/// How many states are come to at most, kept or not.
+/// How many states are visited at most, kept or not.
 pub const STATES_VISITED: usize = 1_000_000;
 
-/// What came of coming to each state once.
+/// What came of visiting each state once.
 #[derive(Drop)]
 pub(crate) struct ByStates {
     /// The first run that ends in the way that was looked for.
     pub(crate) found: Option<WholeRun>,
-    /// How the runs end that were come to.
+    /// How the runs end that were visited.
     pub(crate) counts: WayCounts,
-    /// How many states were come to.
+    /// How many states were visited.
     pub(crate) states: usize,
 }
 
@@ -42,7 +42,7 @@ fn goal_of(way: Way) -> Option<Goal>
     }
 }
 
-/// Looks for the first run that ends in a way, and comes to each state once.
+/// Looks for the first run that ends in a way, and visits each state once.
 #[tactic(auto, using(crate::proofs::StateLemmas::telling))]
 pub(crate) fn by_states(
     alloc: Global,

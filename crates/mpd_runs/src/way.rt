@@ -27,7 +27,7 @@ pub const WAYS: [Way; 5] = [
 ];
 
 impl Way {
-    /// The word.
+    /// The word: `done`, `leftovers`, `deadlock`, `trap` or `cut`.
     pub fn name(self) -> &'static str
         ensures { result.now ≡ spec.way_name self }
     {

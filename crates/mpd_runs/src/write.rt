@@ -64,10 +64,11 @@ fn put<W: Sink>(text: String, sink: &mut W) -> Result<(), WriteFault>
     Ok(())
 }
 
-/// Writes the trace words of the run that makes exactly these choices along a schedule, from a script's start to its end or to the fuel,
-/// which is 1,000,000 steps at most: a line for each step (docs/FORMATS.md, "Trace words"). `BadChoices` says that there is no such run, and
-/// tells the place as `steps_by_choices` does; nothing is written then. `WriteFailed` (46) comes only where a write failed, and `Memory` only
-/// before anything is written.
+/// Writes the trace words of the run that makes exactly these choices along a schedule, from a
+/// script's start to the end of the run or of its fuel, at most 1,000,000 steps: a line for each
+/// step (docs/FORMATS.md, "Trace words"). `BadChoices` means that there is no such run, and has the
+/// place as `steps_by_choices` does; nothing is written then. `WriteFailed` (46) comes only if a
+/// write failed, and `Memory` only before anything is written.
 #[tactic(auto, using(crate::proofs::WriteLemmas::writing))]
 pub fn write_words<S: Schedule, W: Sink>(
     alloc: Global,

@@ -1,5 +1,7 @@
 -- What threads may hand to one another.
 use denote.Param.Send.{IsSend, IsSync, sendable}
+use denote.Param.SendFields.{declared_send, variants_send}
+use denote.Struct.Record as made
 use denote.RattleType.{RattleType}
 use denote.Ref.{NamedLft}
 use Rattle.std.proofs.Crossing.{crosses}
@@ -20,6 +22,11 @@ use Rattle.mpd_model.proofs.expr.Expr.TheLaws.TheKnot as expr_knot
 use Rattle.mpd_model.specs.contracts.place.Decl as Decl
 use Rattle.mpd_code.specs.contracts.node.Node as Node
 use Rattle.mpd_code.specs.contracts.code.Code as Code
+use Rattle.mpd_session.specs.contracts.request.Request as Request
+use Rattle.mpd_session.specs.contracts.reply.TextList as TextList
+use Rattle.mpd_session.specs.contracts.reply.HoldingList as HoldingList
+use Rattle.mpd_session.specs.contracts.reply.Answer as Answer
+use Rattle.mpd_session.specs.contracts.reply.Reply as Reply
 use Rattle.mpd_session.specs.contracts.history.Entry as Entry
 use Rattle.mpd_session.specs.contracts.session.Session as Session
 use Rattle.mpd_session.specs.contracts.book.Book as Book
@@ -68,8 +75,24 @@ breaks_send = search (sendable, crosses) depth 100 fits 20000
 pub session_send : (κ : NamedLft) → IsSend (Session.the_row κ)
 session_send κ = search (debugger_send, breaks_send, sendable, crosses) depth 100 fits 20000
 
+-- what an entry has, piece by piece: a reply has too many kinds for one search, which looks into the answer of each; by `variants_send` the fact about answers serves
+request_send : IsSend Request.the_row
+request_send = search (sendable, crosses) depth 100 fits 20000
+
+texts_send : IsSend TextList.the_row
+texts_send = search (sendable, crosses) depth 100 fits 20000
+
+holdings_send : IsSend HoldingList.the_row
+holdings_send = search (sendable, crosses) depth 100 fits 20000
+
+answer_send : IsSend Answer.the_row
+answer_send = search (texts_send, holdings_send, sendable, crosses) depth 100 fits 50000
+
+reply_send : IsSend Reply.the_row
+reply_send = variants_send Reply.enum (search (answer_send, sendable, crosses) depth 100 fits 50000)
+
 pub entry_send : IsSend Entry.the_row
-entry_send = search (sendable, crosses) depth 100 fits 20000
+entry_send = declared_send (made.declared Entry.struct Entry.the_propositions) (search (request_send, reply_send, sendable, crosses) depth 100 fits 50000)
 
 pub book_send : (κ : NamedLft) → IsSend (Book.the_row κ)
 book_send κ = search (entry_send, session_send, sendable, crosses) depth 100 fits 20000

@@ -49,7 +49,7 @@ pub(crate) fn serve_client<T: Table<S, R>, S, R: Wait, P: Porter>(
     stream: TcpStream,
     porter: &P,
 ) -> S {
-    // where it can't be set, each reply takes longer
+    // if it can't be set, each reply takes longer
     let _slower = stream.set_nodelay(true);
     let seat = table.serve(rt, alloc, seat, &stream);
     let log = table.log(&seat);

@@ -42,7 +42,7 @@ pub(crate) struct Left<S: Drop> {
 }
 
 impl<S: Drop> Places<S> {
-    /// The places of these seats. An `Err` is want of memory; no later call asks for any.
+    /// The places of these seats. `Err` means that memory was refused; no later call asks for any.
     pub(crate) fn new(alloc: Global, seats: Vec<S>) -> Result<Places<S>, AllocError>
         ensures { IfOk result (λ places. places.seats ≡ seats) }
     {
@@ -122,7 +122,7 @@ fn join_all<S: Send + Drop, R: Threads + Wait>(rt: &R, begun: Begun<S>) -> Left<
     }
 }
 
-/// Accepts a client for each seat, and serves it on a thread of its own from then on. Answers the
+/// Accepts a client for each seat, and serves it on a thread of its own from then on. Returns the
 /// seats once all clients have left: each is there again, but for those of clients for which no
 /// thread could be started. It takes no memory of its own. An `Err` is an accept that failed.
 pub(crate) fn serve_all<T: Table<S, R> + Sync, S: Send + Drop, R: Threads + Wait + Sync, P: Porter>(

@@ -18,14 +18,14 @@ pub struct SeatDesk<'s, 'c, L: Opening, R: Wait> {
 }
 
 impl<'s, 'c, L: Opening, R: Wait> SeatDesk<'s, 'c, L, R> {
-    /// The desk of a seat.
+    /// A desk that answers the requests of one seat. It waits for the lock of the session by `rt`.
     pub fn new(rt: &'s R, shared: &'s Shared<'c, L>, seat: Seat<L>) -> SeatDesk<'s, 'c, L, R>
         ensures { result.seat ≡ seat }
     {
         SeatDesk { shared, seat, rt }
     }
 
-    /// Gives its seat back.
+    /// Returns the seat.
     pub fn into_seat(self) -> Seat<L>
         ensures { result ≡ self.entry.seat }
     {

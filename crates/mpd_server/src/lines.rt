@@ -10,7 +10,7 @@ use itoa::Buffer;
 use mpd_lines::{DeviceFault, Sink, write_all};
 use std::net::TcpListener;
 
-/// Writes a number, and ends its line. It takes no memory.
+/// Writes a number, and ends its line. Takes no memory.
 #[tactic(auto, using(crate::proofs::AnnouncedLemmas::saying))]
 fn end_line<W: Sink>(sink: &mut W, number: usize) -> Result<(), DeviceFault>
     ensures { Written (line (decimal number)) (W.seen sink.old) (W.seen sink.new) result }
@@ -22,7 +22,7 @@ fn end_line<W: Sink>(sink: &mut W, number: usize) -> Result<(), DeviceFault>
     }
 }
 
-/// Writes a line: a word, and a number. It takes no memory.
+/// Writes a line: a word, and a number. Takes no memory.
 #[tactic(auto, using(crate::proofs::AnnouncedLemmas::saying))]
 fn say<W: Sink>(sink: &mut W, word: &str, number: usize) -> Result<(), DeviceFault>
     ensures { Written (line (word.now ++ decimal number)) (W.seen sink.old) (W.seen sink.new) result }

@@ -3,10 +3,10 @@
 /// Who is told that clients come and leave. No contract speaks of these calls, and nothing depends
 /// on them.
 pub trait Porter: Sync {
-    /// The client of this number, from 0, was accepted, of so many that are to come. It is told
-    /// before the client is served.
+    /// The client of this number, from 0, was accepted; `clients` are to come in all. Called before
+    /// the client is served.
     fn has_come(&self, client: usize, clients: usize);
 
-    /// The client of this number has left, after so many requests. Its own thread tells it.
+    /// The client of this number has left, after `requests` requests. Called on its own thread.
     fn has_left(&self, client: usize, requests: usize);
 }

@@ -13,10 +13,12 @@ use mpd_session::Session;
 use mpd_wire::{End, serve};
 use std::alloc::Global;
 
-/// Answers the requests of a source (docs/SESSIONS.md) with a session at the start of a script, and writes exactly what the session
-/// replies, however the lines were cut into reads; each reply is written before the next request is asked. `Ok` comes only where the
-/// input has ended, `ReadFailed` (45) and `WriteFailed` (46) only where that device failed in this call, `TooManyTurns` (47) only
-/// behind 1,000,000 reads none of which was the end, and `Memory` only before anything was read or written.
+/// Answers the requests of a source (docs/SESSIONS.md) with a session at the start of a script, and
+/// writes exactly what the session replies, however the lines were cut into reads; each reply is
+/// written before the next request is asked. `Ok` comes only if the input has ended, `ReadFailed`
+/// (45) and `WriteFailed` (46) only if that device failed in this call, `TooManyTurns` (47) only
+/// after 1,000,000 reads none of which was the end, and `Memory` only before anything was read or
+/// written.
 pub fn run_script<S: Source, W: Sink>(
     alloc: Global,
     code: &Code,

@@ -61,7 +61,7 @@ impl<L: Ledger> Seat<L> {
         share
     }
 
-    /// Its receipts, with its client.
+    /// Its receipts, with the number of its client.
     pub fn into_log(self) -> Log
         ensures { noted result ≡ self }
     {
@@ -90,7 +90,8 @@ pub(crate) struct Locked<'c, L: Opening> {
     ghost mode: { book.session.trail.mode ≡ L.mode },
 }
 
-/// The count of all calls is the number of all receipts, where all seats are here. It does nothing when it runs.
+/// The count of all calls is the number of all receipts, if all seats are here. It does nothing
+/// when it runs.
 fn add_up<L: Opening>(mut calls: ledger::Book<L>, mut seats: Vec<Seat<L>>)
     ensures all { vec_len seats ≡ L.parts → 0 < L.parts → receipts_in seated seats.items ≡ calls.total }
 {
@@ -137,7 +138,7 @@ impl<'c, L: Opening> Locked<'c, L> {
         Ok(reply)
     }
 
-    /// Takes the book out, and answers what it says to all receipts.
+    /// Takes the book out, and returns what it says to all receipts.
     pub(crate) fn settle(self, seats: Vec<Seat<L>>) -> Result<Book<'c>, SettleFault<'c>>
         ensures settled { Settles seats.items result }
         ensures replay { IsBookOf L.program L.mode (book_in result) }

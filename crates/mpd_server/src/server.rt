@@ -38,8 +38,8 @@ pub struct Arrivals<'l, P> {
     pub porter: &'l P,
 }
 
-/// A session for so many clients, and their places. An `Err` is want of memory; no later call asks
-/// for any, but for those that answer requests.
+/// A session for `clients` clients, and their places. `Err` means that memory was refused; no later
+/// call asks for any, but for those that answer requests.
 fn places_of<'c, L: Opening>(
     alloc: Global,
     blank: Blank,
@@ -81,7 +81,7 @@ fn entries_settled<L: Opening>(
     }
 }
 
-/// Serves the clients of a session in their places, and answers how many entries its history has in
+/// Serves the clients of a session in their places, and returns how many entries its history has in
 /// the end.
 fn attend<L: Opening + Send + Sync, R: Threads + Wait + Sync, P: Porter>(
     rt: &R,
@@ -148,14 +148,14 @@ fn host<L: Opening + Send + Sync, R: Threads + Wait + Sync, P: Porter, W: Sink>(
     }
 }
 
-/// Serves so many clients of a listener with one session at the start of a script, each on a thread
-/// of its own, until all have left. It writes two lines: `listening P` with the port, 0 to 65,535,
-/// before the first client is accepted, and `served E` after the last has left, with the number of
-/// requests that have entries in the history, 0 to 65,536, which it answers. If no thread can be
-/// started for a client, it is let go. Memory for the session, its seats and its lists is taken
-/// before anything is written: `Memory` and `NoPort` come only there. `NotAccepted` and `Settle`
-/// come after the first line alone, and `WriteFailed` (46) only if a write of these lines failed.
-/// What a client is replied, docs/SESSIONS.md says.
+/// Serves `clients` clients of a listener with one session at the start of a script, each on a
+/// thread of its own, until all have left. It writes two lines: `listening P` with the port, 0 to
+/// 65,535, before the first client is accepted, and `served E` after the last has left, with the
+/// number of requests that have entries in the history, 0 to 65,536, which it answers. If no thread
+/// can be started for a client, it is let go. Memory for the session, its seats and its lists is
+/// taken before anything is written: `Memory` and `NoPort` come only there. `NotAccepted` and
+/// `Settle` come after the first line alone, and `WriteFailed` (46) only if a write of these lines
+/// failed. docs/SESSIONS.md says what a client is replied.
 pub fn serve<R: Threads + Wait + Sync, P: Porter, W: Sink>(
     rt: &R,
     alloc: Global,

@@ -15,7 +15,7 @@ pub enum SettleFault<'c> {
 }
 
 impl<'c> SettleFault<'c> {
-    /// Its number, as docs/DEFINITIONS.md lists them.
+    /// Its number: 57 or 58 (docs/FORMATS.md, "Faults and statuses").
     pub fn number(&self) -> u8
         ensures { result ≡ settle_fault_number self.now }
     {

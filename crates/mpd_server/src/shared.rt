@@ -26,7 +26,8 @@ pub struct Shared<'c, L: Opening> {
     ghost script: { code.now.program ≡ L.program } by { Prim.hlevel (program_code, props) },
 }
 
-/// The seats of so many clients, each with a part of the ledger. An `Err` is want of memory.
+/// The seats of `clients` clients, each with a part of the ledger. `Err` means that memory was
+/// refused.
 #[tactic(auto, using(crate::proofs::SeatLemmas::one_seat_more))]
 fn seats_for<L: Opening>(
     alloc: Global,
@@ -45,7 +46,8 @@ fn seats_for<L: Opening>(
 }
 
 impl<'c, L: Opening> Shared<'c, L> {
-    /// A session at its start under a lock, and the seats of the clients from 0 on, in their order. An `Err` is want of memory.
+    /// A session at its start under a lock, and the seats of the clients from 0 on, in their order.
+    /// `Err` means that memory was refused.
     pub fn new(
         alloc: Global,
         blank: Blank,
@@ -65,16 +67,17 @@ impl<'c, L: Opening> Shared<'c, L> {
         Ok((Shared { code, locked }, seats))
     }
 
-    /// The code of the script. It takes no lock.
+    /// The code of the script. It is read without the lock.
     pub fn code(&self) -> &'c Code
         ensures { result.now.program ≡ L.program }
     {
         self.code
     }
 
-    /// Answers a request of a client, and adds the receipt to its seat: it has the number of the entry in the history, from 0. The
-    /// reply is the one that a session on the script gives behind so many entries. An `Err` changes nothing: `HistoryFull` (56) where
-    /// the history has 65,536 entries, or `Memory`. It may wait for the lock.
+    /// Answers a request of a client, and adds the receipt to its seat: it has the number of the
+    /// entry in the history, from 0. The reply is the one that a session on the script gives after
+    /// the entries before it. An `Err` changes nothing: `HistoryFull` (56) if the history has
+    /// 65,536 entries, or `Memory`. It may wait for the lock.
     pub fn call<R: Wait>(
         &self,
         rt: &R,
@@ -88,8 +91,9 @@ impl<'c, L: Opening> Shared<'c, L> {
         self.locked.lock(rt).take(alloc, seat, request)
     }
 
-    /// Takes the book out, and answers what its history says to the receipts of the seats (`Book::audit`): `CountsDiffer` (57) is not
-    /// answered where all seats are here. The book comes back in each case. It takes no memory.
+    /// Takes the book out, and returns what its history says to the receipts of the seats
+    /// (`Book::audit`): `CountsDiffer` (57) is not answered if all seats are here. The book comes
+    /// back in each case. Takes no memory.
     pub fn settle(self, seats: Vec<Seat<L>>) -> Result<Book<'c>, SettleFault<'c>>
         ensures settled { Settles seats.items result }
         ensures replay { IsBookOf L.program L.mode (book_in result) }

@@ -15,7 +15,7 @@ use std::alloc::{AllocError, Global};
 /// Room for the line of any verdict.
 const LINE_ROOM: usize = 160;
 
-/// Adds the place of a step that is not enabled, where that is the fault.
+/// Adds the place of a step that is not enabled, if that is the fault.
 fn push_place(line: &mut Vec<u8>, fault: WitnessFault)
     requires { vec_len line.old + 64 ≤ vec_capacity line.old }
     ensures text { line.new.items ≡ line.old.items ++ place_part fault }
@@ -59,7 +59,9 @@ fn accept(line: &mut Vec<u8>) -> Verdict
     Verdict::Good
 }
 
-/// Verifies a witness from where a core stands, and writes the verdict into an empty line, which has room for it. An `Err` is want of memory, and comes only where `verify_from` wants some.
+/// Verifies a witness from the state of a core, and writes the verdict into an empty line, which
+/// has room for it. `Err` means that memory was refused, which happens only if `verify_from` wants
+/// some.
 #[tactic(auto, using(crate::proofs::VerdictLemmas::judging))]
 fn verdict_from(
     alloc: Global,
@@ -97,10 +99,11 @@ fn verdict_at_start(
     verdict_from(alloc, &mut core, witness, line)
 }
 
-/// Takes the steps of a witness from the script's start, and writes the verdict to a sink: `accepted`, or `refused` with the number
-/// and the name of the first fault, and the place of the step, from 0, where that is what is wrong (docs/FORMATS.md, "Witnesses").
-/// `Good` is that the witness is accepted, `Bad` that it is refused. `Memory` comes only before anything is written, and `WriteFailed` (46) only where a
-/// write failed.
+/// Takes the steps of a witness from the script's start, and writes the verdict to a sink:
+/// `accepted`, or `refused` with the number and the name of the first fault, and the index of the
+/// step, from 0, if that is what is wrong (docs/FORMATS.md, "Witnesses"). `Good`: the witness is
+/// accepted. `Bad`: it is refused. `Memory` comes only before anything is written, and
+/// `WriteFailed` (46) only if a write failed.
 #[tactic(auto, using(crate::proofs::VerdictLemmas::judging))]
 pub fn judge<W: Sink>(
     alloc: Global,

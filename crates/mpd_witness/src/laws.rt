@@ -13,15 +13,17 @@ ghost use Rattle.mpd_witness.specs.WitnessText.{witness_of};
 ghost use Rattle.mpd_witness.specs.WitnessLaws.{IsShort, IsShortLeaf, witness_at_leaf};
 ghost use Rattle.mpd_witness.specs.ReadBack.{witness_of_report};
 
-/// The two lines that a report has of a deadlock or a trap and of its witness are read as that witness, where it has a step, and a blocked
-/// call or a trapped rank at least, and no number of more than nine digits.
+/// The two lines that a report has of a deadlock or a trap and of its witness are read as that
+/// witness, if it has a step, and a blocked call or a trapped rank at least, and no number of more
+/// than nine digits.
 pub fn written_witness_is_read()
     ensures { (n m : ℕ) (l : Leaf) (x : Witness) → n < 2 ^ 64 → m < 2 ^ 64 → AllByRecursion (λ c. c < 2 ^ 64) l.choices → end_of l.ending ≡ Some x.end → IsShort x → witness_of (leaf_line n l ++ witness_line m x) ≡ Ok x }
 {}
 
-/// From the whole text of a report with witnesses, whatever comes next along its runs, and the number of a leaf that is a deadlock or a
-/// trap the witness of that leaf is read, where it has a step, and a blocked call or a trapped rank at least, and no line has a number of
-/// more than nine digits, but for choices.
+/// From the whole text of a report with witnesses, whatever comes next along its runs, and the
+/// number of a leaf that is a deadlock or a trap the witness of that leaf is read, if it has a
+/// step, and a blocked call or a trapped rank at least, and no line has a number of more than nine
+/// digits, but for choices.
 pub fn written_witness_of_a_leaf_is_read()
     ensures { (decide : World → Decision) (before : List Step) (fuel : ℕ) (w : World) (leaves : List Leaf) (more : Bool) (n : ℕ) (l : Leaf) (x : Witness) → length leaves < 1000000000 → AllByRecursion (IsShortLeaf decide before fuel w) leaves → slice_get leaves n ≡ Some l → witness_at_leaf decide before fuel w l ≡ Some x → IsShort x → witness_of_report (Some n) (report_text decide true before fuel w leaves more) ≡ Ok x }
 {}

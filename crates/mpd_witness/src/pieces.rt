@@ -19,7 +19,7 @@ fn len_before(text: &[u8], separator: u8) -> usize
     text.len()
 }
 
-/// What stands before the first such byte, and what stands behind it.
+/// What stands before the first such byte, and what stands after it.
 #[tactic(auto, using(crate::proofs::PieceLemmas::cutting))]
 pub(crate) fn cut(text: &[u8], separator: u8) -> Option<(&[u8], &[u8])>
     ensures { MatchOption result (cut_at separator text.now ≡ None) (λ q. cut_at separator text.now ≡ Some (q.0.now, q.1.now)) }
@@ -31,7 +31,8 @@ pub(crate) fn cut(text: &[u8], separator: u8) -> Option<(&[u8], &[u8])>
     }
 }
 
-/// The pieces of a text before, between and behind the bytes of one kind; contracts see those that are still to come.
+/// The pieces of a text before, between and after the bytes of one kind; contracts see those that
+/// are still to come.
 #[derive(Drop)]
 pub(crate) struct Pieces<'a> {
     rest: &'a [u8],
@@ -49,7 +50,7 @@ impl<'a> Model for Pieces<'a> {
 }
 
 impl<'a> Pieces<'a> {
-    /// All pieces of a text: one at least, and no more than there are bytes, and one.
+    /// All pieces of a text: at least one, and at most one more than the text has bytes.
     #[tactic(auto, using(crate::proofs::PieceLemmas::limiting))]
     pub(crate) fn new(text: &'a [u8], separator: u8) -> Pieces<'a>
         ensures parts { result ≡ parts_at separator text.now }

@@ -20,7 +20,7 @@ pub(crate) enum LineKind {
     Wrong,
 }
 
-/// The number that stands behind a word, where the next piece is that word, and the one behind it that number.
+/// The number after a word, if the next piece is that word and the one after it is a number.
 #[tactic(auto, using(crate::proofs::ReportLemmas::numbering))]
 fn next_number(pieces: &mut Pieces<'_>, word: &[u8]) -> Option<usize>
     ensures number { result ≡ number_behind word.now pieces.old }
@@ -38,7 +38,7 @@ fn next_number(pieces: &mut Pieces<'_>, word: &[u8]) -> Option<usize>
     number_of(second)
 }
 
-/// The number that stands behind a word, where the line begins with that word, a space, and that number.
+/// The number after a word, if the line begins with that word, a space, and a number.
 fn numbered(line: &[u8], word: &[u8]) -> Option<usize>
     ensures { result ≡ numbered word.now line.now }
 {
@@ -46,7 +46,7 @@ fn numbered(line: &[u8], word: &[u8]) -> Option<usize>
     next_number(&mut pieces, word)
 }
 
-/// The number of the first leaf of those that end in one way, where the line is theirs.
+/// The number of the first leaf of those that end in one way, if the line is theirs.
 #[tactic(auto, using(crate::proofs::ReportLemmas::grouping))]
 fn group_first(line: &[u8]) -> Option<usize>
     ensures { result ≡ group_first line.now }
@@ -57,7 +57,7 @@ fn group_first(line: &[u8]) -> Option<usize>
     next_number(&mut pieces, b"first")
 }
 
-/// The number that stands behind one word, or else behind another, where the line begins so.
+/// The number after one word, or else after another, if the line begins so.
 fn numbered_either(line: &[u8], word: &[u8], other: &[u8]) -> Option<usize>
     ensures { result ≡ numbered_either word.now other.now line.now }
 {
@@ -77,7 +77,7 @@ fn leaf_of(line: &[u8]) -> Option<usize>
     }
 }
 
-/// What stands before the first colon, where there is one.
+/// What stands before the first colon, if there is one.
 #[tactic(auto, using(crate::proofs::ReportLemmas::labelling))]
 fn before_colon(line: &[u8]) -> &[u8]
     ensures { result.now ≡ before_cut (cut_at 58 line.now) }
@@ -129,7 +129,7 @@ fn kind_of(line: &[u8]) -> LineKind
     }
 }
 
-/// Whether a line may stand right behind one that is of the leaf of this number, or of none.
+/// Whether a line may stand right after one that is of the leaf of this number, or of none.
 fn may_follow(before: Option<usize>, kind: LineKind) -> bool
     ensures { result ≡ may_follow before kind }
 {
@@ -199,7 +199,8 @@ pub(crate) fn wrong_line(text: &[u8]) -> Option<usize>
     None
 }
 
-/// Goes behind the first line that is a witness, and answers its place, where the first line has this one.
+/// Goes past the first line that is a witness, and returns its place; the next line has place
+/// `first`.
 #[tactic(auto, using(crate::proofs::ReportLemmas::finding))]
 pub(crate) fn next_witness(lines: &mut Pieces<'_>, first: usize) -> Option<usize>
     requires { first + length lines.old < 2 ^ 64 }
@@ -216,7 +217,8 @@ pub(crate) fn next_witness(lines: &mut Pieces<'_>, first: usize) -> Option<usize
     None
 }
 
-/// Goes behind the first line that is of the leaf of a number, and answers its place, from 0, and that line.
+/// Goes past the first line that is of the leaf of a number, and returns its place, from 0, and
+/// that line.
 #[tactic(auto, using(crate::proofs::ReportLemmas::finding))]
 pub(crate) fn next_leaf<'a>(lines: &mut Pieces<'a>, number: usize) -> Option<(usize, &'a [u8])>
     requires { length lines.old < 2 ^ 64 }

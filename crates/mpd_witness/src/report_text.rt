@@ -20,9 +20,10 @@ use std::fmt;
 /// Why no witness is read of a report.
 #[derive(Clone, Copy, PartialEq, Eq, Debug)]
 pub enum ReportFault {
-    /// This line, from 1, is the first that is wrong: 2 where the text is too long, whatever is in it.
+    /// This line, from 1, is the first that is wrong: 2 if the text is too long, whatever is in it.
     BadLine(usize),
-    /// There is none, or none behind the leaf that is asked for, which is a deadlock or a trap.
+    /// There is no witness, or none after the leaf that is asked for, which is a deadlock or a
+    /// trap.
     NoWitness,
     /// There are several, and no leaf is asked for.
     SeveralWitnesses,
@@ -118,7 +119,7 @@ fn leaf_wanted(text: &[u8], leaf: Option<usize>) -> Result<usize, ReportFault>
     }
 }
 
-/// Passes over so many lines.
+/// Passes over `count` lines.
 #[tactic(auto, using(crate::proofs::ReportLemmas::skipping))]
 fn skip(lines: &mut Pieces<'_>, count: usize)
     requires { count ≤ length lines.old }
@@ -199,9 +200,11 @@ fn read_two(alloc: Global, text: &[u8]) -> Result<Witness, ReportFault>
     }
 }
 
-/// Reads a witness from the text of a report, as `check --witness` writes it, or of two lines alone (docs/FORMATS.md, "Witnesses"): the only
-/// one there, or that of the leaf of this number. `BadLine` tells the first line that is wrong; where none is, there is no witness, or no
-/// single one, or no such leaf, or it is neither a deadlock nor a trap. `Memory` is that a growth was refused.
+/// Reads a witness from the text of a report, as `check --witness` writes it, or of two lines alone
+/// (docs/FORMATS.md, "Witnesses"): the only one there, or that of the leaf of this number.
+/// `BadLine` has the first line that is wrong. If none is, the other faults say that there is no
+/// witness, or no single one, or no such leaf, or that it is neither a deadlock nor a trap.
+/// `Memory` means that memory was refused.
 #[tactic(auto, using(crate::proofs::ReportLemmas::reporting))]
 pub fn read_report(alloc: Global, text: &[u8], leaf: Option<usize>) -> Result<Witness, ReportFault>
     ensures { ReadsReport (witness_of_report leaf text.now) result }

@@ -20,7 +20,7 @@ use std::fmt;
 pub enum WitnessTextFault {
     /// This line, 1 or 2, is the first that is wrong.
     BadLine(usize),
-    /// A growth was refused.
+    /// Memory was refused.
     Memory,
 }
 
@@ -55,7 +55,7 @@ fn step_of(text: &[u8]) -> Option<Step>
     }
 }
 
-/// Goes behind the first piece that is a word, and answers whether there is one.
+/// Goes past the first piece that is this word, and returns whether there is one.
 fn skip_to(pieces: &mut Pieces<'_>, word: &[u8]) -> bool
     ensures { Skipped (behind_word word.now pieces.old) pieces.new result }
 {
@@ -67,7 +67,7 @@ fn skip_to(pieces: &mut Pieces<'_>, word: &[u8]) -> bool
     false
 }
 
-/// The pieces of a line behind the first that is a word, where there is one.
+/// The pieces of a line after the first that is this word, if there is one.
 pub(crate) fn pieces_behind<'a>(line: &'a [u8], word: &[u8]) -> Option<Pieces<'a>>
     ensures { MatchOption result (behind_word word.now (parts_at 32 line.now) ≡ None) (λ pieces. behind_word word.now (parts_at 32 line.now) ≡ Some pieces) }
 {
@@ -79,7 +79,7 @@ pub(crate) fn pieces_behind<'a>(line: &'a [u8], word: &[u8]) -> Option<Pieces<'a
     }
 }
 
-/// Reads calls. `BadLine(1)` is that a piece is none.
+/// Reads calls. `BadLine(1)`: a piece is no call.
 #[tactic(auto, using(crate::proofs::TextLemmas::going))]
 fn read_calls(alloc: Global, pieces: &mut Pieces<'_>) -> Result<CallList, WitnessTextFault>
     ensures { ReadsLine 1 (each_read call_of pieces.old) result }
@@ -161,7 +161,8 @@ fn next_trap(pieces: &mut Pieces<'_>, rank: &[u8]) -> Option<RankTrap>
     rank_trap_of(rank, trap)
 }
 
-/// Reads ranks, each with its trap. `BadLine(1)` is that two pieces are none, or that a rank has no trap.
+/// Reads ranks, each with its trap. `BadLine(1)`: two pieces are no rank and trap, or a rank has no
+/// trap.
 #[tactic(auto, using(crate::proofs::TextLemmas::trapping))]
 fn read_traps(alloc: Global, pieces: &mut Pieces<'_>) -> Result<RankTrapList, WitnessTextFault>
     ensures { ReadsLine 1 (pairs_read rank_trap_of pieces.old) result }
@@ -190,7 +191,8 @@ fn read_trapped(alloc: Global, pieces: &mut Pieces<'_>) -> Result<RankTrapList, 
     Ok(ranks)
 }
 
-/// Reads the first line: behind `deadlock` the blocked calls, or else behind `trap` the trapped ranks, one or more.
+/// Reads the first line: after `deadlock` the blocked calls, or else after `trap` the trapped
+/// ranks, one or more.
 #[tactic(auto, using(crate::proofs::TextLemmas::ending))]
 pub(crate) fn read_end(alloc: Global, line: &[u8]) -> Result<WitnessEnd, WitnessTextFault>
     ensures { ReadsLine 1 (end_read line.now) result }
@@ -206,7 +208,7 @@ pub(crate) fn read_end(alloc: Global, line: &[u8]) -> Result<WitnessEnd, Witness
     Ok(WitnessEnd::Trap(ranks))
 }
 
-/// What stands behind the first colon; all, where there is none.
+/// What stands after the first colon; the whole line if there is none.
 fn behind_label(line: &[u8]) -> &[u8]
     ensures { result.now ≡ behind_cut line.now (cut_at 58 line.now) }
 {
@@ -246,8 +248,8 @@ fn are_empty(lines: &mut Pieces<'_>) -> bool
     true
 }
 
-/// Reads a witness from its text, as `check` writes it (docs/FORMATS.md, "Witnesses"). `BadLine` tells the first line that is
-/// wrong, 1 or 2; `Memory` is that a growth was refused.
+/// Reads a witness from its text, as `check` writes it (docs/FORMATS.md, "Witnesses"). `BadLine`
+/// has the first line that is wrong, 1 or 2; `Memory` means that memory was refused.
 #[tactic(auto, using(crate::proofs::TextLemmas::reading))]
 pub fn read_witness(alloc: Global, text: &[u8]) -> Result<Witness, WitnessTextFault>
     ensures { ReadsText (witness_of text.now) result }

@@ -1,5 +1,5 @@
 -- Worked rows of decisions, breakpoints and runs. What is wanted was worked out by hand.
-use Rattle.std.specs.Prelude.{◌≡◌, ℕ, Bool, true, false, map, List, [], ◌∷◌, ◌++◌, length, replicate, slice_set, Option, Some, None, codes, refl}
+use Rattle.std.specs.Prelude.{◌≡◌, ℕ, ℤ, pos, negsuc, Bool, true, false, map, List, [], ◌∷◌, ◌++◌, length, replicate, slice_set, Option, Some, None, codes, refl}
 use Rattle.std.specs.Option.{option_map, option_and_then}
 use Rattle.mpd_model.specs.declared.limits.TheConstants.{STEPS_MAX}
 use Rattle.mpd_model.specs.declared.place.Place.{Place}
@@ -9,6 +9,9 @@ use Rattle.mpd_model.specs.declared.call.Mode.TheVariants.{Rendezvous}
 use Rattle.mpd_model.specs.declared.outcome.Outcome.TheVariants as o
 use Rattle.mpd_model.specs.declared.decision.Decision.{Decision}
 use Rattle.mpd_model.specs.declared.decision.Decision.TheVariants.{Forced, Choice, Leaf}
+use Rattle.mpd_model.specs.declared.breakpoint.Condition.{Condition}
+use Rattle.mpd_model.specs.declared.comparison.Comparison.{Comparison}
+use Rattle.mpd_model.specs.declared.comparison.Comparison.TheVariants.{Equal, NotEqual, Less, AtMost, Greater, AtLeast}
 use Rattle.mpd_model.specs.declared.breakpoint.Break.{Break}
 use Rattle.mpd_model.specs.declared.breakpoint.Break.TheVariants as on
 use Rattle.mpd_model.specs.declared.breakpoint.Cause.TheVariants as for
@@ -114,17 +117,44 @@ paired = Match (call_id 0 0) (call_id 1 0)
 
 -- a rank that comes to a line, also where it was there before; one that blocks comes to none; no match comes to a line
 pub row_lines : map {B = Option Bool} (λ (r : Break × List Step × Step). hits telling r.0 r.1 r.2)
-    ((on.Line 3, [], Local 0) ∷ (on.Line 2, [], Local 0) ∷ (on.Line 3, Local 0 ∷ [], Local 0) ∷ (on.Line 3, Local 0 ∷ Local 0 ∷ [], Local 0) ∷ (on.Line 4, Local 1 ∷ [], Local 1) ∷ (on.Line 3, both_there, paired) ∷ [])
+    ((on.Line 3 None None, [], Local 0) ∷ (on.Line 2 None None, [], Local 0) ∷ (on.Line 3 None None, Local 0 ∷ [], Local 0) ∷ (on.Line 3 None None, Local 0 ∷ Local 0 ∷ [], Local 0) ∷ (on.Line 4 None None, Local 1 ∷ [], Local 1) ∷ (on.Line 3 None None, both_there, paired) ∷ [])
     ≡ Some true ∷ Some false ∷ Some true ∷ Some false ∷ Some true ∷ Some false ∷ []
 row_lines = refl
 
 -- a release comes to the line of any rank, a wake to that of its rank
-pub row_released : map {B = Option Bool} (λ b. hits meeting b (Local 0 ∷ Local 1 ∷ []) Release) (on.Line 3 ∷ on.Line 2 ∷ on.Match 2 ∷ on.Change 0 0 ∷ []) ≡ Some true ∷ Some false ∷ Some false ∷ Some false ∷ []
+pub row_released : map {B = Option Bool} (λ b. hits meeting b (Local 0 ∷ Local 1 ∷ []) Release) (on.Line 3 None None ∷ on.Line 2 None None ∷ on.Match 2 None ∷ on.Change 0 0 ∷ []) ≡ Some true ∷ Some false ∷ Some false ∷ Some false ∷ []
 row_released = refl
 
 -- a match of a call that was issued on a line: of its send, or of its receive
-pub row_matches : map {B = Option Bool} (λ b. hits telling b both_there paired) (on.Match 3 ∷ on.Match 4 ∷ on.Match 2 ∷ on.Change 1 0 ∷ []) ≡ Some true ∷ Some true ∷ Some false ∷ Some false ∷ []
+pub row_matches : map {B = Option Bool} (λ b. hits telling b both_there paired) (on.Match 3 None ∷ on.Match 4 None ∷ on.Match 2 None ∷ on.Change 1 0 ∷ []) ≡ Some true ∷ Some true ∷ Some false ∷ Some false ∷ []
 row_matches = refl
+
+-- a line of one rank, and a match of a call that one rank has issued
+pub row_of_one : map {B = Option Bool} (λ (r : Break × List Step × Step). hits telling r.0 r.1 r.2)
+    ((on.Line 3 (Some 0) None, [], Local 0) ∷ (on.Line 3 (Some 1) None, [], Local 0) ∷ (on.Line 3 (Some 1) None, [], Local 1) ∷ (on.Match 3 (Some 0), both_there, paired) ∷ (on.Match 3 (Some 1), both_there, paired)
+    ∷ (on.Match 4 (Some 1), both_there, paired) ∷ (on.Match 4 (Some 0), both_there, paired) ∷ [])
+    ≡ Some true ∷ Some false ∷ Some true ∷ Some true ∷ Some false ∷ Some true ∷ Some false ∷ []
+row_of_one = refl
+
+pub row_released_of_one : map {B = Option Bool} (λ b. hits meeting b (Local 0 ∷ Local 1 ∷ []) Release) (on.Line 3 (Some 1) None ∷ on.Line 3 (Some 2) None ∷ on.Rank 0 ∷ on.Rank 1 ∷ on.Rank 2 ∷ [])
+    ≡ Some true ∷ Some false ∷ Some true ∷ Some true ∷ Some false ∷ []
+row_released_of_one = refl
+
+-- x is 9 as a rank comes to line 3; there is no second cell
+abbrev at_three : ℕ → Comparison → ℤ → Break
+at_three c comparison value = on.Line 3 None (Some (record { cell = c; comparison = comparison; value = value }))
+
+pub row_conditions : map {B = Option Bool} (λ b. hits telling b [] (Local 1))
+    (at_three 0 Equal (pos 9) ∷ at_three 0 Equal (pos 8) ∷ at_three 0 NotEqual (pos 9) ∷ at_three 0 NotEqual (negsuc 8) ∷ at_three 0 Less (pos 9) ∷ at_three 0 Less (pos 10) ∷ at_three 0 AtMost (pos 9) ∷ at_three 0 AtMost (pos 8)
+    ∷ at_three 0 Greater (pos 9) ∷ at_three 0 Greater (negsuc 8) ∷ at_three 0 AtLeast (pos 9) ∷ at_three 0 AtLeast (pos 10) ∷ at_three 1 Equal (pos 0) ∷ [])
+    ≡ Some true ∷ Some false ∷ Some false ∷ Some true ∷ Some false ∷ Some true ∷ Some true ∷ Some false ∷ Some false ∷ Some true ∷ Some true ∷ Some false ∷ Some false ∷ []
+row_conditions = refl
+
+-- a rank is hit by its own step after which it isn't blocked, and by no match
+pub row_ranks : map {B = Option Bool} (λ (r : Break × List Step × Step). hits telling r.0 r.1 r.2)
+    ((on.Rank 0, [], Local 0) ∷ (on.Rank 1, [], Local 0) ∷ (on.Rank 0, Local 0 ∷ Local 0 ∷ [], Local 0) ∷ (on.Rank 0, both_there, paired) ∷ (on.Rank 0, both_there ++ paired ∷ [], Wake 0) ∷ (on.Rank 1, both_there ++ paired ∷ [], Wake 0) ∷ [])
+    ≡ Some true ∷ Some false ∷ Some false ∷ Some false ∷ Some true ∷ Some false ∷ []
+row_ranks = refl
 
 -- a cell that holds another value than before: 0 and then 9, and 9 and then the tag, 3
 pub row_changes : map {B = Option Bool} (λ (r : Break × List Step × Step). hits telling r.0 r.1 r.2)
@@ -156,7 +186,7 @@ row_handles = refl
 -- ---- places
 
 pub row_places : map {B = Option ℕ} lowest_free
-    (no_breaks ∷ slice_set no_breaks 0 (Some (on.Line 2)) ∷ slice_set no_breaks 1 (Some (on.Line 2)) ∷ slice_set (replicate 64 (Some (on.Match 4))) 63 None ∷ replicate 64 (Some (on.Match 4)) ∷ [])
+    (no_breaks ∷ slice_set no_breaks 0 (Some (on.Line 2 None None)) ∷ slice_set no_breaks 1 (Some (on.Line 2 None None)) ∷ slice_set (replicate 64 (Some (on.Match 4 None))) 63 None ∷ replicate 64 (Some (on.Match 4 None)) ∷ [])
     ≡ Some 0 ∷ Some 1 ∷ Some 0 ∷ Some 63 ∷ None ∷ []
 row_places = refl
 

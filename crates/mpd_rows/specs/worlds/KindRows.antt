@@ -20,7 +20,7 @@ use Rattle.mpd_model.specs.steps.World.{Board, RankWorld, World, call_id, is_mes
 use Rattle.mpd_model.specs.steps.Next.{HasReceiver, blocks, buffered_by, writes_of, cleared_by, own_writes, requests_of, request_handle, index_writes}
 use Rattle.mpd_model.specs.steps.Order.{same_envelope_as, is_covered_by, matches_first, waits_for}
 use Rattle.mpd_model.specs.steps.Why.{why_by}
-use Rattle.mpd_model.specs.runs.Breakpoints.{line_hits, match_hits}
+use Rattle.mpd_model.specs.runs.Breakpoints.{line_hits, match_hits, rank_hits}
 use Rattle.mpd_model.specs.runs.Decisions.{is_local, is_release, is_wake, any_rank, is_of, names_source, takes_any, is_named_match, is_open_match}
 use Rattle.mpd_model.specs.texts.Texts.{got_text}
 use Rattle.mpd_model.specs.runs.Trail.{step_eq}
@@ -228,7 +228,7 @@ abbrev behind_them : World
 behind_them = record { ranks = before_it 1 barrier Running ∷ before_it 0 barrier Blocked ∷ []; board = meeting wild }
 
 abbrev hit_by_line : ℕ → List Step → List Bool
-hit_by_line line all = map {B = Bool} (λ a. line_hits two_lines line a behind_them) all
+hit_by_line line all = map {B = Bool} (λ a. line_hits two_lines line None None a behind_them) all
 
 pub row_line : hit_by_line 9 steps ≡ true ∷ false ∷ true ∷ true ∷ true ∷ []
 row_line = refl
@@ -242,8 +242,13 @@ row_line_of_another_rank = refl
 
 -- the send was issued by statement 0, the receive by statement 1
 abbrev hit_by_match : ℕ → List Bool
-hit_by_match line = of_steps (λ a. match_hits two_lines line a behind_them)
+hit_by_match line = of_steps (λ a. match_hits two_lines line None a behind_them)
 
 pub row_match : map {B = List Bool} hit_by_match (4 ∷ 9 ∷ 5 ∷ [])
     ≡ (false ∷ true ∷ false ∷ false ∷ false ∷ []) ∷ (false ∷ true ∷ false ∷ false ∷ false ∷ []) ∷ (false ∷ false ∷ false ∷ false ∷ false ∷ []) ∷ []
 row_match = refl
+
+-- rank 0 isn't blocked, rank 1 is, and there is no rank 2
+pub row_rank : map {B = List Bool} (λ p. of_steps (λ a. rank_hits p a behind_them)) (0 ∷ 1 ∷ 2 ∷ [])
+    ≡ (true ∷ false ∷ true ∷ true ∷ true ∷ []) ∷ (false ∷ false ∷ false ∷ false ∷ false ∷ []) ∷ (false ∷ false ∷ false ∷ false ∷ false ∷ []) ∷ []
+row_rank = refl
