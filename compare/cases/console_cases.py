@@ -15,14 +15,14 @@ from cases.explore_cases import Beside
 from cases.session_cases import is_short
 from cases.walks import random_step, respaced, step_line
 from model import debugger, explorer, policy, walks, wide
-from model.console import NO_FILE, Console, NamedRun, debug, is_blank, leaf_of
+from model.console import NO_FILE, USUAL, Console, Look, NamedRun, debug, is_blank, leaf_of
 from model.console_words import ALL, STEPS, TABLE, Asked, NotAsked, full_name, names_of
 from model.debugger import RENDEZVOUS, Debugger, enabled_steps, last_call, lines_of, next_world, step_text
 from model.explorer import leaf_lines
 from model.files import held
 from model.language import Fault, read_script
 from model.modes import MODES, by_turns
-from model.policy import Choice, Forced
+from model.policy import COMPARISONS, Choice, Forced
 from model.run_words import follower
 from model.states import Search, answered
 from model.walks import CUT, Run, ending, taken, walk
@@ -36,6 +36,8 @@ SOUGHT = 'deadlock', 'trap'
 EDGES = ('0', '1', '2', '15', '16', '63', '64', '65', '65536', '65537', '65538', '1000000', '1000001', '999999999', '000000001')
 NO_NUMBERS = ('-1', '+1', '1.0', '1.', '.1', '0x1', '1234567890', '0000000001', 'x', '1e3', '1,0', '\xb2', 'all', '1;', "'1'")
 NO_NAMES = ('5', 'x[', 'x]', 'x[]', 'x[i]', 'x[-1]', 'x[0', '[0]', 'x[0]]', 'x.0', 'x+1', '*', 'a[0000000000]', '\xe9', 'x[0][0]', 'a [0]')
+# What stands between two operands, and one that stands between none.
+OPERATORS = '+', '-', '*', '/', '%', '<', '==', '&&', '||', '='
 OTHER_NAMES = ('foo', 'rank', 'size', 'send', '_', 'X', 'x0', 'y_', 'any', 'a' * 65)
 NO_WORDS = ('zap', 'stop', 'steps', 'st', 'exi', 'exits', 'bt1', 'wh', 'whence', 'S', 'v', 'nn', 'rx', '?x', 'sx',
             'finish', 'quitt', 'un do', 'undone', 'undo-', 'undo_choice', 'choice', 'followed', 'fo', 'traps', 'tr', 'ux', 'fx',
@@ -295,10 +297,28 @@ class Talk:
 
     def break_(self):
         soon = self.break_hit_soon() if self.chance(self.habits.hitting) else None
-        return self.break_anywhere() if soon is None else soon
+        return self.narrowed(self.break_anywhere() if soon is None else soon)
+
+    def narrowed(self, words):
+        """A breakpoint of a line or of a match, now and then of one rank, or a line with a condition."""
+        if words[1] in ('change', 'rank'):
+            return words
+        meant = ['rank', self.rank()] if self.chance(0.2) else []
+        return [*words, *meant, *(self.condition() if words[1] != 'match' and self.chance(0.25) else [])]
+
+    def condition(self):
+        """A condition, mostly one that can be read, with blanks around its operator or without."""
+        name, operator = self.name(), self.random.choice([*COMPARISONS, '==', '>='])
+        value = str(self.random.choice([0, 1, 2, -1, 5, 9, *session_cases.VALUES]))
+        if self.chance(0.08):
+            operator, value = self.random.choice([('=', value), ('=>', value), (operator, 'x'), (operator, ''), (operator, '--1'), ('===', value)])
+        left, right = self.random.choice(['', ' ']), self.random.choice(['', ' '])
+        return ['if', *f'{name}{left}{operator}{right}{value}'.split(), *self.maybe(lambda: '1', 0.03)]
 
     def break_anywhere(self):
-        kind = self.random.choice(['line', 'line', 'match', 'change', 'change'])
+        kind = self.random.choice(['line', 'line', 'match', 'change', 'change', 'rank'])
+        if kind == 'rank':
+            return ['break', 'rank', self.rank()]
         if kind == 'change':
             return ['break', 'change', self.rank(), self.name()]
         lines = [self.random.randint(1, self.source_lines) for _ in range(2)]
@@ -312,7 +332,23 @@ class Talk:
         return [word, *self.maybe(self.rank, 0.5)]
 
     def print(self):
-        return ['print', self.name(), *self.maybe(self.rank, 0.4)]
+        if self.chance(0.06):
+            return ['print']
+        return ['print', *(self.expression() if self.chance(0.25) else [self.name()]), *self.maybe(self.rank, 0.4)]
+
+    def operand(self):
+        """An operand of an expression, with brackets or a sign now and then."""
+        told = self.name() if self.chance(0.6) else self.random.choice(['rank', 'size', self.edge(0, 1, 5)])
+        return self.random.choice(['{}'] * 8 + ['-{}', '!{}', '({})', '- ( {} )', '[{}]']).format(told)
+
+    def expression(self):
+        """The words of an expression, now and then without one of them."""
+        words = [self.operand()]
+        for _ in range(self.random.randint(0, 3)):
+            words += [self.random.choice(OPERATORS), self.operand()]
+        if self.chance(0.12):
+            words.pop(self.random.randrange(len(words)))
+        return words
 
     def why(self):
         blocked = [str(number) for number, rank in enumerate(self.world.ranks) if rank.mode == 'blocked']
@@ -675,9 +711,17 @@ def spoiled_run(random, run):
     return run._replace(choices=spoiled[kind])
 
 
+WIDTHS = 20, 21, 33, 40, 79, 80, 81, 100, 132, 1000
+
+
+def look_for(random):
+    """How answers look: now and then at another width, or with the lines that are read."""
+    return Look(random.choice(WIDTHS) if random.random() < 0.2 else USUAL.width, random.random() < 0.15)
+
+
 class Case(NamedTuple):
-    """A script in a mode (None: not said), what is typed, the text of a witness, NO_FILE or None, what was met as it was drawn, and a run that
-    is named by its choices."""
+    """A script in a mode (None: not said), what is typed, the text of a witness, NO_FILE or None, what was met as it was drawn, a run that is
+    named by its choices, and how answers look."""
     name: str
     script: Optional[bytes]
     mode: Optional[str]
@@ -685,6 +729,7 @@ class Case(NamedTuple):
     witness: Union[bytes, str, None] = None
     met: Counter = Counter()
     run: Optional[NamedRun] = None
+    look: Look = USUAL
 
     def words(self, folder):
         """The words that have a program answer it, with its files in a folder."""
@@ -692,11 +737,13 @@ class Case(NamedTuple):
         text = None if self.witness == NO_FILE else self.witness
         witness = () if self.witness is None else ('--witness', held(folder, 'witness.txt', text))
         run = () if self.run is None else self.run.words()
-        return ('debug', held(folder, 'script.mpd', self.script), *mode, *witness, *run)
+        width = () if self.look.width == USUAL.width else ('--width', str(self.look.width))
+        echo = ('--echo',) if self.look.is_echoing else ()
+        return ('debug', held(folder, 'script.mpd', self.script), *mode, *witness, *run, *width, *echo)
 
     def wanted(self):
         """What must be answered."""
-        return debug(self.script, self.data, RENDEZVOUS if self.mode is None else self.mode, self.witness, self.run)
+        return debug(self.script, self.data, RENDEZVOUS if self.mode is None else self.mode, self.witness, self.run, self.look)
 
 
 def ended(random, data, talk):
@@ -735,4 +782,4 @@ def random_case(seed, number):
     mode = None if mode == RENDEZVOUS and random.random() < 0.3 else mode
     text = None if found is None else spoiled_witness(random, found[1]) if random.random() < 0.3 else found[1]
     run = spoiled_run(of_runs, run) if run is not None and of_runs.random() < 0.3 else run
-    return Case(f'console-{seed}-{number}', script, mode, data, text, talk.met, run)
+    return Case(f'console-{seed}-{number}', script, mode, data, text, talk.met, run, look_for(Random(f'consoles/{seed}/{number}/look')))

@@ -40,7 +40,9 @@ TOLD_BY = {
     **{f'runs that are {way}': rf'.*runs?, and .*[(,] ?\d+ {way}\b.*' for way in ('done', 'leftovers', 'deadlock', 'trap')},
     'runs that end in several ways': r'\d+ runs, and .*\(.*, .*\)',
     'a run with choices': r'\d+ choices \d+( \d+)*: .*', 'a run without a choice': r'1 no choice: .*',
-    **{f'a breakpoint {kind}': rf'breakpoint \d+: {kind} .*' for kind in ('line', 'match', 'change')},
+    **{f'a breakpoint {kind}': rf'breakpoint \d+: {kind} .*' for kind in ('line', 'match', 'change', 'rank')},
+    'a breakpoint of a line of a rank': r'breakpoint \d+: line \d+ rank \d+( if .*)?', 'a breakpoint of a match of a rank': r'breakpoint \d+: match \d+ rank \d+',
+    'a breakpoint with a condition': r'breakpoint \d+: line .* if .* -?\d+', 'a request that is compared': r'refused: a request has no value to compare',
     'names in short': r'rank \d+: \w+ = .*, \w+ = .*', 'an array in short': r'rank \d+: .*= \[-?\d+, .*',
     'requests in short': r'rank \d+: .*= \[(-|\d+\.\d+), .*',
     'a call in short': r'rank \d+: .*= \d+\.\d+(, .*)?', 'more cells than are shown': r'rank \d+: .*, \.\.\](, .*)?',
@@ -56,6 +58,8 @@ TOLD_BY = {
     'a rank at a line': r'rank \d+ is at line \d+', 'a rank that is trapped': r'rank \d+ is trapped at line \d+: .*',
     'not at a barrier, at a line': r'    rank \d+ is not there: it is at line \d+',
     'no call waited for': r'rank \d+ waits for no call', 'no rank that waits': r'no rank waits for a call',
+    'a value': r'rank \d+: .* \S+ .* = -?\d+', 'a value that traps': r'rank \d+: .* traps: [a-z-]+', 'what is expected': r'refused: .* is expected at .*',
+    'what no expression has': r'refused: no expression has .*', 'a request in an expression': r"refused: '\w+' is a request, and no variable",
     'a variable': r'rank \d+: \w+ = -?\d+', 'an array': r'rank \d+: \w+\[0\] = -?\d+, .*', 'a request': rf'rank \d+: \w+ = {CALL}.*',
     'no request': r'rank \d+: \w+ = no request',
     'an array of requests': rf'rank \d+: \w+\[0\] = .*{CALL}.*', 'no cell': r'rank \d+: \w+ has no cell', 'printed': r'rank \d+ has printed .*',
@@ -72,7 +76,7 @@ TOLD_BY = {
     'an unknown word with other bytes': r"unknown word '.*\?.*': .*", 'an unknown name': r"no variable or request is called '\w+'",
     'a name that is none': r"no variable or request is called '.*[^\w'].*'",
     **{f'refused: {why}': f'refused: {why}' for why in (
-        'this step is not enabled', 'the last step is of no rank; finish P names one', 'there is no such candidate', 'there is no such run', 'no choice was made before',
+        'this step is not enabled', r'no statement begins at line \d+', 'the last step is of no rank; finish P names one', 'there is no such candidate', 'there is no such run', 'no choice was made before',
         'fewer steps are taken', 'so many steps are neither taken nor ahead', 'no step is ahead',
         '1 to 1000000 steps can be asked for', '1 to 65536 runs can be asked for', 'lines are 1 to 65537',
         'there is no such rank', 'there is no such call', 'there is no such index', 'an array needs an index here',
@@ -146,7 +150,7 @@ def looks_met(case, lines):
 
 def met_in(case, wanted):
     """What a program may answer wrongly."""
-    text = wanted.output.decode()
+    text = wanted.output.decode(errors='replace')
     lines = set(text.replace('\n        ', ' ').split('\n'))
     yield from [name for name, form in OF_LINES.items() if re.search(form, f'\n{text}')]
     yield from [name for name, form in TOLD_BY.items() if any(map(form.fullmatch, lines))]

@@ -14,12 +14,14 @@ from model.canonical import canonical
 from model.debugger import RENDEZVOUS, Debugger, enabled_steps, lines_of, parted
 from model.language import Fault, read_script
 from model.modes import MODES, by_turns, slots_of
-from model.policy import Choice, Forced
+from model.policy import COMPARISONS, Choice, Forced
 from model.session import Refused, Session, answer_line, parse, serve
 
 CHOSEN_OF_TRACED = ('requests', 'wildcards', 'barriers', 'exchanges', 'trails', 'states', 'traps', 'arrays')
 # Runs and explorations that take the model more steps than these are not asked for.
 LONGEST_RUN, MOST_FUEL, MOST_LEAVES = 200, 60, 40
+# Numbers of conditions: those of 64 bits with a sign, and what is none of these.
+VALUES = (0, -1, 1, 2 ** 63 - 1, -2 ** 63, 2 ** 63, -2 ** 63 - 1)
 EDGES = (0, 1, 2, 15, 16, 63, 64, 65, 65536, 65537, 65538, 999_999, 1_000_000, 1_000_001, 2 ** 32, 2 ** 63, 2 ** 64 - 1)
 ENDS = (b'\n',) * 20 + (b'\r\n', b'\r\n', b'\n\n', b'\n\r\n', b'\r\r\n', b'\n\n\n')
 WAYS = ('at once', 'in pieces', 'turn by turn')
@@ -36,7 +38,8 @@ class Habits(NamedTuple):
 
 def commands(**shares):
     """A share for each command, 2 where none is named."""
-    names = ('step', 'next', 'run', 'run_on', 'back', 'redo', 'goto', 'run_back', 'enabled', 'state', 'vars', 'calls', 'why', 'set', 'unset', 'breaks', 'explore')
+    names = ('step', 'next', 'run', 'run_on', 'back', 'redo', 'goto', 'run_back', 'enabled', 'state', 'vars', 'calls', 'why', 'set', 'unset', 'breaks', 'explore',
+             'look', 'list_steps', 'call_lines')
     return {name: shares.get(name, 2) for name in names}
 
 
@@ -44,7 +47,7 @@ USUAL = Habits(commands(step=14, next=8, run=6, run_on=3, back=4, redo=4, run_ba
 FORWARD = Habits(commands(step=20, next=20, run=6, explore=3), (30, 60, 120), any_step=0.03)
 ALONG = Habits(commands(step=12, next=6, run=6, back=12, redo=12, goto=6, run_back=4, set=3), (40, 80, 120))
 MARKING = Habits(commands(step=6, next=6, run=10, run_on=10, run_back=12, set=12, unset=5, breaks=4, back=4, goto=4, redo=4), (40, 80, 120))
-ASKING = Habits(commands(step=10, next=8, run=8, vars=8, calls=8, why=16, state=8, enabled=8, explore=10), (30, 60))
+ASKING = Habits(commands(step=10, next=8, run=8, vars=8, calls=8, why=16, state=8, enabled=8, explore=10, look=16, list_steps=6, call_lines=6), (30, 60))
 FILLING = Habits(commands(set=120, unset=6, run=6, run_back=4), (110, 140))
 SPOILED = Habits(commands(step=10, next=6, run=6, set=6, goto=3, vars=3), (60, 120), at=0.3, spoiled=0.75)
 ALL_HABITS = (USUAL, USUAL, FORWARD, FORWARD, ALONG, ALONG, MARKING, MARKING, ASKING, FILLING, SPOILED, SPOILED)
@@ -171,13 +174,27 @@ class Talk:
         return {'cmd': 'why', 'rank': rank, 'call': call}
 
     def set(self):
-        kind = self.random.choice(['line', 'match', 'change', 'handle'])
+        kind = self.random.choice(['line', 'line', 'match', 'change', 'handle', 'rank'])
+        if kind == 'rank':
+            return {'cmd': 'break', 'kind': kind, 'rank': self.rank()}
         if kind == 'handle':
             return {'cmd': 'break', 'kind': kind, 'rank': self.rank(), 'handle': self.some(len(self.walked.world.ranks[0].handles))}
         if kind != 'change':
             line = self.random.choice(EDGES) if self.chance(0.1) else self.random.randint(1, self.source_lines)
-            return {'cmd': 'break', 'kind': kind, 'line': line}
+            meant = {'rank': self.rank()} if self.chance(0.3) else {}
+            return {'cmd': 'break', 'kind': kind, 'line': line, **meant, **(self.condition() if kind == 'line' and self.chance(0.4) else {})}
         return {'cmd': 'break', 'kind': kind, 'rank': self.rank(), 'cell': self.some(len(self.walked.world.ranks[0].cells))}
+
+    def condition(self):
+        """A condition about a cell, mostly of a value that some rank has there, or one beside it; seldom one that lacks a field."""
+        ranks = self.walked.world.ranks
+        cell = self.some(len(ranks[0].cells))
+        held = [rank.cells[cell] for rank in ranks if cell < len(rank.cells)] or [0]
+        value = self.random.choice(held) + self.random.choice([-1, 0, 0, 0, 1]) if self.chance(0.9) else self.random.choice(VALUES)
+        condition = {'cell': cell, 'is': self.random.choice(tuple(COMPARISONS)), 'value': value}
+        if self.chance(0.05):
+            del condition[self.random.choice(tuple(condition))]
+        return condition
 
     def unset(self):
         taken = [number for number, stop in enumerate(self.session.breaks.places) if stop is not None]
@@ -196,6 +213,19 @@ class Talk:
         elif draw < 0.5 and is_small(self.walked):
             runs, fuel = self.random.choice([(runs, left), (65536, left), (65536, fuel), (1000, 1000)])
         return {'cmd': 'explore', 'runs': runs, 'fuel': fuel}
+
+    def look(self):
+        """A look without fields."""
+        return {'cmd': self.random.choice(['script', 'where', 'all', 'decision', 'explain'])}
+
+    def list_steps(self):
+        kept = len(self.walked.steps)
+        first = self.random.choice([0, self.walked.depth, near(self.random, kept), self.random.randint(0, kept)])
+        count = self.random.choice(EDGES) if self.chance(0.1) else self.random.choice([1, 2, 10, max(1, kept - first), 1_000_000])
+        return {'cmd': 'steps', 'from': first, 'count': count}
+
+    def call_lines(self):
+        return {'cmd': 'lines', 'rank': self.rank()}
 
     def fields(self):
         """The fields of the next request, in any order."""

@@ -765,7 +765,33 @@ def witness_faults():
                owner=console)]
 
 
+SOUND_ANSWERS, SOUND_ECHOED = console.answers, console.echoed
+
+
+def never_shown(talked, data):
+    """The answers alone, whether lines are shown or not."""
+    talked.look = talked.look._replace(is_echoing=False)
+    return SOUND_ANSWERS(talked, data)
+
+
+def always_ended(talked, data):
+    """What ends with a line feed also where `quit` was read."""
+    told = SOUND_ANSWERS(talked, data)
+    return told + b'\n' * (talked.look.is_echoing and talked.is_over)
+
+
+def shown_faults():
+    return [
+        *named('answers', {'no line is shown': never_shown, 'a line feed after quit': always_ended}, owner=console),
+        *named('echoed', {
+            'no line of blanks': lambda line: SOUND_ECHOED(line) if line.strip() else b'',
+            'no comment': lambda line: b'' if console.is_comment(line) else SOUND_ECHOED(line),
+            'without blanks about it': lambda line: SOUND_ECHOED(line.strip()),
+            'a line that is too long, too': lambda line: line + b'\n',
+            'without its line feed': lambda line: SOUND_ECHOED(line)[:-1]}, owner=console)]
+
+
 def breakages():
     """All faults."""
-    return [*line_of_words_faults(), *where_faults(), *move_faults(), *break_faults(), *look_faults(), *run_faults(), *way_faults(),
+    return [*shown_faults(), *line_of_words_faults(), *where_faults(), *move_faults(), *break_faults(), *look_faults(), *run_faults(), *way_faults(),
             *hit_faults(), *witness_faults(), *line_faults(), *word_faults(), *blame_faults()]

@@ -66,15 +66,15 @@ def one_byte_later(line, room):
     return SOUND['cut'](line, room) if len(line) <= room else SOUND['cut'](line, room - 1)
 
 
-def folded_once(line):
+def folded_once(line, width=console_lines.WIDTH):
     """What cuts a line once."""
-    first, *others = SOUND['folded'](line)
+    first, *others = SOUND['folded'](line, width)
     return [first] if not others else [first, f'        {line[len(first) + 1:]}']
 
 
 def with_blanks(change):
     """What writes other blanks before what goes on."""
-    return changed('folded', lambda lines, _: [*lines[:1], *(change(line) for line in lines[1:])])
+    return changed('folded', lambda lines, *_: [*lines[:1], *(change(line) for line in lines[1:])])
 
 
 def fold_faults():
@@ -91,12 +91,13 @@ def fold_faults():
             'one byte less in further lines': within(0, -1),
             'one byte less before a blank': one_byte_later}),
         *named('folded', {
-            'not at all': lambda line: [line],
+            'not at all': lambda line, width: [line],
+            'at 80 at any width': lambda line, width: SOUND['folded'](line),
             'once': folded_once,
             'seven blanks': with_blanks(lambda line: line[1:]),
             'ten blanks': with_blanks(lambda line: f'  {line}'),
             'no blanks': with_blanks(lambda line: line[8:]),
-            'no line of blanks alone': changed('folded', lambda lines, _: [line for line in lines if line.strip(' ') or line == lines[0]])}),
+            'no line of blanks alone': changed('folded', lambda lines, *_: [line for line in lines if line.strip(' ') or line == lines[0]])}),
         Breakage('folded: a list, too', console, 'UNFOLDED', console.UNFOLDED - {'list'}),
         Breakage('folded: a state, too', console, 'UNFOLDED', console.UNFOLDED - {'show'}),
         *[Breakage(f'folded: all but {word}', console, 'UNFOLDED', console.UNFOLDED | {word})

@@ -4,7 +4,7 @@
 from inspect import isfunction
 
 from faults.policy_faults import Breakage
-from model import console, console_lines, debugger
+from model import console, console_lines, console_values, debugger
 from model.console import Console
 from model.worlds import CallId
 
@@ -24,6 +24,14 @@ def changed(name, change):
 def without(*begins):
     """What leaves out lines that begin so."""
     return lambda lines, self: [line for line in lines if not line.startswith(begins)]
+
+
+VALUED, TOLD_OF = console_values.expression_in, console_values.told_of
+
+
+def told_by(change):
+    """What tells otherwise of a text that is no expression, by what is told of it."""
+    return lambda *given: change(TOLD_OF(*given))
 
 
 # ---- why, and other looks
@@ -126,6 +134,16 @@ def look_faults():
         *named('print', {
             'all ranks': lambda self, name, number=None: SOUND['print'](self, name),
             'from the last rank on': lambda self, *given: SOUND['print'](self, *given)[::-1]}),
+        *named('value', {
+            'all ranks': lambda self, expression, number=None: SOUND['value'](self, expression),
+            'from the last rank on': lambda self, *given: SOUND['value'](self, *given)[::-1],
+            'traps are untold': changed('value', lambda lines, self: [line for line in lines if ' traps: ' not in line]),
+            'without its brackets': changed('value', lambda lines, self: [line.replace('(', '').replace(')', '') for line in lines])}),
+        *[Breakage(f'value: {what}', console_values, name, replacement) for what, name, replacement in (
+            ('what is expected is untold', 'told_of', told_by(lambda told: 'refused: this is no expression' if ' is expected ' in told else told)),
+            ('a request is unknown', 'told_of', told_by(lambda told: f"no variable or request is called {told.split()[1]}" if ' is a request' in told else told)),
+            ('any name', 'expression_in', lambda line, is_named: VALUED(line, lambda word: True)),
+            ('no name', 'expression_in', lambda line, is_named: VALUED(line, lambda word: False)))],
         *named('variables', {
             'no output': changed('variables', lambda lines, self: [line for line in lines if 'has printed' not in line])}),
         *named('list', {

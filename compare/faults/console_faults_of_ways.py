@@ -117,6 +117,13 @@ def sender_of_last(self):
     return steps[-1].first.rank if steps and steps[-1].kind == 'match' else SOUND['last_rank'](self)
 
 
+def to_any_line(self, line):
+    """What goes on though no statement begins at the line."""
+    if not 1 <= line <= session.HIGHEST_LINE:
+        return SOUND['until'](self, line)
+    return self.up_to(lambda world, step: policy.is_hit(policy.LineBreak(line), world, step), f'stopped: a rank is at line {line}')
+
+
 def way_line_faults():
     return [
         *named('gone', {
@@ -131,8 +138,10 @@ def way_line_faults():
             'one step': lambda self, is_last: 1,
             'all steps': lambda self, is_last: None}),
         *named('up_to', {
-            'told as a run': lambda self, is_last, why, note=(): SOUND['up_to'](self, is_last, console.STOPS[policy.MAX], note),
-            'no statement of the line untold': lambda self, is_last, why, note=(): SOUND['up_to'](self, is_last, why)}),
+            'told as a run': lambda self, is_last, why: SOUND['up_to'](self, is_last, console.STOPS[policy.MAX])}),
+        *named('until', {
+            'goes on where no statement begins': to_any_line,
+            'a line where none begins is none': lambda self, line: [console.REFUSALS[console.BAD_LINE]] if self.no_statement(line) else SOUND['until'](self, line)}),
         *named('on_the_way', {
             'nothing': lambda self, before: [],
             'prints twice': on_the_way(lambda lines: [*filter(is_print, lines), *lines]),

@@ -72,11 +72,6 @@ def ten_digits(word):
     return int(word) if len(word) <= 10 and word.isdigit() else None
 
 
-def proper_name(word):
-    """A word that is a name, with an index or without."""
-    return word if re.fullmatch(rb'[A-Za-z_][A-Za-z0-9_]*(\[[0-9]+\])?', word) else None
-
-
 def short_index(word):
     """A word with an index of nine digits at most."""
     return None if re.search(rb'[0-9]{10}', word) else word
@@ -110,18 +105,32 @@ FOLLOWING_OTHERWISE = {
     'redo with a number or all alone': {'redo': ((NUMBER,), EVERY)},
     'redo without all': {'redo': ((), (NUMBER,))},
     'redo of the letter a': {'redo': (*FOLLOWING['redo'], (lambda word: console_words.ALL if word == b'a' else None,))},
-    'proper names alone': {'print': ((proper_name,), (proper_name, NUMBER))},
     'indexes of nine digits': {'print': ((short_index,), (short_index, NUMBER))},
     'no rank behind a name': {'print': ((console_words.NAME,),)}, 'calls by their ranks': {'match': ((call_or_number, call_or_number),)},
     'why of a rank alone': {'why': ((), (NUMBER,))}, 'why of a call alone': {'why': ((), (CALL,))},
     'why of something alone': {'why': ((NUMBER,), (CALL,))},
-    'no breakpoint of the word line': {'break': FOLLOWING['break'][:1] + FOLLOWING['break'][2:]},
-    'a breakpoint of the letter l': {'break': (*FOLLOWING['break'], (console_words.literal('l'), NUMBER))},
+    'no breakpoint of a rank': {'break': FOLLOWING['break'][1:]},
     'restart with a number': {'restart': ((), (NUMBER,))},
     'info of the letter b': {'info': (*FOLLOWING['info'], (lambda word: 'breakpoints' if word == b'b' else None,))},
     'info of breaks': {'info': (*FOLLOWING['info'], (console_words.literal('breaks'),))},
     'info alone': {'info': ((), *FOLLOWING['info'])},
     'history without a number': {'history': ((),)}, 'check with a number alone': {'check': ((NUMBER,),)}}
+
+
+def line_break(*changes):
+    """What reads a breakpoint of a line otherwise, by parts of the pattern and what stands for them."""
+    pattern = console_words.LINE_BREAK.pattern
+    for part, other in changes:
+        assert part in pattern
+        pattern = pattern.replace(part, other)
+    return re.compile(pattern)
+
+
+LINE_BREAKS = {
+    'no word line': [(b'(?:line )?', b'')], 'the letter l': [(b'(?:line )?', b'(?:line |l )?')], 'no rank': [(b'(?: rank (', b'(?: ranks (')],
+    'no condition': [(b' if ', b' when ')],
+    'blanks around an operator': [(b' ?([!<=>]+) ?', b' ([!<=>]+) ')], 'no blank around an operator': [(b' ?([!<=>]+) ?', b'([!<=>]+)')],
+    'no number below 0': [(b'-?', b'')], 'nine digits of a condition': [(b'{1,19}', b'{1,9}')]}
 
 
 def word_faults():
@@ -154,7 +163,7 @@ def word_faults():
             'all forms of the row': lambda word: f'usage: {", ".join(row_of(word).forms)}',
             'the first form': lambda word: SOUND['usage'](word).partition(',')[0],
             'the word too': lambda word: SOUND['usage'](word).replace('usage', f'{word}: usage'),
-            'the word line too': lambda word: SOUND['usage'](word).replace('break LINE,', 'break LINE, break line LINE,')}),
+            'the word line too': lambda word: SOUND['usage'](word).replace('break LINE [', 'break LINE, break line LINE [')}),
         *named('words_of', {
             'all blanks that there are': lambda line: line.split() or [line],
             'no tabs': lambda line: [word for word in line.split(b' ') if word]}),
@@ -162,6 +171,12 @@ def word_faults():
             'more words': more_words}),
         *[Breakage(f'what may follow: {what}', console_words, 'FOLLOWING', {**FOLLOWING, **readers})
           for what, readers in FOLLOWING_OTHERWISE.items()],
+        *[Breakage(f'a breakpoint of a line: {what}', console_words, 'LINE_BREAK', line_break(*parts)) for what, parts in LINE_BREAKS.items()],
+        *[Breakage(f'a breakpoint of a line: no {operator}', console_words, 'COMPARISONS', {
+            name: test for name, test in console_words.COMPARISONS.items() if name != operator}) for operator in console_words.COMPARISONS],
+        *named('compared_cell', {
+            'the cell of a request': lambda self, word: self.one(word).declared.first,
+            'the first cell of an array': lambda self, word: self.meant(word).declared.first}, console.Console),
         *named('in_short', {
             'all that it does': lambda row: f'{", ".join(row.forms).ljust(console_words.COLUMNS - 1)} {row.what}',
             'the first form': lambda row: SOUND['in_short'](row._replace(forms=row.forms[:1])),

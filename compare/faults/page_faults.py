@@ -156,11 +156,13 @@ FAULTS = {
     'another outcome': of_end('outcome', lambda text: 'done' if text != 'done' else 'cut'),
     'a line of the explanation left out': of_end('told', lambda lines: lines[:-1]),
     'a lost request left out': of_end('lost', lambda lines: lines[:-1]),
+    'a search that gives up at will': of_end('decided', lambda told: [None, 'not known: not all runs from there were counted']),
     'another step that decides': of_end('decided', lambda told: [(told[0] or 0) + 1, told[1]]),
     'the end elsewhere': of_end('node', lambda node: node - 1),
     'a state left out': of_data(without_node), 'an end left out': of_data(last_end_lost),
     'lines of the script turned': of_data(lines_turned),
     'another mode': of_data(lambda data: [data.update(mode='slots:3')]), 'another walk': of_data(lambda data: [data.update(walk='none')]),
+    'what is said left out': of_data(lambda data: data['said'] and [data['said'].pop()]), 'more is said': of_data(lambda data: [data['said'].append('it can hang')]),
     'no more runs': of_data(lambda data: [data.update(more=not data['more'])]),
     'a `<` as it is': raw_sign, 'the end of the element in the note': mark_in_note, 'a blank': more_blank, 'keys in another order': of_data(other_order),
 }

@@ -3,7 +3,7 @@
 from faults.policy_faults import Breakage
 from model import picture_model, run_words
 from model.debugger import enabled_steps
-from model.picture_model import ISSUED, PAIRED, RELEASED, WENT_ON, Drawing, Picture, beside_of
+from model.picture_model import ISSUED, NOTED, PAIRED, RELEASED, WENT_ON, Drawing, Picture, beside_of
 
 SOUND_GLYPHS = picture_model.glyphs_of_step
 SOUND_MARKS = picture_model.marks_of
@@ -11,7 +11,9 @@ SOUND_OPEN = picture_model.is_open
 SOUND_ROW = picture_model.row_after
 SOUND_PATH = picture_model.path_between
 SOUND_LANES = picture_model.lanes_of
-SOUND = {name: getattr(Drawing, name) for name in ('pair', 'end', 'free', 'issued_call', 'posted', 'request', 'wanted', 'whom')}
+SOUND_NOTE = picture_model.note_of_step
+SOUND_NOTE_LABEL = picture_model.label_of_note
+SOUND = {name: getattr(Drawing, name) for name in ('pair', 'end', 'free', 'issued_call', 'posted', 'request', 'wanted', 'want_path', 'whom')}
 
 
 def without(kind):
@@ -129,6 +131,38 @@ def on_one_line(self, call_id, row):
     return SOUND['posted'](self, call_id, row).replace(f'H{beside_of(call_id)}V', f'H{beside_of(call_id._replace(number=0))}V')
 
 
+def printed_first(rank, before, behind):
+    """A note, of a print the first value of its rank."""
+    note = SOUND_NOTE(rank, before, behind)
+    return note._replace(value=behind.printed[0]) if note is not None and note.trap is None else note
+
+
+def no_traps(rank, before, behind):
+    note = SOUND_NOTE(rank, before, behind)
+    return None if note is None or note.trap else note
+
+
+def at_next_line(rank, before, behind):
+    """A note with the line of the next statement, if there is one."""
+    note = SOUND_NOTE(rank, before, behind)
+    return note._replace(line=behind.rest[0].line) if note is not None and behind.rest else note
+
+
+def in_no_row(glyph, count):
+    """The lanes of a step, of a note none."""
+    return [] if glyph.kind == NOTED else SOUND_LANES(glyph, count)
+
+
+def without_line(note):
+    """What stands beside a note, without its line."""
+    return SOUND_NOTE_LABEL(note).removeprefix(f'{note.line} ')
+
+
+def on_one_height(self, number, rank, x1, x2, y):
+    """The path of an arrow to a rank that is waited for, as that of the first rank."""
+    return SOUND['want_path'](self, 0, rank, x1, x2, y)
+
+
 def straight(sender, receiver, rank):
     """The sign of a match that is always to the right."""
     return '> ' if rank == receiver else 'o-' if rank == sender else '| '
@@ -142,6 +176,17 @@ def breakages():
         Breakage('matches are not shown', model, 'glyphs_of_step', without(PAIRED)),
         Breakage('releases are lost', model, 'glyphs_of_step', without(RELEASED)),
         Breakage('ranks wait for ever', model, 'glyphs_of_step', without(WENT_ON)),
+        Breakage('prints and traps are not shown', model, 'glyphs_of_step', without(NOTED)),
+        Breakage('each print is the first', model, 'note_of_step', printed_first),
+        Breakage('traps are shown at the end alone', model, 'note_of_step', no_traps),
+        Breakage('prints at the line of the next statement', model, 'note_of_step', at_next_line),
+        Breakage('prints take no row', model, 'lanes_of', in_no_row),
+        Breakage('prints without their line', model, 'label_of_note', without_line),
+        Breakage('arrows to whom ranks wait for lie on one another', Drawing, 'want_path', on_one_height),
+        Breakage('all arrows to whom ranks wait for hang', model, 'MOST_HUNG', 16),
+        Breakage('arrows of four ranks have heights of their own', model, 'MOST_HUNG', 3),
+        Breakage('drawings of many ranks end no lower', model, 'tracks_height', lambda count: 0),
+        Breakage('drawings of few ranks end lower', model, 'TRACKS', 5),
         Breakage('ranks go on a row later', model, 'marks_of', wakes_below),
         Breakage('each step has a row of its own', model, 'marks_of', a_row_each),
         Breakage('the list stands beside the rows', model, 'marks_of', listed_by_rows),

@@ -489,9 +489,60 @@ def handle_faults():
     return [Breakage(name, policy, 'is_hit', of_handles(test)) for name, test in tests]
 
 
+# ---- breakpoints of a rank and with a condition: no word of that copy has them either
+
+def of_kind(kind, told):
+    """What hits by another test of one kind of breakpoints: of the breakpoint, the world before, and the step."""
+    return lambda stop, world, step: told(stop, world, step) if isinstance(stop, kind) else SOUND.is_hit(stop, world, step)
+
+
+def as_if(kind, **other):
+    """What hits as a breakpoint that has something else."""
+    return of_kind(kind, lambda stop, world, step: SOUND.is_hit(stop._replace(**other), world, step))
+
+
+def compared_as(operator, other):
+    """What takes an operator for another."""
+    def told(stop, world, step):
+        is_this = stop.condition is not None and stop.condition.operator == operator
+        return SOUND.is_hit(stop._replace(condition=stop.condition._replace(operator=other)) if is_this else stop, world, step)
+    return of_kind(policy.LineBreak, told)
+
+
+def held_in(worlds):
+    """What looks at a condition elsewhere: in one of both worlds, at the rank of a number."""
+    def told(stop, world, step):
+        after = next_world(world, step)
+        return any(
+            policy.is_at_line(after.ranks[number], stop.line) and stop.rank in (None, number) and policy.holds(stop.condition, worlds(world, after, number))
+            for number in policy.moved_by(after, step))
+    return of_kind(policy.LineBreak, told)
+
+
+def partly(stop, world, step):
+    """What takes each match of a call of a line in which a rank takes part."""
+    return SOUND.is_hit(stop._replace(rank=None), world, step) and stop.rank in (None, *(call.rank for call in step[1:]))
+
+
+def narrow_faults():
+    rank = policy.RankBreak
+    return [Breakage(name, policy, 'is_hit', is_hit) for name, is_hit in (
+        ('a line of any rank where one is meant', as_if(policy.LineBreak, rank=None)), ('a match of any rank where one is meant', as_if(policy.MatchBreak, rank=None)),
+        ('a match in which the rank that is meant takes part', of_kind(policy.MatchBreak, partly)), ('a line whatever must hold', as_if(policy.LineBreak, condition=None)),
+        ('a condition before the step', held_in(lambda world, after, number: world.ranks[number])),
+        ('a condition of the first rank', held_in(lambda world, after, number: after.ranks[0])),
+        *((f'{operator} taken for {other}', compared_as(operator, other)) for operator, other in (
+            ('==', '>='), ('!=', '<'), ('<', '<='), ('<=', '<'), ('>', '>='), ('>=', '>'))),
+        ('a rank that is blocked by its step', of_kind(rank, lambda stop, world, step: stop.rank in policy.moved_by(world, step))),
+        ('a rank by another\'s step', of_kind(rank, lambda stop, world, step: SOUND.is_hit(stop._replace(rank=step.first), world, step)
+            if step.kind in ('local', 'wake') else SOUND.is_hit(stop, world, step))),
+        ('a rank by a local step alone', of_kind(rank, lambda stop, world, step: step.kind == 'local' and SOUND.is_hit(stop, world, step))),
+        ('no rank by a release', of_kind(rank, lambda stop, world, step: step.kind != 'release' and SOUND.is_hit(stop, world, step))))]
+
+
 def late_breakages():
-    """Those of runs past single candidates, and of handles."""
-    return [*run_on_faults(), *handle_faults()]
+    """Those of runs past single candidates, of handles, and of breakpoints of a rank and with a condition."""
+    return [*run_on_faults(), *handle_faults(), *narrow_faults()]
 
 
 def late_breakages_of_2():

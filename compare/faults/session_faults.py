@@ -407,12 +407,34 @@ def full_first(sound):
 
 def cells_unlooked(sound):
     """What takes a cell that isn't there."""
-    def answer(self, kind, rank=None, cell=None, **line):
+    def answer(self, kind, rank=None, cell=None, **others):
         if kind == 'change':
             number = self.breaks.add(ChangeBreak(rank, cell))
             must_be(number is not None, session.BREAKS_FULL)
             return {'break': number}
-        return sound(self, kind, **line)
+        return sound(self, kind, rank=rank, cell=cell, **others)
+    return answer
+
+
+def meant_unlooked(sound):
+    """What takes any rank for a line or a match."""
+    def answer(self, kind, rank=None, **others):
+        if kind not in ('line', 'match') or rank is None:
+            return sound(self, kind, rank=rank, **others)
+        told = sound(self, kind, **others)
+        self.breaks.places[told['break']] = self.breaks.places[told['break']]._replace(rank=rank)
+        return told
+    return answer
+
+
+def compared_unlooked(sound):
+    """What takes any cell for a condition."""
+    def answer(self, kind, line=None, rank=None, cell=None, operator=None, value=None, **others):
+        if kind != 'line' or cell is None:
+            return sound(self, kind, line=line, rank=rank, cell=cell, **others)
+        told = sound(self, kind, line=line, rank=rank)
+        self.breaks.places[told['break']] = self.breaks.places[told['break']]._replace(condition=policy.Condition(cell, operator, value))
+        return told
     return answer
 
 
@@ -576,6 +598,9 @@ def break_faults():
             **SOUND.answers, 'break': noting(SOUND.answers['break']), 'breaks': as_set(SOUND.answers['breaks'])}),
         command('breakpoints by their texts', 'breaks', listed_as(sorted)),
         command('breakpoints by kind', 'breaks', listed_as(lambda texts: sorted(texts, key=lambda text: text.split()[1]))),
+        Breakage('a rank that is meant untold', session, 'meant_text', lambda stop: ''),
+        Breakage('a condition untold', session, 'condition_text', lambda condition, name=str: ''),
+        command('a rank that is meant and is not there', 'break', meant_unlooked), command('a cell of a condition that is not there', 'break', compared_unlooked),
         command('breakpoints without numbers', 'breaks', listed_as(lambda texts: [text.split(' ', 1)[1] for text in texts])),
         Breakage('a cell that is written and doesn\'t change', policy, 'is_hit', changed_always),
         Breakage('a run back to the start', policy, 'run_back', back_unmarked),

@@ -293,7 +293,7 @@ def other_kinds_fields(command, entries):
 
 def kind_unlooked(command, entries):
     """What takes each kind of breakpoint that isn't known for one on a line."""
-    if command == 'break' and 'kind' in entries and entries['kind'] not in ('line', 'match', 'change', 'handle'):
+    if command == 'break' and 'kind' in entries and entries['kind'] not in session.FIELDS_OF_KINDS:
         entries = {**entries, 'kind': 'line'}
     return READ_FIELDS(command, entries)
 

@@ -11,7 +11,7 @@ from collections import Counter
 from itertools import islice
 from typing import NamedTuple
 
-from model import console_lines, console_words, debugger, deciding, explaining, explorer, picture_model, policy, session, states
+from model import console_lines, console_values, console_words, debugger, deciding, explaining, explorer, picture_model, policy, session, states
 from model.console_lines import plural, step_words
 from model.console_words import Asked, NotAsked, read_line, shown, to_repeat
 from model.debugger import (BAD_FILE, BAD_MODE, LONGEST_LINE, RENDEZVOUS, Result, enabled_steps, file_content, find_call, lines_of, number_of,
@@ -19,7 +19,7 @@ from model.debugger import (BAD_FILE, BAD_MODE, LONGEST_LINE, RENDEZVOUS, Result
 from model.language import Declared, Fault, read_script
 from model.modes import is_mode
 from model.outcomes import count_text
-from model.policy import BREAK, FULL, MAX, START, ChangeBreak, Choice, Forced, HandleBreak, LineBreak
+from model.policy import BREAK, FULL, MAX, START, ChangeBreak, Choice, Forced, HandleBreak, MatchBreak, RankBreak
 from model.run_words import BadChoices, choices_in, run_by
 from model.session import Refused, Session, must_be
 from model.states import word_of
@@ -34,6 +34,7 @@ NO_CHOICE = 'refused: no choice was made before'
 NO_LAST_RANK = 'refused: the last step is of no rank; finish P names one'
 NO_INDEX = 'refused: there is no such index'
 NEEDS_INDEX = 'refused: an array needs an index here'
+NO_VALUE = 'refused: a request has no value to compare'
 NO_WAIT = 'no rank waits for a call'
 # What is wrong with a number, where a session says no more than that it is none: of steps, of runs, of a line, of a rank, and of a call.
 BAD_STEPS, BAD_RUNS, BAD_LINE, NO_RANK, NO_CALL = 'steps', 'runs', 'line', 'rank', 'call'
@@ -160,15 +161,29 @@ class NamedRun(NamedTuple):
         return None if choices is None else run_by(Run(debugger.first_world(script, mode), MOST_FUEL), choices, self.ends)
 
 
+class Look(NamedTuple):
+    """How answers look: how many bytes a line has before it wraps, and whether lines that are read are shown before their answers."""
+    width: int = console_lines.WIDTH
+    is_echoing: bool = False
+
+
+USUAL = Look()
+
+
 class Console:
     """A session that is asked by words, what is told before the first of them, where a run lies ahead, and what an empty line does."""
 
     def __init__(self, text, mode=RENDEZVOUS, ahead=None):
-        self.text, self.mode = text, mode
+        self.text, self.mode, self.look = text, mode, USUAL
         self.script = read_script(text)
         self.session = Session(self.script, mode)
         self.last, self.is_over = None, False
-        self.first = '' if ahead is None else text_of(console_lines.all_folded(self.found(ahead)))
+        self.first_lines = [] if ahead is None else self.found(ahead)
+
+    @property
+    def first(self):
+        """What is told before any line is read."""
+        return text_of(console_lines.all_folded(self.first_lines, self.look.width))
 
     @property
     def debugger(self):
@@ -223,18 +238,29 @@ class Console:
         try:
             asked = self.asked(line)
         except NotAsked as not_asked:
-            return console_lines.folded(not_asked.told)
+            return console_lines.folded(not_asked.told, self.look.width)
         if asked is None:
             return []
         self.last = to_repeat(asked)
         told = self.told(asked)
-        return told if asked.word in UNFOLDED else console_lines.all_folded(told)
+        return told if asked.word in UNFOLDED else console_lines.all_folded(told, self.look.width)
 
     def asked(self, line):
         """What a line asks for: an empty one the word that was asked last, and a comment nothing."""
         if is_blank(line):
             return self.last
-        return None if is_comment(line) else self.understood(read_line(line))
+        if is_comment(line):
+            return None
+        expression = console_values.expression_in(line, self.is_named)
+        return self.understood(read_line(line)) if expression is None else Asked('value', console_values.value_asked(expression, self.script.names))
+
+    def is_named(self, word):
+        """Whether a word means a name, or one with an index that its array doesn't have."""
+        try:
+            self.meant(word)
+        except NotAsked as not_asked:
+            return not_asked.told == NO_INDEX
+        return True
 
     def understood(self, asked):
         """What is asked, with what its name means."""
@@ -244,6 +270,9 @@ class Console:
         if asked.word == 'break' and asked.given[0] == 'change':
             kind, rank, name = asked.given
             return Asked(asked.word, (kind, rank, self.one(name)))
+        if asked.word == 'break' and asked.given[0] == 'line' and asked.given[-1]:
+            *given, compared = asked.given
+            return Asked(asked.word, (*given, policy.Condition(self.compared_cell(compared.name), compared.operator, compared.value)))
         return asked
 
     def told(self, asked):
@@ -343,8 +372,10 @@ class Console:
     def until(self, line):
         """Goes on as `run` does, to where a rank comes to a line at most."""
         must_be(1 <= line <= session.HIGHEST_LINE, BAD_LINE)
+        if missing := self.no_statement(line):
+            return [f'refused: {told}' for told in missing]
         stop = policy.LineBreak(line)
-        return self.up_to(lambda world, step: policy.is_hit(stop, world, step), f'stopped: a rank is at line {line}', self.no_statement(line))
+        return self.up_to(lambda world, step: policy.is_hit(stop, world, step), f'stopped: a rank is at line {line}')
 
     def finish(self, number=None):
         """Goes on as `run` does, to where a rank goes on at most that waits: the one of a number, or that of the last step."""
@@ -363,14 +394,13 @@ class Console:
             return None
         return step.second.rank if step.kind == 'match' else step.first
 
-    def up_to(self, is_last, why, note=()):
+    def up_to(self, is_last, why):
         """Goes on as `run` does, but no further than a step that is the last; tells why it stops there."""
         if self.can_choose_again or self.leaves_ahead(session.MOST_COUNT):
             return self.run()
         most = self.steps_to(is_last)
         lines = self.run(session.MOST_COUNT if most is None else most)
-        told = [why if line == STOPS[MAX] else line for line in lines]
-        return [told[0], *note, *told[1:]]
+        return [why if line == STOPS[MAX] else line for line in lines]
 
     def steps_to(self, is_last):
         """How many steps a run takes up to one that is the last; None where it comes to none."""
@@ -454,7 +484,11 @@ class Console:
             return f'change {stop.rank} {self.cell_name("var", stop.cell)}'
         if isinstance(stop, HandleBreak):
             return f'change {stop.rank} {self.cell_name("req", stop.handle)}'
-        return f'{"line" if isinstance(stop, LineBreak) else "match"} {stop.line}'
+        if isinstance(stop, RankBreak):
+            return f'rank {stop.rank}'
+        if isinstance(stop, MatchBreak):
+            return f'match {stop.line}{session.meant_text(stop)}'
+        return f'line {stop.line}{session.meant_text(stop)}{session.condition_text(stop.condition, lambda cell: self.cell_name("var", cell))}'
 
     def cell_name(self, kind, cell):
         """The name of a cell of variables, or of a handle."""
@@ -464,16 +498,22 @@ class Console:
         return f'breakpoint {number}: {self.break_text(self.session.breaks.get(number))}'
 
     def set_break(self, *given):
-        """A breakpoint of a line, of `match` and a line, or of `change`, a rank and a variable or a request."""
+        """A breakpoint of a line or of a match, of a rank, or of `change`, a rank and a variable or a request."""
         if given[0] == 'change':
             _, rank, (_, declared, (place,)) = given
             kind, where = ('change', 'cell') if declared.kind == 'var' else ('handle', 'handle')
             self.rank(rank)
             there = self.session.set_break(kind, rank=rank, **{where: declared.first + place})
             return [self.break_line(there['break'])]
-        kind, line = 'match' if given[0] == 'match' else 'line', given[-1]
+        if given[0] == 'rank':
+            self.rank(given[1])
+            return [self.break_line(self.session.set_break('rank', rank=given[1])['break'])]
+        kind, line, rank, *condition = given
         must_be(1 <= line <= session.HIGHEST_LINE, BAD_LINE)
-        there = self.session.set_break(kind, line=line)
+        if rank is not None:
+            self.rank(rank)
+        compared = condition[0]._asdict() if condition and condition[0] else {}
+        there = self.session.set_break(kind, line=line, rank=rank, **compared)
         return [self.break_line(there['break']), *self.no_statement(line)]
 
     def no_statement(self, line):
@@ -513,6 +553,13 @@ class Console:
             raise NotAsked(NEEDS_INDEX)
         return meant
 
+    def compared_cell(self, word):
+        """The cell that a condition is about."""
+        if self.meant(word).declared.kind != 'var':
+            raise NotAsked(NO_VALUE)
+        _, declared, (place,) = self.one(word)
+        return declared.first + place
+
     def ranks_of(self, number=None):
         """All ranks, or the one of a number."""
         if number is None:
@@ -535,6 +582,9 @@ class Console:
 
     def print(self, meant, number=None):
         return [console_lines.value_line(self.at, rank, *meant) for rank in self.ranks_of(number)]
+
+    def value(self, expression, number=None):
+        return [console_values.value_line(self.world, rank, expression) for rank in self.ranks_of(number)]
 
     def variables(self, number=None):
         at = self.at
@@ -687,14 +737,22 @@ LINES_FIRST = {'blame': 3}
 METHODS = {'break': 'set_break', 'vars': 'variables', 'run-back': 'run_back', 'undo-choice': 'undo_choice'}
 
 
+def echoed(line):
+    """What is shown of a line: two dots of one that is too long."""
+    return (b'..' if len(line) > LONGEST_LINE else line) + b'\n'
+
+
 def answers(console, data):
-    """The answers to an input, up to `quit` or to its end."""
-    told = []
+    """The answers to an input, up to `quit` or to its end; where lines are shown, each after its prompt and that line, and a line feed at the
+    end of an input without `quit`."""
+    told, shows = [], console.look.is_echoing
     for line in lines_of(data):
-        told.append(console.answer(line))
+        if shows:
+            told += [console.prompt().encode(), echoed(line)]
+        told.append(console.answer(line).encode())
         if console.is_over:
-            break
-    return ''.join(told).encode()
+            return b''.join(told)
+    return b''.join([*told, console.prompt().encode() + b'\n'] if shows else told)
 
 
 def refused_witness(script, mode, witness):
@@ -751,10 +809,13 @@ def answered(console, data):
     return Result(console.first.encode() + answers(console, data), b'', 0)
 
 
-def debug(text, data, mode=RENDEZVOUS, witness=None, run=None):
+def debug(text, data, mode=RENDEZVOUS, witness=None, run=None, look=USUAL):
     """The result for a script and an input of words, without a terminal."""
     console = begun(text, mode, witness, run)
-    return answered(console, data) if isinstance(console, Console) else console
+    if not isinstance(console, Console):
+        return console
+    console.look = look
+    return answered(console, data)
 
 
 def talk(console):

@@ -29,17 +29,17 @@ def cut(line, room):
     return None if place < 0 else place
 
 
-def folded(line):
+def folded(line, width=WIDTH):
     """A line of an answer, in as many as it takes."""
-    found, rest, room, indent = [], line, WIDTH, ''
+    found, rest, room, indent = [], line, width, ''
     while (place := cut(rest, room)) is not None:
         found.append(indent + rest[:place])
-        rest, room, indent = rest[place + 1:], WIDTH - INDENT, ' ' * INDENT
+        rest, room, indent = rest[place + 1:], width - INDENT, ' ' * INDENT
     return [*found, indent + rest]
 
 
-def all_folded(lines):
-    return [part for line in lines for part in folded(line)]
+def all_folded(lines, width=WIDTH):
+    return [part for line in lines for part in folded(line, width)]
 
 
 def reached(walked):

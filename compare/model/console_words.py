@@ -3,9 +3,11 @@
 The table was written down by hand from that page; compare/rows/console_worked.py compares the two.
 """
 
+import re
 from typing import NamedTuple
 
 from model.debugger import call_id_of, number_of
+from model.policy import COMPARISONS
 
 # How wide the forms of a word are in the list of all words, at least.
 COLUMNS = 36
@@ -48,15 +50,16 @@ TABLE = (
     Row(('redo [N]', 'redo all'), (), 'takes the first step ahead, or so many; as far as there are, or all'),
     Row(('local P', 'match S R', 'wake P', 'wakeany P I', 'release'), (),
         'takes this step; P is a rank, S and R are a send and a receive as 1.0, and I is the number of a request of a waitany, from 0'),
-    Row(('break LINE', 'break match LINE', 'break change P NAME'), ('b', 'br'),
-        'sets a breakpoint; after a step by which a rank comes to that line, after a match of a call of that line, after a change of that variable '
+    Row(('break LINE [rank P] [if NAME OP N]', 'break match LINE [rank P]', 'break rank P', 'break change P NAME'), ('b', 'br'),
+        'sets a breakpoint; after a step by which a rank, or rank P, comes to that line, if its variable compares so with N, OP being ==, !=, <, <=, > '
+        "or >=; after a match of a call of that line, or of one of rank P; after each step of rank P after which it isn't blocked; after a change of that variable "
         'or request of rank P'),
     Row(('watch NAME P',), (), 'sets a breakpoint on a variable or a request; the same as break change P NAME'),
     Row(('delete N',), ('d',), 'removes a breakpoint'),
     Row(('breaks',), (), 'lists the breakpoints'),
     Row(('info breakpoints', 'info ranks'), (), 'lists breakpoints, or what ranks are doing; the same as breaks, and as ranks'),
     Row(('list [P]',), ('l',), 'shows the script, and where ranks stand; or the lines about rank P'),
-    Row(('print NAME [P]',), ('p',), 'shows a variable or a request; of all ranks, or of rank P'),
+    Row(('print EXPR [P]',), ('p',), 'shows a variable, a request or an expression; of all ranks, or of rank P'),
     Row(('vars [P]',), (), 'shows all variables in short; requests, and what was printed, too'),
     Row(('ranks',), ('bt', 'where'), 'shows what each rank is doing'),
     Row(('calls [P]',), (), 'lists the calls of all ranks, or of rank P'),
@@ -100,7 +103,8 @@ FOLLOWING = {
     'next': MAYBE_NUMBER, 'run': MAYBE_NUMBER, 'until': ((NUMBER,),), 'finish': MAYBE_NUMBER, 'back': MAYBE_NUMBER, 'run-back': ((),), 'undo-choice': ((),), 'goto': ((NUMBER,),),
     'restart': ((),), 'redo': (*MAYBE_NUMBER, (literal(ALL),)),
     'local': ((NUMBER,),), 'match': ((CALL, CALL),), 'wake': ((NUMBER,),), 'wakeany': ((NUMBER, NUMBER),), 'release': ((),),
-    'break': ((NUMBER,), (literal('line'), NUMBER), (literal('match'), NUMBER), (literal('change'), NUMBER, NAME)),
+    # A breakpoint of a line and of a match is read as a whole (break_given).
+    'break': ((literal('rank'), NUMBER), (literal('change'), NUMBER, NAME)),
     'watch': ((NAME, NUMBER),), 'delete': ((NUMBER,),), 'breaks': ((),), 'info': ((literal('breakpoints'),), (literal('ranks'),)),
     'list': MAYBE_NUMBER, 'print': ((NAME,), (NAME, NUMBER)), 'vars': MAYBE_NUMBER, 'ranks': ((),), 'calls': MAYBE_NUMBER,
     'queues': ((),), 'why': ((), (NUMBER,), (CALL,)), 'history': MAYBE_NUMBER, 'picture': ((),), 'check': MAYBE_NUMBER,
@@ -182,8 +186,38 @@ def words_of(line):
     return [word for word in line.replace(b'\t', b' ').split(b' ') if word]
 
 
+# A breakpoint of a line, `line` left out or not, and of a match. An operator stands between a name and a number, with blanks or without.
+LINE_BREAK = re.compile(rb'(?:line )?(\d{1,9})(?: rank (\d{1,9}))?(?: if ([^ !<=>]+) ?([!<=>]+) ?(-?\d{1,19}))?')
+MATCH_BREAK = re.compile(rb'match (\d{1,9})(?: rank (\d{1,9}))?')
+
+
+class Compared(NamedTuple):
+    """A condition with its name as it stands."""
+    name: bytes
+    operator: str
+    value: int
+
+
+def break_given(behind):
+    """What follows `break` where that is a line or a match: its kind, its line, its rank, and of a line what must hold."""
+    text = b' '.join(behind)
+    if found := MATCH_BREAK.fullmatch(text):
+        line, rank = found.groups()
+        return 'match', int(line), None if rank is None else int(rank)
+    found = LINE_BREAK.fullmatch(text)
+    if found is None:
+        return None
+    line, rank, name, operator, value = found.groups()
+    condition = None if name is None else Compared(name, operator.decode(), int(value))
+    if condition and (condition.operator not in COMPARISONS or not -2**63 <= condition.value < 2**63):
+        return None
+    return 'line', int(line), None if rank is None else int(rank), condition
+
+
 def given_by(word, behind):
     """What follows a word, as one of the lists of what may follow it reads it; None where none does."""
+    if word == 'break' and (given := break_given(behind)):
+        return given
     for readers in FOLLOWING[word]:
         given = tuple(reader(part) for reader, part in zip(readers, behind))
         if len(readers) == len(behind) and None not in given:

@@ -101,8 +101,8 @@ class Counting(states.Search):
     """A search whose states are those with a choice, and those where a run ends. It counts them, those that it comes to again too, and stops
     behind so many; it keeps no others."""
 
-    def __init__(self, kept, most):
-        super().__init__(kept, math.inf)
+    def __init__(self, kept, most, stops_at=()):
+        super().__init__(kept, math.inf, stops_at)
         self.counted, self.most_counted = 0, most
 
     def behind(self, world, fuel):

@@ -331,10 +331,20 @@ def left_lines(at, awaited=frozenset()):
     return [f'  left over: {call_text(at, call_id)}' for call_id in all_free(at.world) if call_id not in awaited]
 
 
-def explanation(script, mode, leaf):
-    """The lines that explain a leaf: none where it is done, or cut."""
-    word = leaf.outcome.split()[0]
+def tells(outcome):
+    """Whether something is told of a run that ends so."""
+    return outcome.split()[0] in ('deadlock', 'trap', 'leftovers')
+
+
+def told(at, names, outcome):
+    """The lines that explain how a run has ended: none where it is done, or cut."""
+    word = outcome.split()[0]
     if word == 'trap':
-        return tuple(trap_lines(reached(script, mode, leaf.steps), script.names))
+        return tuple(trap_lines(at, names))
     tell = {'deadlock': deadlock_lines, 'leftovers': left_lines}.get(word)
-    return () if tell is None else tuple(tell(reached(script, mode, leaf.steps)))
+    return () if tell is None else tuple(tell(at))
+
+
+def explanation(script, mode, leaf):
+    """The lines that explain a leaf."""
+    return told(reached(script, mode, leaf.steps), script.names, leaf.outcome) if tells(leaf.outcome) else ()

@@ -4,13 +4,14 @@ It was written from that page, over the debugger and the explanations of the mod
 """
 
 import re
-from typing import NamedTuple, Optional
+from typing import NamedTuple
 
-from model import deciding, explaining, order, states
+from model import deciding, explaining, order
 from model.console_lines import has_ended, lost_lines, requests, source_lines
 from model.debugger import MOST_STEPS, buffer_text, enabled_steps, find_call, first_world, is_at_barrier, is_done, last_call, next_world, outcome, step_text
+from model.diagnosed import Counting, mode_of
 from model.explaining import Reached, next_line, plain_text
-from model.policy import Choice, decision
+from model.policy import Choice, Forced, decision
 from model.walks import Leaf
 from model.wide import wide_decision
 from model.worlds import CallId
@@ -20,8 +21,8 @@ DECISIONS, WIDE, WORDS = 'decisions', 'wide', 'words'
 COMPLETE, BARRIER = 'complete', 'barrier'
 CUT = 'cut'
 BAD = 'deadlock', 'trap'
-# The limits of the search for the step that decides: steps behind a run, and states.
-MOST_FUEL, MOST_STATES = 100000, 1000000
+# The limits of the searches for the step that decides: steps behind a run, states that each keeps, and states that all of a page come to.
+MOST_FUEL, MOST_KEPT, MOST_STATES = 100000, 1000000, 100000
 
 
 # ---- views
@@ -150,20 +151,35 @@ class Tree:
 
 # ---- ends
 
-def decided_by(script, mode, steps, most=MOST_STATES):
-    """The depth at which a run was decided that hangs or traps, and what is told of it; None where more states are come to than may be."""
-    search = states.Search(most=most)
-    fuel = min(len(steps) + MOST_FUEL, MOST_STEPS)
-    last = deciding.last_not_doomed(deciding.worlds_along(first_world(script, mode), steps), fuel, deciding.by_search(search))
-    if search.has_stopped and most < MOST_STATES:
-        return None
-    line = deciding.line_of(script, mode, steps, last)
+def is_only(world, step):
+    """Whether this step is all that can come next along the wide walk."""
+    decided = wide_decision(world)
+    return (decided.step == step) if isinstance(decided, Forced) else isinstance(decided, Choice) and list(decided.steps) == [step]
+
+
+def last_not_doomed(script, mode, steps, most):
+    """The last state of a run that isn't known to be doomed; None if each is. It goes back along the run, and looks from each state for a run that ends
+    well, where another step could be taken; all these searches come to so many states at most."""
+    fuel, worlds = min(len(steps) + MOST_FUEL, MOST_STEPS), deciding.worlds_along(first_world(script, mode), steps)
+    for depth in reversed(range(len(worlds))):
+        if depth == len(steps) or not is_only(worlds[depth], steps[depth]):
+            search = Counting(MOST_KEPT, most, deciding.ENDS_WELL)
+            ahead = deciding.by_search(search)(worlds[depth], fuel - depth)
+            if not deciding.is_doomed(ahead):
+                return deciding.Last(depth, ahead)
+            most -= search.counted
+    return None
+
+
+def decided_by(script, mode, steps, most):
+    """The depth at which a run was decided that hangs or traps, and what is told of it, by searches that come to so many states at most."""
+    line = deciding.line_of(script, mode, steps, last_not_doomed(script, mode, steps, most))
     found = re.match(r'decided at depth (\d+): ', line)
     return [int(found[1]) if found else None, line]
 
 
-def end_of(tree, node, steps, most=MOST_STATES):
-    """What is told where a run ends."""
+def end_of(tree, node, steps, most):
+    """What is told where a run ends; the step that decides is looked for in so many states at most."""
     at = tree.at[node]
     ended = CUT if enabled_steps(at.world) else outcome(at.world)
     told = [] if ended == CUT else list(explaining.explanation(tree.script, tree.mode, Leaf((), steps, ended)))
@@ -213,17 +229,22 @@ class Asked(NamedTuple):
     note: str = ''
     said: tuple = ()
     more: bool = True
-    most: Optional[int] = MOST_STATES
+    most: int = MOST_STATES
 
 
 def declared(script, kind):
     return [[name, one.size] for name, one in script.names.items() if one.kind == kind]
 
 
+def share(asked):
+    """How many states the searches for the step that decides one of its runs come to at most: all runs have equal parts."""
+    return asked.most // len(asked.runs)
+
+
 def data_of(asked):
     """The data of a page."""
     tree = Tree(asked.script, asked.mode, asked.walk)
-    ends = [end_of(tree, tree.follow(steps), steps, asked.most) for steps in asked.runs]
-    return {'format': FORMAT, 'name': asked.name, 'mode': asked.mode, 'ranks': asked.script.ranks, 'walk': asked.walk, 'hide': asked.hide,
+    ends = [end_of(tree, tree.follow(steps), steps, share(asked)) for steps in asked.runs]
+    return {'format': FORMAT, 'name': asked.name, 'mode': mode_of(asked), 'ranks': asked.script.ranks, 'walk': asked.walk, 'hide': asked.hide,
             'note': asked.note, 'said': list(asked.said), 'script': source_lines(asked.text),
             'vars': declared(asked.script, 'var'), 'handles': declared(asked.script, 'req'), 'nodes': tree.nodes, 'ends': ends, 'more': asked.more}

@@ -17,24 +17,43 @@ from model.worlds import CallId
 MOST_GLYPHS = 20000
 MOST_LABEL = 16
 TOO_LONG = 'refused: this run has too many calls to be drawn\n'
-ISSUED, PAIRED, RELEASED, WENT_ON = 'issued', 'paired', 'released', 'went on'
+ISSUED, PAIRED, RELEASED, WENT_ON, NOTED = 'issued', 'paired', 'released', 'went on', 'noted'
 
 
 # ---- rows
 
+class Note(NamedTuple):
+    """What a rank does by itself that is drawn: the value that it prints, or the trap; and the line of its statement."""
+    rank: int
+    line: int
+    value: Optional[int]
+    trap: Optional[str]
+
+
 class Glyph(NamedTuple):
-    """What a step shows, the row at which it is drawn, and the calls that it is about."""
+    """What a step shows, the row at which it is drawn, and the calls that it is about, or the note."""
     kind: str
     row: int
     call: Optional[CallId] = None
     other: Optional[CallId] = None
+    note: Optional[Note] = None
+
+
+def note_of_step(rank, before, behind):
+    """What a rank has done by itself in a step that is drawn, if anything."""
+    if behind.mode == 'trapped':
+        return Note(rank, next_line(before), None, behind.trap)
+    printed = behind.printed[len(before.printed):]
+    return Note(rank, next_line(before), printed[0], None) if printed else None
 
 
 def glyphs_of_step(step, before, behind, row):
     """What a step shows, where the next row is this one."""
     if step.kind == 'local':
-        has_called = len(behind.ranks[step.first].calls) > len(before.ranks[step.first].calls)
-        return [Glyph(ISSUED, row, last_call(behind, step.first))] if has_called else []
+        if len(behind.ranks[step.first].calls) > len(before.ranks[step.first].calls):
+            return [Glyph(ISSUED, row, last_call(behind, step.first))]
+        note = note_of_step(step.first, before.ranks[step.first], behind.ranks[step.first])
+        return [] if note is None else [Glyph(NOTED, row, note=note)]
     if step.kind == 'match':
         return [Glyph(PAIRED, row, step.first, step.second)]
     if step.kind == 'release':
@@ -63,13 +82,14 @@ class Mark(NamedTuple):
     place: int
     call: Optional[CallId] = None
     other: Optional[CallId] = None
+    note: Optional[Note] = None
 
 
 def lanes_of(glyph, count):
     """The ranks in whose lanes stands what a step shows."""
     if glyph.kind == RELEASED:
         return range(count)
-    return [(glyph.other if glyph.kind == PAIRED else glyph.call).rank]
+    return [{PAIRED: glyph.other, NOTED: glyph.note}.get(glyph.kind, glyph.call).rank]
 
 
 class TakenRows(NamedTuple):
@@ -98,7 +118,7 @@ def marks_of(glyphs, count):
             rows.issued[glyph.call] = row
         if glyph.kind == PAIRED:
             rows.sent[glyph.call.rank] = max(row, rows.sent.get(glyph.call.rank, 0))
-        marks.append(Mark(glyph.kind, row, glyph.row, glyph.call, glyph.other))
+        marks.append(Mark(glyph.kind, row, glyph.row, glyph.call, glyph.other, glyph.note))
     return marks
 
 
@@ -162,6 +182,7 @@ STYLE = '''<style type="text/css">
 .mpd-wait{fill:#b45f06;stroke:#000}
 .mpd-waitany{fill:#fff;stroke:#b45f06;stroke-width:2}
 .mpd-barrier{fill:#000;stroke:#000}
+.mpd-print{fill:#ffd966;stroke:#000}
 .mpd-ended{fill:none;stroke:#000;stroke-width:3}
 .mpd-running{fill:#fff;stroke:#000;stroke-width:1.5}
 .mpd-held{fill:#fff;stroke:#b45f06;stroke-width:2}
@@ -173,6 +194,7 @@ STYLE = '''<style type="text/css">
 DISC, SQUARE, FLAT = 'm-5 0a5 5 0 1 0 10 0a5 5 0 1 0 -10 0z', 'm-5 -5h10v10h-10z', 'm-8 -3h16v6h-16z'
 PATHS = {'send': DISC, 'recv': DISC, 'wait': SQUARE, 'waitany': SQUARE, 'barrier': FLAT}
 KNOB = 'm-3 0a3 3 0 1 0 6 0a3 3 0 1 0 -6 0'
+DIAMOND, CROSS = 'm0 -5l5 5l-5 5l-5 -5z', 'm-5 -5l10 10m0 -10l-10 10'
 TO_RIGHT, TO_LEFT, FROM_LEFT, FROM_FAR = 'l12 16' + KNOB, 'l-12 16' + KNOB, 'l-18 0' + KNOB, 'l-26 0' + KNOB
 ENDS = {'ended': 'm-9 0h18', 'running': 'm-6 -5h12l-6 10z', 'held': 'm-6 -7h12l-12 14h12z',
         'blocked': 'm-3 -7h6l5 5v5l-5 5h-6l-5 -5v-5z', 'trapped': 'm-6 -6l12 12m0 -12l-12 12'}
@@ -219,7 +241,8 @@ def in_columns(columns):
 
 
 COLUMNS = ((None, (((20, 0), 'send', DISC, 'a send'), ((20, 0), 'recv', DISC, 'a receive'), ((20, 0), 'wait', SQUARE, 'a wait'),
-                   ((20, 0), 'waitany', SQUARE, 'a wait for any'), ((20, 0), 'barrier', FLAT, 'a barrier'), ((10, 0), 'want', 'L30 100', 'waits for a rank'))),
+                   ((20, 0), 'waitany', SQUARE, 'a wait for any'), ((20, 0), 'barrier', FLAT, 'a barrier'), ((10, 0), 'want', 'L30 100', 'waits for a rank'),
+                   ((20, 0), 'print', DIAMOND, 'a print'))),
            (200, (((200, -5), 'arrow', 'L220 5', 'a message, up to its match'), ((204, -6), 'stub', TO_RIGHT, 'a send that is not matched'),
                   ((218, 0), 'stub', FROM_LEFT, 'a receive that is not'), ('line', 'posted', '', 'a receive is posted'),
                   ('line', 'waiting', '', 'a rank waits'), ((200, -5), 'candidate', 'L220 105', 'a candidate of a choice'))),
@@ -250,10 +273,32 @@ def beside(is_left, x, y, label):
     return text('left', x - 24, y + 4, label) if is_left else text('right', x + 12, y + 4, label)
 
 
+def first_short(*labels):
+    """The first label that has so many characters at most."""
+    return next(label for label in (*labels, '..') if len(label) <= MOST_LABEL)
+
+
 def label_of(send):
-    """What stands beside a match, of so many characters at most."""
-    labels = f'{send.value} tag {send.tag}', f'{send.value}', '..'
-    return next(label for label in labels if len(label) <= MOST_LABEL)
+    """What stands beside a match."""
+    return first_short(f'{send.value} tag {send.tag}', f'{send.value}')
+
+
+def label_of_note(note):
+    """What stands beside a print or a trap."""
+    what = note.trap or f'{note.value}'
+    return first_short(f'{note.line} {what if note.trap else f"print {what}"}', what)
+
+
+def told_of_note(note):
+    return f'rank {note.rank} {f"is trapped: {note.trap}" if note.trap else f"prints {note.value}"}'
+
+
+TRACKS, MOST_HUNG = 6, 4
+
+
+def tracks_height(count):
+    """How much lower a drawing of so many ranks ends."""
+    return 8 * max(count - TRACKS, 0)
 
 
 class Drawing(Picture):
@@ -267,7 +312,8 @@ class Drawing(Picture):
         """What is told of a glyph, in the list."""
         if glyph.kind == WENT_ON:
             return ''
-        told = {ISSUED: lambda: whole_text(self.at, glyph.call), PAIRED: lambda: self.told_of_pair(glyph.call, glyph.other), RELEASED: lambda: 'release'}
+        told = {ISSUED: lambda: whole_text(self.at, glyph.call), PAIRED: lambda: self.told_of_pair(glyph.call, glyph.other), RELEASED: lambda: 'release',
+                NOTED: lambda: f'line {glyph.note.line}, {told_of_note(glyph.note)}'}
         return text('row', self.column, told_y(glyph.place), told[glyph.kind]())
 
     def told_of_pair(self, send, receive):
@@ -330,10 +376,16 @@ class Drawing(Picture):
         bar = line('bar', lane_x(0) - 14, y, lane_x(self.ranks[-1]) + 14, y)
         return group('release: all ranks leave the barrier', bar)
 
+    def noted(self, glyph):
+        """What a rank prints, or by what it is trapped."""
+        note, x, y = glyph.note, lane_x(glyph.note.rank), row_y(glyph.row)
+        kind, rest = ('trapped', CROSS) if note.trap else ('print', DIAMOND)
+        return group(f'line {note.line}, {told_of_note(note)}', path(kind, x, y, rest), beside(False, x, y, label_of_note(note)))
+
     def glyph(self, glyph):
         if glyph.kind == WENT_ON:
             return self.waiting(glyph.call, glyph.row)
-        return {ISSUED: self.issued_call, PAIRED: self.pair, RELEASED: self.release}[glyph.kind](glyph)
+        return {ISSUED: self.issued_call, PAIRED: self.pair, RELEASED: self.release, NOTED: self.noted}[glyph.kind](glyph)
 
     def end(self, number):
         x, y, name = lane_x(number), row_y(self.rows), f'rank {number}'
@@ -352,8 +404,14 @@ class Drawing(Picture):
         told = text('name', x, y + 66, f'for {words}')
         if not self.is_stuck or rank is None:
             return told
+        return told + path('want', x + 12, y + 72, self.want_path(number, rank, x + 12, lane_x(rank) - 12, y))
+
+    def want_path(self, number, rank, x1, x2, y):
+        """The path of an arrow to a rank that is waited for: each at a height of its own where there are many ranks."""
+        if len(self.ranks) > MOST_HUNG:
+            return f'V{y + 84 + 8 * number}H{x2}V{y + 74}'
         low = y + (124 if rank < number else 108)
-        return told + path('want', x + 12, y + 72, f'C{x + 12} {low} {lane_x(rank) - 12} {low} {lane_x(rank) - 12} {y + 74}')
+        return f'C{x1} {low} {x2} {low} {x2} {y + 74}'
 
     def whom(self, call, number):
         """Whom a call of a rank waits for, and the rank, if it is one."""
@@ -368,9 +426,10 @@ class Drawing(Picture):
 
     def svg(self, is_plain):
         """The whole, as text."""
-        width, height, title = self.column + 560, max(row_y(self.rows) + 274, told_y(self.places) + 12), title_of(self)
+        low = row_y(self.rows) + tracks_height(len(self.ranks))
+        width, height, title = self.column + 560, max(low + 274, told_y(self.places) + 12), title_of(self)
         if is_plain:
-            width, height = self.column, row_y(self.rows) + 134
+            width, height = self.column, low + 134
         size = f'width="{width}" height="{height}"'
         shapes = [*map(self.lane, self.ranks), *map(self.glyph, self.glyphs),
                   *starmap(self.candidate, enumerate(candidates_of(self.world), 1)), *map(self.end, self.ranks)]
@@ -382,7 +441,7 @@ class Drawing(Picture):
 
     def full_end(self):
         """The list, and the legend."""
-        return f'{"".join(map(self.listed, self.glyphs))}<g transform="translate(12 {row_y(self.rows) + 140})">\n{LEGEND}'
+        return f'{"".join(map(self.listed, self.glyphs))}<g transform="translate(12 {row_y(self.rows) + 140 + tracks_height(len(self.ranks))})">\n{LEGEND}'
 
 
 def end_of(rank, is_stuck):
@@ -405,7 +464,7 @@ def title_of(picture):
 
 LETTERS = {'send': 'S', 'recv': 'R', 'wait': 'W', 'waitany': 'A', 'barrier': 'B'}
 END_LETTERS = {'ended': 'E', 'running': 'V', 'held': '~', 'blocked': '!', 'trapped': 'X'}
-LETTERS_TOLD = ('S send, R receive, W wait, A wait for any, B barrier, o-> match, == release\n'
+LETTERS_TOLD = ('S send, R receive, W wait, A waitany, B barrier, P print, o-> match, == release\n'
                 'at the end: E ended, V can go on, ~ waits, ! blocked, X trapped\n')
 
 
@@ -427,9 +486,15 @@ class Rows(Picture):
         signs = (sign_of_pair(send.rank, receive.rank, rank) for rank in self.ranks)
         return self.row(signs, f'{send} to {receive}: {find_call(self.world, send).value}')
 
+    def noted(self, note):
+        signs = (f'{"X" if note.trap else "P"} ' if rank == note.rank else '| ' for rank in self.ranks)
+        return self.row(signs, f'{note.line}: {told_of_note(note)}')
+
     def glyph(self, glyph):
         if glyph.kind == WENT_ON:
             return ''
+        if glyph.kind == NOTED:
+            return self.noted(glyph.note)
         if glyph.kind == RELEASED:
             return self.row(['=='] * len(self.ranks), 'release')
         return self.issued_call(glyph) if glyph.kind == ISSUED else self.pair(glyph)

@@ -3,6 +3,7 @@
 No trace word tells of it. compare/runs/worked.py has rows of it, compare/runs/follow.py checks on walks what must hold of it.
 """
 
+import operator
 from typing import NamedTuple, Optional
 
 from model import debugger
@@ -61,9 +62,23 @@ def settled(decided):
     return Forced(decided.steps[0]) if isinstance(decided, Choice) and len(decided.steps) == 1 else decided
 
 
+# What each operator of a condition asks of a value and a number.
+COMPARISONS = {
+    '==': operator.eq, '!=': operator.ne, '<': operator.lt, '<=': operator.le, '>': operator.gt, '>=': operator.ge}
+
+
+class Condition(NamedTuple):
+    """What a cell of the rank that comes to a line must be beside a number."""
+    cell: int
+    operator: str
+    value: int
+
+
 class LineBreak(NamedTuple):
-    """A rank comes to a statement of a line, or all ranks leave a barrier and one of them does."""
+    """A rank, or this one, comes to a statement of a line, or all ranks leave a barrier and one of them does; and the condition holds of it."""
     line: int
+    rank: Optional[int] = None
+    condition: Optional[Condition] = None
 
 
 class ChangeBreak(NamedTuple):
@@ -79,8 +94,14 @@ class HandleBreak(NamedTuple):
 
 
 class MatchBreak(NamedTuple):
-    """A call that a statement of a line made is matched."""
+    """A call that a statement of a line made is matched, or such a call of this rank."""
     line: int
+    rank: Optional[int] = None
+
+
+class RankBreak(NamedTuple):
+    """A rank takes a step, or goes on, and isn't blocked then."""
+    rank: int
 
 
 def is_at_line(rank, line):
@@ -88,12 +109,30 @@ def is_at_line(rank, line):
     return debugger.can_run(rank) and rank.rest[0].line == line
 
 
-def comes_to_line(after, step, line):
-    """Whether a step leads to a world in which a rank that it moved is at a line; a match moves none."""
+def moved_by(after, step):
+    """The numbers of the ranks that a step moves: a match moves none, and a release all."""
     if step.kind == 'match':
-        return False
-    moved = after.ranks if step.kind == 'release' else [after.ranks[step.first]]
-    return any(is_at_line(rank, line) for rank in moved)
+        return []
+    return range(len(after.ranks)) if step.kind == 'release' else [step.first]
+
+
+def holds(condition, rank):
+    """Whether a condition holds of a rank; of a cell that isn't there none does."""
+    if condition is None:
+        return True
+    return condition.cell < len(rank.cells) and COMPARISONS[condition.operator](rank.cells[condition.cell], condition.value)
+
+
+def comes_to_line(after, step, stop):
+    """Whether a step leads to a world in which a rank that it moved is at the line of a breakpoint, is the one that is meant, and fits."""
+    return any(
+        is_at_line(after.ranks[number], stop.line) and stop.rank in (None, number) and holds(stop.condition, after.ranks[number])
+        for number in moved_by(after, step))
+
+
+def lets_go_on(after, step, number):
+    """Whether a step moves a rank, which isn't blocked then."""
+    return number in moved_by(after, step) and after.ranks[number].mode != 'blocked'
 
 
 def cell_in(world, number, cell):
@@ -110,21 +149,25 @@ def handle_in(world, number, handle):
     return world.ranks[number].handles[handle]
 
 
-def matches_line(world, step, line):
-    """Whether a step is a match of a call that a statement of a line made."""
-    return step.kind == 'match' and line in (find_call(world, step.first).line, find_call(world, step.second).line)
+def matches_line(world, step, stop):
+    """Whether a step is a match of a call that a statement of the line of a breakpoint made, on the rank that is meant."""
+    if step.kind != 'match':
+        return False
+    return any(find_call(world, call).line == stop.line and stop.rank in (None, call.rank) for call in (step.first, step.second))
 
 
 def is_hit(stop, world, step):
     """Whether a step that is enabled in a world hits a breakpoint."""
     after = next_world(world, step)
     if isinstance(stop, LineBreak):
-        return comes_to_line(after, step, stop.line)
+        return comes_to_line(after, step, stop)
+    if isinstance(stop, RankBreak):
+        return lets_go_on(after, step, stop.rank)
     if isinstance(stop, ChangeBreak):
         return cell_in(world, stop.rank, stop.cell) != cell_in(after, stop.rank, stop.cell)
     if isinstance(stop, HandleBreak):
         return handle_in(world, stop.rank, stop.handle) != handle_in(after, stop.rank, stop.handle)
-    return matches_line(world, step, stop.line)
+    return matches_line(world, step, stop)
 
 
 class Breaks:

@@ -41,12 +41,13 @@ def break_of(words):
     """The breakpoint that words name, or None."""
     kind = KINDS_OF_BREAKS.get(words[0]) if words else None
     numbers = [number_of(word) for word in words[1:]]
-    return kind(*numbers) if kind and len(numbers) == len(kind._fields) and None not in numbers else None
+    needed = [field for field in kind._fields if field not in kind._field_defaults] if kind else []
+    return kind(*numbers) if kind and len(numbers) == len(needed) and None not in numbers else None
 
 
 def break_text(stop):
     word = next(word.decode() for word, kind in KINDS_OF_BREAKS.items() if isinstance(stop, kind))
-    return ' '.join([word, *map(str, stop)])
+    return ' '.join([word, *(str(number) for number in stop if number is not None)])
 
 
 def breaks_text(breaks):

@@ -7,13 +7,13 @@ the debugger, the runs and the explorer of the model. compare/rows/worked_sessio
 import json
 from typing import NamedTuple, Optional
 
-from model import debugger, explorer, order, policy
+from model import console_lines, debugger, explaining, explorer, order, policy
 from model.debugger import (BAD_FILE, BAD_MODE, MOST_READS, RENDEZVOUS, CallId, Debugger, Result, call_line, enabled_steps, find_call, lines_of,
-                            next_world, outcome, rank_state, record_line, refusal, step_of, step_text)
+                            next_world, outcome, partner, rank_state, record_line, refusal, step_of, step_text)
 from model.json_text import LARGEST_UNSIGNED, NoJson, read_json
 from model.language import Fault, read_script
-from model.modes import is_mode
-from model.policy import BREAK, Breaks, ChangeBreak, Choice, Forced, HandleBreak, LineBreak, MatchBreak
+from model.modes import is_mode, slots_of
+from model.policy import BREAK, COMPARISONS, Breaks, ChangeBreak, Choice, Condition, Forced, HandleBreak, LineBreak, MatchBreak, RankBreak
 
 LONGEST_LINE = 4096
 HIGHEST_LINE = 65537
@@ -71,16 +71,33 @@ def text_in(value):
     return value
 
 
+def integer_in(value):
+    """A number of 64 bits, which may be below 0."""
+    if type(value) is not int or not -2**63 <= value < 2**63:
+        raise Refused(BAD_FIELD)
+    return value
+
+
+def operator_in(value):
+    if text_in(value) not in COMPARISONS:
+        raise Refused(BAD_FIELD)
+    return value
+
+
 NUMBER, STEP, TEXT = number_in, step_in, text_in
 # The fields that each command has, but for those of a breakpoint.
 FIELDS = {
     'step': {'step': STEP}, 'next': {}, 'run': {'max': NUMBER}, 'run-on': {'max': NUMBER}, 'back': {'count': NUMBER},
     'redo': {'count': NUMBER}, 'goto': {'depth': NUMBER}, 'run-back': {}, 'enabled': {}, 'state': {}, 'vars': {'rank': NUMBER}, 'calls': {'rank': NUMBER},
     'why': {'rank': NUMBER, 'call': NUMBER}, 'break': {'kind': TEXT}, 'unbreak': {'break': NUMBER}, 'breaks': {},
-    'explore': {'runs': NUMBER, 'fuel': NUMBER}}
+    'explore': {'runs': NUMBER, 'fuel': NUMBER}, 'script': {}, 'where': {}, 'all': {}, 'decision': {}, 'steps': {'from': NUMBER, 'count': NUMBER},
+    'lines': {'rank': NUMBER}, 'explain': {}}
 MAY_HAVE = {'next': {'choice': NUMBER}}
 FIELDS_OF_KINDS = {'line': {'line': NUMBER}, 'match': {'line': NUMBER}, 'change': {'rank': NUMBER, 'cell': NUMBER},
-                   'handle': {'rank': NUMBER, 'handle': NUMBER}}
+                   'handle': {'rank': NUMBER, 'handle': NUMBER}, 'rank': {'rank': NUMBER}}
+# All of a condition stand, or none.
+CONDITION = {'cell': NUMBER, 'is': operator_in, 'value': integer_in}
+KINDS_MAY_HAVE = {'line': {'rank': NUMBER}, 'match': {'rank': NUMBER}}
 
 
 def fields_of(command, entries):
@@ -91,13 +108,19 @@ def fields_of(command, entries):
     kind = entries.get('kind')
     if type(kind) is not str or kind not in FIELDS_OF_KINDS:
         raise Refused(BAD_FIELD)
-    return fields | FIELDS_OF_KINDS[kind]
+    is_conditional = kind == 'line' and not set(CONDITION).isdisjoint(entries)
+    return fields | FIELDS_OF_KINDS[kind] | (CONDITION if is_conditional else {})
+
+
+def may_have(command, entries):
+    """The fields that a command may have beside those."""
+    return KINDS_MAY_HAVE.get(entries['kind'], {}) if command == 'break' else MAY_HAVE.get(command, {})
 
 
 def read_fields(command, entries):
     """The request of a command that is known, by what its object has beside it."""
     needed = fields_of(command, entries)
-    readers = {**needed, **MAY_HAVE.get(command, {}), 'at': NUMBER}
+    readers = {**needed, **may_have(command, entries), 'at': NUMBER}
     if not set(needed) <= set(entries) <= set(readers):
         raise Refused(BAD_FIELD)
     fields = {name: readers[name](value) for name, value in entries.items()}
@@ -134,7 +157,21 @@ def break_text(number, stop):
         return f'{number} change {stop.rank} {stop.cell}'
     if isinstance(stop, HandleBreak):
         return f'{number} handle {stop.rank} {stop.handle}'
-    return f'{number} {"line" if isinstance(stop, LineBreak) else "match"} {stop.line}'
+    if isinstance(stop, RankBreak):
+        return f'{number} rank {stop.rank}'
+    if isinstance(stop, MatchBreak):
+        return f'{number} match {stop.line}{meant_text(stop)}'
+    return f'{number} line {stop.line}{meant_text(stop)}{condition_text(stop.condition)}'
+
+
+def meant_text(stop):
+    """The rank that is meant by a breakpoint of a line or of a match, where one is."""
+    return '' if stop.rank is None else f' rank {stop.rank}'
+
+
+def condition_text(condition, name=str):
+    """What must hold, where something must, with its cell by number or as it is named."""
+    return '' if condition is None else f' if {name(condition.cell)} {condition.operator} {condition.value}'
 
 
 def partner_text(partner):
@@ -146,6 +183,16 @@ def leaf_text(leaf):
     return f'[{" ".join(map(str, leaf.choices))}] {leaf.outcome}'
 
 
+# The steps that a rank takes by itself.
+OWN_STEPS = 'local', 'wake', 'wakeany'
+
+
+def mode_word(mode):
+    """A mode as it is told: a number of slots without needless zeros."""
+    slots = slots_of(mode)
+    return mode if slots is None else f'slots:{slots}'
+
+
 def text_of_call(world, call_id):
     """What is shown of a call behind the word `call` and its name."""
     return call_line(world, call_id).removeprefix(f'call {call_id} ')
@@ -155,6 +202,7 @@ class Session:
     """A debugger, its breakpoints, and the version, which each change that is answered ok raises."""
 
     def __init__(self, script, mode=RENDEZVOUS):
+        self.script, self.mode = script, mode
         self.debugger = Debugger(script, mode)
         self.breaks = Breaks()
         self.version = 0
@@ -275,16 +323,22 @@ class Session:
         must_be(find_call(self.world, call_id) is not None, BAD_NUMBER)
         return {'partners': list(map(partner_text, order.why(self.world, call_id)))}
 
-    def set_break(self, kind, line=None, rank=None, cell=None, handle=None):
+    def set_break(self, kind, line=None, rank=None, cell=None, handle=None, operator=None, value=None):
         if kind == 'change':
             must_be(cell < len(self.rank(rank).cells), BAD_NUMBER)
             stop = ChangeBreak(rank, cell)
         elif kind == 'handle':
             must_be(handle < len(self.rank(rank).handles), BAD_NUMBER)
             stop = HandleBreak(rank, handle)
+        elif kind == 'rank':
+            self.rank(rank)
+            stop = RankBreak(rank)
         else:
             must_be(1 <= line <= HIGHEST_LINE, BAD_NUMBER)
-            stop = LineBreak(line) if kind == 'line' else MatchBreak(line)
+            there = self.rank(rank or 0)
+            must_be(cell is None or cell < len(there.cells), BAD_NUMBER)
+            condition = None if cell is None else Condition(cell, operator, value)
+            stop = LineBreak(line, rank, condition) if kind == 'line' else MatchBreak(line, rank)
         number = self.breaks.add(stop)
         must_be(number is not None, BREAKS_FULL)
         return {'break': number}
@@ -301,14 +355,59 @@ class Session:
         found = explorer.explored(self.debugger, runs, fuel)
         return {'leaves': list(map(leaf_text, found.leaves)), 'more': found.more}
 
+    def declared(self, kind):
+        """What is declared of a kind, each as it stands in the script without its first word."""
+        return [name if one.size is None else f'{name}[{one.size}]' for name, one in self.script.names.items() if one.kind == kind]
+
+    def tell_script(self):
+        return {'ranks': len(self.world.ranks), 'mode': mode_word(self.mode), 'vars': self.declared('var'), 'handles': self.declared('req'),
+                'lines': sorted(set(console_lines.statement_lines(self.script.body)))}
+
+    def where_all(self):
+        """Where each rank stands, and those that can go on by themselves."""
+        at, numbers = console_lines.reached(self.debugger), range(len(self.world.ranks))
+        own = {step.first for step in enabled_steps(self.world) if step.kind in OWN_STEPS}
+        return {'ranks': list(map(rank_state, self.world.ranks)), 'lines': [console_lines.stands_at(at, number) for number in numbers],
+                'ready': [number for number in numbers if number in own]}
+
+    def all(self):
+        return {**self.where_all(), 'held': [self.variables(number) for number in range(len(self.world.ranks))]}
+
+    def decide(self):
+        """What `next` would take, or among what it would ask to choose; or how the run has ended."""
+        decided = policy.decision(self.world)
+        if isinstance(decided, policy.Leaf):
+            return {'decision': 'leaf', 'outcome': outcome(self.world), 'steps': [], 'told': []}
+        steps = [decided.step] if isinstance(decided, Forced) else decided.steps
+        at = console_lines.reached(self.debugger)
+        return {'decision': 'forced' if isinstance(decided, Forced) else 'choice', 'steps': [step_text(step) for step in steps],
+                'told': [console_lines.candidate_words(at, self.script.names, step) for step in steps]}
+
+    def list_steps(self, first, count):
+        must_be(1 <= count <= MOST_COUNT and first <= len(self.debugger.steps), BAD_NUMBER)
+        return {**self.where(), 'steps': [step_text(step) for step in self.debugger.steps[first:first + count]], 'undone': self.undone()}
+
+    def lines(self, rank):
+        at, calls = console_lines.reached(self.debugger), [CallId(rank, number) for number in range(len(self.rank(rank).calls))]
+        partners = [partner(self.world, call_id) for call_id in calls]
+        return {'lines': [console_lines.line_of(at, call_id) for call_id in calls], 'partners': [None if other is None else str(other) for other in partners]}
+
+    def explain(self):
+        if enabled_steps(self.world):
+            return {'told': []}
+        at = console_lines.reached(self.debugger)
+        lost = [call_id for number in range(len(self.world.ranks)) for call_id in console_lines.lost_calls(self.world, number)]
+        return {'told': [*explaining.told(at, self.script.names, outcome(self.world)), *console_lines.lost_by_lines(at, lost)]}
+
 
 # A field whose name is no name of Python's.
-KEYWORDS = {'break': 'number', 'max': 'most'}
+KEYWORDS = {'break': 'number', 'max': 'most', 'from': 'first', 'is': 'operator'}
 ANSWERS = {
     'step': Session.step, 'next': Session.next, 'run': Session.run, 'run-on': Session.run_on, 'back': Session.back, 'redo': Session.redo, 'goto': Session.goto,
     'run-back': Session.run_back, 'enabled': Session.enabled, 'state': Session.state, 'vars': Session.variables,
     'calls': Session.calls, 'why': Session.why, 'break': Session.set_break, 'unbreak': Session.unset_break,
-    'breaks': Session.list_breaks, 'explore': Session.explore}
+    'breaks': Session.list_breaks, 'explore': Session.explore, 'script': Session.tell_script, 'where': Session.where_all, 'all': Session.all,
+    'decision': Session.decide, 'steps': Session.list_steps, 'lines': Session.lines, 'explain': Session.explain}
 CHANGING = frozenset(['step', 'next', 'run', 'run-on', 'back', 'redo', 'goto', 'run-back', 'break', 'unbreak'])
 
 
@@ -316,6 +415,7 @@ def copied(session):
     """A session like this one, which goes on by itself."""
     copy = Session.__new__(Session)
     copy.debugger, copy.breaks, copy.version = Debugger.__new__(Debugger), Breaks(), session.version
+    copy.script, copy.mode = session.script, session.mode
     copy.debugger.worlds, copy.debugger.steps = list(session.debugger.worlds), list(session.debugger.steps)
     copy.breaks.places = list(session.breaks.places)
     return copy

@@ -24,7 +24,7 @@ TO_HANG = ('run', 'next 2', 'run')
 WORDS = (
     (RACE, (), ('next', 'next 3', 'run', 'run 3', 'until 7', 'until 2', 'until 0', 'finish', 'finish 0', 'follow 2', 'follow 9', 'trap', 'undo-choice', 'why', 'local 1', 'local 9', 'break 2', 'break match 2',
                 'break change 0 x', 'watch x 0', 'deadlock', 'check', 'help', 'help all', 'help choice', 'help next', 'list', 'list 0', 'ranks',
-                'vars', 'print x', 'enabled', 'calls', 'queues', 'info breakpoints', 'restart',
+                'vars', 'print x', 'print x + 1', 'print x / rank 1', 'print x +', 'print x + 1 9', 'enabled', 'calls', 'queues', 'info breakpoints', 'restart',
                 'history', 'breaks', 'show', 'brake', 'print z', 'next x',
                 'break change 0 z', 'goto 1', 'back', 'redo', 'redo all', 'run-back', 'delete 0', 'why 0', 'words')),
     (RACE, TO_CHOICE, ('next', 'next 2', 'next 9', 'run', 'until 7', 'finish 0', 'match 2.0 0.0', 'check', 'deadlock', 'why 0', 'why 1.0', 'ranks', 'list', 'list 0', 'calls',

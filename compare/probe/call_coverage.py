@@ -11,7 +11,9 @@ NO_CALLS = ('mpd_laws', 'mpd_meaning', 'mpd_complete', 'mpd_rows', 'mpdbg')
 BY_WORDS = 'called by the words of the console'
 LEFT_OUT = {
     'mpd_counter': {'tick': 'a counter without bytes'},
-    'mpd_model': {'lines_lose_nothing': 'a law', 'ids': 'called by verify and witness_of'},
+    'mpd_model': {
+        'lines_lose_nothing': 'a law', 'ids': 'called by verify and witness_of', 'comparison_of': 'takes no memory',
+        **dict.fromkeys(('push_compared', 'push_meant'), 'called by push_break and the request breaks')},
     'mpd_queue': {'disjoint': 'a law'},
     'mpd_rank': {'anew': 'of a record, called by a step that is taken again'},
     'mpd_core': dict.fromkeys(('all_ranks_are_there', 'state_is_reached'), 'a law'),
@@ -20,10 +22,15 @@ LEFT_OUT = {
         'ending_of': 'called by explore', 'is_untaken': 'called by steps_by_choices', **dict.fromkeys(('only_step', 'sole', 'last_hit'), BY_WORDS)},
     'mpd_lines': {
         'run_behind': 'called by trace, plain and serve', 'push_all': 'of room that is kept, called by them',
-        'into_inner': 'of a device that fails', 'push_folded': BY_WORDS,
+        'into_inner': 'of a device that fails', 'push_folded_at': BY_WORDS, 'push_folded': 'called by diagnose',
+        **dict.fromkeys(('push_echo', 'push_long_echo'), 'of room that is kept, called with --echo'),
         **dict.fromkeys(('long_lines_keep_their_words', 'long_lines_can_nowhere_be_cut'), 'a law')},
+    'mpd_frames': {
+        'run_in': 'called by direct/frame_rows.rattle', 'push_frame': 'called by its desk',
+        **dict.fromkeys(('frames_are_read_again', 'frames_are_the_same_in_all_pieces', 'frames_can_be_read_in_one_way'), 'a law')},
     'mpd_trace': {
-        'finish': 'called by plain', **dict.fromkeys(('with_ranks', 'span_of'), 'takes no memory'),
+        'finish': 'called by plain', 'push_found': 'called by allowed', 'trace_echoing': 'called by the program with --echo',
+        **dict.fromkeys(('with_ranks', 'span_of', 'word_at'), 'takes no memory'),
         **dict.fromkeys(('read_script_for', 'read_code_for', 'code_of_text', 'text_with_ranks'), 'called by the program with --ranks')},
     'mpd_options': {'clash': 'called by check', 'word': 'called by check'},
     'mpd_witness': dict.fromkeys(('written_witness_is_read', 'written_witness_of_a_leaf_is_read'), 'a law'),
@@ -52,10 +59,9 @@ LEFT_OUT = {
         **dict.fromkeys(('full_command', 'ranks_line'), 'called by the program with --ranks'),
         **dict.fromkeys(('closing_of', 'diagnose_mode', 'first_of', 'modes_up_to', 'worst_of'), 'called by the program with --modes')},
     'mpd_picture': {'arrows_are_pairs': 'a law'},
-    'mpd_page': {
-        'make_page': 'called by the program, which is refused memory whole',
-        **dict.fromkeys(('states_are_shown', 'texts_tell_changes', 'parents_come_first', 'data_has_no_markup'), 'a law')},
-    'mpd_vocabulary': dict.fromkeys(('line_of', 'push_fault', 'push_help'), BY_WORDS),
+    'mpd_page': dict.fromkeys(('states_are_shown', 'texts_tell_changes', 'parents_come_first', 'data_has_no_markup'), 'a law'),
+    'mpd_script': {'read_expression': BY_WORDS}, 'mpd_print': {'push_expr': BY_WORDS},
+    'mpd_vocabulary': {'behind_word': 'takes no memory', **dict.fromkeys(('line_of', 'push_fault', 'push_help', 'push_no_name', 'push_quoted'), BY_WORDS)},
     'mpd_console': {
         'has_quit': 'called by the program behind a console',
         **dict.fromkeys(('doing_of', 'goto_command', 'known_for', 'lead_of', 'push_break_line', 'push_reply'), BY_WORDS)},

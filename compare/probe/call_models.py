@@ -14,6 +14,7 @@ from model.language import FAULT_NAMES, Branch, Fault, While, read_script
 from probe.call_consoles import CONSOLES
 from probe.call_given import Wanted, by_hand, decided_text, line, no_state, numbered, steps_line, trail_text, unchanged, walked, world_of
 from probe.call_outcomes import OUTCOMES
+from probe.call_pages import PAGES
 from probe.call_pictures import PICTURES
 from probe.call_reports import REPORTS
 from probe.call_wide import WIDES
@@ -507,7 +508,7 @@ MODELS = {
     'mpd_core::follow': replayed, 'mpd_core::replay': replayed, 'decide': decided, 'forced_step': forced,
     'mpd_policy::run': run_by(lambda found, row: policy.run(found, breaks_of(row), row.numbers()[0])),
     'run_back': run_by(lambda found, row: policy.run_back(found, breaks_of(row))), 'Breaks': by_hand,
-    **REPORTS, **CONSOLES, **PICTURES, **WIDES, **OUTCOMES,
+    **REPORTS, **CONSOLES, **PAGES, **PICTURES, **WIDES, **OUTCOMES,
     'Session::start': session_started, 'Session::answer': session_answered, 'mpd_wire::parse': request_parsed,
     'mpd_wire::print': reply_printed, 'Reply::copy': reply_copied, 'same_request, same_reply': compared, 'Book::take': taken,
     'Book::new, len, audit': book_looks, 'Shared::new': shared_opened, 'Shared::call': shared_called, 'Shared::settle, code, SeatDesk': by_hand,

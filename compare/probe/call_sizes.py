@@ -123,7 +123,8 @@ def sessions():
     stops = tuple('{"cmd":"break","kind":"line","line":%d}' % line for line in range(1, 65))
     run = ('{"cmd":"run","max":1000}',)
     asked = ((run, '{"cmd":"enabled"}'), (run, '{"cmd":"state"}'), (run, '{"cmd":"why","rank":0,"call":0}'), (run, '{"cmd":"calls","rank":0}'),
-             (run, '{"cmd":"vars","rank":0}'), (stops, '{"cmd":"breaks"}'), ((), '{"cmd":"explore","runs":15,"fuel":1000}'))
+             (run, '{"cmd":"vars","rank":0}'), (run, '{"cmd":"all"}'), (run, '{"cmd":"decision"}'), (run, '{"cmd":"steps","from":0,"count":1000}'),
+             (run, '{"cmd":"lines","rank":0}'), ((), '{"cmd":"script"}'), (stops, '{"cmd":"breaks"}'), ((), '{"cmd":"explore","runs":15,"fuel":1000}'))
     for lines, request in asked:
         for call in ('Session::answer', 'mpd_wire::print', 'Reply::copy', 'Book::take', 'Shared::call'):
             yield Row(call, FIFTEEN, lines, request, BUFFERED, most=FEW, what=f'of 16 ranks {request}')

@@ -68,6 +68,10 @@ list
 list 0
 print x
 print a 0
+print x / rank + a[0]
+print x + 1 0
+print x +
+print r + 1
 print r
 vars
 ranks

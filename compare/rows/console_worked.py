@@ -17,6 +17,7 @@ from rows.examples import EXAMPLES
 from rows.worked_console_along import ALONG
 from rows.worked_console_blame import BLAME, CUT_FROM_HERE
 from rows.worked_console_choices import CHOICES
+from rows.worked_console_echo import LOOKED, look_problem
 from rows.worked_console_going import GOING
 from rows.worked_console_help import HELP
 from rows.worked_console_hits import HITS
@@ -27,10 +28,11 @@ from rows.worked_console_scripts import LOOP, Dialogue
 from rows.worked_console_sought import ALL_RUNS, MANY_RUNS, SOUGHT
 from rows.worked_console_texts import TEXTS
 from rows.worked_console_told import TOLD
+from rows.worked_console_values import VALUES
 from rows.worked_console_ways import WAYS
 
 PAGE = os.path.join(os.path.dirname(EXAMPLES), 'docs', 'CONSOLE.md')
-DIALOGUES = MOVES + ALONG + LOOKS + TOLD + TEXTS + HELP + CHOICES + SOUGHT + WAYS + GOING + HITS + BLAME + ONWARD
+DIALOGUES = MOVES + ALONG + LOOKS + TOLD + TEXTS + HELP + CHOICES + SOUGHT + WAYS + GOING + HITS + BLAME + ONWARD + VALUES
 SLOW = ALL_RUNS + FIRST_RUNS
 # What takes the model long: runs of 100,000 steps, and of one more.
 CUT = (
@@ -165,7 +167,7 @@ ENDINGS = (
     Ending('what is no UTF-8 behind two bytes of a word', b'ne\xc3\nn\xffext\nSh\xff\nsh\x80w\n', "unknown word 'ne?': perhaps next\n"
            "unknown word 'n?ext': help all lists all\nunknown word 'Sh?': help all lists all\nunknown word 'sh?w': perhaps show\n"),
     Ending('bytes that are no text behind a word', b'next \xff\nprint \x00\nbreak change 0 \xc3\n',
-           "usage: next [N]\nno variable or request is called '?'\nno variable or request is called '?'\n"),
+           "usage: next [N]\nrefused: no expression has '?'\nno variable or request is called '?'\n"),
     Ending('an empty line first', b'\n\n', ''),
     Ending('what stands behind the end', b'quit\nnext\n', ''),
     Ending('the end by its other name', b'exit\nnext\n', ''),
@@ -227,7 +229,7 @@ def refusals_problem():
     with open(PAGE, encoding='ascii') as file:
         told = set(re.findall(r'^\| `(refused: [^`]+)` \|', file.read(), re.M))
     here = {*console.REFUSALS.values(), console.NO_CANDIDATE, console.NO_RUN, console.NO_CHOICE, console.NO_LAST_RANK, console.NO_INDEX, console.NEEDS_INDEX,
-            NO_MEMORY}
+            console.NO_VALUE, NO_MEMORY, 'refused: no statement begins at line 7'}
     return None if told == here else f'the page has {told ^ here}'
 
 
@@ -257,5 +259,6 @@ def problems():
     """All rows, each with its problem, or None."""
     found = [(row.what, dialogue_problem(row)) for row in DIALOGUES + SLOW + CUT]
     found += [(row.what, ending_problem(row)) for row in ENDINGS] + [(row.what, start_problem(row)) for row in STARTS]
+    found += [(row.what, look_problem(row)) for row in LOOKED]
     found += [('the refusals', refusals_problem()), ('lines at a terminal, and of help', lines_problem())]
     return found + [('the table of words', table_problem()), ('words without a dialogue', ', '.join(words_without_dialogue()) or None)]

@@ -76,7 +76,7 @@ R | |  4: 0.0 recv from any tag any
 <-o |  1.0 to 0.0: 1
 R | |  4: 0.1 recv from 1 tag any free
 ! E !  at the end
-S send, R receive, W wait, A wait for any, B barrier, o-> match, == release
+S send, R receive, W wait, A waitany, B barrier, P print, o-> match, == release
 at the end: E ended, V can go on, ~ waits, ! blocked, X trapped
 '''
 
@@ -86,18 +86,69 @@ isend r rank to rank tag 3;
 barrier;
 if rank == 1 { print 1 / (x - x); }
 '''
-# Of each rank the three calls have rows 0 to 2; the release has row 3 (y 188), and place 6 in the list (y 148); below it the matches have row
-# 4 (y 224), and the end is at y 260. Steps: 3 of each rank, the release, `if` of each, the trap, and two matches.
+# Of each rank the three calls have rows 0 to 2; the release has row 3 (y 188), and place 6 in the list (y 148). Steps: 3 of each rank, the
+# release, `if` of each, the trap, and two matches. So below the release the match of rank 0 and the trap have row 4 (y 224), the match of rank 1
+# has row 5 (y 260), and the end is at y 296. The trap has place 7 in the list (y 164); its label has 14 characters.
 MEET_LINES = (
     '<title>2 ranks, rendezvous, 12 steps: trap 1 zero-divisor</title>',
-    '<path class="mpd-trapped" d="M292 260m-6 -6l12 12m0 -12l-12 12"/>',
-    '<path class="mpd-arrow" d="M292 116C252 116 252 224 292 224"/>',
+    '<g><title>line 5, rank 1 is trapped: zero-divisor</title>',
+    '<path class="mpd-trapped" d="M292 224m-5 -5l10 10m0 -10l-10 10"/>',
+    '<text class="mpd-right" x="304" y="228">5 zero-divisor</text>',
+    '<text class="mpd-row" x="620" y="164">line 5, rank 1 is trapped: zero-divisor</text>',
+    '<path class="mpd-trapped" d="M292 296m-6 -6l12 12m0 -12l-12 12"/>',
+    '<path class="mpd-arrow" d="M292 116C252 116 252 260 292 260"/>',
     '<path class="mpd-arrow" d="M132 116C92 116 92 224 132 224"/>',
     '<g><title>release: all ranks leave the barrier</title>',
     '<text class="mpd-row" x="620" y="148">release</text>',
     '<line class="mpd-bar" x1="118" y1="188" x2="306" y2="188"/>',
-    '<text class="mpd-name" x="292" y="298">zero-divisor</text>',
-    '<text class="mpd-name" x="292" y="312">line 5</text>')
+    '<text class="mpd-name" x="292" y="334">zero-divisor</text>',
+    '<text class="mpd-name" x="292" y="348">line 5</text>')
+# Rank 0 prints in rows 0 and 1 (y 80 and 116), at places 0 and 1 of the list, and its call stands in row 2; the assert of line 4 holds, and shows
+# nothing. Rank 1 prints in row 0, beside that, at place 3 (y 100). The first label has 10 characters; the second value has 20, and is left to the
+# list; that of rank 1 has 18 with its line and 10 without. The match has row 3 (y 188), and the end is at y 224.
+PRINTS = b'''mpd 1; ranks 2; var x;
+if rank == 0 {
+  print 42; print -9223372036854775807;
+  assert 1;
+  send 7 to 1 tag 0;
+} else { print 1234567890; recv x from 0 tag 0; }
+'''
+PRINTS_LINES = (
+    '<g><title>line 3, rank 0 prints 42</title>',
+    '<path class="mpd-print" d="M132 80m0 -5l5 5l-5 5l-5 -5z"/>',
+    '<text class="mpd-right" x="144" y="84">3 print 42</text>',
+    '<text class="mpd-row" x="620" y="52">line 3, rank 0 prints 42</text>',
+    '<path class="mpd-print" d="M132 116m0 -5l5 5l-5 5l-5 -5z"/>',
+    '<text class="mpd-right" x="144" y="120">..</text>',
+    '<text class="mpd-row" x="620" y="68">line 3, rank 0 prints -9223372036854775807</text>',
+    '<path class="mpd-print" d="M292 80m0 -5l5 5l-5 5l-5 -5z"/>',
+    '<text class="mpd-right" x="304" y="84">1234567890</text>',
+    '<text class="mpd-row" x="620" y="100">line 6, rank 1 prints 1234567890</text>',
+    '<path class="mpd-arrow" d="M132 152L285 188"/>',
+    '<path class="mpd-ended" d="M132 224m-9 0h18"/>')
+PRINTS_TEXT = '''0 1  line: call
+P |  3: rank 0 prints 42
+P |  3: rank 0 prints -9223372036854775807
+S |  5: 0.0 send to 1 tag 0
+| P  6: rank 1 prints 1234567890
+| R  6: 1.0 recv from 0 tag 0
+o->  0.0 to 1.0: 7
+E E  at the end
+S send, R receive, W wait, A waitany, B barrier, P print, o-> match, == release
+at the end: E ended, V can go on, ~ waits, ! blocked, X trapped
+'''
+# Six ranks wait in a ring, each in row 0; the end is at y 116, and the arrow of rank P goes down to y 116 + 72 + 12 + 8 P, and up to y 190 at 12
+# before the lane of the next. Of six ranks the legend stands 140 below the end, of seven 8 lower.
+RING = b'mpd 1; ranks 6; var x; recv x from (rank + 1) % size tag 0;'
+RING_LINES = (
+    '<path class="mpd-want" d="M144 188V200H280V190"/>',
+    '<path class="mpd-want" d="M304 188V208H440V190"/>',
+    '<path class="mpd-want" d="M944 188V240H120V190"/>',
+    '<g transform="translate(12 256)">')
+RING_OF_7 = RING.replace(b'6', b'7')
+# The arrows of four ranks hang, that to a lower rank lower.
+RING_OF_4 = RING.replace(b'6', b'4')
+RING_OF_4_LINES = ('<path class="mpd-want" d="M144 188C144 224 280 224 280 190"/>', '<path class="mpd-want" d="M624 188C624 240 120 240 120 190"/>')
 # Over the lane of rank 1 an arrow goes down beside its own lane (x 212 or 372), and between the rows (y 88 to 107); its tip is beside the lane.
 FAR_LEFT = b'''mpd 1; ranks 3; var x;
 if rank == 2 { send 4 to 0 tag 1; }
@@ -167,7 +218,7 @@ R | |  9: 0.1 recv from 1 tag 7 free
 | S |  13: 1.0 send to 0 tag 7 free
 | | S  13: 2.0 send to 0 tag 1 free
 ~ ~ ~  at the end
-S send, R receive, W wait, A wait for any, B barrier, o-> match, == release
+S send, R receive, W wait, A waitany, B barrier, P print, o-> match, == release
 at the end: E ended, V can go on, ~ waits, ! blocked, X trapped
 '''
 # After one step rank 0 is at its receive, and the others at the `if`; no row is taken yet.
@@ -187,20 +238,22 @@ ANY_LINES = (
     '<path class="mpd-candidate" d="M132 116C92 116 92 152 132 152"/>',
     '<text class="mpd-number" x="132" y="107">2</text>',
     '<text class="mpd-name" x="132" y="326">for a request</text>')
-# Two ranks are at a second barrier in row 2, after the release in row 1, and the end is at y 188: rank 2 isn't there, and has ended.
+# Two ranks print in row 2, after the release in row 1, and are at a second barrier in row 3; the end is at y 224: rank 2 isn't there, and has
+# ended.
 SKIPPED = open_example('skipped_barrier.mpd')
 SKIPPED_LINES = (
-    '<text class="mpd-name" x="132" y="254">for rank 2</text>',
-    '<path class="mpd-want" d="M144 260C144 296 440 296 440 262"/>',
-    '<text class="mpd-name" x="292" y="254">for rank 2</text>',
-    '<path class="mpd-want" d="M304 260C304 296 440 296 440 262"/>')
+    '<text class="mpd-right" x="304" y="156">8 print 1</text>',
+    '<text class="mpd-name" x="132" y="290">for rank 2</text>',
+    '<path class="mpd-want" d="M144 296C144 332 440 332 440 298"/>',
+    '<text class="mpd-name" x="292" y="290">for rank 2</text>',
+    '<path class="mpd-want" d="M304 296C304 332 440 332 440 298"/>')
 # Of three ranks two aren't there; the end is at y 116.
 ALONE = b'mpd 1; ranks 3; if rank == 0 { barrier; }'
 ALONE_LINES = ('<title>3 ranks, rendezvous, 4 steps: deadlock 0.0</title>', '<text class="mpd-name" x="132" y="182">for all ranks</text>')
 
 # Rank 0 sends with a slot, and rank 1 receives; then the second send comes before the match, or behind it (worked_ends.py).
 FREED_SLOT = open_example('freed_slot.mpd')
-LETTERS = '''S send, R receive, W wait, A wait for any, B barrier, o-> match, == release
+LETTERS = '''S send, R receive, W wait, A waitany, B barrier, P print, o-> match, == release
 at the end: E ended, V can go on, ~ waits, ! blocked, X trapped
 '''
 SEND_FIRST = f'''0 1  line: call
@@ -242,6 +295,7 @@ A | |  10: 0.2 waitany 0 2
 | | S  13: 2.0 send to 0 tag 0
 <-o |  1.0 to 0.0: 1
 <---o  2.0 to 0.1: 2
+X | |  11: rank 0 is trapped: assert
 X E E  at the end
 {LETTERS}'''
 
@@ -253,6 +307,9 @@ ROWS = (
     PictureRow(FAR_LEFT, None, ('<path class="mpd-arrow" d="M452 80L372 88L212 107L136 116"/>',)),
     PictureRow(FAR_RIGHT, None, ('<path class="mpd-arrow" d="M132 80L212 88L372 107L445 116"/>',)),
     PictureRow(STOLEN, None, BEFORE_LINES, fuel=8), PictureRow(PAIRS, None, UNMATCHED_LINES, fuel=8),
+    PictureRow(PRINTS, None, PRINTS_LINES, PRINTS_TEXT), PictureRow(RING, None, RING_LINES),
+    PictureRow(RING_OF_4, None, RING_OF_4_LINES),
+    PictureRow(RING_OF_7, None, ('<g transform="translate(12 264)">', '<path class="mpd-want" d="M1104 188V248H120V190"/>')),
     PictureRow(MEET, None, MEET_LINES), PictureRow(MEET, None, MEET_LINES, ends=True),
     *(PictureRow(FREED_SLOT, choices, ALL_FIRST_LINES, ALL_FIRST, 'slots:1') for choices in (None, '')),
     PictureRow(ANY, None, ANY_LINES, fuel=12), PictureRow(SKIPPED, None, SKIPPED_LINES),

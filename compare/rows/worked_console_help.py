@@ -78,9 +78,10 @@ run [N]                             goes on to a breakpoint, a choice or an end
 back [N]                            takes a step back, or so many
 undo-choice                         goes back to the last choice
 restart                             goes back to the start
-break LINE, break match LINE, break change P NAME sets a breakpoint
+break LINE [rank P] [if NAME OP N], break match LINE [rank P], break rank P,
+        break change P NAME sets a breakpoint
 list [P]                            shows the script, and where ranks stand
-print NAME [P]                      shows a variable or a request
+print EXPR [P]                      shows a variable, a request or an expression
 why [P], why CALL                   says why ranks wait
 deadlock                            lays the first deadlock's steps ahead
 blame                               goes to the step that decided how it ends
@@ -100,13 +101,14 @@ goto N                              goes to where so many steps are taken
 restart                             goes back to the start
 redo [N], redo all                  takes the first step ahead, or so many
 local P, match S R, wake P, wakeany P I, release takes this step
-break LINE, break match LINE, break change P NAME sets a breakpoint
+break LINE [rank P] [if NAME OP N], break match LINE [rank P], break rank P,
+        break change P NAME sets a breakpoint
 watch NAME P                        sets a breakpoint on a variable or a request
 delete N                            removes a breakpoint
 breaks                              lists the breakpoints
 info breakpoints, info ranks        lists breakpoints, or what ranks are doing
 list [P]                            shows the script, and where ranks stand
-print NAME [P]                      shows a variable or a request
+print EXPR [P]                      shows a variable, a request or an expression
 vars [P]                            shows all variables in short
 ranks                               shows what each rank is doing
 calls [P]                           lists the calls of all ranks, or of rank P
@@ -182,14 +184,20 @@ goto N: goes to where so many steps are taken; back, or along the steps ahead
 redo [N], redo all: takes the first step ahead, or so many; as far as there are,
         or all
 > help break
-break LINE, break match LINE, break change P NAME: sets a breakpoint; after a
-        step by which a rank comes to that line, after a match of a call of that
-        line, after a change of that variable or request of rank P
+break LINE [rank P] [if NAME OP N], break match LINE [rank P], break rank P,
+        break change P NAME: sets a breakpoint; after a step by which a rank, or
+        rank P, comes to that line, if its variable compares so with N, OP being
+        ==, !=, <, <=, > or >=; after a match of a call of that line, or of one
+        of rank P; after each step of rank P after which it isn't blocked; after
+        a change of that variable or request of rank P
   short: b, br
 > help b
-break LINE, break match LINE, break change P NAME: sets a breakpoint; after a
-        step by which a rank comes to that line, after a match of a call of that
-        line, after a change of that variable or request of rank P
+break LINE [rank P] [if NAME OP N], break match LINE [rank P], break rank P,
+        break change P NAME: sets a breakpoint; after a step by which a rank, or
+        rank P, comes to that line, if its variable compares so with N, OP being
+        ==, !=, <, <=, > or >=; after a match of a call of that line, or of one
+        of rank P; after each step of rank P after which it isn't blocked; after
+        a change of that variable or request of rank P
   short: b, br
 > help line
 unknown word 'line': perhaps list

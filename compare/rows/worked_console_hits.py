@@ -46,10 +46,76 @@ if rank == 1 { print 1; }
 barrier;
 print rank;
 '''
+# Two ranks that count to 3, from 0 and from 1: 9 steps of rank 0, then 7 of rank 1.
+COUNTING = '''mpd 1; ranks 2;
+var x; var a[2]; req r;
+x = rank;
+while x < 3 {
+  x = x + 1;
+}
+print x;
+'''
 LONG_NAME = 'a' * 60
 
 # What stands at a single step.
 STEPS_HIT = (
+    Dialogue('breakpoints of a rank and with a condition', COUNTING, '''
+> break 5 if x==2
+breakpoint 0: line 5 if x == 2
+> run
+6 steps, depth 6
+breakpoint 0: line 5 if x == 2
+next: local 0: line 5
+    5    x = x + 1;
+> b line 4 rank 1 if x >=3
+breakpoint 1: line 4 rank 1 if x >= 3
+> delete 0
+deleted 0
+> run
+8 steps, depth 14
+rank 0 prints 3
+breakpoint 1: line 4 rank 1 if x >= 3
+next: local 1: line 4
+    4  while x < 3 {
+> break rank 1
+breakpoint 0: rank 1
+> run
+1 step, depth 15
+breakpoint 0: rank 1
+next: local 1: line 7
+    7  print x;
+> run-back
+1 step back, depth 14
+before breakpoint 0: rank 1
+1 ahead: local 1: line 4
+    4  while x < 3 {
+> break match 5 rank 0
+breakpoint 2: match 5 rank 0
+> break 9 rank 1 if a[1] != -9223372036854775808
+breakpoint 3: line 9 rank 1 if a[1] != -9223372036854775808
+no statement begins at line 9
+> breaks
+breakpoint 0: rank 1
+breakpoint 1: line 4 rank 1 if x >= 3
+breakpoint 2: match 5 rank 0
+breakpoint 3: line 9 rank 1 if a[1] != -9223372036854775808
+> break 5 rank 2
+refused: there is no such rank
+> break rank 2
+refused: there is no such rank
+> break match 0 rank 2
+refused: lines are 1 to 65537
+> break 5 if y==2
+no variable or request is called 'y'
+> break 5 rank 1 if y<2
+no variable or request is called 'y'
+> break 5 if a == 2
+refused: an array needs an index here
+> break 5 if a[2] == 2
+refused: there is no such index
+> break 5 if r == 2
+refused: a request has no value to compare
+'''),
     Dialogue('breakpoints of a line, a match and a change, by next, by hand and by redo', 'first_message.mpd', '''
 > break 6
 breakpoint 0: line 6

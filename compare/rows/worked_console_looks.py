@@ -376,13 +376,14 @@ refused: there is no such rank
 > print c
 no variable or request is called 'c'
 > print c[7] 9
-no variable or request is called 'c[7]'
+no variable or request is called 'c'
 > print a[1 0
-no variable or request is called 'a[1'
+refused: an operator or ']' is expected at '0'
 > print g[2] 9
 refused: there is no such index
 > print rank
-no variable or request is called 'rank'
+rank 0: rank = 0
+rank 1: rank = 1
 > break change 0 a[1]
 breakpoint 0: change 0 a[1]
 > break change 1 b
@@ -555,7 +556,7 @@ no deadlock from here: 1 run, and no more (1 done)
 > picture
 0 1 2  line: call
 V V V  at the end
-S send, R receive, W wait, A wait for any, B barrier, o-> match, == release
+S send, R receive, W wait, A waitany, B barrier, P print, o-> match, == release
 at the end: E ended, V can go on, ~ waits, ! blocked, X trapped
 > run
 6 steps, depth 6
@@ -570,7 +571,7 @@ R | |  7: 0.0 recv from any tag any free
 | S |  7: 1.0 send to 0 tag 0 free
 | | S  7: 2.0 send to 0 tag 0 free
 ~ ~ ~  at the end
-S send, R receive, W wait, A wait for any, B barrier, o-> match, == release
+S send, R receive, W wait, A waitany, B barrier, P print, o-> match, == release
 at the end: E ended, V can go on, ~ waits, ! blocked, X trapped
 > next 1
 7 match 1.0 0.0: rank 1, line 7, to rank 0, line 7
@@ -600,7 +601,7 @@ R | |  7: 0.0 recv from any tag any
 <-o |  1.0 to 0.0: 1
 R | |  7: 0.1 recv from 1 tag any free
 ! E !  at the end
-S send, R receive, W wait, A wait for any, B barrier, o-> match, == release
+S send, R receive, W wait, A waitany, B barrier, P print, o-> match, == release
 at the end: E ended, V can go on, ~ waits, ! blocked, X trapped
 > goto 0
 depth 0
@@ -610,7 +611,7 @@ depth 0
 > picture
 0 1 2  line: call
 V V V  at the end
-S send, R receive, W wait, A wait for any, B barrier, o-> match, == release
+S send, R receive, W wait, A waitany, B barrier, P print, o-> match, == release
 at the end: E ended, V can go on, ~ waits, ! blocked, X trapped
 > picture 1
 usage: picture

@@ -53,9 +53,9 @@ refused: lines are 1 to 65537
 > until 65538
 refused: lines are 1 to 65537
 > until 10
-0 steps, depth 8
-no statement begins at line 10
-ended: done
+refused: no statement begins at line 10
+>
+refused: no statement begins at line 10
 > restart
 depth 0
 8 ahead: local 0: line 5

@@ -331,27 +331,61 @@ usage: wakeany P I
 > release 0
 usage: release
 > break
-usage: break LINE, break match LINE, break change P NAME
+usage: break LINE [rank P] [if NAME OP N], break match LINE [rank P], break rank
+        P, break change P NAME
 > break line
-usage: break LINE, break match LINE, break change P NAME
+usage: break LINE [rank P] [if NAME OP N], break match LINE [rank P], break rank
+        P, break change P NAME
 > break line x
-usage: break LINE, break match LINE, break change P NAME
+usage: break LINE [rank P] [if NAME OP N], break match LINE [rank P], break rank
+        P, break change P NAME
 > break line 9 1
-usage: break LINE, break match LINE, break change P NAME
+usage: break LINE [rank P] [if NAME OP N], break match LINE [rank P], break rank
+        P, break change P NAME
 > break lines 9
-usage: break LINE, break match LINE, break change P NAME
+usage: break LINE [rank P] [if NAME OP N], break match LINE [rank P], break rank
+        P, break change P NAME
+> break 9 rank
+usage: break LINE [rank P] [if NAME OP N], break match LINE [rank P], break rank
+        P, break change P NAME
+> break 9 rank 1 if
+usage: break LINE [rank P] [if NAME OP N], break match LINE [rank P], break rank
+        P, break change P NAME
+> break 9 if x = 2
+usage: break LINE [rank P] [if NAME OP N], break match LINE [rank P], break rank
+        P, break change P NAME
+> break 9 if x == 2 3
+usage: break LINE [rank P] [if NAME OP N], break match LINE [rank P], break rank
+        P, break change P NAME
+> break 9 if x == 9223372036854775808
+usage: break LINE [rank P] [if NAME OP N], break match LINE [rank P], break rank
+        P, break change P NAME
+> break 9 if x == 2 rank 1
+usage: break LINE [rank P] [if NAME OP N], break match LINE [rank P], break rank
+        P, break change P NAME
+> break match 9 if x == 2
+usage: break LINE [rank P] [if NAME OP N], break match LINE [rank P], break rank
+        P, break change P NAME
+> break rank
+usage: break LINE [rank P] [if NAME OP N], break match LINE [rank P], break rank
+        P, break change P NAME
 > break l 9
-usage: break LINE, break match LINE, break change P NAME
+usage: break LINE [rank P] [if NAME OP N], break match LINE [rank P], break rank
+        P, break change P NAME
 > line 9
 unknown word 'line': perhaps list
 > break match
-usage: break LINE, break match LINE, break change P NAME
+usage: break LINE [rank P] [if NAME OP N], break match LINE [rank P], break rank
+        P, break change P NAME
 > break change 0
-usage: break LINE, break match LINE, break change P NAME
+usage: break LINE [rank P] [if NAME OP N], break match LINE [rank P], break rank
+        P, break change P NAME
 > break change 0 sum 1
-usage: break LINE, break match LINE, break change P NAME
+usage: break LINE [rank P] [if NAME OP N], break match LINE [rank P], break rank
+        P, break change P NAME
 > break change sum
-usage: break LINE, break match LINE, break change P NAME
+usage: break LINE [rank P] [if NAME OP N], break match LINE [rank P], break rank
+        P, break change P NAME
 > delete
 usage: delete N
 > breaks 1
@@ -359,11 +393,11 @@ usage: breaks
 > l 0.0
 usage: list [P]
 > print
-usage: print NAME [P]
+usage: print EXPR [P]
 > print sum [0]
-usage: print NAME [P]
+refused: an operator or the end of the text is expected at '['
 > print sum 0 0
-usage: print NAME [P]
+refused: the end of the text is expected at '0'
 > vars x
 usage: vars [P]
 > ranks 0
@@ -431,7 +465,8 @@ usage: info breakpoints, info ranks
 > info breakpoints 0
 usage: info breakpoints, info ranks
 > b
-usage: break LINE, break match LINE, break change P NAME
+usage: break LINE [rank P] [if NAME OP N], break match LINE [rank P], break rank
+        P, break change P NAME
 > bk x
 usage: back [N]
 > quit now
@@ -439,33 +474,33 @@ usage: quit
 '''),
     Dialogue('names that are none, before ranks that are none', 'loop.mpd', '''
 > print 5
-no variable or request is called '5'
+rank 0: 5 = 5
 > print sum[
-no variable or request is called 'sum['
+refused: an operator or the end of the text is expected at '['
 > print sum[]
-no variable or request is called 'sum[]'
+refused: an operator or the end of the text is expected at '['
 > print sum[i] 9
-no variable or request is called 'sum[i]'
+refused: an operator or the end of the text is expected at '['
 > print sum[0
-no variable or request is called 'sum[0'
+refused: an operator or the end of the text is expected at '['
 > print sum[0]x
-no variable or request is called 'sum[0]x'
+refused: an operator or the end of the text is expected at '['
 > print sum[-1]
-no variable or request is called 'sum[-1]'
+refused: an operator or the end of the text is expected at '['
 > print sum]
-no variable or request is called 'sum]'
+refused: an operator or the end of the text is expected at ']'
 > print [0]
-no variable or request is called '[0]'
+refused: an operand is expected at '['
 > print Sum
 no variable or request is called 'Sum'
 > print nope[0]
-no variable or request is called 'nope[0]'
+no variable or request is called 'nope'
 > print nope 99
 no variable or request is called 'nope'
 > print su\xb5\x01 99
-no variable or request is called 'su??'
+refused: no expression has '?'
 > print nope x
-usage: print NAME [P]
+no variable or request is called 'nope'
 > print sum 99
 refused: there is no such rank
 > print sum[0] 0
@@ -487,7 +522,8 @@ refused: there is no such rank
 >
 refused: there is no such rank
 > break change x nope
-usage: break LINE, break match LINE, break change P NAME
+usage: break LINE [rank P] [if NAME OP N], break match LINE [rank P], break rank
+        P, break change P NAME
 > print i
 rank 0: i = 0
 '''),

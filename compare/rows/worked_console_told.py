@@ -145,8 +145,8 @@ no variable or request is called '{'n' * 45}'
 no variable or request is called
         '{'n' * 46}'
 > print {'n' * 80} 9
-no variable or request is called
-        '{'n' * 80}'
+refused: no expression has
+        '{'n' * 72}...'
 > {'z' * 100} 1
 unknown word
         '{'z' * 100}':

@@ -20,6 +20,9 @@ ON_LINES = ('mpd 1;\nranks 2;\nvar x;\nif rank == 0 {\n  send 7 to 1 tag 0;\n} e
             'barrier;\nprint 1;')
 CELLS = 'mpd 1; ranks 2; var a[3]; var b; req h; req g[2];\na[1] = -5;\nb = -9223372036854775807 - 1;\nprint b;\nprint 3;\nisend g[1] b to rank tag 9;'
 APART = 'mpd 1; ranks 2;\nif rank == 0 { barrier;\nprint 1; } else { barrier;\nprint 2; }'
+TRAPPED = 'mpd 1; ranks 2; var x; var a[2]; req r;\nif rank == 0 {\nassert x == 1;\n} else {\nprint 3;\n}'
+LOST = ('mpd 1; ranks 2; var a; var b; req r;\nif rank == 0 {\nirecv r a from 1 tag 1;\nirecv r b from 1 tag 2;\nwait r;\n} else {\n'
+        'send 30 to 0 tag 1;\nsend 12 to 0 tag 2;\n}')
 SENDERS = ('mpd 1; ranks 3; var x; req r;\n'
            'if rank == 0 { irecv r x from any tag 1; irecv r x from any tag 1; } else { isend r 1 to 0 tag 1; isend r 2 to 0 tag 1; }')
 
@@ -82,10 +85,68 @@ def step(text):
     return f'{{"cmd":"step","step":"{text}"}}'
 
 
+def explained(version, *lines):
+    """The reply to `explain`."""
+    return f'{{"ok":true,"told":[{",".join(map(quoted, lines))}],"version":{version}}}'
+
+
+def quoted(text):
+    return f'"{text}"'
+
+
+def listed(depth, texts, undone, version):
+    """The reply to `steps`."""
+    return f'{{"depth":{depth},"ok":true,"steps":[{",".join(map(quoted, texts))}],"undone":{undone},"version":{version}}}'
+
+
+def steps(first, count):
+    return f'{{"cmd":"steps","count":{count},"from":{first}}}'
+
+
+def call_lines(rank):
+    return f'{{"cmd":"lines","rank":{rank}}}'
+
+
+EXPLAIN, WHERE, DECISION = (f'{{"cmd":"{command}"}}' for command in ('explain', 'where', 'decision'))
 RUN = '{"cmd":"run","max":100}'
 NEXT, STATE, BREAKS, RUN_BACK, ENABLED = (f'{{"cmd":"{command}"}}' for command in ('next', 'state', 'breaks', 'run-back', 'enabled'))
 
+# Two ranks that count to 3, from 0 and from 1: 9 steps of rank 0, then 7 of rank 1.
+COUNTING = 'mpd 1; ranks 2;\nvar x; var a[2];\nx = rank;\nwhile x < 3 {\n  x = x + 1;\n}\nprint x;\n'
+# Rank 0 sends on line 3 and receives on line 4, rank 1 the other way round.
+THERE_AND_BACK = ('mpd 1; ranks 2; var x;\nif rank == 0 {\n  send 1 to 1 tag 0;\n  recv x from 1 tag 0;\n} else {\n'
+                  '  recv x from 0 tag 0;\n  send 2 to 0 tag 0;\n}\nbarrier;\nprint x;\n')
+
 RUNS_AND_CHOICES = (
+    Dialogue('breakpoints of a rank and with a condition', COUNTING, (
+        ('{"cell":0,"cmd":"break","is":"==","kind":"line","line":5,"value":2}', set_break(0, 1)), (RUN, ran(6, 6, 'break', 2, 0)),
+        ('{"cell":0,"cmd":"break","is":">=","kind":"line","line":4,"rank":1,"value":3}', set_break(1, 3)),
+        ('{"break":0,"cmd":"unbreak"}', ok(4)), (RUN, ran(14, 8, 'break', 5, 1)),
+        ('{"cmd":"break","kind":"rank","rank":1}', set_break(0, 6)), (RUN, ran(15, 1, 'break', 7, 0)), (RUN_BACK, ran(14, 1, 'break', 8, 0)),
+        (RUN_BACK, ran(13, 1, 'break', 9, 0)),
+        ('{"cmd":"break","kind":"line","line":7,"rank":0}', set_break(2, 10)),
+        ('{"cell":2,"cmd":"break","is":"!=","kind":"line","line":65537,"value":-9223372036854775808}', set_break(3, 11)),
+        ('{"cmd":"break","kind":"match","line":1,"rank":1}', set_break(4, 12)),
+        (BREAKS, '{"breaks":["0 rank 1","1 line 4 rank 1 if 0 >= 3","2 line 7 rank 0","3 line 65537 if 2 != -9223372036854775808","4 match 1 rank 1"],'
+         '"ok":true,"version":12}'),
+        ('{"cell":3,"cmd":"break","is":"==","kind":"line","line":5,"value":2}', no('bad-number')),
+        ('{"cell":0,"cmd":"break","is":"==","kind":"line","line":5,"rank":2,"value":2}', no('bad-number')),
+        ('{"cmd":"break","kind":"line","line":0,"rank":0}', no('bad-number')), ('{"cmd":"break","kind":"match","line":1,"rank":2}', no('bad-number')),
+        ('{"cmd":"break","kind":"rank","rank":2}', no('bad-number')))),
+    Dialogue('a condition that holds of one value, and one that holds of all others', COUNTING, (
+        ('{"cell":0,"cmd":"break","is":"==","kind":"line","line":4,"value":1}', set_break(0, 1)), (RUN, ran(3, 3, 'break', 2, 0)),
+        # rank 0 comes there with 2 and with 3, and then rank 1 with 1
+        (RUN, ran(10, 7, 'break', 3, 0)), ('{"break":0,"cmd":"unbreak"}', ok(4)), ('{"cmd":"goto","depth":0}', '{"depth":0,"ok":true,"version":5}'),
+        ('{"cell":0,"cmd":"break","is":"!=","kind":"line","line":4,"value":1}', set_break(0, 6)), (RUN, ran(1, 1, 'break', 7, 0)),
+        (RUN, ran(5, 4, 'break', 8, 0)), (RUN, ran(7, 2, 'break', 9, 0)))),
+    Dialogue('breakpoints of a rank at matches, wakes and a release', THERE_AND_BACK, (
+        # line 3 is rank 0's send, and line 6 rank 1's receive of it
+        ('{"cmd":"break","kind":"match","line":3,"rank":1}', set_break(0, 1)), ('{"cmd":"break","kind":"match","line":6,"rank":1}', set_break(1, 2)),
+        (RUN, ran(5, 5, 'break', 3, 1)),
+        # of rank 1: its wake behind rank 0's wake and receive; then no send that blocks, no match, and no step of rank 0, but its next wake
+        ('{"cmd":"break","kind":"rank","rank":1}', set_break(2, 4)), (RUN, ran(8, 3, 'break', 5, 2)), (RUN, ran(13, 5, 'break', 6, 2)),
+        # no barrier, but the release; no print of rank 0, but its own, after which it has ended
+        (RUN, ran(15, 2, 'break', 7, 2)), (RUN, ran(17, 2, 'break', 8, 2)), (RUN, ran(17, 0, 'leaf', 9)))),
     Dialogue('a run up to a choice, and what holds a receive back', HELD_BACK, (
         ('{"cmd":"run","max":5}', ran(5, 5, 'choice', 1)),
         ('{"call":1,"cmd":"why","rank":0}', '{"ok":true,"partners":["1.0 held by 0.0"],"version":1}'),
@@ -336,7 +397,32 @@ RUNS_ON = (
         (handle_break(0, 0), no('bad-number')), ('{"cmd":"break","kind":"handles","rank":0,"handle":0}', no('bad-field')))),
 )
 
-DIALOGUES = RUNS_AND_CHOICES + LINES_BEHIND + REFUSALS + STATES + LINES + RUNS_ON
+# What is told of the script, of all ranks, of steps, calls and ends.
+TOLD = (
+    Dialogue('names, lines and words, up to a trap', TRAPPED, (
+        ('{"cmd":"script"}', '{"handles":["r"],"lines":[2,3,5],"mode":"rendezvous","ok":true,"ranks":2,"vars":["x","a[2]"],"version":0}'),
+        (EXPLAIN, explained(0)), (step('local 0'), deep(1, 1)),
+        (WHERE, '{"lines":[3,2],"ok":true,"ranks":["at 3","at 2"],"ready":[0,1],"version":1}'), (step('local 0'), deep(2, 2)),
+        (WHERE, '{"lines":[3,2],"ok":true,"ranks":["trapped assert","at 2"],"ready":[1],"version":2}'),
+        (DECISION, '{"decision":"forced","ok":true,"steps":["local 1"],"told":["rank 1 runs line 2; local 1"],"version":2}'), (RUN, ran(4, 2, 'leaf', 3)),
+        ('{"cmd":"all"}', '{"held":[{"handles":[null],"out":[],"vars":[0,0,0]},{"handles":[null],"out":[3],"vars":[0,0,0]}],"lines":[3,null],"ok":true,'
+         '"ranks":["trapped assert","ended"],"ready":[],"version":3}'),
+        (DECISION, '{"decision":"leaf","ok":true,"outcome":"trap 0 assert","steps":[],"told":[],"version":3}'),
+        (EXPLAIN, explained(3, '  rank 0, line 3: trap assert, with x = 0')),
+        (steps(1, 2), listed(4, ('local 0', 'local 1'), 0, 3)), (steps(4, 1), listed(4, (), 0, 3)), (steps(5, 1), no('bad-number')),
+        (steps(0, 0), no('bad-number')), (steps(0, 1000001), no('bad-number')), ('{"cmd":"goto","depth":1}', deep(1, 4)),
+        (steps(1, 10), listed(1, ('local 0', 'local 1', 'local 1'), 3, 4)), (call_lines(0), '{"lines":[],"ok":true,"partners":[],"version":4}'),
+        (call_lines(2), no('bad-number')), ('{"at":3,"cmd":"where"}', stale(4)), ('{"cmd":"steps","from":0}', no('bad-field')),
+        ('{"cmd":"explain","rank":0}', no('bad-field')))),
+    Dialogue('lines and partners of calls, and a request that is lost', LOST, (
+        (RUN, ran(12, 12, 'leaf', 1)), (call_lines(0), '{"lines":[3,4,5],"ok":true,"partners":["1.0","1.1",null],"version":1}'),
+        (call_lines(1), '{"lines":[7,8],"ok":true,"partners":["0.0","0.1"],"version":1}'),
+        (EXPLAIN, explained(1, 'rank 0 has lost a request: line 3, 0.0 irecv from 1 tag 1')))),
+    Dialogue('a single candidate is a choice', HELD_BACK, (
+        ('{"cmd":"run","max":5}', ran(5, 5, 'choice', 1)),
+        (DECISION, '{"decision":"choice","ok":true,"steps":["match 1.0 0.0"],"told":["rank 1 sends 5, tag 0 (line 2), to rank 0 (line 2); match 1.0 0.0"],"version":1}'))))
+
+DIALOGUES = RUNS_AND_CHOICES + LINES_BEHIND + REFUSALS + STATES + LINES + RUNS_ON + TOLD
 
 # Inputs that don't end in a line feed, of the script FIRST, with what is answered.
 ENDINGS = (
@@ -387,7 +473,17 @@ TESTED = (
     (b'{"cmd":"vars"}', 43), (b'{"cmd":"calls","rank":null}', 43), (b'{"cmd":"why","rank":0}', 43), (b'{"cmd":"why","call":0}', 43),
     (b'{"cmd":"break"}', 43), (b'{"cmd":"break","line":1}', 43), (b'{"cmd":"break","kind":"line"}', 43), (b'{"cmd":"break","kind":5,"line":1}', 43),
     (b'{"cmd":"break","kind":"Line","line":1}', 43), (b'{"cmd":"break","kind":"change","rank":0}', 43),
-    (b'{"cmd":"break","kind":"change","rank":0,"cell":0,"line":1}', 43), (b'{"cmd":"break","kind":"match","line":1,"rank":0}', 43),
+    (b'{"cmd":"break","kind":"change","rank":0,"cell":0,"line":1}', 43), (b'{"cmd":"break","kind":"match","line":1,"cell":0}', 43),
+    # a condition is whole or none, and of a line alone
+    (b'{"cmd":"break","kind":"line","line":1,"cell":0}', 43), (b'{"cmd":"break","kind":"line","line":1,"cell":0,"is":"=="}', 43),
+    (b'{"cmd":"break","kind":"line","line":1,"cell":0,"value":1}', 43), (b'{"cmd":"break","kind":"line","line":1,"is":"==","value":1}', 43),
+    (b'{"cmd":"break","kind":"line","line":1,"cell":0,"is":"=","value":1}', 43), (b'{"cmd":"break","kind":"line","line":1,"cell":0,"is":"== ","value":1}', 43),
+    (b'{"cmd":"break","kind":"line","line":1,"cell":0,"is":"==","value":-9223372036854775809}', 43),
+    (b'{"cmd":"break","kind":"line","line":1,"cell":0,"is":"==","value":9223372036854775808}', 43),
+    (b'{"cmd":"break","kind":"line","line":1,"cell":-1,"is":"==","value":1}', 43), (b'{"cmd":"break","kind":"line","line":1,"cell":0,"is":"==","value":1.0}', 43),
+    (b'{"cmd":"break","kind":"line","line":1,"rank":null}', 43), (b'{"cmd":"break","kind":"line","line":1,"rank":-1}', 43),
+    (b'{"cmd":"break","kind":"match","line":1,"cell":0,"is":"==","value":1}', 43), (b'{"cmd":"break","kind":"rank"}', 43),
+    (b'{"cmd":"break","kind":"rank","rank":0,"line":1}', 43),
     (b'{"cmd":"break","kind":"handle","rank":0}', 43), (b'{"cmd":"break","kind":"handle","rank":0,"handle":0,"cell":0}', 43),
     (b'{"cmd":"break","kind":"handle","rank":0,"cell":0}', 43), (b'{"cmd":"break","kind":"change","rank":0,"handle":0}', 43),
     (b'{"cmd":"break","kind":"handle","handle":null,"rank":0}', 43), (b'{"cmd":"break","kind":"Handle","rank":0,"handle":0}', 43),

@@ -30,6 +30,7 @@ from model.files import held
 from model.witness import agrees
 from rows.console_starts import LONG_STARTS, STARTS, TYPED, start_problem
 from rows.console_worked import CUT, DIALOGUES, ENDINGS, LONG, SLOW, dialogue_problem, ending_problem
+from rows.worked_console_echo import LOOKED, look_problem
 from rows.worked_console_scripts import LOOP
 from runs import driving
 from runs.driving import first_different
@@ -67,6 +68,8 @@ def worked_cases(chosen):
         yield Case(row.what, row.text, row.mode, row.data, row.witness_text, run=row.run), Result(row.wanted(), b'', 0)
     for row in ENDINGS:
         yield Case(row.what, LOOP.encode(), None, row.data), Result(row.wanted.encode(), b'', 0)
+    for row in LOOKED:
+        yield Case(row.what, row.text, None, row.data, look=row.look), Result(row.wanted, b'', 0)
     for row in STARTS + LONG_STARTS * is_long:
         yield Case(row.what, row.text, row.mode, TYPED, row.witness, run=row.run), row.wanted
 
@@ -129,7 +132,7 @@ def heard(chosen, number):
 def is_row_wrong_with(fault):
     """Whether a worked row shows a fault, those that take the model long left out."""
     with driving.broken(fault):
-        return any(map(dialogue_problem, DIALOGUES)) or any(map(ending_problem, ENDINGS)) or any(map(start_problem, STARTS))
+        return any(map(dialogue_problem, DIALOGUES)) or any(map(ending_problem, ENDINGS)) or any(map(start_problem, STARTS)) or any(map(look_problem, LOOKED))
 
 
 def is_slow_wrong_with(fault):

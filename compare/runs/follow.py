@@ -27,8 +27,8 @@ from faults.policy_faults import breakages, late_breakages, late_breakages_of_2
 from model import debugger, policy
 from model.debugger import Debugger, Step, eligible, enabled_steps, find_call, free_calls, next_world, rank_state
 from model.language import read_script
-from model.policy import (BREAK, CHOICE, FULL, LEAF, MAX, START, Breaks, ChangeBreak, Choice, Forced, HandleBreak, Leaf, LineBreak, MatchBreak,
-                          Stop)
+from model.policy import (BREAK, CHOICE, FULL, LEAF, MAX, START, Breaks, ChangeBreak, Choice, Condition, Forced, HandleBreak, Leaf, LineBreak, MatchBreak,
+                          RankBreak, Stop)
 from model.policy_words import decision_text, stop_text
 from rows import worked_slots, worked_waitany
 from rows.worked_runs import RUNS
@@ -43,7 +43,7 @@ MUST_MEET = (
     'worlds', 'forced local', 'forced release', 'forced wake', 'forced match', 'choice of one', 'choice of more', 'choice of receives',
     'leaf done', 'leaf leftovers', 'leaf deadlock', 'leaf trap', 'match passed over', 'match behind a release', 'runs', 'runs back', 'undone kept',
     'undone dropped', 'stop leaf', 'stop choice', 'stop full', 'stop max', 'stop break', 'stop start', 'line by local', 'line by wake',
-    'line by release', 'change by local', 'change by wake', 'match by match', 'two hits', 'break at the last step',
+    'line by release', 'rank by local', 'rank by wake', 'rank by release', 'change by local', 'change by wake', 'match by match', 'two hits', 'break at the last step',
     'break at the last depth', 'break before a leaf', 'break at the start', 'leaf at the last step', 'places', 'choice of one wake',
     'choice of wakes', 'wakes of two ranks', 'wake before any source', 'line by wakeany', 'change by wakeany', 'handle by local',
     'handle by wake', 'handle by wakeany', 'runs on', 'match of one passed', 'wake of one passed', 'break behind one', 'another call of a handle')
@@ -139,11 +139,18 @@ def line_of_call(worlds, call_id):
     return place_of(worlds[before].ranks[call_id.rank])
 
 
+# Whether an operator holds of a value that is the number, above it, and below it.
+FITTING = {
+    '==': (True, False, False), '!=': (False, True, True), '<': (False, False, True), '<=': (True, False, True),
+    '>': (False, True, False), '>=': (True, True, False)}
+
+
 def is_hit(stop, worlds, step):
     """Whether the step hits a breakpoint, between the last two worlds."""
     before, after = worlds[-2], worlds[-1]
     if isinstance(stop, MatchBreak):
-        return step.kind == 'match' and stop.line in {line_of_call(worlds, call_id) for call_id in step[1:]}
+        calls = step[1:] if step.kind == 'match' else ()
+        return any(line_of_call(worlds, call_id) == stop.line and is_meant(stop, call_id.rank) for call_id in calls)
     if isinstance(stop, ChangeBreak):
         ranks = list(zip(before.ranks, after.ranks))[stop.rank:stop.rank + 1]
         cells = [pair for was, now in ranks for pair in list(zip(was.cells, now.cells))[stop.cell:stop.cell + 1]]
@@ -151,7 +158,22 @@ def is_hit(stop, worlds, step):
     if isinstance(stop, HandleBreak):
         return held_by(before, stop) != held_by(after, stop)
     moved = {'match': [], 'release': range(len(after.ranks))}.get(step.kind, [step.first])
-    return stop.line in [place_of(after.ranks[number]) for number in moved]
+    if isinstance(stop, RankBreak):
+        return any(number == stop.rank and not rank_state(after.ranks[number]).startswith('blocked') for number in moved)
+    return any(place_of(after.ranks[number]) == stop.line and is_meant(stop, number) and fits(stop, after.ranks[number]) for number in moved)
+
+
+def is_meant(stop, number):
+    """Whether a breakpoint is of a rank, or of any."""
+    return stop.rank is None or stop.rank == number
+
+
+def fits(stop, rank):
+    """Whether what must hold of a rank holds, told by whether the cell lies below the number, at it or above."""
+    if stop.condition is None:
+        return True
+    cells = rank.cells[stop.condition.cell:stop.condition.cell + 1]
+    return any(FITTING[stop.condition.operator][(cell > stop.condition.value) - (cell < stop.condition.value)] for cell in cells)
 
 
 def held_by(world, stop):
@@ -225,7 +247,10 @@ def breaks_for(random, walked):
         line = random.choice(lines) + random.choice([0, 0, 0, 1, 2])
         cell = ChangeBreak(random.randint(0, len(ranks)), random.randint(0, min(5, len(ranks[0].cells))))
         handle = HandleBreak(random.randint(0, len(ranks)), random.randint(0, min(5, len(ranks[0].handles))))
-        stop = random.choice([LineBreak(line), LineBreak(line), MatchBreak(line), MatchBreak(line), cell, cell, handle, handle])
+        rank = random.choice([None, None, None, random.randint(0, len(ranks))])
+        stop = random.choice([
+            LineBreak(line, rank, condition_for(random, walked)), LineBreak(line), MatchBreak(line, rank), MatchBreak(line), cell, cell, handle, handle,
+            RankBreak(random.randint(0, len(ranks)))])
         place = min(set(range(64)) - set(there))
         wrong += [] if breaks.add(stop) == place else ['the place of a breakpoint']
         there[place] = stop
@@ -233,6 +258,15 @@ def breaks_for(random, walked):
             gone = random.randint(0, 3)
             wrong += [] if breaks.remove(gone) == (there.pop(gone, None) is not None) else ['a breakpoint that is removed']
     return breaks, there, wrong
+
+
+def condition_for(random, walked):
+    """A condition about a value that stands somewhere in the trail, or one beside it, or none."""
+    rank = random.choice(random.choice(walked.worlds).ranks)
+    if not rank.cells or random.random() < 0.4:
+        return None
+    cell = random.randrange(len(rank.cells))
+    return Condition(cell, random.choice(tuple(FITTING)), rank.cells[cell] + random.choice([-1, 0, 0, 1]))
 
 
 def ran_wrong(random, walked, met):
@@ -302,7 +336,7 @@ def back_wrong(ran, breaks, there, met):
 
 
 def kind_of(stop):
-    return {LineBreak: 'line', ChangeBreak: 'change', MatchBreak: 'match', HandleBreak: 'handle'}[type(stop)]
+    return {LineBreak: 'line', ChangeBreak: 'change', MatchBreak: 'match', HandleBreak: 'handle', RankBreak: 'rank'}[type(stop)]
 
 
 def places_wrong(random, met):

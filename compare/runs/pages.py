@@ -27,8 +27,10 @@ sys.path.insert(0, os.path.dirname(os.path.dirname(os.path.abspath(__file__))))
 from cases.piece_cases import script_of
 from cases.reread_cases import report_asked
 from faults import page_faults
-from model import page_model, picture_model, states, walks, wide
+from model import page_model, picture_model, walks, wide
 from model.debugger import CallId, RENDEZVOUS, enabled_steps, first_world, next_world, outcome, show, step_of, step_text
+from model.deciding import NOT_COUNTED
+from model.diagnosed import UNTRIED, Diagnosis, Limits, mode_of, verdict_lines
 from model.explaining import Reached
 from model.files import held
 from model.language import Fault, read_script
@@ -41,14 +43,15 @@ from runs import driving
 
 TEMPLATE = f'{TOP}/page/page.html'
 OPENING = b'<script type="application/json" id="run">'
-CHUNK, MOST_FUEL, MOST_LOOKED_AT, MANY = 5, 300, 3000, 20
+CHUNK, MOST_FUEL, MOST_LOOKED_AT, FEW, MANY = 5, 300, 3000, 40, 20
 # The examples whose pages are read, each with its mode.
 SHOWN = (('stolen_message', RENDEZVOUS), ('race', RENDEZVOUS), ('one_in_seven', RENDEZVOUS), ('waitany', RENDEZVOUS), ('order_decides', RENDEZVOUS),
          ('trap', RENDEZVOUS), ('skipped_barrier', RENDEZVOUS), ('lost_request', RENDEZVOUS), ('freed_slot', 'slots:2'), ('head_to_head', 'buffered'),
          ('loop', RENDEZVOUS), ('wrong_handle', RENDEZVOUS))
 MUST_MEET = ('by itself', 'choices', 'runs', 'words', 'witness', 'choices along the wide walk', 'runs along the wide walk', 'several runs', 'done',
              'deadlock', 'trap', 'leftovers', 'cut', 'rendezvous', 'buffered', 'slots', 'a release', 'a waitany', 'a choice', 'another candidate',
-             'a request', 'held back', 'complete', 'a lost request', 'a step that decides', 'no step that decides', 'printed', 'another parent', 'a `<`')
+             'a request', 'held back', 'complete', 'a lost request', 'a step that decides', 'no step that decides', 'a search that gave up', 'printed',
+             'another parent', 'a `<`', 'more runs', 'no more runs', 'not everything was tried')
 
 
 class Asked(NamedTuple):
@@ -103,33 +106,36 @@ def is_told_wide(text, mode):
     return mode.startswith('slots') or b'waitany' in code
 
 
-def by_itself(begun):
-    """The runs that a page has where none is asked for, and whether there are more; None where too many states are come to."""
-    found = states.searched(begun, most=MOST_LOOKED_AT)
-    if found.more:
-        return None
+def by_itself(begun, text, mode, most):
+    """The runs that a page has where none is asked for, whether there are more, and what is said of all, by a search that comes to so many states
+    at most."""
+    asked = Diagnosis('', text, mode, limits=Limits(begun.fuel, most, most, 0, 0))
+    search, found = asked.searched()
     bad, good = (next((way for ended, way in found.ways.items() if ended.split()[0] in words), None) for words in (BAD, ('done', 'leftovers')))
     chosen = [way for way in found.ways.values() if way in (bad, good)] if bad and good else list(found.ways.values())[:1]
-    return tuple(run_by(begun, way.first, True).steps for way in chosen), sum(way.runs for way in found.ways.values()) > len(chosen)
+    runs = [run_by(begun, way.first, True) for way in chosen] or [next(leaves_of(begun, is_told_wide(text, mode)))]
+    more = found.more or sum(way.runs for way in found.ways.values()) > len(chosen) or walks.CUT in found.ways
+    return [run.steps for run in runs], more, tuple(verdict_lines(asked, search, found))
 
 
 def questions(text, script, mode, random, fuel, name):
     """The pages that are asked for of a script."""
     begun = Run(first_world(script, mode), fuel)
-    told = ('--fuel', str(fuel))
+    most = random.choice([MOST_LOOKED_AT, MOST_LOOKED_AT, random.randrange(1, FEW)])
+    told = ('--fuel', str(fuel), '--states', str(most))
 
-    def asked(kind, words, walk, runs, more=True, file=None):
-        of = page_model.Asked(text, script, mode, walk, tuple(runs), name, random.random() < 0.3, '', (), more, MOST_LOOKED_AT)
+    def asked(kind, words, walk, runs, more=True, said=(), file=None):
+        of = page_model.Asked(text, script, mode, walk, tuple(runs), name, random.random() < 0.3, '', said, more, most)
         return Asked(kind, (*words, *told), file, of)
 
-    if (found := by_itself(begun)) is not None:
-        yield asked('by itself', (), WIDE if is_told_wide(text, mode) else DECISIONS, *found)
+    yield asked('by itself', (), WIDE if is_told_wide(text, mode) else DECISIONS, *by_itself(begun, text, mode, most))
     for ends in (False, True):
         leaf, walk, name_of = random_choices(random, begun, ends), WIDE if ends else DECISIONS, ' along the wide walk' if ends else ''
         yield asked('choices' + name_of, with_choices(leaf, ends), walk, [leaf.steps])
         count = random.randrange(1, 6)
         leaves = list(islice(leaves_of(begun, ends), count + 1))
-        yield asked('runs' + name_of, ('--runs', str(count), *['--ends'] * ends), walk, [one.steps for one in leaves[:count]], len(leaves) > count)
+        more = len(leaves) > count or any(one.outcome == walks.CUT for one in leaves[:count])
+        yield asked('runs' + name_of, ('--runs', str(count), *['--ends'] * ends), walk, [one.steps for one in leaves[:count]], more)
         if leaf.steps and leaf.outcome.split()[0] in BAD:
             witness = f'{leaf.outcome}\n{", ".join(map(step_text, leaf.steps))}\n'.encode()
             yield asked('witness', ('--witness', None), WORDS, [leaf.steps], file=witness)
@@ -142,7 +148,7 @@ def questions(text, script, mode, random, fuel, name):
 def made(chosen, asked):
     """The page that is made, and what is said on standard error."""
     if chosen.program is None:
-        return by_model(asked), b''
+        return by_model(asked.of), b''
     with tempfile.TemporaryDirectory(prefix='pages-') as folder:
         done = subprocess.run([chosen.program, 'page', *asked.told_in(folder)], capture_output=True, timeout=chosen.seconds * 10, check=False)
     return done.stdout, done.stderr
@@ -154,10 +160,10 @@ def parts():
     return head + OPENING, tail
 
 
-def by_model(asked):
+def by_model(of):
     """The page that the model makes."""
     head, tail = parts()
-    return head + page_model.data_text(page_model.data_of(asked.of)) + tail
+    return head + page_model.data_text(page_model.data_of(of)) + tail
 
 
 # ---- a page is read
@@ -278,7 +284,9 @@ def compare_view(view, at):
 def compare_page(page, of):
     """Raises what is wrong with a page, as it is read; gives the data."""
     data = data_in(page)
-    must((data['mode'], data['ranks'], data['walk'], data['hide'], data['more']) == (of.mode, of.script.ranks, of.walk, of.hide, of.more), 'what stands first')
+    must((data['mode'], data['ranks'], data['walk']) == (mode_of(of), of.script.ranks, of.walk), 'what stands first')
+    must((data['hide'], data['more']) == (of.hide, of.more), 'whether ends are covered, or there are more runs')
+    must(data['said'] == list(of.said), 'what is said of all runs')
     must(data['script'] == page_model.source_lines(of.text) and data['name'] == of.name, 'the script')
     must(data['vars'] == page_model.declared(of.script, 'var') and data['handles'] == page_model.declared(of.script, 'req'), 'the names')
     views, reached, below, ends = [], [], set(), {end['node'] for end in data['ends']}
@@ -318,10 +326,9 @@ def compare_ends(data, of):
             node = nodes[node].get('p', node - 1)
         must(way[::-1] == [step_text(step) for step in steps], 'the way to an end')
         tree = page_model.Tree(of.script, of.mode, of.walk)
-        wanted = page_model.end_of(tree, tree.follow(steps), steps, of.most)
+        wanted = page_model.end_of(tree, tree.follow(steps), steps, page_model.share(of))
         for key in ('outcome', 'told', 'lost', 'decided'):
-            if key != 'decided' or wanted[key] is not None or wanted['outcome'].split()[0] not in BAD:
-                must((end.get(key) or None) == (wanted[key] or None), f'{key} of an end')
+            must((end.get(key) or None) == (wanted[key] or None), f'{key} of an end')
 
 
 # ---- what is met
@@ -335,6 +342,9 @@ def met(asked, data):
         yield end['outcome'].split()[0]
         yield from ['a lost request'] * ('lost' in end)
         yield from ['no step that decides' if end['decided'][0] is None else 'a step that decides'] if 'decided' in end else []
+        yield from ['a search that gave up'] * ('decided' in end and NOT_COUNTED in end['decided'][1])
+    yield 'more runs' if data['more'] else 'no more runs'
+    yield from ['not everything was tried'] * any(line.startswith(UNTRIED) for line in data['said'])
     text = json.dumps(data['nodes'])
     for what, sign in (('a release', '"release"'), ('a waitany', '"wakeany '), ('a request', '"h"'), ('complete', '"complete"'), ('printed', '"o"'),
                        ('another parent', '"p"')):
@@ -376,12 +386,7 @@ def compare_one(chosen, asked, seen):
     except (Wrong, ValueError, KeyError, IndexError, TypeError, AttributeError) as why:
         return f'{type(why).__name__}: {why}'
     seen.update(met(asked, data))
-    of = asked.of._replace(said=tuple(data['said'])) if asked.kind == 'by itself' else asked.of
-    wanted = page_model.data_of(of)
-    for end, other in zip(data['ends'], wanted['ends']):  # one that wasn't sought to its end is left as it is
-        if other['decided'] is None and 'decided' in end:
-            other['decided'] = end['decided']
-    if page_model.data_text(wanted) != page_model.data_text(data):
+    if page_model.data_text(page_model.data_of(asked.of)) != page_model.data_text(data):
         return 'the text is another'
     return None
 
@@ -434,7 +439,7 @@ def compare_broken(chosen):
     missed = set()
     head, tail = parts()
     for asked in pages:
-        page = by_model(asked)
+        page = by_model(asked.of)
         must(not is_noticed(page, asked), f'{asked.kind} of {asked.of.name} is wrong without a fault')
         for name, broken in page_faults.FAULTS.items():
             text = broken(page[len(head):len(page) - len(tail)])

@@ -51,7 +51,7 @@ CHUNK, MOST_FUEL, MANY = 10, 400, 200
 MUST_MEET = ('first candidates', 'choices', 'words', 'witness', 'done', 'deadlock', 'trap', 'leftovers', 'cut', 'buffered', 'slots', 'a release',
              'to oneself', 'to the left', 'a free send', 'a free receive', 'a waitany', 'no such choices', 'no such words', 'no step', 'bad words',
              'first candidates along the wide walk', 'choices along the wide walk', 'words beside --ends', 'a witness beside --ends',
-             'other first candidates than along decisions', 'choices of the wide walk alone', 'a plain drawing')
+             'other first candidates than along decisions', 'choices of the wide walk alone', 'a plain drawing', 'a print', 'a trap at its row')
 
 
 class Asked(NamedTuple):
@@ -191,6 +191,9 @@ def met(asked, world, glyphs):
     pairs = [glyph for glyph in glyphs if glyph.kind == picture_model.PAIRED]
     yield from ['to oneself'] * any(glyph.call.rank == glyph.other.rank for glyph in pairs)
     yield from ['to the left'] * any(glyph.call.rank > glyph.other.rank for glyph in pairs)
+    notes = [glyph.note for glyph in glyphs if glyph.kind == picture_model.NOTED]
+    yield from ['a print'] * any(note.trap is None for note in notes)
+    yield from ['a trap at its row'] * any(note.trap is not None for note in notes)
     yield from ['a release'] * any(glyph.kind == picture_model.RELEASED for glyph in glyphs)
     for rank in world.ranks:
         yield from ['a free send'] * any(rank.calls[number].kind == 'send' for number in rank.free)

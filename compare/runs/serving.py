@@ -42,6 +42,7 @@ class Scenario(NamedTuple):
 
 SCENARIOS = (
     Scenario('a dialogue', served_leavers.dialogue), Scenario('clients one by one', served_leavers.one_by_one),
+    Scenario('looks of two clients', served_leavers.looked),
     Scenario('what is counted', served_leavers.counted), Scenario('when all have left', served_leavers.at_last),
     Scenario('a silent client', served_leavers.silent), Scenario('left in mid-line', served_leavers.in_mid_line),
     Scenario('broken off', served_leavers.broken_off), Scenario('no UTF-8', served_leavers.no_text),

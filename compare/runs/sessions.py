@@ -28,7 +28,7 @@ from cases.explore_cases import Beside
 from cases.kinds import BESIDE
 from cases.session_cases import WAYS, Case, random_case
 from cases.session_lines import KINDS
-from faults import policy_faults, session_faults, session_line_faults, slots_faults, waitany_faults
+from faults import policy_faults, session_faults, session_line_faults, session_look_faults, slots_faults, waitany_faults
 from model import session
 from model.debugger import Result
 from model.files import held
@@ -49,10 +49,13 @@ STOPS = ('leaf', 'choice', 'max', 'full', 'break by a run', 'break by a run on',
 TOLD = ('a null', 'a number below 0', 'a number printed', 'outcome done', 'outcome leftovers', 'outcome deadlock', 'outcome trap', 'undone steps',
         'set pair', 'set woke', 'set barrier', 'rank at', 'rank blocked', 'rank trapped', 'rank ended', 'eligible', 'held by', 'no partners',
         'leaf done', 'leaf leftovers', 'leaf deadlock', 'leaf trap', 'leaf cut', 'leaf with choices', 'more leaves', 'no more leaves',
-        'breakpoint line', 'breakpoint match', 'breakpoint change', 'breakpoint handle', 'two stops of one breakpoint', 'a last line without an end', 'no reply to a line',
+        'breakpoint line', 'breakpoint match', 'breakpoint change', 'breakpoint handle', 'breakpoint rank', 'breakpoint of a rank',
+        'breakpoint with a condition', 'a stop by rank', 'two stops of one breakpoint', 'a last line without an end', 'no reply to a line',
         'a script that is refused', 'a depth above 100', 'the right version', 'a choice that is not looked at', 'a stop by line',
         'a stop by match', 'a stop by change', 'a stop by handle', 'a run on past a single candidate',
-        'a run on that stops behind a single candidate')
+        'a run on that stops behind a single candidate', 'decision forced', 'decision choice', 'decision leaf', 'a choice of a single candidate',
+        'no line', 'a rank that can go on', 'a partner', 'no partner', 'an explanation', 'nothing to explain', 'steps ahead', 'no steps listed',
+        'an array declared', 'a handle declared')
 # What must be met of version 2.
 TOLD_OF_2 = ('a choice of wakes by a handle', 'a wake by a handle', 'a wait for any', 'a wait for any of nothing')
 # What must be met of modes of slots.
@@ -85,7 +88,7 @@ def met_in_reply(command, reply):
     if not reply['ok']:
         return [reply['error']]
     found = [f'{command} ok'] + ['a depth above 100'] * (reply.get('depth', 0) > 100) + ['undone steps'] * (reply.get('undone', 0) > 0)
-    return found + met_in_stop(command, reply) + met_in_state(reply) + met_in_leaves(reply)
+    return found + met_in_stop(command, reply) + met_in_state(reply) + met_in_leaves(reply) + met_in_looks(command, reply)
 
 
 def met_in_stop(command, reply):
@@ -99,15 +102,33 @@ def met_in_stop(command, reply):
 def met_in_state(reply):
     """The same of what is told of ranks, calls and breakpoints."""
     found = [f'outcome {text.split()[0]}' for text in [reply.get('outcome')] if text]
+    if 'mode' in reply:
+        return ['an array declared'] * any('[' in name for name in reply['vars'] + reply['handles']) + ['a handle declared'] * bool(reply['handles'])
     found += [f'set {text.split()[0]}' for text in reply.get('sets', [])] + [f'rank {text.split()[0]}' for text in reply.get('ranks', [])]
     numbers = [*reply.get('vars', []), *reply.get('handles', []), *reply.get('out', [])]
     found += ['a null'] * (None in numbers) + ['a number below 0'] * any(number is not None and number < 0 for number in numbers)
     found += ['a number printed'] * bool(reply.get('out'))
-    found += ['held by' if 'held by' in text else 'eligible' for text in reply.get('partners', [])]
-    found += ['no partners'] * (reply.get('partners') == [])
+    if 'lines' not in reply:
+        found += ['held by' if 'held by' in text else 'eligible' for text in reply.get('partners', [])]
+        found += ['no partners'] * (reply.get('partners') == [])
     found += ['a wake by a handle'] * any(text.startswith('wakeany') for text in [reply.get('step', '')])
     found += [f'a wait for any{" of nothing" * text.endswith(" none")}' for text in reply.get('calls', []) if text.startswith('waitany')]
-    return found + [f'breakpoint {text.split()[1]}' for text in reply.get('breaks', [])]
+    stops = [text.split() for text in reply.get('breaks', [])]
+    found += ['breakpoint of a rank' for words in stops if words[3:4] == ['rank']] + ['breakpoint with a condition' for words in stops if 'if' in words]
+    return found + [f'breakpoint {words[1]}' for words in stops]
+
+
+def met_in_looks(command, reply):
+    """The same of looks at all ranks, at steps and at calls."""
+    if command == 'decision':
+        return [f'decision {reply["decision"]}'] + ['a choice of a single candidate'] * (reply['decision'] == 'choice' and len(reply['steps']) == 1)
+    if command in ('where', 'all'):
+        return ['no line'] * (None in reply['lines']) + ['a rank that can go on'] * bool(reply['ready'])
+    if command == 'lines':
+        return ['no partner' if other is None else 'a partner' for other in reply['partners']]
+    if command == 'steps':
+        return ['steps ahead'] * (reply['undone'] > 0) + ['no steps listed'] * (not reply['steps'])
+    return [('an explanation' if reply['told'] else 'nothing to explain')] if command == 'explain' else []
 
 
 def met_in_leaves(reply):
@@ -246,7 +267,7 @@ class Faults(NamedTuple):
 
 def breakages(chosen):
     """All faults of what the program knows, each with what may notice it."""
-    parts = [Faults(session_faults.breakages() + session_line_faults.breakages(), DIALOGUES, chosen)]
+    parts = [Faults(session_faults.breakages() + session_look_faults.breakages() + session_line_faults.breakages(), DIALOGUES, chosen)]
     parts += [Faults(breakages_of_2(), worked_waitany.DIALOGUES, beside(chosen))] * (chosen.version > 1)
     parts += [Faults(slots_faults.session_faults(session), worked_slots.DIALOGUES, chosen)] * has_slots(chosen)
     return [(fault, part.dialogues, part.chosen) for part in parts for fault in part.faults]

@@ -39,6 +39,7 @@ from started.shims import HERE, built
 from statuses.connection_statuses import ROWS as CONNECTION_ROWS
 from statuses.console_statuses import ROWS as CONSOLE_ROWS
 from statuses.device_statuses import ROWS as DEVICE_ROWS
+from statuses.found_texts import EXPECTED, FOUND, FOUND_FIRST, FOUND_LONG, FOUND_MEANT, HEADER, MEANT, MEANT_FIRST
 from statuses.part_statuses import ROWS as PART_ROWS
 from statuses.session_statuses import ROWS as SESSION_ROWS
 from statuses.usage_texts import ANSWERS, BEFORE_A_MODE, MISTAKES, NO_MODE, NO_TEXT, known
@@ -305,17 +306,18 @@ def trace_rows(program):
         yield 'the example of a file', traced(held('example', example), '--mode', 'buffered'), passes
 
 
-# A script that is refused at a byte, what stands on its line, what stands below that, and what is told of a token that can't stand there.
+# A script that is refused at a byte, what stands on its line, what stands below that, and what is told there, if anything, of a token that
+# can't stand there or of what is mostly meant.
 SHOWN = (
-    (b'mpd 1;ranks 1;print', b'4 expected at 19 line 1', 'mpd 1;ranks 1;print', ' ' * 19, 'the end of the text'),
+    (b'mpd 1;ranks 1;print', b'4 expected at 19 line 1', 'mpd 1;ranks 1;print', ' ' * 19, 'found the end of the text'),
     (b'mpd 1;\nranks 1;\n\tprint 1 & 1;\n', b'3 bad-token at 25 line 3', ' print 1 & 1;', ' ' * 9),
-    (b'mpd 1;\r\nranks 17;\r\n', b'9 bad-ranks at 14 line 2', 'ranks 17; ', ' ' * 6),
+    (b'mpd 1;\r\nranks 17;\r\n', b'9 bad-ranks at 14 line 2', 'ranks 17; ', ' ' * 6, 'a script has 1 to 16 ranks'),
     ('mpd 1;\nranks 1; # \u00fcber\n'.encode(), b'2 not-text at 18 line 2', 'ranks 1; # ??ber', ' ' * 11),
-    (b'mpd 1;\nranks 1;\nprint 1\n\n', b'4 expected at 25 line 5', '', '', "the end of the text; only ';' or an operator can stand here"),
+    (b'mpd 1;\nranks 1;\nprint 1\n\n', b'4 expected at 25 line 5', '', '', "found the end of the text; only ';' or an operator can stand here"),
     # the one of docs/FORMATS.md
-    (b'mpd 1;\nranks 1;\nprint 1\nprint 2;\n', b'4 expected at 24 line 4', 'print 2;', '', "'print'; only ';' or an operator can stand here"),
-    (b'mpd 1;\nranks 1;\nprint 1 +;\n', b'4 expected at 25 line 3', 'print 1 +;', ' ' * 9, "';'"),
-    (b'', b'4 expected at 0 line 1', '', '', "the end of the text; only 'mpd' can stand here"),
+    (b'mpd 1;\nranks 1;\nprint 1\nprint 2;\n', b'4 expected at 24 line 4', 'print 2;', '', "found 'print'; only ';' or an operator can stand here"),
+    (b'mpd 1;\nranks 1;\nprint 1 +;\n', b'4 expected at 25 line 3', 'print 1 +;', ' ' * 9, "found ';'"),
+    (b'', b'4 expected at 0 line 1', '', '', "found the end of the text; only 'mpd' can stand here"),
     (b'mpd 1;\nranks 1;\nx = 1;' + b' ' * 66 + b'# the end', b'5 unknown-name at 16 line 3', 'x = 1;' + ' ' * 66 + '...', ''),
     (b'mpd 1;\nranks 1;\nvar x; ' + b' ' * 60 + b'x = y; x = 1234567890123456789012345678901234567890;', b'5 unknown-name at 87 line 3',
      'var x; ' + ' ' * 60 + 'x = y...', ' ' * 71),
@@ -323,15 +325,15 @@ SHOWN = (
      '...' + ' ' * 32 + 'x = y; x = 12345678901234567890123456789...', ' ' * 39),
     (b' ' * 65537, b'1 too-long at 65536 line 1', '...' + ' ' * 37, ' ' * 39),
     # the end of a line, and of a text, as places
-    (b'\n' * 65534 + b'ab\n', b'1 too-long at 65536 line 65535', 'ab', '  '), (b'ab\ncd\n', b'4 expected at 0 line 1', 'ab', '', "'ab'; only 'mpd' can stand here"),
-    (b'mpd 1;\ncd\n', b'4 expected at 7 line 2', 'cd', '', "'cd'; only 'ranks' can stand here"))
+    (b'\n' * 65534 + b'ab\n', b'1 too-long at 65536 line 65535', 'ab', '  '), (b'ab\ncd\n', b'4 expected at 0 line 1', 'ab', '', "found 'ab'; only 'mpd' can stand here"),
+    (b'mpd 1;\ncd\n', b'4 expected at 7 line 2', 'cd', '', "found 'cd'; only 'ranks' can stand here"))
 
 
 def terminal_rows(program):
     """At a terminal, and there alone, the line of a script that is refused is shown, with a caret below the byte."""
     with tempfile.TemporaryDirectory() as folder:
         for data, fault, line, below, *told in SHOWN:
-            shown = refused(fault).errors + f'  {line}\n  {below}^\n'.encode() + ''.join(f'  found {it}\n' for it in told).encode()
+            shown = refused(fault).errors + f'  {line}\n  {below}^\n'.encode() + ''.join(f'  {it}\n' for it in told).encode()
             name = os.path.join(folder, 'script')
             with open(name, 'wb') as file:
                 file.write(data)
@@ -341,75 +343,13 @@ def terminal_rows(program):
         yield 'a terminal, no fault', at_terminal(program, data=SESSION), ENDED
 
 
-# What stands in front of each text below, and places in these, marked by `^`: what is told there of the token, by the grammar of
-# docs/LANGUAGE.md. Nothing is told where four kinds of tokens or more can stand.
-HEADER = 'mpd 1; ranks 2; var x; var a[2]; req r; '
-ENDS = 'the end of the text'
-FOUND = (
-    ('print 1 ^print 2;', "'print'; only ';' or an operator can stand here"),
-    ('print 1 # the end^', f"{ENDS}; only ';' or an operator can stand here"),
-    ('print (1 ^;', "';'; only ')' or an operator can stand here"),
-    ('print 1 < 2 ^< 3;', "'<'; only ';' or an operator that is no comparison can stand here"),
-    ('print 1 == 2 + 3 ^>= 3;', "'>='; only ';' or an operator that is no comparison can stand here"),
-    ('print 1 < 2 && 3 ^5;', "'5'; only ';' or an operator can stand here"),
-    ('print 1 ^= 1;', "'='; only ';' or an operator can stand here"),
-    ('print ^;', "';'"), ('print 1 + ^* 2;', "'*'"), ('print ^any;', "'any'"),
-    ('print a^;', "';'; only '[' can stand here"), ('print a[0 ^;', "';'; only ']' or an operator can stand here"),
-    ('x^++;', "'+'; only '=' can stand here"), ('x ^+= 1;', "'+'; only '=' can stand here"), ('x ^== 1;', "'=='; only '=' can stand here"),
-    ('x ^&& 1;', "'&&'; only '=' can stand here"), ('x ^!= 1;', "'!='; only '=' can stand here"), ('x ^! 1;', "'!'; only '=' can stand here"),
-    ('x^[0] = 1;', "'['; only '=' can stand here"), ('a ^= 1;', "'='; only '[' can stand here"),
-    ('if 1 ^print 2;', "'print'; only '{' or an operator can stand here"), ('if 1 { } else ^if 2 { }', "'if'; only '{' can stand here"),
-    ('while x ^do { }', "'do'; only '{' or an operator can stand here"),
-    ('while 1 { print 1; ^', ENDS), ('^}', "'}'"), ('print 1; ^else { }', "'else'"), ('print 1; ^var y;', "'var'"), ('^12;', "'12'"),
-    ('send 1 ^0 tag 1;', "'0'; only 'to' or an operator can stand here"), ('send 1 to 0 ^;', "';'; only 'tag' or an operator can stand here"),
-    ('send 1 to ^any tag 0;', "'any'"), ('isend ^1 to 0 tag 0;', "'1'; only a name can stand here"),
-    ('recv ^;', "';'; only a name can stand here"), ('recv x ^to 0 tag 0;', "'to'; only 'from' can stand here"),
-    ('recv x from any ^+ 1 tag 0;', "'+'; only 'tag' can stand here"),
-    ('recv x from 0 ^;', "';'; only 'tag' or an operator can stand here"),
-    ('recv x from 0 tag any ^print x;', "'print'; only 'status' or ';' can stand here"),
-    ('recv x from 0 tag 0 ^print x;', "'print'; only 'status', ';' or an operator can stand here"),
-    ('recv x from 0 tag 0 status x ^;', "';'; only a name can stand here"), ('recv x from 0 tag 0 status x x ^x;', "'x'; only ';' can stand here"),
-    ('wait ^5;', "'5'; only a name can stand here"), ('barrier ^x;', "'x'; only ';' can stand here"), ('barrier^', f"{ENDS}; only ';' can stand here"),
-    # a token is shown up to 72 bytes of it
-    (f'print 1 ^{"0" * 72};', f"""'{"0" * 72}'; only ';' or an operator can stand here"""),
-    (f'print 1 ^{"0" * 73};', f"""'{"0" * 72}...'; only ';' or an operator can stand here"""),
-    (f'barrier ^{"y" * 64}', f"""'{"y" * 64}'; only ';' can stand here"""))
-# The same of what a script begins with.
-FOUND_FIRST = (
-    ('mpd^', f'{ENDS}; only a number can stand here'), ('mpd ^x;', "'x'; only a number can stand here"),
-    ('mpd 1^', f"{ENDS}; only ';' can stand here"), ('mpd 1; ^var x;', "'var'; only 'ranks' can stand here"),
-    ('mpd 1; ranks ^two;', "'two'; only a number can stand here"), ('mpd 1; ranks 2 ^var x;', "'var'; only ';' can stand here"),
-    ('mpd 1; ranks 2; var ^;', "';'; only a name can stand here"), ('mpd 1; ranks 2; req ^1;', "'1'; only a name can stand here"),
-    ('mpd 1; ranks 2; var y^', f"{ENDS}; only ';' or '[' can stand here"), ('mpd 1; ranks 2; var y[^];', "']'; only a number can stand here"),
-    ('mpd 1; ranks 2; var y[3^;', "';'; only ']' can stand here"), ('mpd 1; ranks 2; var y[3] ^x;', "'x'; only ';' can stand here"))
-# A text of as many bytes as a script may have: one token more would make it too long, so none is told.
-FOUND_LONG = ((HEADER + 'print 1' + ' ' * 65536)[:65536] + '^', ENDS)
-
-
-# What is mostly meant, in a line more: of a word of another language, of a word of this one where only a name can stand, and of a block that
-# isn't closed. A fault without one has None.
-UNKNOWN, EXPECTED = '5 unknown-name', '4 expected'
-OPEN = "the block that line %d opens isn't closed"
-MEANT = (
-    ('^for (i = 0; i < 4; i++) { }', UNKNOWN, "'for' is no word here: write 'while TEST { .. }'"),
-    ('^break;', UNKNOWN, "'break' is no word here: a loop ends by its test"),
-    ('^return 0;', UNKNOWN, "'return' is no word here: a rank ends after its last statement"), ('^fort = 1;', UNKNOWN, None),
-    ('^MPI_Send(&x, 1);', UNKNOWN, "'MPI_Send' is no word here: write 'send VALUE to RANK tag TAG;'"),
-    ('recv x from ^MPI_ANY_SOURCE tag 1;', UNKNOWN, "'MPI_ANY_SOURCE' is no word here: write 'any'"),
-    ('^int y;', UNKNOWN, "'int' is no word here: a variable is declared by 'var NAME;'"),
-    ('isend ^send 1 to 0 tag 0;', EXPECTED, "'send' is a word of the language, so no name"),
-    ('recv ^rank from 0 tag 0;', EXPECTED, "'rank' is a word of the language, so no name"),
-    ('print ^tag;', EXPECTED, None), ('^else { }', EXPECTED, None), ('barrier^', EXPECTED, None),
-    ('while 1 {\n if x {\n x = 0;\n} # }\n^', EXPECTED, OPEN % 1), ('while 1 {\n if x {\n x = 0; # {\n^', EXPECTED, OPEN % 2))
-
-
 def found_rows(program):
     """At a terminal what stands where the grammar doesn't allow it, and what could stand there where that is little."""
     for marked, told in [*((HEADER + text, told) for text, told in FOUND), *FOUND_FIRST, FOUND_LONG]:
         front, _, rest = marked.partition('^')
         result = at_terminal(program, data=(front + rest).encode())
         lines = result.errors.decode().splitlines()
-        hinted = [f'  {OPEN % 1}'] if '{ print 1; ^' in marked else []
+        hinted = [f'  {it}' for end, it in FOUND_MEANT.items() if marked.endswith(end)]
         wanted = (f'mpdbg: script refused 4 expected at {len(front)} line 1', f'  found {told}', hinted, 2)
         yield f'a terminal, {marked[:200]}', (lines[0], lines[3], lines[4:], result.status), wanted
         one_line = Files(file_of((front + rest).encode())).run(program)
@@ -418,8 +358,8 @@ def found_rows(program):
 
 def hinted_rows(program):
     """At a terminal what is mostly meant by what is refused, where that is told."""
-    for text, name, told in MEANT:
-        front, _, rest = (HEADER + text).partition('^')
+    for text, name, told in [*((HEADER + text, *row) for text, *row in MEANT), *MEANT_FIRST]:
+        front, _, rest = text.partition('^')
         result = at_terminal(program, data=(front + rest).encode())
         lines = result.errors.decode().splitlines()
         first = f'mpdbg: script refused {name} at {len(front)} line {front.count(chr(10)) + 1}'
@@ -449,6 +389,8 @@ def page_rows(program):
         for words, told in REFUSED_PAGES:
             done = paged(*words)
             yield f'a page, {" ".join(words)}', Result(done.stdout, done.stderr, done.returncode), Result(b'', f'mpdbg: {told}\n'.encode(), 2)
+        told = b'mpdbg: page of more than 20000 states\n  --fuel N lets a run take N steps at most, --runs N shows fewer runs\n'
+        yield 'a page of too many states, at a terminal', at_terminal(program, 'page', script), Result(b'', told, 2)
         done = paged('--fuel', '19999')
         yield 'a page of 20,000 states', (done.stdout.count(b'\n{"s":'), done.stderr, done.returncode), (20000, b'', 0)
 

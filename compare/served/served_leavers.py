@@ -93,6 +93,30 @@ def one_by_one(tried):
     return 8
 
 
+LOOKS = (
+    ('{"cmd":"script"}', '{"handles":[],"lines":[4],"mode":"rendezvous","ok":true,"ranks":2,"vars":["x"],"version":2}'),
+    ('{"cmd":"where"}', '{"lines":[4,4],"ok":true,"ranks":["blocked 0","at 4"],"ready":[1],"version":2}'),
+    ('{"cmd":"all"}', '{"held":[{"handles":[],"out":[],"vars":[0]},{"handles":[],"out":[],"vars":[0]}],"lines":[4,4],"ok":true,'
+     '"ranks":["blocked 0","at 4"],"ready":[1],"version":2}'),
+    ('{"cmd":"decision"}', '{"decision":"forced","ok":true,"steps":["local 1"],"told":["rank 1 runs line 4; local 1"],"version":2}'),
+    ('{"cmd":"steps","from":0,"count":1}', '{"depth":2,"ok":true,"steps":["local 0"],"undone":0,"version":2}'),
+    ('{"cmd":"lines","rank":0}', '{"lines":[4],"ok":true,"partners":[null],"version":2}'), ('{"cmd":"explain"}', '{"ok":true,"told":[],"version":2}'))
+
+
+def looked(tried):
+    """Looks of two clients, whose replies have lists: each is an entry, a refused one too, and nothing changes."""
+    with tried.serve(SCRIPT, 2) as server:
+        one, other = server.ask_for(2)
+        one.must(step('local 0'), deep(1, 1))
+        one.must(step('local 0'), deep(2, 2))
+        for line, reply in LOOKS:
+            one.must(line, reply)
+            other.must(line, reply)
+        other.must('{"at":2,"cmd":"lines","rank":2}', no('bad-number'))
+        server.must_end(3 + 2 * len(LOOKS))
+    return 3 + 2 * len(LOOKS)
+
+
 def counted(tried):
     """Each request that was taken is counted, refused or not, and no line that is no request."""
     with tried.serve(SCRIPT, 2) as server:

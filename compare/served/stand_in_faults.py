@@ -124,6 +124,25 @@ def write_under_lock(self, reply):
         SOUND.write(self, reply)
 
 
+def looks_uncounted(self, request):
+    """What takes looks at all ranks without an entry."""
+    if request.command not in ('where', 'all'):
+        return SOUND.take(self, request)
+    return self.session.answer(request)
+
+
+def looks_that_raise(self, request):
+    """What raises the version for a look at steps."""
+    reply = SOUND.take(self, request)
+    if request.command == 'steps' and reply['ok']:
+        self.session.raise_version()
+    return reply
+
+
+LOOKS = (
+    Fault('looks that are no entries', 'looks of two clients', Desk, 'take', looks_uncounted),
+    Fault('a look that raises the version', 'looks of two clients', Desk, 'take', looks_that_raise))
+
 LOCK = (
     Fault('changes that are lost', 'a crowd, one by one', Desk, 'ask', without_lock),
     Fault('a version told late', 'a crowd, one by one', Desk, 'ask', version_told_late),
@@ -345,4 +364,4 @@ ENTRIES = (
     Fault('looks behind a full history', 'a full history', Desk, 'take', looks_when_full),
     Fault('no other refusal behind a full history', 'a full history', Desk, 'answer', no_request_when_full))
 
-FAULTS = (*LOCK, *REPLIES, *ENTRIES)
+FAULTS = (*LOOKS, *LOCK, *REPLIES, *ENTRIES)

@@ -74,6 +74,7 @@ Arguments:
 Options:
       --ranks <N>  How many ranks run the script, 1 to 16, in place of the number in it
       --mode <M>   How standard sends behave: rendezvous, buffered, or slots:K with K from 0 to 65536 [default: rendezvous]
+      --echo       Show each line that is read before its answer
   -h, --help       Print help
 
 Trace words stand on standard input, one a line:
@@ -100,6 +101,8 @@ Options:
       --choices <C>        The choices of a run that is laid ahead, numbers from 0 with spaces between them
       --witness <WITNESS>  A witness or a report, whose run is laid ahead
       --ends               The choices are those of a leaf of `check --ends` or `check --sample`
+      --echo               Show each line that is read before its answer
+      --width <N>          How many bytes a line of an answer has before it wraps, 20 to 1000 [default: 80]
   -h, --help               Print help
 
 Words stand on standard input, one line each; help all lists them:
@@ -129,6 +132,8 @@ Requests stand on standard input, a JSON object on each line, and each is answer
   back, redo, goto, run-back         go back, and forward again
   state, enabled, vars, calls, why   look at where it stands
   break, unbreak, breaks, explore    set breakpoints, list the runs from here
+  script, where, all, decision       tell names, lines, and what comes next
+  steps, lines, explain              list steps, lines of calls, and why it ended so
 
 Example:
   echo '{"cmd":"run","max":100}' | ./mpdbg run examples/race.mpd
@@ -296,6 +301,7 @@ Options:
       --words <WORDS>      Show the run of a file of trace words, one a line
       --runs <N>           Show the runs of the first N leaves that `check` lists, 1 to 1000
       --fuel <N>           How many steps a run takes at most, 1 to 1000000 [default: 100000]
+      --states <N>         How many states each search of a page comes to at most, 1 to 16000000 [default: 100000]
       --ends               Take choices and runs along the wide walk, as `check --ends` does
       --hide               Cover how runs end until the key h is pressed
   -h, --help               Print help
@@ -564,6 +570,8 @@ MISTAKES = (
     unknown('page|a|--hid', '--hid', 'mpdbg page --hide <FILE>', "a similar argument exists: '--hide'"),
     hyphened('picture|a|-c|0', '-c', OF_PICTURE),
     hyphened('trace|a|--ends', '--ends', 'mpdbg trace <FILE>'),
+    hyphened('run|a|--echo', '--echo', 'mpdbg run <FILE>'),
+    hyphened('debug|a|--width|-1', '-1', OF_DEBUG),
     Mistake('trace|a|--mode', "a value is required for '--mode <M>' but none was supplied"),
     Mistake('diagnose|a|--mode|--strict', "a value is required for '--mode <M>' but none was supplied"),
     Mistake('diagnose|a|--strict|--strict', "the argument '--strict' cannot be used multiple times", OF_DIAGNOSE),
@@ -578,6 +586,11 @@ MISTAKES = (
     Mistake('debug|a|--choices|--ends', "a value is required for '--choices <C>' but none was supplied"),
     Mistake('debug|a|--choices|0|--choices=0', "the argument '--choices <C>' cannot be used multiple times", OF_DEBUG),
     Mistake('debug|a|--ends|--ends', "the argument '--ends' cannot be used multiple times", OF_DEBUG),
+    Mistake('trace|a|--echo|--echo', "the argument '--echo' cannot be used multiple times", OF_TRACE),
+    Mistake('debug|a|--echo|--echo', "the argument '--echo' cannot be used multiple times", OF_DEBUG),
+    Mistake('debug|a|--width=80|--width=80', "the argument '--width <N>' cannot be used multiple times", OF_DEBUG),
+    Mistake('debug|a|--width', "a value is required for '--width <N>' but none was supplied"),
+    Mistake('trace|a|--echo=1', "unexpected value '1' for '--echo' found; no more were expected", 'mpdbg trace --echo <FILE>'),
     Mistake('debug|a|--ends=true', "unexpected value 'true' for '--ends' found; no more were expected", 'mpdbg debug --ends <FILE>'),
     Mistake('debug|a|--witness|--mode|buffered', "a value is required for '--witness <WITNESS>' but none was supplied"),
     Mistake('debug|--witness|--|a', "a value is required for '--witness <WITNESS>' but none was supplied"),
@@ -654,6 +667,9 @@ MISTAKES = (
     bad_choice('check|a|--until=', "a value is required for '--until <END>' but none was supplied"),
     # numbers
     bad_number('trace|a|--ranks|0', '0', 'ranks', '0 is not in 1..=16'),
+    bad_number('debug|a|--width|19', '19', 'width', '19 is not in 20..=1000'),
+    bad_number('debug|a|--width=1001', '1001', 'width', '1001 is not in 20..=1000'),
+    bad_number('debug|a|--width=', '', 'width', 'cannot parse integer from empty string'),
     bad_number('debug|a|--ranks=17', '17', 'ranks', '17 is not in 1..=16'),
     bad_number('run|a|--ranks|x', 'x', 'ranks', NO_DIGIT),
     bad_number('serve|a|--port|1|--clients|2|--ranks|0', '0', 'ranks', '0 is not in 1..=16'),
@@ -703,6 +719,7 @@ MISTAKES = (
     bad_number('page|a|--runs|0', '0', 'runs', '0 is not in 1..=1000'),
     bad_number('page|a|--runs=1001', '1001', 'runs', '1001 is not in 1..=1000'),
     bad_number('page|a|--fuel=1000001', '1000001', 'fuel', '1000001 is not in 1..=1000000'),
+    bad_number('page|a|--states|0', '0', 'states', '0 is not in 1..=16000000'),
     bad_number('picture|a|--fuel=1000001', '1000001', 'fuel', '1000001 is not in 1..=1000000'),
     bad_number('check|a|--runs=', '', 'runs', 'cannot parse integer from empty string'),
     bad_number('check|a|--runs|99999999999999999999', '99999999999999999999', 'runs', TOO_LARGE))

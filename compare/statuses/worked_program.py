@@ -68,6 +68,9 @@ SENT = b'mpd 1; ranks 1; send 1 to 0 tag 0;'
 TELLING = b'local 0\nwake 0\n'
 RENDEZVOUS = Result(b'ok 1\nrefused not-enabled\n', b'', 0)
 BUFFERED = Result(b'ok 1\nok 2\n', b'', 0)
+# The same with each line shown.
+ECHOED = Result(b'> local 0\nok 1\n> wake 0\nrefused not-enabled\n', b'', 0)
+ECHOED_BUFFERED = Result(b'> local 0\nok 1\n> wake 0\nok 2\n', b'', 0)
 BAD_MODE = Result(b'', b'mpdbg: bad mode\n', 2)
 NO_FILE = Result(b'', b'mpdbg: device\n', 3)
 # Files of this script stand under these names, and no others; words are parted by `|`.
@@ -78,7 +81,8 @@ NAMED = (
     ('trace|a|--mode|b', BAD_MODE), ('trace|--mode=b|a', BAD_MODE), ('trace|--mode|b|--|--mode', BAD_MODE),
     ('trace|--mode|buffered|--|--mode', BUFFERED), ('trace|-|--mode=c=d', BAD_MODE), ('trace|-|--mode=buffered', BUFFERED),
     ('trace|-|--mode=buffered=', BAD_MODE), ('trace|', NO_FILE), ('trace|b', NO_FILE), ('trace|a|--mode|rendezvous', RENDEZVOUS),
-    ('trace|a|--mode|buffered ', BAD_MODE), ('trace|a|--mode|', BAD_MODE))
+    ('trace|a|--mode|buffered ', BAD_MODE), ('trace|a|--mode|', BAD_MODE),
+    ('trace|a|--echo', ECHOED), ('trace|--echo|--mode=buffered|a', ECHOED_BUFFERED), ('trace|b|--echo', NO_FILE))
 
 # A race of nine ranks has eight leaves, and a rank that goes on and on is cut; each is in the file `a` or `b`. One of three ranks hangs if
 # rank 1 comes first (`d`), or if rank 2 does (`e`).
