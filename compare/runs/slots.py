@@ -5,8 +5,8 @@
     python3 compare/runs/slots.py --broken           and faults of the model (slots_faults.py), each of which must be noticed
 
 Of each script a report is asked for and a walk is traced, with what is shown behind its steps; every fifth one is a session too. No script
-has so many sends that 65,536 slots are taken. So all that is answered must be the same but for the mark `buffered`, which `slots:65536`
-alone has, behind the value of each standard send; and but for the status of a report without `--ends` that tells every way to end, where
+has so many sends that 65,536 slots are taken. So all that is answered must be the same but for the mode's name, which the look `script` of a
+session tells; but for the mark `buffered`, which `slots:65536` alone has, behind the value of each standard send; and but for the status of a report without `--ends` that tells every way to end, where
 `--complete` asks for that: in a mode of slots none does. With `--ends` such a report does so in each mode, and in `slots:0` all is the same; in
 `slots:65536` a match that gives a slot back is a choice, so that choices, pieces and limits are others: there the ends must be the same, and
 the status, where both reports are whole. The status is 0 where scripts were compared, none differed, and all was met that must be.
@@ -46,10 +46,12 @@ FEW_RUNS, MANY_RANKS, MOST_FUEL = (1, 2, 3, 5), 8, 200
 LARGE = re.compile(rb'[0-9]{3}')
 # A standard send, as `show` and a session tell it, up to its value.
 STANDARD = re.compile(rb'^(call \d+\.\d+ i?send to \d+ tag \d+ value -?\d+)|("i?send to \d+ tag \d+ value -?\d+)', re.MULTILINE)
+# The mode of a script, as a session tells it.
+NAMED = b'"mode":"%b"'
 MUST_MEET = ('check', 'trace', 'run', 'a deadlock', 'a trap', 'leftovers', 'all done', 'a run that is cut', 'a witness', 'a whole report', 'status 4',
              'ends', 'whole reports of ends', 'whole reports of ends with other choices', 'a whole report of ends and a wait for any',
              'refused', 'a step back', 'a step forward', 'a buffered send that is free', 'a buffered send that is matched', 'a synchronous send',
-             'a send that is not buffered', 'calls of a session', 'a wait for any')
+             'a send that is not buffered', 'calls of a session', 'a mode by its name', 'a wait for any')
 # What was met, by a text in an answer.
 TOLD_BY = (
     ('a deadlock', b'] deadlock '), ('a trap', b'] trap '), ('leftovers', b'] leftovers '), ('all done', b'] done'),
@@ -98,6 +100,7 @@ def said(chosen, question, mode):
 def wanted(question, pair, plain):
     """What must be answered in the mode of slots by what is answered in the other one."""
     output = STANDARD.sub(rb'\g<0> buffered', plain.output) if pair.buffers else plain.output
+    output = output.replace(NAMED % pair.plain.encode(), NAMED % pair.slots.encode())
     tells_all = question.command == 'check' and question.options.complete and not question.options.ends and plain.status == 0
     return Result(output, plain.errors, NOT_WHOLE if tells_all else plain.status)
 
@@ -206,6 +209,7 @@ def met_in(question, pair, result):
         yield from ['a step back'] * (b'back' in words) + ['a step forward'] * (b'redo' in words)
     yield from ['a send that is not buffered'] * (not pair.buffers and bool(STANDARD.search(result.output)))
     yield from ['calls of a session'] * (b'{"calls":["' in result.output)
+    yield from ['a mode by its name'] * (NAMED % pair.slots.encode() in result.output)
 
 
 class Differing(NamedTuple):
