@@ -23,14 +23,15 @@ use mpd_session::Session;
 use mpd_vocabulary::Word;
 use std::alloc::{AllocError, Global};
 
-/// Where it was decided how the kept run ends, and that as a line, with a second one where another way is known.
+/// Where it was decided how the kept run ends, and that as a line, with a second one if another way
+/// is known.
 #[derive(Drop)]
 struct BlameLine {
     blame: Blame,
     line: String,
 }
 
-/// How many steps a run has at most, from the start, where so many are kept.
+/// How many steps a run has at most, from the start, if `kept` are kept.
 fn limit_of(kept: usize) -> usize
     requires { kept ≤ STEPS_MAX }
     ensures value { result ≡ kept_limit kept }
@@ -68,7 +69,7 @@ fn is_same(one: Step, other: Step) -> bool
     one == other
 }
 
-/// The place of a step in a list, from 0, where it is there.
+/// The place of a step in a list, from 0, if it is there.
 fn place_in(step: Step, steps: &[Step]) -> Option<usize>
     ensures place { result ≡ position (λ b. step_eq b step) steps.now }
     ensures small { IfSome result (λ place. place < length steps.now) }
@@ -76,7 +77,7 @@ fn place_in(step: Step, steps: &[Step]) -> Option<usize>
     steps.iter().position(|other| is_same(*other, step))
 }
 
-/// Its place among candidates, where these are two or more.
+/// Its place among candidates, if these are two or more.
 fn place_among(step: Step, candidates: &[Step]) -> Option<usize>
     ensures place { result ≡ way.place_among step candidates.now }
     ensures small { IfSome result (λ place. place < length candidates.now) }
@@ -105,7 +106,7 @@ fn number_by(step: Step, decided: &Decision) -> Option<usize>
     }
 }
 
-/// Adds the word that takes a step: `next` with its number, or its trace word where it has none.
+/// Adds the word that takes a step: `next` with its number, or its trace word if it has none.
 fn push_word(out: &mut String, step: Step, number: Option<usize>) -> Result<(), AllocError>
     ensures { OnOk result (string_bytes out.new ≡ string_bytes out.old ++ way.word_by step number) }
 {
@@ -115,7 +116,8 @@ fn push_word(out: &mut String, step: Step, number: Option<usize>) -> Result<(), 
     }
 }
 
-/// Adds a line with the word that takes the step that ends well, where it is known which, in the state before it.
+/// Adds a line with the word that takes the step that ends well, if it is known which, in the state
+/// before it.
 fn push_way(
     alloc: Global,
     core: &Core<'_>,

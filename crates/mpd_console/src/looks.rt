@@ -28,7 +28,7 @@ pub(crate) const NO_SUCH_RANK: &str = "refused: there is no such rank\n";
 /// What is answered to a call that isn't there.
 const NO_SUCH_CALL: &str = "refused: there is no such call\n";
 
-/// Adds the line of the breakpoint of a number, where there is one.
+/// Adds the line of the breakpoint of a number, if there is one.
 fn push_break_at(
     out: &mut String,
     decls: &[Decl],
@@ -53,7 +53,7 @@ fn push_all_breaks(out: &mut String, decls: &[Decl], breaks: &Breaks) -> Result<
     Ok(())
 }
 
-/// Adds the lines, or that there is no breakpoint where there are none.
+/// Adds the lines, or that there is no breakpoint if there are none.
 fn push_or_none(out: &mut String, lines: &str) -> Result<(), AllocError>
     ensures { OnOk result (string_bytes out.new ≡ string_bytes out.old ++ spec.or_none lines.now) }
 {
@@ -217,7 +217,8 @@ fn push_show(alloc: Global, debugger: &Debugger<'_>, out: &mut String) -> Result
     out.push_str(&text)
 }
 
-/// Adds the answer to a word that changes nothing; none to another. An `Err` is want of memory.
+/// Adds the answer to a word that changes nothing; none to another. `Err` means that memory was
+/// refused.
 pub(crate) fn push_look(
     alloc: Global,
     debugger: &Debugger<'_>,

@@ -13,7 +13,8 @@ use mpd_names::push_spaced;
 use mpd_vocabulary::Word;
 use std::alloc::{AllocError, Global};
 
-/// What is known of a session before a word, so that it can be told behind the word what its steps did.
+/// What is known of a session before a word, so that it can be told after the word what its steps
+/// did.
 #[derive(Drop)]
 pub struct Known {
     /// How many steps are not undone.
@@ -22,7 +23,7 @@ pub struct Known {
     printed: Vec<usize>,
     /// The requests that are lost.
     lost: Vec<CallId>,
-    /// How many steps that lie ahead will be gone.
+    /// How many steps that are ahead will be gone.
     pub(crate) gone: usize,
 }
 
@@ -30,7 +31,7 @@ pub struct Known {
 #[derive(Drop)]
 pub struct Lead {
     pub word: Word,
-    /// The step that it takes, in words; empty where it takes none, or several.
+    /// The step that it takes, in words; empty if it takes none, or several.
     pub text: String,
     /// What tells afterwards what its steps did.
     pub known: Known,
@@ -59,7 +60,8 @@ fn printed_counts(alloc: Global, core: &Core<'_>) -> Result<Vec<usize>, AllocErr
     Ok(counts)
 }
 
-/// What is known of a session, given how many steps that lie ahead will be gone. An `Err` is want of memory.
+/// What is known of a session, given how many steps that are ahead will be gone. `Err` means that
+/// memory was refused.
 fn known_of(alloc: Global, debugger: &Debugger<'_>, gone: usize) -> Result<Known, AllocError>
     ensures { IfOk result (λ k. spec.told k.depth k.printed.items k.lost.items k.gone ≡ spec.known_of debugger.now.trail debugger.now.world gone) }
 {
@@ -79,8 +81,8 @@ fn goes_back(word: Word) -> bool
     matches!(word, Word::Back(_) | Word::RunBack | Word::UndoChoice)
 }
 
-/// What is known before a word is done, given how many steps that lie ahead will be gone by it: of one that goes back the depth alone, which
-/// takes no memory. An `Err` is want of memory.
+/// What is known before a word is done, given how many steps that are ahead will be gone by it: of
+/// one that goes back the depth alone, which takes no memory. `Err` means that memory was refused.
 pub fn known_for(
     alloc: Global,
     debugger: &Debugger<'_>,
@@ -110,7 +112,7 @@ fn push_prints_line(out: &mut String, rank: usize, values: &[i64]) -> Result<(),
     out.push('\n')
 }
 
-/// Adds that line, of the values behind the first so many, where there are more.
+/// Adds that line, of the values after the first so many, if there are more.
 fn push_prints_behind(
     out: &mut String,
     rank: usize,
@@ -126,7 +128,8 @@ fn push_prints_behind(
     Ok(())
 }
 
-/// Adds what a rank prints behind so many values; of a rank that isn't there nothing.
+/// Adds what a rank prints after the values that were known before; of a rank that isn't there
+/// nothing.
 #[tactic(auto, using(crate::proofs::NewsLemmas::silent))]
 fn push_prints_of(
     core: &Core<'_>,
@@ -142,7 +145,7 @@ fn push_prints_of(
     push_prints_behind(out, rank, count, core.rank(rank).output())
 }
 
-/// The number at a place, or 0 where there is none.
+/// The number at a place, or 0 if there is none.
 fn count_at(counts: &[usize], rank: usize) -> usize
     ensures { result ≡ get_or counts.now rank 0 }
 {
@@ -160,7 +163,8 @@ fn push_prints(core: &Core<'_>, out: &mut String, counts: &[usize]) -> Result<()
     Ok(())
 }
 
-/// Adds the requests that are lost, of lines of which none was lost before, where the run isn't at an end.
+/// Adds the requests that are lost, of lines of which none was lost before, if the run isn't at an
+/// end.
 fn push_losses(
     core: &Core<'_>,
     out: &mut String,
@@ -178,7 +182,7 @@ fn push_losses(
     }
 }
 
-/// Adds that steps are gone which lay ahead, where any are.
+/// Adds that steps ahead are gone, if any are.
 fn push_gone(out: &mut String, count: usize) -> Result<(), AllocError>
     ensures { OnOk result (string_bytes out.new ≡ string_bytes out.old ++ spec.gone_line count) }
 {
@@ -191,7 +195,8 @@ fn push_gone(out: &mut String, count: usize) -> Result<(), AllocError>
     write!(out, "the {count} steps that lay ahead are gone\n")
 }
 
-/// Adds what the steps of a word did, where more are taken than before it, by where the session stands after it. An `Err` is want of memory.
+/// Adds what the steps of a word did, if more are taken than before it, by where the session stands
+/// after it. `Err` means that memory was refused.
 #[tactic(auto, using(crate::proofs::NewsLemmas::lost_here))]
 pub(crate) fn push_news(
     debugger: &Debugger<'_>,

@@ -38,7 +38,7 @@ pub struct Opened<'c, 't> {
     pub said: Vec<u8>,
 }
 
-/// A console at the start of a script, given its text. It says a prompt, where prompts are wanted.
+/// A console at the start of a script, given its text. It says a prompt, if prompts are wanted.
 pub fn open<'c, 't>(
     alloc: Global,
     subject: Subject<'c>,
@@ -72,7 +72,8 @@ fn check_witness(alloc: Global, subject: Subject<'_>, witness: &Witness) -> Resu
     }
 }
 
-/// A console on a session whose steps lie ahead. It says how the run ends that they make, and where it stands. An `Err` is want of memory.
+/// A console on a session with steps ahead. It says how the run ends that they make, and where it
+/// stands. `Err` means that memory was refused.
 fn console_before<'c, 't>(
     alloc: Global,
     session: Session<'c>,
@@ -94,8 +95,8 @@ fn console_before<'c, 't>(
     }
 }
 
-/// A console at the start of a script, with steps ahead that can be taken from there, given how the run ends that they make. An `Err` is
-/// want of memory.
+/// A console at the start of a script, with steps ahead that can be taken from there, given how the
+/// run ends that they make. `Err` means that memory was refused.
 fn console_along<'c, 't>(
     alloc: Global,
     subject: Subject<'c>,
@@ -118,8 +119,8 @@ fn console_along<'c, 't>(
     console_before(alloc, session, screen, run)
 }
 
-/// How the run ends that a debugger has made: in the outcome of its state, or it is cut, where a step is still enabled. An `Err` is want of
-/// memory.
+/// How the run ends that a debugger has made: in the outcome of its state, or it is cut, if a step
+/// is still enabled. `Err` means that memory was refused.
 fn ending_there(alloc: Global, debugger: &Debugger<'_>) -> Result<Ending, AllocError>
     ensures { IfOk result (EndsAs debugger.now.world) }
 {

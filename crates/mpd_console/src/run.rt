@@ -11,10 +11,11 @@ use mpd_lines::{EngineFault, Sink, Source, run};
 use mpd_model::READS_MAX;
 use std::alloc::Global;
 
-/// Answers the lines of a source by a console (docs/CONSOLE.md), however they were cut into reads; the answer to each is written before
-/// the next is looked at. `Ok` comes only where the input has ended, `ReadFailed` (45) and `WriteFailed` (46) only where that device
-/// failed in this call, `TooManyTurns` (47) only behind 1,000,000 reads none of which was the end, and `Memory` only before anything was
-/// read or written.
+/// Answers the lines of a source by a console (docs/CONSOLE.md), however they were cut into reads;
+/// the answer to each is written before the next is looked at. `Ok` comes only if the input has
+/// ended, `ReadFailed` (45) and `WriteFailed` (46) only if that device failed in this call,
+/// `TooManyTurns` (47) only after 1,000,000 reads none of which was the end, and `Memory` only
+/// before anything was read or written.
 pub fn run_console<S: Source, W: Sink>(
     alloc: Global,
     desk: &mut ConsoleDesk<'_, '_>,

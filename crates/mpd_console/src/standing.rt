@@ -20,7 +20,7 @@ pub struct Scene<'s, 'c> {
     pub text: &'s [u8],
     /// Its breakpoints.
     pub breaks: &'s Breaks,
-    /// The lowest of these that the step hits which was told; none where none was.
+    /// The lowest of these that the step hits which was told; none if none was.
     pub hit: Option<usize>,
 }
 
@@ -29,11 +29,12 @@ pub struct Scene<'s, 'c> {
 pub(crate) struct Standing {
     /// What is decided there.
     pub(crate) decision: Decision,
-    /// The requests that are lost, where more steps are taken than before the word.
+    /// The requests that are lost, if more steps are taken than before the word.
     pub(crate) lost: Vec<CallId>,
 }
 
-/// The requests that are lost after a word, where more steps are taken than before it. An `Err` is want of memory.
+/// The requests that are lost after a word, if more steps are taken than before it. `Err` means
+/// that memory was refused.
 fn lost_after(
     alloc: Global,
     debugger: &Debugger<'_>,
@@ -47,7 +48,8 @@ fn lost_after(
     lost_calls(alloc, debugger.core())
 }
 
-/// Where a session stands after a word, given what was known before it. An `Err` is want of memory.
+/// Where a session stands after a word, given what was known before it. `Err` means that memory was
+/// refused.
 pub(crate) fn standing_of(
     alloc: Global,
     debugger: &Debugger<'_>,

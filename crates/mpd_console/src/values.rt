@@ -1,4 +1,4 @@
-//! The values of expressions that stand behind `print` (docs/CONSOLE.md, "Looks").
+//! The values of expressions that stand after `print` (docs/CONSOLE.md, "Looks").
 
 ghost use Rattle.std.specs.Prelude.{◌≡◌, ◌≢◌, ◌+◌, ◌<◌, ◌≤◌, ◌++◌, IfErr, IfOk, OnErr, OnOk, Err, Ok, length, map, string_bytes, vec_capacity, vec_len};
 ghost use Rattle.std.specs.List.{flat_map};
@@ -36,7 +36,7 @@ const EXPECTED: [(&str, &[u8]); 6] = [
     ("the end of the text", b""),
 ];
 
-/// The expression that a text spells by the names of a script, and the rank behind it.
+/// The expression that a text spells by the names of a script, and the rank after it.
 fn read_for(alloc: Global, code: &Code, text: &[u8]) -> Result<Asked, ReadFault>
     ensures ok { IfOk result (λ a. asking code.now.program.decls text.now ≡ Ok (a.expr, a.rank)) }
     ensures err { IfErr result (λ f. f.code ≢ Memory → asking code.now.program.decls text.now ≡ Err f) }
@@ -115,7 +115,8 @@ fn push_values(core: &Core<'_>, out: &mut String, asked: &Asked) -> Result<(), A
 
 // ---- what is no expression
 
-/// Whether a token may stand behind the front of an expression: the text that ends with it isn't refused there as `Expected`.
+/// Whether a token may stand after the front of an expression: the text that ends with it isn't
+/// refused there as `Expected`.
 fn is_allowed(alloc: Global, code: &Code, front: &[u8], token: &[u8]) -> Result<bool, AllocError>
     ensures { IfOk result (λ found. found ≡ spec.allows code.now.program.decls front.now token.now) }
 {
@@ -133,7 +134,7 @@ fn is_allowed(alloc: Global, code: &Code, front: &[u8], token: &[u8]) -> Result<
     }
 }
 
-/// What stands first in a table of those that may stand behind the front; nothing if none may.
+/// What stands first in a table of those that may stand after the front; nothing if none may.
 fn first_allowed(
     alloc: Global,
     code: &Code,
@@ -238,8 +239,8 @@ fn push_fault_of(
 
 // ---- either
 
-/// Adds what is told of what stands behind `print`: values, or why it is no expression. It answers whether it is one. An `Err` is
-/// want of memory.
+/// Adds what is told of what stands after `print`: values, or why it is no expression. It answers
+/// whether it is one. `Err` means that memory was refused.
 fn push_asked(
     alloc: Global,
     debugger: &Debugger<'_>,
@@ -265,14 +266,14 @@ fn push_asked(
     }
 }
 
-/// What is told of what stands behind `print`, and whether it is an expression.
+/// What is told of what stands after `print`, and whether it is an expression.
 #[derive(Drop)]
 struct ValueTold {
     text: Vec<u8>,
     is_asked: bool,
 }
 
-/// What a session tells of what stands behind `print`.
+/// What a session tells of what stands after `print`.
 #[tactic(auto, using(crate::proofs::SaidLemmas::valuing))]
 fn value_text(
     alloc: Global,
@@ -305,7 +306,7 @@ fn keep(asked: &mut Vec<u8>, text: &[u8], is_asked: bool) -> Result<(), AllocErr
     Ok(())
 }
 
-/// Tells of what stands behind `print`, and keeps it for the next empty line if it is an expression.
+/// Tells of what stands after `print`, and keeps it for the next empty line if it is an expression.
 #[tactic(auto, using(crate::proofs::SaidLemmas::evaluating))]
 pub(crate) fn evaluate(
     alloc: Global,

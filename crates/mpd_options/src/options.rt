@@ -28,20 +28,20 @@ const NOT_TEXT: &str =
 /// How deadlocks are looked for.
 #[derive(Clone, Copy)]
 pub struct CheckOptions {
-    /// Up to how many slots each mode is tried, instead of one mode: `rendezvous`, `slots:1` to
-    /// `slots:N`, `buffered`. `None` tries the one mode alone.
+    /// Up to how many slots modes are tried, 0 to 1,000, instead of one mode: `rendezvous`,
+    /// `slots:1` to `slots:N`, `buffered`. `None` tries the one mode alone.
     pub modes: Option<usize>,
-    /// How many runs of each piece are tried at most; 1,000 by default.
+    /// How many runs of each piece are tried at most, 1 to 65,536; 1,000 by default.
     pub runs: usize,
     /// Whether the number of runs is given.
     pub runs_given: bool,
-    /// How many steps each run takes at most.
+    /// How many steps each run takes at most, 1 to 1,000,000.
     pub fuel: usize,
-    /// By how many choices the runs are cut into pieces; 1 by default.
+    /// By how many choices the runs are cut into pieces, 0 to 8; 1 by default.
     pub split: usize,
     /// Whether the number of these choices is given.
     pub split_given: bool,
-    /// How many workers make the report.
+    /// How many workers make the report, 0 to 1,000; more than 16, and 0, are refused later.
     pub workers: usize,
     /// Whether each end is listed once: of runs that differ only in the order of steps that don't conflict, one.
     pub ends: bool,
@@ -50,9 +50,9 @@ pub struct CheckOptions {
     pub outcomes: bool,
     /// How many states are kept at most, if given: 1 to 16,000,000.
     pub states: Option<usize>,
-    /// How many runs are drawn at random, instead of trying all; optional.
+    /// How many runs are drawn at random, 1 to 65,536, instead of trying all; optional.
     pub sample: Option<usize>,
-    /// The seed of the draw; optional.
+    /// The seed of the draw, any number of 64 bits; optional.
     pub seed: Option<u64>,
     /// Whether each deadlock and each trap is explained.
     pub explain: bool,
@@ -64,7 +64,7 @@ pub struct CheckOptions {
     pub witness: bool,
     /// Whether the status shall say that not all runs were tried.
     pub complete: bool,
-    /// The number of the piece whose part of the report is wanted alone.
+    /// The number of the piece whose part of the report is wanted alone, 0 to 1,023; optional.
     pub piece: Option<usize>,
     /// Whether it is only asked how many pieces there are.
     pub count_pieces: bool,
@@ -87,7 +87,7 @@ pub struct PageOptions<'a> {
     pub runs: Option<usize>,
     /// How many steps a run takes at most, 1 to 1,000,000.
     pub fuel: usize,
-    /// How many states each search comes to at most, 1 to 16,000,000.
+    /// How many states each search visits at most, 1 to 16,000,000.
     pub states: usize,
     /// Whether choices and runs go along the wide walk.
     pub ends: bool,
@@ -106,7 +106,7 @@ pub enum Options<'a> {
         file: &'a str,
         /// The word of the mode, unchecked; optional.
         mode: Option<&'a str>,
-        /// Up to how many slots modes are diagnosed in turn, if that is asked for.
+        /// Up to how many slots modes are diagnosed in turn, 0 to 1,000, if that is asked for.
         modes: Option<usize>,
         /// Whether the status shall say that calls can be left over.
         strict: bool,
@@ -137,7 +137,8 @@ pub enum Options<'a> {
         ends: bool,
         /// Whether each line that is read is shown before its answer.
         echo: bool,
-        /// How many bytes a line of an answer has before it wraps, 20 to 1,000; 80 where that isn't said.
+        /// How many bytes a line of an answer has before it wraps, 20 to 1,000; 80 if that isn't
+        /// said.
         width: usize,
     },
     /// Answer requests on the script of a file, which stand on standard input.
@@ -153,7 +154,7 @@ pub enum Options<'a> {
         file: &'a str,
         /// The word of the mode, unchecked; `rendezvous` if none is given.
         mode: &'a str,
-        /// The port to listen on; 0 lets the system choose one.
+        /// The port to listen on, 1 to 65,535.
         port: u16,
         /// How many clients are answered, 1 to 16.
         clients: usize,
@@ -175,7 +176,7 @@ pub enum Options<'a> {
         witness: &'a str,
         /// The word of the mode, unchecked; `rendezvous` if none is given.
         mode: &'a str,
-        /// The leaf whose witness is taken of a whole report.
+        /// The leaf whose witness is taken of a whole report, 0 to 67,108,863; optional.
         leaf: Option<usize>,
     },
     /// Write the trace words of a run of the script of a file.
@@ -186,7 +187,7 @@ pub enum Options<'a> {
         choices: &'a str,
         /// The word of the mode, unchecked; `rendezvous` if none is given.
         mode: &'a str,
-        /// How many steps the run takes at most.
+        /// How many steps the run takes at most, 1 to 1,000,000.
         fuel: usize,
         /// Whether the choices are those of a report of `--ends` or `--sample`.
         ends: bool,
@@ -208,7 +209,8 @@ pub enum Options<'a> {
         witness: Option<&'a str>,
         /// The file of the run's trace words; optional.
         words: Option<&'a str>,
-        /// How many steps the run takes at most, if it is told by choices or by nothing.
+        /// How many steps the run takes at most, 1 to 1,000,000, if it is told by choices or by
+        /// nothing.
         fuel: usize,
         /// Whether the choices are those of a report of `--ends` or `--sample`.
         ends: bool,

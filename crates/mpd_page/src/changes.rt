@@ -14,7 +14,7 @@ use mpd_model::{Call, CallId, CallKind, Mode, Step};
 use mpd_names::issue_line;
 use std::alloc::AllocError;
 
-/// Adds what is told of a rank, where it is another than it was.
+/// Adds what is told of a rank, if it is another than it was.
 pub(crate) fn push_other(
     out: &mut String,
     rank: usize,
@@ -29,7 +29,7 @@ pub(crate) fn push_other(
     write!(out, ",[{rank},{now}]")
 }
 
-/// Adds where a rank stands, where it is another place than it was.
+/// Adds where a rank stands, if it is another place than it was.
 fn push_place(
     before: &Core<'_>,
     after: &Core<'_>,
@@ -61,7 +61,7 @@ pub(crate) fn push_places(
     Ok(())
 }
 
-/// Adds where a rank stands, where that isn't line 0.
+/// Adds where a rank stands, if that isn't line 0.
 fn push_first_place(core: &Core<'_>, out: &mut String, rank: usize) -> Result<(), AllocError>
     ensures { OnOk result (string_bytes out.new ≡ string_bytes out.old ++ spec.first_entry core.now.program core.now.world rank) }
 {
@@ -113,7 +113,7 @@ fn output<'r>(core: &'r Core<'_>, rank: usize) -> &'r [i64]
     core.rank(rank).output()
 }
 
-/// Adds the value of a cell, where it is another than it was.
+/// Adds the value of a cell, if it is another than it was.
 fn push_value_if(
     out: &mut String,
     rank: usize,
@@ -129,7 +129,7 @@ fn push_value_if(
     write!(out, ",[{rank},{cell},\"{now}\"]")
 }
 
-/// Adds the value of a cell of a rank, where it is another than it was.
+/// Adds the value of a cell of a rank, if it is another than it was.
 fn push_value(
     out: &mut String,
     rank: usize,
@@ -204,7 +204,7 @@ fn push_number(out: &mut String, number: Option<usize>) -> Result<(), AllocError
     }
 }
 
-/// Adds the call of a handle, where it is another than it was.
+/// Adds the call of a handle, if it is another than it was.
 fn push_handle_if(
     out: &mut String,
     rank: usize,
@@ -222,7 +222,7 @@ fn push_handle_if(
     out.push_str("]")
 }
 
-/// Adds the call of a handle of a rank, where it is another than it was.
+/// Adds the call of a handle of a rank, if it is another than it was.
 fn push_handle(
     out: &mut String,
     rank: usize,
@@ -281,7 +281,7 @@ pub(crate) fn push_handles(
     Ok(())
 }
 
-/// The values behind the first so many.
+/// The values after the first `count`.
 fn values_behind(count: usize, values: &[i64]) -> &[i64]
     ensures { result.now ≡ spec.values_behind count values.now }
 {
@@ -368,7 +368,7 @@ fn push_call_at(
     add_text(out, "]")
 }
 
-/// Adds a call, where there is one.
+/// Adds a call, if there is one.
 fn push_call(core: &Core<'_>, out: &mut Vec<u8>, id: CallId) -> Result<(), AllocError>
     ensures { OnOk result (out.new.items ≡ out.old.items ++ spec.call_member core.now.program core.now.world.board (call_at core.now.world.board id)) }
 {

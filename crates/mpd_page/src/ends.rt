@@ -29,7 +29,7 @@ fn ending_at(alloc: Global, core: &Core<'_>) -> Result<Ending, AllocError>
     }
 }
 
-/// Adds the lines of a text under a key, where there are any.
+/// Adds the lines of a text under a key, if there are any.
 #[tactic(auto, unfolding(crate::specs::Ends::lines_if))]
 fn push_lines_if(out: &mut Vec<u8>, key: &str, text: &[u8]) -> Result<(), AllocError>
     ensures { OnOk result (out.new.items ≡ out.old.items ++ spec.lines_if key.now text.now) }
@@ -100,7 +100,7 @@ fn push_end_text(
     push_lines_if(out, "lost", lost.as_bytes())
 }
 
-/// How many steps a run has at most, from the start, where so many are taken.
+/// How many steps a run has at most, from the start, if `taken` of them are taken.
 fn limit_of(taken: usize) -> usize
     requires { taken ≤ STEPS_MAX }
     ensures value { result ≡ spec.run_limit taken }
@@ -114,7 +114,7 @@ fn limit_of(taken: usize) -> usize
     }
 }
 
-/// Adds the depth at which it was decided, where that is known.
+/// Adds the depth at which it was decided, if that is known.
 fn push_depth(out: &mut String, blame: Blame) -> Result<(), AllocError>
     ensures { OnOk result (string_bytes out.new ≡ string_bytes out.old ++ spec.depth_text blame) }
 {
@@ -145,8 +145,8 @@ fn decided_text(alloc: Global, blame: Blame, words: &str) -> Result<Vec<u8>, All
     Ok(text)
 }
 
-/// By which step it was decided how the run of a debugger ends, as far as a search tells it that comes to so many states at most. The debugger
-/// is left on the way back along its run.
+/// By which step it was decided how the run of a debugger ends, as far as a search tells it that
+/// visits `most` states at most. On return the debugger is on the way back along its run.
 fn decided(alloc: Global, whole: &mut Debugger<'_>, most: usize) -> Result<Vec<u8>, AllocError>
     requires clean { length whole.old.trail.steps ≡ whole.old.trail.depth }
     ensures { IfOk result (λ t. Decides most whole.old.trail.program whole.old.trail.mode whole.old.trail.steps t.items) }

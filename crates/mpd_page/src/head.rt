@@ -168,7 +168,7 @@ fn push_declared(out: &mut Vec<u8>, decl: &Decl) -> Result<(), AllocError>
     add_text(out, &rest)
 }
 
-/// Adds it, where it is one of this kind.
+/// Adds it, if it is one of this kind.
 fn push_declared_if(out: &mut Vec<u8>, kind: DeclKind, decl: &Decl) -> Result<(), AllocError>
     ensures { OnOk result (out.new.items ≡ out.old.items ++ spec.declared_entry kind decl.now) }
 {

@@ -96,7 +96,7 @@ pub(crate) fn push_array(out: &mut Vec<u8>, elements: &[u8]) -> Result<(), Alloc
     add_text(out, "]")
 }
 
-/// Adds them as a member, and nothing where there is none.
+/// Adds them as a member, and nothing if there is none.
 pub(crate) fn push_member(out: &mut Vec<u8>, key: &str, elements: &[u8]) -> Result<(), AllocError>
     ensures { OnOk result (out.new.items ≡ out.old.items ++ spec.member key.now elements.now) }
 {

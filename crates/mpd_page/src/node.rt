@@ -29,7 +29,7 @@ pub struct Way {
     pub more: bool,
 }
 
-/// The place of a step in a list, from 0, where it is there.
+/// The place of a step in a list, from 0, if it is there.
 fn place_in(step: Step, steps: &[Step]) -> Option<usize>
     ensures { result ≡ position (λ b. step_eq b step) steps.now }
 {
@@ -46,7 +46,7 @@ fn push_number(out: &mut String, number: Option<usize>) -> Result<(), AllocError
     }
 }
 
-/// Adds the state from which a step leads, where that isn't the last one.
+/// Adds the state from which a step leads, if that isn't the last one.
 fn push_parent(out: &mut String, at: usize, last: usize) -> Result<(), AllocError>
     ensures { OnOk result (string_bytes out.new ≡ string_bytes out.old ++ spec.parent_member at last) }
 {

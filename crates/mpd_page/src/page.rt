@@ -29,7 +29,7 @@ use std::alloc::{AllocError, Global};
 struct DrawPlan {
     /// Along what choices are told.
     walk: Walk,
-    /// How many states the search for the step that decides comes to at most, of one run.
+    /// How many states the search for the step that decides visits at most, of one run.
     blamed: usize,
 }
 
@@ -242,7 +242,7 @@ fn page_of(
     made
 }
 
-/// Of so many states those of one of so many runs, of which each has an equal part; none where there is no run.
+/// The part that each of `runs` runs has of `states` states, an equal one; 0 if there is no run.
 fn share(states: usize, runs: usize) -> usize
     ensures { result ≡ share states runs }
 {
@@ -252,9 +252,10 @@ fn share(states: usize, runs: usize) -> usize
     states / runs
 }
 
-/// The page of some runs from the start of a script: the template about its data. A run is the steps from there, each enabled where it
-/// stands; one that isn't, and a run of more than 1,000,000 steps, is told as want of memory, and so is want of memory. The searches for
-/// the steps that decide come to so many states at most, all together.
+/// The page of some runs from the start of a script: the template about its data. A run is the
+/// steps from there, each enabled where it stands. The searches for the steps that decide visit
+/// `states` states at most, all together. `Memory` means that memory was refused, that a step isn't
+/// enabled, or that a run has more than 1,000,000 steps.
 #[tactic(auto, using(crate::proofs::PageLemmas::paging))]
 pub fn make_page(
     alloc: Global,

@@ -14,7 +14,7 @@ use mpd_model::{CallId, CallKind, is_barrier};
 use mpd_names::is_blocked;
 use std::alloc::{AllocError, Global};
 
-/// Adds the call that holds a match back, where one does.
+/// Adds the call that holds a match back, if one does.
 fn push_holder(out: &mut String, holder: Option<CallId>) -> Result<(), AllocError>
     ensures { OnOk result (string_bytes out.new ≡ string_bytes out.old ++ spec.holder_text holder) }
 {
@@ -182,7 +182,7 @@ fn push_reason(core: &Core<'_>, out: &mut String, rank: usize) -> Result<(), All
     out.push_str("]")
 }
 
-/// Adds why a rank waits, where that is another reason than it was.
+/// Adds why a rank waits, if that is another reason than it was.
 fn push_reason_change(
     before: &Core<'_>,
     after: &Core<'_>,

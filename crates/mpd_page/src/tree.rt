@@ -23,7 +23,7 @@ pub struct Branch {
 pub enum PageFault {
     /// It would have more than `STATES_MAX` states.
     TooMany,
-    /// A growth was refused.
+    /// Memory was refused.
     Memory,
 }
 
@@ -54,7 +54,7 @@ fn place_in(states: &[Branch], at: usize, step: Step) -> Option<usize>
         .position(|branch| is_branch(at, step, *branch))
 }
 
-/// The number of the state to which a step leads from another, where it is there.
+/// The number of the state to which a step leads from another, if it is there.
 #[tactic(auto, using(crate::proofs::TreeLemmas::finding))]
 pub(crate) fn child(tree: &[Branch], at: usize, step: Step) -> Option<usize>
     requires { at ≤ length tree.now }

@@ -119,7 +119,8 @@ fn push_listed(
     Ok(())
 }
 
-/// Adds the candidates of the choice at the end, if there is one. An `Err` is want of memory.
+/// Adds the candidates of the choice at the end, if there is one. `Err` means that memory was
+/// refused.
 #[tactic(auto, unfolding(crate::specs::Shapes::candidates))]
 pub(crate) fn push_candidates(
     alloc: Global,

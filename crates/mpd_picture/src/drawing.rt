@@ -22,7 +22,8 @@ use mpd_core::{Core, Debugger};
 use mpd_model::{Outcome, print_outcome};
 use std::alloc::{AllocError, Global};
 
-/// How much of a run is drawn at most: so many calls that are issued, matches, releases, and ranks that go on.
+/// How much of a run is drawn at most: this many calls that are issued, matches, releases, notes,
+/// and ranks that go on.
 pub const GLYPHS_MAX: usize = 20_000;
 
 /// What a drawing has beside the lanes.
@@ -39,7 +40,7 @@ pub enum Look {
 pub enum DrawFault {
     /// Its steps show more than `GLYPHS_MAX`.
     TooLong,
-    /// A growth was refused.
+    /// Memory was refused.
     Memory,
 }
 
@@ -67,7 +68,7 @@ fn push_how(alloc: Global, out: &mut String, ended: &Option<Outcome>) -> Result<
     }
 }
 
-/// Adds what the title of a picture of so many steps says that have ended so.
+/// Adds the title of a picture of `depth` steps, by how they have ended.
 #[tactic(auto, unfolding(crate::specs::Pictures::title_of))]
 fn push_title_text(
     alloc: Global,
@@ -86,7 +87,7 @@ fn push_title_text(
     push_how(alloc, out, ended)
 }
 
-/// The title of a picture of so many steps.
+/// The title of a picture of `depth` steps.
 fn title_of(alloc: Global, core: &Core<'_>, depth: usize) -> Result<String, AllocError>
     ensures { IfOk result (λ t. string_bytes t ≡ spec.title_of core.now.world.board depth (outcome core.now.world)) }
 {
@@ -181,14 +182,15 @@ fn push_head(out: &mut String, width: usize, height: usize, title: &str) -> Resu
     push_text(out, "head", 12, 24, title)
 }
 
-/// How high a drawing is of so many ranks and rows, and places in the list of what is told.
+/// How high a drawing is, in pixels, by its ranks, its rows, and the places in the list of what is
+/// told.
 fn height_of(count: usize, rows: usize, places: usize) -> usize
     ensures { result ≡ spec.height_of count rows places }
 {
     (row_y(rows) + 274 + tracks_height(count)).max(told_y(places) + 12)
 }
 
-/// How wide a drawing is.
+/// How wide a drawing is, in pixels.
 fn width_by(core: &Core<'_>, look: Look) -> usize
     ensures { result ≡ spec.width_by look core.now.world.board }
 {
@@ -198,7 +200,7 @@ fn width_by(core: &Core<'_>, look: Look) -> usize
     }
 }
 
-/// How high a drawing is.
+/// How high a drawing is, in pixels.
 fn height_by(look: Look, count: usize, rows: usize, places: usize) -> usize
     ensures { result ≡ spec.height_by look count rows places }
 {
@@ -257,7 +259,7 @@ fn push_tail(
     }
 }
 
-/// The drawing of so many steps that show this, in the state where they lead.
+/// The drawing of `depth` steps that show this, in the state to which they lead.
 #[tactic(auto, unfolding(crate::specs::Pictures::svg_by))]
 fn svg_of(
     alloc: Global,
@@ -307,8 +309,8 @@ fn push_few(
     push_rows(core, out, &shapes)
 }
 
-/// Adds the picture of the steps that are not undone, as text of 80 columns at most, or one line where they show more than
-/// `GLYPHS_MAX`. An `Err` is want of memory.
+/// Adds the picture of the steps that are not undone, as text of 80 columns at most, or one line if
+/// they show more than `GLYPHS_MAX`. `Err` means that memory was refused.
 pub fn push_picture(debugger: &Debugger<'_>, out: &mut String) -> Result<(), AllocError>
     ensures { OnOk result (string_bytes out.new ≡ string_bytes out.old ++ spec.picture_text debugger.now.trail debugger.now.world) }
 {

@@ -87,7 +87,7 @@ fn deed_of(core: &Core<'_>, printed: usize, rank: usize) -> Option<Deed>
     }
 }
 
-/// Whether a step has issued a call, of a rank that had so many before.
+/// Whether a step has issued a call, of a rank that had `before` calls.
 fn issues(core: &Core<'_>, before: usize, rank: usize) -> bool
     ensures { result ≡ spec.issues before core.now.world.board rank }
 {
@@ -259,7 +259,7 @@ fn glyphs_again(alloc: Global, debugger: &mut Debugger<'_>) -> Result<Vec<Glyph>
     Ok(glyphs)
 }
 
-/// What the steps show that are not undone. An `Err` is want of memory.
+/// What the steps show that are not undone. `Err` means that memory was refused.
 #[tactic(auto, using(crate::proofs::GlyphLemmas::going_back))]
 pub(crate) fn glyphs_of(alloc: Global, debugger: &Debugger<'_>) -> Result<Vec<Glyph>, AllocError>
     ensures { IfOk result (λ glyphs. glyphs.items ≡ spec.glyphs_of debugger.now.trail.program debugger.now.trail.mode (done_steps debugger.now.trail)) }

@@ -69,7 +69,8 @@ fn left_out(alloc: Global) -> Result<String, AllocError>
     Ok(label)
 }
 
-/// Of a label that has more than 16 characters a shorter one, where it has no more. An `Err` is want of memory.
+/// Of a label that has more than 16 characters a shorter one, if it has no more. `Err` means that
+/// memory was refused.
 pub(crate) fn short_by(alloc: Global, whole: String, value: String) -> Result<String, AllocError>
     ensures { IfOk result (λ t. string_bytes t ≡ spec.short_by (string_bytes whole) (string_bytes value)) }
 {

@@ -74,7 +74,7 @@ fn row_at(rows: &HashMap<usize, usize>, rank: usize) -> usize
     }
 }
 
-/// Raises what stands at a rank to a row, if it is less. An `Err` is want of memory.
+/// Raises what stands at a rank to a row, if it is less. `Err` means that memory was refused.
 fn raise(rows: &mut HashMap<usize, usize>, rank: usize, row: usize) -> Result<(), AllocError>
     ensures { OnOk result (table.Raised rows.old.entries rank row rows.new.entries) }
 {
@@ -95,7 +95,8 @@ fn issued_at(issued: &HashMap<(usize, usize), usize>, call: CallId) -> Option<us
     issued.get(&(call.rank, call.index)).copied()
 }
 
-/// Puts the row in which a call is issued there, if it has none. An `Err` is want of memory.
+/// Puts the row in which a call is issued there, if it has none. `Err` means that memory was
+/// refused.
 fn put_issued(
     issued: &mut HashMap<(usize, usize), usize>,
     call: CallId,
@@ -171,7 +172,7 @@ impl Rows {
         }
     }
 
-    /// Takes a mark more. An `Err` is want of memory, and then nothing is said of them.
+    /// Takes a mark more. `Err` means that memory was refused; then nothing is said of them.
     fn add(&mut self, mark: Mark) -> Result<(), AllocError>
         ensures { OnOk result (table.IsAdvanced self.old self.new mark) }
     {
@@ -237,7 +238,7 @@ impl Marks {
     }
 }
 
-/// Adds the mark of what a step shows. An `Err` is want of memory.
+/// Adds the mark of what a step shows. `Err` means that memory was refused.
 fn add_mark(marks: &mut Vec<Mark>, rows: &mut Rows, glyph: Glyph) -> Result<(), AllocError>
     requires { table.IsTable rows.old marks.old.items }
     ensures marks { OnOk result (marks.new.items ≡ marks.old.items ++ spec.mark_after marks.old.items glyph ∷ []) }
@@ -252,7 +253,7 @@ fn add_mark(marks: &mut Vec<Mark>, rows: &mut Rows, glyph: Glyph) -> Result<(), 
     Ok(())
 }
 
-/// The marks of what the steps of a run show. An `Err` is want of memory.
+/// The marks of what the steps of a run show. `Err` means that memory was refused.
 pub(crate) fn marks_of(alloc: Global, glyphs: &[Glyph]) -> Result<Marks, AllocError>
     ensures { IfOk result (λ marks. marks ≡ spec.marks_of glyphs.now) }
 {

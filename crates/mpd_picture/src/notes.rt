@@ -106,7 +106,7 @@ fn note_label(alloc: Global, note: Note) -> Result<String, AllocError>
     short_by(alloc, whole, value)
 }
 
-/// Adds a note at its row. An `Err` is want of memory.
+/// Adds a note at its row. `Err` means that memory was refused.
 #[tactic(auto, unfolding(crate::specs::Svg::note_elements))]
 pub(crate) fn push_note(
     alloc: Global,

@@ -31,7 +31,7 @@ pub(crate) fn column_x(core: &Core<'_>) -> usize
     lane_x(core.rank_count()).max(620)
 }
 
-/// How much lower a drawing of so many ranks ends than one of a few.
+/// How much lower a drawing of `count` ranks ends than one of a few, in pixels.
 pub(crate) fn tracks_height(count: usize) -> usize
     ensures value { result ≡ spec.tracks_height count }
     ensures small { result ≤ 80 }

@@ -392,7 +392,7 @@ fn push_letters(out: &mut String) -> Result<(), AllocError>
     out.push_str(LETTERS)
 }
 
-/// Adds a picture in text. An `Err` is want of memory.
+/// Adds a picture in text. `Err` means that memory was refused.
 #[tactic(auto, unfolding(crate::specs::Rows::told_behind))]
 pub(crate) fn push_rows(
     core: &Core<'_>,

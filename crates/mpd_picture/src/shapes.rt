@@ -222,7 +222,8 @@ fn push_ends(
     Ok(())
 }
 
-/// The shapes of a run with these marks, in the state where it leads. An `Err` is want of memory.
+/// The shapes of a run with these marks, in the state where it leads. `Err` means that memory was
+/// refused.
 pub(crate) fn shapes_of(
     alloc: Global,
     core: &Core<'_>,

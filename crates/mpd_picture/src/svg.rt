@@ -562,7 +562,7 @@ fn end_title(alloc: Global, name: &str, told: &str) -> Result<String, AllocError
     Ok(title)
 }
 
-/// How a rank, one of so many, is at the end, and at which row that is drawn.
+/// How a rank, one of `count`, is at the end, and at which row that is drawn.
 #[derive(Clone, Copy)]
 pub(crate) struct RankEnd {
     pub(crate) count: usize,
@@ -734,7 +734,7 @@ fn push_shape(
     }
 }
 
-/// Adds the elements of all shapes. An `Err` is want of memory.
+/// Adds the elements of all shapes. `Err` means that memory was refused.
 pub(crate) fn push_shapes(
     alloc: Global,
     core: &Core<'_>,

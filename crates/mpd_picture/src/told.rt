@@ -58,7 +58,7 @@ fn push_shape_told(
     }
 }
 
-/// Adds what is told of all shapes. An `Err` is want of memory.
+/// Adds what is told of all shapes. `Err` means that memory was refused.
 pub(crate) fn push_list(
     alloc: Global,
     core: &Core<'_>,

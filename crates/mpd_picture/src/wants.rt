@@ -161,7 +161,7 @@ fn push_tracked(out: &mut String, low: usize, x: usize, y: usize) -> Result<(), 
     write!(out, "V{low}H{x}V{y}")
 }
 
-/// How far below its ends the arrow of a rank is, where each has a height of its own.
+/// How far below its ends the arrow of a rank is, if each has a height of its own.
 fn track_depth(rank: usize) -> usize
     ensures value { result ≡ spec.track_depth rank }
     ensures small { result ≤ 140 }

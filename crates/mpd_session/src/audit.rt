@@ -15,8 +15,8 @@ use crate::same::{same_reply, same_request};
 pub enum AuditFault {
     /// All logs have together more or fewer receipts than the history has entries (57).
     CountsDiffer,
-    /// A receipt is of no entry under its client, or stands behind one of its log whose entry isn't before its own, or its entry has
-    /// a receipt in another log (58).
+    /// A receipt is of no entry under its client, or stands after one of its log whose entry isn't
+    /// before its own, or its entry has a receipt in another log (58).
     ReceiptDiffers,
 }
 
@@ -32,7 +32,7 @@ impl AuditFault {
     }
 }
 
-/// Whether all logs have so many receipts together.
+/// Whether all logs have `count` receipts together.
 pub(crate) fn has_count<T: Logged>(logs: &[T], count: usize) -> bool
     ensures { Decides result (receipts_in T.logged logs.now ≡ count) }
 {
@@ -104,8 +104,8 @@ fn are_kept<T: Logged>(history: &[Entry], logs: &[T]) -> bool
     true
 }
 
-/// The first place from this one on whose entry number isn't below this, where all before this place have one that is; the length
-/// where there is none.
+/// The first place from this one on whose entry number isn't below this, if all before this place
+/// have one that is; the length if there is none.
 fn next_from(receipts: &[Receipt], from: usize, entry: usize) -> usize
     requires within { from ≤ length receipts.now }
     requires below { All (λ r. r.entry < entry) (take from receipts.now) }

@@ -26,7 +26,7 @@ pub enum TakeFault {
 }
 
 impl TakeFault {
-    /// Its number, as docs/SESSIONS.md lists them; 0 for want of memory, which has none.
+    /// Its number, as docs/SESSIONS.md lists them; 0 for refused memory, which has none.
     pub fn number(self) -> u8
         ensures { result ≡ take_fault_number self }
     {
@@ -47,7 +47,8 @@ impl From<AllocError> for TakeFault {
     }
 }
 
-/// Two copies of a reply. An `Err` is want of memory, and comes only where the reply holds a list.
+/// Two copies of a reply. `Err` means that memory was refused, which happens only if the reply
+/// holds a list.
 fn two_copies(alloc: Global, reply: &Reply) -> Result<(Reply, Reply), AllocError>
     ensures one { IfOk result (λ r. r.0 ≡ reply.now) }
     ensures other { IfOk result (λ r. r.1 ≡ reply.now) }
@@ -107,8 +108,9 @@ impl<'c> Book<'c> {
         self.history.len()
     }
 
-    /// Answers a request of a client, and adds it to the history: `HistoryFull` (56) exactly where that has 65,536 entries. The
-    /// receipt, the entry and the answer have the same reply. An `Err` changes nothing.
+    /// Answers a request of a client, and adds it to the history: `HistoryFull` (56) exactly if
+    /// that has 65,536 entries. The receipt, the entry and the answer have the same reply. An `Err`
+    /// changes nothing.
     #[tactic(auto, using(crate::proofs::BookLemmas::taking))]
     pub fn take(
         &mut self,
@@ -151,12 +153,14 @@ impl<'c> Book<'c> {
         }
     }
 
-    /// What the history says to the receipts that its clients kept, in logs of one client each (docs/DEFINITIONS.md, "Sessions").
-    /// `Ok` exactly where all logs have together as many receipts as the history has entries, the receipts of each log are of
-    /// entries under its client, with their requests and replies, in the order of the history, and no entry has receipts in two
-    /// logs: so each entry has one receipt. Else `CountsDiffer` (57) where there are more receipts than entries, or fewer, and
-    /// `ReceiptDiffers` (58) where there are as many. Entries are numbered from 0. It takes no memory: each receipt is looked at
-    /// twice, and any two logs are walked along side by side.
+    /// What the history says to the receipts that its clients kept, in logs of one client each
+    /// (docs/DEFINITIONS.md, "Sessions"). `Ok` exactly if all logs have together as many receipts
+    /// as the history has entries, the receipts of each log are of entries under its client, with
+    /// their requests and replies, in the order of the history, and no entry has receipts in two
+    /// logs: so each entry has one receipt. Else `CountsDiffer` (57) where there are more receipts
+    /// than entries, or fewer, and `ReceiptDiffers` (58) where there are as many. Entries are
+    /// numbered from 0. It takes no memory: each receipt is looked at twice, and any two logs are
+    /// walked along side by side.
     pub fn audit<T: Logged>(&self, logs: &[T]) -> Result<(), AuditFault>
         ensures ok { IsOk result ↔ ((receipts_in T.logged logs.now ≡ length self.now.history) × Agrees T.logged self.now.history logs.now) }
         ensures each { OnOk result ((n : ℕ) → n < length self.now.history → HasReceipt T.logged logs.now n) }

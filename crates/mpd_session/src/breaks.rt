@@ -37,7 +37,7 @@ fn has_handle(core: &Core<'_>, rank: usize, handle: usize) -> bool
     handle < core.rank(rank).handle_count()
 }
 
-/// Whether the rank that is meant is there, where one is.
+/// Whether the rank that is meant is there, if one is.
 fn has_meant(core: &Core<'_>, of: Option<usize>) -> bool
     ensures { result ≡ spec.has_meant core.now.world of }
 {
@@ -57,7 +57,8 @@ fn first_meant(of: Option<usize>) -> usize
     }
 }
 
-/// Whether there is the cell that a condition names, where there is one: all ranks have the same cells.
+/// Whether there is the cell that a condition names, if there is one: all ranks have the same
+/// cells.
 fn has_compared(core: &Core<'_>, of: Option<usize>, when: Option<Condition>) -> bool
     ensures { result ≡ spec.has_compared core.now.world of when }
 {
@@ -110,7 +111,7 @@ pub fn remove(breaks: &mut Breaks, number: usize) -> Effect
     Effect::Changed(Answer::Removed)
 }
 
-/// Adds what must hold, with its cell by number, where something must.
+/// Adds what must hold, with its cell by number, if something must.
 fn push_when(out: &mut String, when: Option<Condition>) -> Result<(), AllocError>
     ensures { OnOk result (string_bytes out.new ≡ string_bytes out.old ++ spec.when_text when) }
 {
@@ -122,7 +123,7 @@ fn push_when(out: &mut String, when: Option<Condition>) -> Result<(), AllocError
     push_compared(out, condition.comparison, condition.value)
 }
 
-/// A breakpoint of a line as text. An `Err` is want of memory.
+/// A breakpoint of a line as text. `Err` means that memory was refused.
 fn line_text_of(
     alloc: Global,
     number: usize,
@@ -138,7 +139,7 @@ fn line_text_of(
     Ok(text)
 }
 
-/// A breakpoint of a match as text. An `Err` is want of memory.
+/// A breakpoint of a match as text. `Err` means that memory was refused.
 fn match_text_of(
     alloc: Global,
     number: usize,
@@ -152,7 +153,7 @@ fn match_text_of(
     Ok(text)
 }
 
-/// A breakpoint as text. An `Err` is want of memory.
+/// A breakpoint as text. `Err` means that memory was refused.
 fn text_of(alloc: Global, number: usize, stop: Break) -> Result<String, AllocError>
     ensures { IfOk result (λ t. string_bytes t ≡ decimal number ++ break_text stop) }
 {
@@ -165,7 +166,7 @@ fn text_of(alloc: Global, number: usize, stop: Break) -> Result<String, AllocErr
     }
 }
 
-/// Adds the text of a place, where there is a breakpoint.
+/// Adds the text of a place, if there is a breakpoint.
 fn push_place(
     alloc: Global,
     texts: &mut Vec<String>,
@@ -180,7 +181,7 @@ fn push_place(
     Ok(())
 }
 
-/// Lists the breakpoints. An `Err` is want of memory.
+/// Lists the breakpoints. `Err` means that memory was refused.
 pub fn list(alloc: Global, breaks: &Breaks) -> Result<Effect, AllocError>
     ensures { IfOk result (λ effect. effect ≡ breaks_effect breaks.now) }
 {

@@ -34,7 +34,7 @@ fn copy_texts(alloc: Global, texts: &[String]) -> Result<TextList, AllocError>
     Ok(TextList { items })
 }
 
-/// A text of its own, where there is one.
+/// A text of its own, if there is one.
 fn copy_text(alloc: Global, text: &Option<Text>) -> Result<Option<Text>, AllocError>
     ensures { IfOk result (λ copy. copy ≡ text.now) }
 {
@@ -218,7 +218,7 @@ fn copy_holdings(alloc: Global, holdings: &[Holding]) -> Result<HoldingList, All
     Ok(HoldingList { items })
 }
 
-/// What ranks hold, of their own, where it is told.
+/// What ranks hold, of their own, if it is told.
 fn copy_held(alloc: Global, held: &Option<HoldingList>) -> Result<Option<HoldingList>, AllocError>
     ensures { IfOk result (λ copy. copy ≡ held.now) }
 {
@@ -295,7 +295,8 @@ fn copy_lines(
     })
 }
 
-/// An answer of its own. An `Err` is want of memory, and comes only where the answer has a list.
+/// An answer of its own. `Err` means that memory was refused, which happens only if the answer has
+/// a list.
 fn copy_answer(alloc: Global, answer: &Answer) -> Result<Answer, AllocError>
     ensures same { IfOk result (λ copy. copy ≡ answer.now) }
     ensures memory { OnErr result (lists_in answer.now ≡ true) }
@@ -355,7 +356,8 @@ fn copy_answer(alloc: Global, answer: &Answer) -> Result<Answer, AllocError>
 }
 
 impl Reply {
-    /// A reply of its own. An `Err` is want of memory, and comes only where the reply has a list.
+    /// A reply of its own. `Err` means that memory was refused, which happens only if the reply has
+    /// a list.
     pub fn copy(&self, alloc: Global) -> Result<Reply, AllocError>
         ensures same { IfOk result (λ copy. copy ≡ self.now) }
         ensures memory { OnErr result (holds_list self.now ≡ true) }

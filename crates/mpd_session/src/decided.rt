@@ -18,7 +18,7 @@ use mpd_model::{Decision, Outcome, STEPS_MAX, Step, print_outcome};
 use mpd_policy::{Ending, decide};
 use std::alloc::{AllocError, Global};
 
-/// The first steps of some, so many at most.
+/// The first of some steps, `count` at most.
 fn first_of(steps: &[Step], count: usize) -> &[Step]
     ensures { result.now ≡ take count steps.now }
 {
@@ -29,14 +29,15 @@ fn first_of(steps: &[Step], count: usize) -> &[Step]
     first
 }
 
-/// Whether so many steps stand there.
+/// Whether there are at least `from` steps.
 fn are_there(steps: &[Step], from: usize) -> bool
     ensures { result ≡ nat_le from (length steps.now) }
 {
     from <= steps.len()
 }
 
-/// Lists steps that are taken or lie ahead, so many at most behind those that stand before them. An `Err` is want of memory.
+/// Lists steps that are taken or ahead, `count` at most, from the one on that follows the first
+/// `from`. `Err` means that memory was refused.
 pub fn steps(
     alloc: Global,
     debugger: &Debugger<'_>,
@@ -127,7 +128,7 @@ fn decided(alloc: Global, core: &Core<'_>, decision: &Decision) -> Result<Effect
     }
 }
 
-/// Tells what comes next. An `Err` is want of memory.
+/// Tells what comes next. `Err` means that memory was refused.
 pub fn decision(alloc: Global, core: &Core<'_>) -> Result<Effect, AllocError>
     ensures { IfOk result (λ effect. effect ≡ spec.decision_effect core.now.program core.now.world (decision core.now.world)) }
 {
@@ -159,7 +160,7 @@ fn told_of(alloc: Global, core: &Core<'_>, ending: &Ending) -> Result<String, Al
     Ok(text)
 }
 
-/// The lines of what is told of how the run has ended, none where it has not.
+/// The lines of what is told of how the run has ended, none if it has not.
 fn end_lines(
     alloc: Global,
     core: &Core<'_>,
@@ -178,7 +179,7 @@ fn end_lines(
     }
 }
 
-/// Explains how the run has ended. An `Err` is want of memory.
+/// Explains how the run has ended. `Err` means that memory was refused.
 pub fn explain(alloc: Global, core: &Core<'_>) -> Result<Effect, AllocError>
     ensures { IfOk result (λ effect. effect ≡ spec.explain_effect core.now.program core.now.world) }
 {

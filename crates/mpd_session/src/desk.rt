@@ -19,7 +19,7 @@ pub enum DeskFault {
 }
 
 impl DeskFault {
-    /// Its number, as docs/SESSIONS.md lists them; 0 for want of memory, which has none.
+    /// Its number, as docs/SESSIONS.md lists them; 0 for refused memory, which has none.
     pub fn number(self) -> u8
         ensures { result ≡ desk_fault_number self }
     {

@@ -22,7 +22,7 @@ use mpd_explore::{Leaf, push_leaf_text};
 use mpd_model::{CallId, MatchSet, RUNS_MAX, STEPS_MAX, Step, print_outcome, print_step};
 use std::alloc::{AllocError, Global};
 
-/// Adds a text. An `Err` is want of memory.
+/// Adds a text. `Err` means that memory was refused.
 pub fn push_text(texts: &mut Vec<String>, text: String) -> Result<(), AllocError>
     ensures { OnOk result (map string_bytes texts.new.items ≡ map string_bytes texts.old.items ++ string_bytes text ∷ []) }
 {
@@ -41,7 +41,7 @@ pub(crate) fn step_texts(alloc: Global, steps: &[Step]) -> Result<TextList, Allo
     Ok(TextList { items })
 }
 
-/// Lists the enabled steps. An `Err` is want of memory.
+/// Lists the enabled steps. `Err` means that memory was refused.
 pub fn enabled(alloc: Global, core: &Core<'_>) -> Result<Effect, AllocError>
     ensures { IfOk result (λ effect. effect ≡ enabled_effect core.now.world) }
 {
@@ -73,7 +73,7 @@ pub(crate) fn rank_texts(alloc: Global, core: &Core<'_>) -> Result<TextList, All
     Ok(TextList { items })
 }
 
-/// How the run has ended, where no step is enabled.
+/// How the run has ended, if no step is enabled.
 fn outcome_here(alloc: Global, core: &Core<'_>) -> Result<Option<Text>, AllocError>
     ensures { IfOk result (λ text. text ≡ option_map outcome_text (outcome core.now.world)) }
 {
@@ -85,7 +85,7 @@ fn outcome_here(alloc: Global, core: &Core<'_>) -> Result<Option<Text>, AllocErr
     }
 }
 
-/// Tells the state. An `Err` is want of memory.
+/// Tells the state. `Err` means that memory was refused.
 pub fn state(alloc: Global, debugger: &Debugger<'_>) -> Result<Effect, AllocError>
     ensures { IfOk result (λ effect. effect ≡ state_effect debugger.now.trail debugger.now.world) }
 {
@@ -119,7 +119,7 @@ pub(crate) fn handles(alloc: Global, values: &[Option<usize>]) -> Result<HandleL
     })
 }
 
-/// Tells what a rank holds. An `Err` is want of memory.
+/// Tells what a rank holds. `Err` means that memory was refused.
 #[tactic(auto, using(crate::proofs::LookLemmas::holding))]
 pub fn vars(alloc: Global, core: &Core<'_>, rank: usize) -> Result<Effect, AllocError>
     ensures { IfOk result (λ effect. effect ≡ vars_effect core.now.world rank) }
@@ -158,7 +158,7 @@ fn call_texts(alloc: Global, core: &Core<'_>, rank: usize) -> Result<TextList, A
     Ok(TextList { items })
 }
 
-/// Lists the calls of a rank. An `Err` is want of memory.
+/// Lists the calls of a rank. `Err` means that memory was refused.
 pub fn calls(alloc: Global, core: &Core<'_>, rank: usize) -> Result<Effect, AllocError>
     ensures { IfOk result (λ effect. effect ≡ calls_effect core.now.world rank) }
 {
@@ -193,7 +193,7 @@ fn partner_texts(
     Ok(TextList { items })
 }
 
-/// Lists the partners of a call. An `Err` is want of memory.
+/// Lists the partners of a call. `Err` means that memory was refused.
 pub fn why(alloc: Global, core: &Core<'_>, call: CallId) -> Result<Effect, AllocError>
     ensures { IfOk result (λ effect. effect ≡ why_effect core.now.world call) }
 {
@@ -224,7 +224,8 @@ fn leaf_texts(alloc: Global, leaves: &[Leaf]) -> Result<TextList, AllocError>
     Ok(TextList { items })
 }
 
-/// Lists the first runs from here. An `Err` is want of memory, and nothing changes in any case.
+/// Lists the first runs from here. `Err` means that memory was refused; nothing changes in any
+/// case.
 #[tactic(auto, using(crate::proofs::LookLemmas::exploring))]
 pub fn explore(
     alloc: Global,
@@ -250,7 +251,7 @@ pub fn explore(
     }))
 }
 
-/// Looks at something of the script, of all ranks or of steps. An `Err` is want of memory.
+/// Looks at something of the script, of all ranks or of steps. `Err` means that memory was refused.
 pub fn look(alloc: Global, debugger: &Debugger<'_>, look: Look) -> Result<Effect, AllocError>
     ensures { IfOk result (λ effect. effect ≡ look_effect debugger.now.trail debugger.now.world look) }
 {

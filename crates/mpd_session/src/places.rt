@@ -33,7 +33,7 @@ fn can_go_on(alloc: Global, core: &Core<'_>, rank: usize) -> Result<bool, AllocE
     Ok(!steps.is_empty())
 }
 
-/// Adds a rank, where it can go on.
+/// Adds a rank, if it can go on.
 fn push_if_ready(
     alloc: Global,
     core: &Core<'_>,
@@ -57,7 +57,8 @@ fn ready(alloc: Global, core: &Core<'_>) -> Result<NumberList, AllocError>
     Ok(NumberList { items })
 }
 
-/// The line where a rank stands, where it stands at one: that of the call that it waits in, or that of its next statement.
+/// The line where a rank stands, if it stands at one: that of the call that it waits in, or that of
+/// its next statement.
 #[tactic(auto, using(crate::proofs::PlaceLemmas::standing))]
 fn stand(core: &Core<'_>, rank: usize) -> Option<usize>
     requires { rank < length core.now.world.ranks }
@@ -72,7 +73,7 @@ fn stand(core: &Core<'_>, rank: usize) -> Option<usize>
     Some(rank_line(core, rank))
 }
 
-/// The line where each rank stands, where it stands at one.
+/// The line where each rank stands, if it stands at one.
 fn rank_lines(alloc: Global, core: &Core<'_>) -> Result<HandleList, AllocError>
     ensures { IfOk result (λ list. list ≡ map (stand_of core.now.program core.now.world) (rank_numbers core.now.world.board)) }
 {
@@ -125,14 +126,14 @@ fn where_with(
     }))
 }
 
-/// Tells where each rank stands, and which can go on. An `Err` is want of memory.
+/// Tells where each rank stands, and which can go on. `Err` means that memory was refused.
 pub fn stands(alloc: Global, core: &Core<'_>) -> Result<Effect, AllocError>
     ensures { IfOk result (λ effect. effect ≡ spec.where_effect core.now.program core.now.world) }
 {
     where_with(alloc, core, None)
 }
 
-/// Tells that, and what each rank holds. An `Err` is want of memory.
+/// Tells that, and what each rank holds. `Err` means that memory was refused.
 pub fn all(alloc: Global, core: &Core<'_>) -> Result<Effect, AllocError>
     ensures { IfOk result (λ effect. effect ≡ spec.all_effect core.now.program core.now.world) }
 {
@@ -164,7 +165,8 @@ fn call_partners(alloc: Global, core: &Core<'_>, rank: usize) -> Result<PartnerL
     Ok(PartnerList { items })
 }
 
-/// Tells the line of each call of a rank, and the call that it was matched with. An `Err` is want of memory.
+/// Tells the line of each call of a rank, and the call that it was matched with. `Err` means that
+/// memory was refused.
 pub fn lines(alloc: Global, core: &Core<'_>, rank: usize) -> Result<Effect, AllocError>
     ensures { IfOk result (λ effect. effect ≡ spec.lines_effect core.now.program core.now.world rank) }
 {

@@ -48,7 +48,7 @@ impl Model for IntegerList {
     ghost view = { λ l. l.items.items };
 }
 
-/// For each handle the number of its request's call, where it has one; contracts see a list.
+/// For each handle the number of its request's call, if it has one; contracts see a list.
 #[derive(Drop)]
 pub struct HandleList {
     pub items: Vec<Option<usize>>,
@@ -76,7 +76,8 @@ impl Model for NumberList {
     ghost view = { λ l. l.items.items };
 }
 
-/// For each call of a rank the call that it was matched with, where there is one; contracts see a list.
+/// For each call of a rank the call that it was matched with, if there is one; contracts see a
+/// list.
 #[derive(Drop)]
 pub struct PartnerList {
     pub items: Vec<Option<CallId>>,
@@ -163,7 +164,7 @@ pub enum Answer {
         sets: TextList,
         /// How many undone steps are kept.
         undone: usize,
-        /// How the run has ended, where no step is enabled.
+        /// How the run has ended, if no step is enabled.
         outcome: Option<Text>,
     },
     /// Of `vars`: what a rank holds.
@@ -209,7 +210,7 @@ pub enum Answer {
     Where {
         /// What each rank is doing.
         ranks: TextList,
-        /// The line where each stands, where it stands at one.
+        /// The line where each stands, if it stands at one.
         lines: HandleList,
         /// The ranks that can go on.
         ready: NumberList,
@@ -224,7 +225,7 @@ pub enum Answer {
         steps: TextList,
         /// What is told of each of them.
         told: TextList,
-        /// How the run has ended, where no step is enabled.
+        /// How the run has ended, if no step is enabled.
         outcome: Option<Text>,
     },
     /// Of `steps`.
@@ -255,9 +256,9 @@ pub enum Refusal {
     NotEnabled,
     /// 1,000,000 steps are not undone (22).
     Full,
-    /// So many steps are not there to take back (24).
+    /// Fewer steps are not undone (24).
     AtStart,
-    /// So many steps are not undone (25).
+    /// Fewer steps are undone (25).
     NoRedo,
     /// The depth is above the present one (26).
     NotBefore,
@@ -304,7 +305,7 @@ impl Refusal {
 pub enum Reply {
     /// It was carried out.
     Done {
-        /// The version of the session behind it.
+        /// The version of the session after it.
         version: u64,
         /// What is told of it.
         answer: Answer,

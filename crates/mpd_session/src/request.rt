@@ -13,11 +13,11 @@ pub enum Look {
     All,
     /// Tell what comes next.
     Decision,
-    /// List steps that are taken or lie ahead.
+    /// List steps that are taken or ahead.
     Steps {
         /// How many stand before the first of them.
         from: usize,
-        /// How many at most.
+        /// How many at most, 1 to 1,000,000.
         count: usize,
     },
     /// List the lines of the calls of this rank, and the calls that these were matched with.
@@ -26,22 +26,24 @@ pub enum Look {
     Explain,
 }
 
-/// A command with its fields (docs/SESSIONS.md, "Requests"); numbers are as they were given, also where a session refuses them.
+/// A command with its fields (docs/SESSIONS.md, "Requests"); numbers are as they were given, also
+/// if a session refuses them.
 #[derive(Clone, Copy)]
 pub enum Command {
     /// Take this step.
     Step(Step),
-    /// Take the step that comes next: at a choice the candidate of this number.
+    /// Take the step that comes next: at a choice the candidate of this number, from 0.
     Next(Option<usize>),
-    /// Run along decisions, up to a choice, an end, a breakpoint, or so many steps.
+    /// Run along decisions, up to a choice, an end, a breakpoint, or this many steps, 1 to
+    /// 1,000,000.
     Run(usize),
     /// Run so, but take the single candidate of a choice as if it were forced.
     RunOn(usize),
-    /// Take so many steps back.
+    /// Take this many steps back, 1 to 1,000,000.
     Back(usize),
-    /// Take so many undone steps again.
+    /// Take this many undone steps again, 1 to 1,000,000.
     Redo(usize),
-    /// Take steps back until so many are left.
+    /// Take steps back until this many are left.
     Goto(usize),
     /// Run back to a step that hits a breakpoint, or to the start.
     RunBack,
@@ -49,7 +51,7 @@ pub enum Command {
     Enabled,
     /// Tell where the session stands.
     State,
-    /// Tell what this rank holds.
+    /// Tell what this rank holds; ranks count from 0.
     Vars(usize),
     /// List the calls of this rank.
     Calls(usize),
@@ -57,15 +59,15 @@ pub enum Command {
     Why(CallId),
     /// Set this breakpoint.
     Break(Break),
-    /// Remove the breakpoint of this number.
+    /// Remove the breakpoint of this number, 0 to 63.
     Unbreak(usize),
     /// List the breakpoints.
     Breaks,
     /// List the runs from here, in the order of their choices.
     Explore {
-        /// How many at most.
+        /// How many at most, 1 to 65,536.
         runs: usize,
-        /// How many steps each takes at most.
+        /// How many steps each takes at most, 1 to 1,000,000 less the depth.
         fuel: usize,
     },
     /// Look at something else.
@@ -77,6 +79,6 @@ pub enum Command {
 pub struct Request {
     /// What is to be done.
     pub command: Command,
-    /// The version that the session must have, where one is given.
+    /// The version that the session must have, if one is given.
     pub at: Option<u64>,
 }

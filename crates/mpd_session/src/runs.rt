@@ -15,7 +15,7 @@ use mpd_model::STEPS_MAX;
 use mpd_policy::{Breaks, runs as policy};
 use std::alloc::{AllocError, Global};
 
-/// Runs along decisions. An `Err` is want of memory, and then nothing has changed.
+/// Runs along decisions. `Err` means that memory was refused; then nothing has changed.
 #[tactic(auto, using(crate::proofs::RunLemmas::running))]
 pub fn run(
     alloc: Global,
@@ -37,7 +37,8 @@ pub fn run(
     }))
 }
 
-/// Runs along decisions, a single candidate taken as if it were forced. An `Err` is want of memory, and then nothing has changed.
+/// Runs along decisions, a single candidate taken as if it were forced. `Err` means that memory was
+/// refused; then nothing has changed.
 #[tactic(auto, using(crate::proofs::RunLemmas::running))]
 pub fn run_on(
     alloc: Global,
@@ -72,8 +73,8 @@ pub fn run_back(debugger: &mut Debugger<'_>, breaks: &Breaks) -> Effect
     })
 }
 
-/// The first leaves of the runs from here. Where steps are undone, a copy goes along them, so that these are kept. An `Err` is want
-/// of memory, and nothing changes in any case.
+/// The first leaves of the runs from here. If steps are undone, a copy goes along them, so that
+/// these are kept. `Err` means that memory was refused; nothing changes in any case.
 #[tactic(auto, using(crate::proofs::RunLemmas::copying))]
 pub fn report(
     alloc: Global,

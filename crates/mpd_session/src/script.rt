@@ -29,7 +29,7 @@ fn push_name(alloc: Global, names: &mut Vec<String>, decl: &Decl) -> Result<(), 
     push_text(names, declared_name(alloc, decl)?)
 }
 
-/// Adds a declaration, where it is one of this kind.
+/// Adds a declaration, if it is one of this kind.
 fn push_name_of(
     alloc: Global,
     names: &mut Vec<String>,
@@ -64,7 +64,7 @@ fn higher(one: usize, other: usize) -> usize
     if one < other { other } else { one }
 }
 
-/// The highest of some numbers, 0 where there are none.
+/// The highest of some numbers, 0 if there are none.
 fn highest(numbers: &[usize]) -> usize
     ensures { result ≡ spec.highest 0 numbers.now }
 {
@@ -82,7 +82,7 @@ fn is_among(numbers: &[usize], number: usize) -> bool
     numbers.iter().any(|other| *other == number)
 }
 
-/// Adds a number, where it is chosen.
+/// Adds a number, if it is chosen.
 pub(crate) fn push_if(
     numbers: &mut Vec<usize>,
     number: usize,
@@ -96,7 +96,7 @@ pub(crate) fn push_if(
     Ok(())
 }
 
-/// Adds a number, where it is among some.
+/// Adds a number, if it is among some.
 fn push_if_among(numbers: &mut Vec<usize>, lines: &[usize], number: usize) -> Result<(), AllocError>
     ensures { OnOk result (numbers.new.items ≡ numbers.old.items ++ spec.if_among lines.now number) }
 {
@@ -116,8 +116,8 @@ fn each_once(alloc: Global, lines: &[usize]) -> Result<NumberList, AllocError>
     Ok(NumberList { items })
 }
 
-/// Tells how many ranks run the script, in which mode, what it declares, and the lines at which its statements begin. An `Err` is want of
-/// memory.
+/// Tells how many ranks run the script, in which mode, what it declares, and the lines at which its
+/// statements begin. `Err` means that memory was refused.
 pub fn script(alloc: Global, core: &Core<'_>) -> Result<Effect, AllocError>
     ensures { IfOk result (λ effect. effect ≡ spec.script_effect core.now.program core.now.world) }
 {

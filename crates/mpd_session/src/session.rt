@@ -20,7 +20,7 @@ use mpd_policy::{Breaks, last_hit};
 use std::alloc::{AllocError, Global};
 use std::marker::Model;
 
-/// The version behind a change.
+/// The version after a change.
 fn raised(version: u64) -> u64
     ensures { result ≡ raised version }
 {
@@ -30,7 +30,7 @@ fn raised(version: u64) -> u64
     version + 1
 }
 
-/// Whether a request is for a version, where it names one.
+/// Whether a request is for a version, if it names one.
 fn is_current(version: u64, at: Option<u64>) -> bool
     ensures { result ≡ is_current version at }
 {
@@ -40,7 +40,7 @@ fn is_current(version: u64, at: Option<u64>) -> bool
     }
 }
 
-/// Raises the version where something has changed.
+/// Raises the version if something has changed.
 fn count(version: &mut u64, effect: &Effect)
     ensures { version.new ≡ version_then version.old effect.now }
 {
@@ -50,7 +50,7 @@ fn count(version: &mut u64, effect: &Effect)
     }
 }
 
-/// The reply that tells what a command came to. The version is the one behind it.
+/// The reply that tells what a command came to. The version is the one after it.
 fn reply_with(version: u64, effect: Effect) -> Reply
     ensures { (before : ℕ) → version ≡ version_then before effect → result ≡ reply_to before effect }
 {
@@ -60,7 +60,7 @@ fn reply_with(version: u64, effect: Effect) -> Reply
     }
 }
 
-/// Carries out a command. An `Err` is want of memory, and then nothing has changed.
+/// Carries out a command. `Err` means that memory was refused; then nothing has changed.
 fn carry_out(
     alloc: Global,
     debugger: &mut Debugger<'_>,
@@ -115,7 +115,8 @@ impl<'c> Model for Session<'c> {
 }
 
 impl<'c> Session<'c> {
-    /// A session at the start of a script: no step was taken, no breakpoint is set, and the version is 0. An `Err` is want of memory.
+    /// A session at the start of a script: no step was taken, no breakpoint is set, and the version
+    /// is 0. `Err` means that memory was refused.
     pub fn start(alloc: Global, code: &'c Code, mode: Mode) -> Result<Session<'c>, AllocError>
         ensures { IfOk result (λ s. s ≡ opened code.now.program mode) }
     {
@@ -147,8 +148,9 @@ impl<'c> Session<'c> {
         &self.breaks
     }
 
-    /// The lowest of its breakpoints that the last step hits, before which a run back would stop at once; none where no step is taken, or
-    /// where it hits none. The session is as it was found. An `Err` is want of memory, and comes only where a step is taken.
+    /// The lowest of its breakpoints that the last step hits, before which a run back would stop at
+    /// once; none if no step is taken, or if it hits none. The session is as it was found. `Err`
+    /// means that memory was refused, which happens only if a step is taken.
     #[tactic(auto, using(crate::proofs::AnswerLemmas::found))]
     pub fn last_hit(&mut self) -> Result<Option<usize>, AllocError>
         ensures hit { IfOk result (λ hit. hit ≡ last.last_hit self.old.breaks self.old.trail) }
@@ -158,8 +160,9 @@ impl<'c> Session<'c> {
         last_hit(&mut self.debugger, &self.breaks)
     }
 
-    /// Keeps these steps in the place of those that it had: those after the depth lie ahead then, as if they had been taken and taken
-    /// back. They begin with the steps that are not undone, and lead on from there. It raises the version, and takes no memory.
+    /// Keeps these steps in the place of those that it had: those after the depth are ahead then,
+    /// as if they had been taken and taken back. They begin with the steps that are not undone, and
+    /// lead on from there. It raises the version, and takes no memory.
     pub fn lay(&mut self, steps: Vec<Step>)
         requires begins { take self.old.trail.depth steps.items ≡ done_steps self.old.trail }
         requires run { IsRun self.old.trail.program self.old.trail.mode steps.items }
@@ -169,8 +172,8 @@ impl<'c> Session<'c> {
         self.version = raised(self.version);
     }
 
-    /// Replies to a request, and does what it asks for unless it is refused (docs/SESSIONS.md, "Requests" and "Refusals"). An `Err` is
-    /// want of memory, and then nothing has changed.
+    /// Replies to a request, and does what it asks for unless it is refused (docs/SESSIONS.md,
+    /// "Requests" and "Refusals"). `Err` means that memory was refused; then nothing has changed.
     #[tactic(auto, using(crate::proofs::AnswerLemmas::answering))]
     pub fn answer(&mut self, alloc: Global, request: &Request) -> Result<Reply, AllocError>
         ensures reply { IfOk result (λ reply. reply ≡ (respond self.old request.now).0) }

@@ -22,7 +22,7 @@ pub fn is_below(one: usize, other: usize) -> bool
     one < other
 }
 
-/// Takes a step. An `Err` is want of memory, and then nothing has changed.
+/// Takes a step. `Err` means that memory was refused; then nothing has changed.
 #[tactic(auto, using(crate::proofs::StepLemmas::stepping))]
 pub fn step(debugger: &mut Debugger<'_>, step: Step) -> Result<Effect, AllocError>
     ensures effect { IfOk result (λ effect. effect ≡ (step_effect debugger.old.trail debugger.old.world step).0) }
@@ -38,7 +38,8 @@ pub fn step(debugger: &mut Debugger<'_>, step: Step) -> Result<Effect, AllocErro
     }
 }
 
-/// Takes the step that was decided on. An `Err` is want of memory, and then nothing has changed.
+/// Takes the step that was decided on. `Err` means that memory was refused; then nothing has
+/// changed.
 #[tactic(auto, using(crate::proofs::StepLemmas::stepping))]
 fn take(debugger: &mut Debugger<'_>, step: Step) -> Result<Effect, AllocError>
     ensures effect { IfOk result (λ effect. effect ≡ (taken_effect debugger.old.trail debugger.old.world step).0) }
@@ -95,7 +96,7 @@ fn follow(
     }
 }
 
-/// Takes the step that comes next. An `Err` is want of memory, and then nothing has changed.
+/// Takes the step that comes next. `Err` means that memory was refused; then nothing has changed.
 pub fn next(
     alloc: Global,
     debugger: &mut Debugger<'_>,
@@ -109,7 +110,7 @@ pub fn next(
     follow(debugger, choice, &decision)
 }
 
-/// Takes steps back until so many are left. It takes no memory.
+/// Takes steps back until `depth` are left. It takes no memory.
 #[tactic(auto, using(crate::proofs::StepLemmas::going))]
 pub fn goto(debugger: &mut Debugger<'_>, depth: usize) -> Effect
     ensures effect { result ≡ (goto_effect debugger.old.trail depth).0 }
@@ -121,7 +122,7 @@ pub fn goto(debugger: &mut Debugger<'_>, depth: usize) -> Effect
     }
 }
 
-/// Takes so many steps back. It takes no memory.
+/// Takes `count` steps back. It takes no memory.
 #[tactic(auto, using(crate::proofs::StepLemmas::going))]
 pub fn back(debugger: &mut Debugger<'_>, count: usize) -> Effect
     ensures effect { result ≡ (back_effect debugger.old.trail count).0 }
@@ -137,7 +138,8 @@ pub fn back(debugger: &mut Debugger<'_>, count: usize) -> Effect
     Effect::Changed(Answer::Depth(left))
 }
 
-/// Takes so many steps again. An `Err` is want of memory on the way, and then the steps before it stand.
+/// Takes `count` undone steps again. `Err` means that memory was refused on the way; then those
+/// before it are taken.
 #[tactic(auto, using(crate::proofs::StepLemmas::again))]
 fn take_again(debugger: &mut Debugger<'_>, count: usize) -> Result<(), AllocError>
     requires { debugger.old.trail.depth + count ≤ length debugger.old.trail.steps }
@@ -154,7 +156,7 @@ fn take_again(debugger: &mut Debugger<'_>, count: usize) -> Result<(), AllocErro
     Ok(())
 }
 
-/// Takes so many steps again. An `Err` is want of memory, and then nothing has changed.
+/// Takes `count` undone steps again. `Err` means that memory was refused; then nothing has changed.
 #[tactic(auto, using(crate::proofs::StepLemmas::going))]
 pub fn redo(debugger: &mut Debugger<'_>, count: usize) -> Result<Effect, AllocError>
     ensures effect { IfOk result (λ effect. effect ≡ (redo_effect debugger.old.trail count).0) }
