@@ -2,8 +2,9 @@
 
 ghost use Rattle.mpd_page.specs.PageLaws.{ChangesLeadOn, NoMarkup, ParentsComeFirst, RunsAreShown, StartIsShown, TextsTellChanges};
 
-/// A law: the changes of a step, applied to what is shown of the state before it, give what is shown of the state to which it leads; what is
-/// told of the start gives what is shown there; and so do the changes of a run, applied in turn, of the state where its steps lead.
+/// A law: the changes of a step, applied to what is shown of the state before it, give what is
+/// shown of the state to which it leads. What is told of the start gives what is shown there, and
+/// so do the changes of a run, applied in turn, of the state to which its steps lead.
 #[tactic(auto, using(crate::proofs::LawLemmas::showing))]
 pub fn states_are_shown()
     ensures changes { ChangesLeadOn }
