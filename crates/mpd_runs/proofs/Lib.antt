@@ -16,3 +16,4 @@ pub mod KeepLemmas
 pub mod DrawLemmas
 pub mod SampleLemmas
 pub mod UntilLemmas
+pub mod ListingLemmas

@@ -1,6 +1,6 @@
 -- The runs from where a trail stands, and their text. They are those of the wide walk that takes two steps which do not conflict in one order
 -- alone, so they have every end (docs/DEFINITIONS.md, "What a walk says of all runs").
-use Rattle.std.specs.Prelude.{ℕ, suc, ◌+◌, ◌-◌, ◌==◌, Bool, true, false, ◌&&◌, ◌||◌, not, nat_lt, if◌then◌else◌, List, [], ◌∷◌, ◌++◌, length, map, take, codes}
+use Rattle.std.specs.Prelude.{ℕ, suc, ◌+◌, ◌-◌, ◌==◌, Bool, true, false, ◌&&◌, ◌||◌, not, nat_lt, if◌then◌else◌, List, [], ◌∷◌, ◌++◌, length, map, take, drop, codes}
 use Rattle.std.specs.Fmt.{decimal}
 use Rattle.mpd_model.specs.declared.limits.TheConstants.{STEPS_MAX, RUNS_MAX}
 use Rattle.mpd_model.specs.steps.World.{World}
@@ -15,7 +15,7 @@ use Rattle.mpd_names.specs.Ends.{end_name, end_places}
 use Rattle.mpd_outcomes.specs.declared.report.Count.{Count}
 use Rattle.mpd_outcomes.specs.CountText.{count_text}
 use Rattle.mpd_runs.specs.declared.counts.WayCounts.{WayCounts}
-use Rattle.mpd_runs.specs.declared.listing.TheConstants.{FUEL}
+use Rattle.mpd_runs.specs.declared.listing.TheConstants.{FUEL, CHOICES_TOLD}
 use Rattle.mpd_runs.specs.declared.way.Way.{Way}
 use Rattle.mpd_runs.specs.Ways.{way_name, ways}
 use Rattle.mpd_runs.specs.Counts.{counts_of, count_of, is_count}
@@ -46,9 +46,15 @@ is_number n = if (n == 0) || nat_lt RUNS_MAX n then false else true
 abbrev pub from_zero : ℕ → List ℕ
 from_zero c = decimal (c + 1)
 
+-- ` .. 60 more`, of those that are not told
+abbrev pub untold_words : List ℕ → List ℕ
+untold_words [] = []
+untold_words (c ∷ cs) = codes " .. " ++ decimal (length (c ∷ cs)) ++ codes " more"
+
+-- the first so many, and how many follow
 abbrev pub choices_words : List ℕ → List ℕ
 choices_words [] = codes "no choice"
-choices_words (c ∷ cs) = codes "choices" ++ spaced from_zero (c ∷ cs)
+choices_words (c ∷ cs) = codes "choices" ++ spaced from_zero (take CHOICES_TOLD (c ∷ cs)) ++ untold_words (drop CHOICES_TOLD (c ∷ cs))
 
 -- how a run ends, in a word
 abbrev pub ending_name : Ending → List ℕ
@@ -101,7 +107,7 @@ total_line counts = line (runs_words counts.total ++ more_words counts.more ++ t
 
 -- which runs are listed: others may count more
 abbrev pub orders_line : List ℕ
-orders_line = line (codes "one run for all orders of steps that don't meet; diagnose counts each order")
+orders_line = line (codes "one run for all orders of independent steps; diagnose counts each order")
 
 abbrev pub report_text : List ℕ → List Leaf → Bool → List ℕ
 report_text lines leaves more = leaf_lines lines 0 leaves ++ total_line (counts_of leaves more) ++ orders_line

@@ -1,7 +1,8 @@
 -- Worked rows of the runs from where a trail stands: of a script whose ends no walk by the plain decisions has all. What is wanted was worked
 -- out by hand.
-use Rattle.std.specs.Prelude.{◌≡◌, ℕ, pos, map, List, [], ◌∷◌, ◌++◌, Option, Some, None, false, codes, refl}
+use Rattle.std.specs.Prelude.{◌≡◌, ℕ, pos, map, List, [], ◌∷◌, ◌++◌, replicate, Option, Some, None, false, codes, refl}
 use Rattle.std.specs.Option.{option_map}
+use Rattle.std.specs.List.{flat_map}
 use Rattle.std.specs.Fmt.{digits}
 use Rattle.mpd_model.specs.declared.place.DeclKind.TheVariants.{Variable}
 use Rattle.mpd_model.specs.declared.expr.BinaryOp.TheVariants.{Equal}
@@ -28,7 +29,7 @@ use Rattle.mpd_runs.specs.declared.way.Way.TheVariants as way
 use Rattle.mpd_runs.specs.Ways.{first_in}
 use Rattle.mpd_runs.specs.declared.counts.WayCounts.{WayCounts}
 use Rattle.mpd_runs.specs.Counts.{counts_of}
-use Rattle.mpd_runs.specs.Runs.{first_runs, are_more, report_text, none_line}
+use Rattle.mpd_runs.specs.Runs.{first_runs, are_more, choices_words, report_text, none_line}
 use Rattle.mpd_runs.specs.Seek.{whole_run, ahead_line}
 
 abbrev n : ℕ → Term
@@ -73,9 +74,17 @@ row_found = refl
 
 -- both are listed, the one that takes the second send first, with the line of that send
 pub row_listed : report_text (2 ∷ 3 ∷ 4 ∷ 5 ∷ []) (first_runs 9 9 begun) (are_more 9 9 begun) ≡ line (codes "1 choices 1 1: deadlock: rank 0 at line 4") ++ line (codes "2 choices 2: leftovers: rank 0 at line 4") ++ line (codes "2 runs, and no more (1 leftovers, 1 deadlock)")
-    ++ line (codes "one run for all orders of steps that don't meet; diagnose counts each order")
+    ++ line (codes "one run for all orders of independent steps; diagnose counts each order")
 unfolding awake_by wide_decision digits
 row_listed = refl
+
+-- no choice; as many as are told, and two more
+abbrev ones : ℕ → List ℕ
+ones n = codes "choices" ++ flat_map {X = ℕ} (λ _. codes " 1") (replicate n 0)
+
+pub row_choices_words : map {B = List ℕ} (λ n. choices_words (replicate n 0)) (0 ∷ 40 ∷ 42 ∷ []) ≡ codes "no choice" ∷ ones 40 ∷ (ones 40 ++ codes " .. 2 more") ∷ []
+unfolding digits
+row_choices_words = refl
 
 -- what is told of each where it lies ahead, by its number or without one, and of a run that is cut
 pub row_ahead : map {B = List ℕ} (λ (q : (Option ℕ × Ending) × ℕ). ahead_line (2 ∷ 3 ∷ 4 ∷ 5 ∷ []) q.0.0 q.0.1 q.1) (((None, stuck.ending), 8) ∷ ((Some 2, left_over.ending), 1) ∷ ((Some 3, Ended o.Done), 0) ∷ ((None, Cut), 7) ∷ [])

@@ -1,7 +1,7 @@
 //! The runs from a debugger's state, along the wide walk, which takes two steps that do not
 //! conflict in one order alone; and their text.
 
-ghost use Rattle.std.specs.Prelude.{◌≡◌, ◌≤◌, ◌<◌, ◌+◌, ◌++◌, true, false, IfOk, OnOk, length, string_bytes};
+ghost use Rattle.std.specs.Prelude.{◌≡◌, ◌≤◌, ◌<◌, ◌+◌, ◌++◌, true, false, IfOk, OnOk, length, take, drop, string_bytes};
 ghost use Rattle.std.specs.List.{AllByRecursion};
 ghost use Rattle.mpd_model.specs.runs.Trail.{done_steps};
 ghost use Rattle.mpd_core.specs.DebuggerViews.{AsFound, standing_of};
@@ -22,6 +22,9 @@ use std::alloc::{AllocError, Global};
 
 /// How many steps a run has at most that is tried.
 pub const FUEL: usize = 100_000;
+
+/// How many choices of a run are told in its line; of the others their number is.
+pub const CHOICES_TOLD: usize = 40;
 
 /// How many steps a run may have after `depth` others: as many as can be kept.
 pub(crate) fn fuel_at(depth: usize) -> usize
@@ -90,15 +93,41 @@ fn push_choices(out: &mut String, choices: &[usize]) -> Result<(), AllocError>
     Ok(())
 }
 
-/// Adds which candidates are taken.
+/// The choices of a run that are told, and those that are not.
+#[tactic(auto, using(crate::proofs::ListingLemmas::telling))]
+fn told_and_untold(choices: &[usize]) -> (&[usize], &[usize])
+    ensures told { result.0.now ≡ take CHOICES_TOLD choices.now }
+    ensures untold { result.1.now ≡ drop CHOICES_TOLD choices.now }
+{
+    if choices.len() < CHOICES_TOLD {
+        choices.split_at(choices.len())
+    } else {
+        choices.split_at(CHOICES_TOLD)
+    }
+}
+
+/// Adds how many choices are not told, if there are any.
+fn push_untold(out: &mut String, untold: &[usize]) -> Result<(), AllocError>
+    ensures { OnOk result (string_bytes out.new ≡ string_bytes out.old ++ spec.untold_words untold.now) }
+{
+    if untold.is_empty() {
+        return Ok(());
+    }
+    let count = untold.len();
+    write!(out, " .. {count} more")
+}
+
+/// Adds which candidates are taken: the first of them, and how many follow.
 fn push_choices_words(out: &mut String, choices: &[usize]) -> Result<(), AllocError>
     ensures { OnOk result (string_bytes out.new ≡ string_bytes out.old ++ spec.choices_words choices.now) }
 {
     if choices.is_empty() {
         return out.push_str("no choice");
     }
+    let (told, untold) = told_and_untold(choices);
     out.push_str("choices")?;
-    push_choices(out, choices)
+    push_choices(out, told)?;
+    push_untold(out, untold)
 }
 
 /// How a run ends, in a word.
@@ -234,7 +263,7 @@ fn push_total(out: &mut String, counts: WayCounts) -> Result<(), AllocError>
 fn push_orders(out: &mut String) -> Result<(), AllocError>
     ensures { OnOk result (string_bytes out.new ≡ string_bytes out.old ++ spec.orders_line) }
 {
-    out.push_str("one run for all orders of steps that don't meet; diagnose counts each order\n")
+    out.push_str("one run for all orders of independent steps; diagnose counts each order\n")
 }
 
 /// Adds the first `runs` runs from the debugger's state, or which numbers may be asked for. `Err`
