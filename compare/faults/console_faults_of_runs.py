@@ -1,6 +1,7 @@
 """Faults of the runs that the console's model tries, lays ahead and undoes (console_faults.py): runs by number, ends that are counted, deadlocks
 and traps that are sought, and choices."""
 
+import re
 from collections import Counter
 from inspect import isfunction
 from itertools import islice
@@ -28,6 +29,15 @@ def cleared(self, told):
     """What is told; the steps ahead are dropped."""
     del self.debugger.steps[self.debugger.depth:]
     return told
+
+
+def with_told(count, at, number, leaf):
+    """The line of a run in which so many choices are told."""
+    told, console.CHOICES_TOLD = console.CHOICES_TOLD, count
+    try:
+        return SOUND_RUN_LINE(at, number, leaf)
+    finally:
+        console.CHOICES_TOLD = told
 
 
 # ---- other walks
@@ -186,6 +196,11 @@ def number_faults():
             'candidates from 0': numbered_run,
             'runs from 0': lambda at, number, leaf: SOUND_RUN_LINE(at, number - 1, leaf),
             'no number': lambda at, number, leaf: SOUND_RUN_LINE(at, number, leaf).partition(' ')[2],
+            'all choices are told': lambda at, number, leaf: with_told(1 << 20, at, number, leaf),
+            '39 choices are told': lambda at, number, leaf: with_told(39, at, number, leaf),
+            '41 choices are told': lambda at, number, leaf: with_told(41, at, number, leaf),
+            'how many choices there are': lambda at, number, leaf: re.sub(
+                r'\.\. (\d+) more', lambda it: f'.. {int(it[1]) + 40} more', SOUND_RUN_LINE(at, number, leaf)),
             'no choice left out': lambda at, number, leaf: SOUND_RUN_LINE(at, number, leaf).replace('no choice', 'choices '),
             'the first word of an outcome': first_word}, owner=console),
         *named('counted', {

@@ -53,7 +53,9 @@ LISTED, TRIED, MOST_FUEL = 10, 1000, 100000
 # How many states are come to where each is looked at once, at most.
 MOST_STATES = 1000000
 # Which runs `check` lists.
-ORDERS = "one run for all orders of steps that don't meet; diagnose counts each order"
+# So many choices of a run are told in its line.
+CHOICES_TOLD = 40
+ORDERS = "one run for all orders of independent steps; diagnose counts each order"
 # How a run ends, by the first word of its outcome, in the order in which the last line of `check` has them.
 WAYS = 'done', 'leftovers', 'deadlock', 'trap', CUT
 # What may stand behind the first `[` of a name.
@@ -108,9 +110,11 @@ def none_found(sought, ends, more, are_all):
 
 
 def run_line(at, number, leaf):
-    """A run from somewhere by its number and its choices, and how it ends."""
-    choices = ' '.join(str(choice + 1) for choice in leaf.choices)
-    return f'{number} {f"choices {choices}" if choices else "no choice"}: {way(leaf)}{places_of(at, leaf)}'
+    """A run from somewhere by its number and its first choices, and how it ends."""
+    choices = ' '.join(str(choice + 1) for choice in leaf.choices[:CHOICES_TOLD])
+    untold = len(leaf.choices) - CHOICES_TOLD
+    more = f' .. {untold} more' if untold > 0 else ''
+    return f'{number} {f"choices {choices}{more}" if choices else "no choice"}: {way(leaf)}{places_of(at, leaf)}'
 
 
 def places_of(at, leaf):

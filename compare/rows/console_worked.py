@@ -54,7 +54,7 @@ next: local 0: line 2
 > check
 1 no choice: cut
 1 run, and no more (1 cut)
-one run for all orders of steps that don't meet; diagnose counts each order
+one run for all orders of independent steps; diagnose counts each order
 > next
 1 local 0: line 2
 next: local 0: line 2
@@ -98,7 +98,7 @@ refused: no more than 1000000 steps are kept
 > check
 1 no choice: cut
 1 run, and no more (1 cut)
-one run for all orders of steps that don't meet; diagnose counts each order
+one run for all orders of independent steps; diagnose counts each order
 > follow 1
 run 1, cut, is 0 steps ahead
 next: local 0: line 2

@@ -13,7 +13,7 @@ stopped at a choice; next N takes one:
 > check
 1 choices 1 1: done
 1 run, and no more (1 done)
-one run for all orders of steps that don't meet; diagnose counts each order
+one run for all orders of independent steps; diagnose counts each order
 > deadlock
 no deadlock from here: 2 runs, and no more (2 done)
 > next 2

@@ -2,7 +2,7 @@
 ranks that wait, and so many steps at once (console_worked.py)."""
 
 from rows.worked_console_scripts import (AT_A_BARRIER, BESIDE_ANY, BOTH_RACES, HANG_THEN_TRAP, LOOP, STOLEN_CHOICE, THIRD_TRAPS, TRAP_THEN_HANG,
-                                         TWO_RACES, WAITS, Dialogue)
+                                         TWO_RACES, WAITS, Dialogue, many_messages)
 
 # The choice of TRAP_THEN_HANG, its trap, its deadlock, and the choice of HANG_THEN_TRAP, whose lines are the same.
 TRAP_CHOICE = '''stopped at a choice of rank 0, line 3; next N takes one:
@@ -39,7 +39,7 @@ CHOICES = (
 1 choices 1: trap: rank 0 at line 4 (zero-divisor)
 2 choices 2: deadlock: rank 0 at line 5, rank 1 at line 6
 2 runs, and no more (1 deadlock, 1 trap)
-one run for all orders of steps that don't meet; diagnose counts each order
+one run for all orders of independent steps; diagnose counts each order
 > deadlock
 deadlock is 11 steps ahead: rank 0 at line 5, rank 1 at line 6
 11 ahead: local 0: line 2
@@ -139,7 +139,7 @@ refused: there is no such run
 > check 1
 1 choices 1: deadlock: rank 0 at line 5, rank 2 at line 6
 1 run, and there are more (1 deadlock)
-one run for all orders of steps that don't meet; diagnose counts each order
+one run for all orders of independent steps; diagnose counts each order
 > trap
 trap is 10 steps ahead: rank 0 at line 4 (zero-divisor)
 10 ahead: local 0: line 2
@@ -177,14 +177,14 @@ trap is 4 steps ahead: rank 0 at line 4 (zero-divisor)
 2 choices 2: trap: rank 0 at line 2 (assert)
 3 choices 3: trap: rank 0 at line 2 (assert)
 3 runs, and no more (1 done, 2 trap)
-one run for all orders of steps that don't meet; diagnose counts each order
+one run for all orders of independent steps; diagnose counts each order
 > deadlock
 no deadlock from here: 3 runs, and no more (1 done, 2 trap)
 > check 2
 1 choices 1: done
 2 choices 2: trap: rank 0 at line 2 (assert)
 2 runs, and there are more (1 done, 1 trap)
-one run for all orders of steps that don't meet; diagnose counts each order
+one run for all orders of independent steps; diagnose counts each order
 > trap
 trap is 12 steps ahead: rank 0 at line 2 (assert)
 12 ahead: local 0: line 2
@@ -561,13 +561,27 @@ depth 9
 {STOLEN_CHOICE}
 > quit
 '''),
+    Dialogue('a run of more choices than are told', many_messages(42), f'''
+> check
+1 choices{" 1" * 35}
+        1 1 1 1 1 .. 2 more: done
+1 run, and no more (1 done)
+one run for all orders of independent steps; diagnose counts each order
+'''),
+    Dialogue('a run of as many choices as are told', many_messages(40), f'''
+> check
+1 choices{" 1" * 35}
+        1 1 1 1 1: done
+1 run, and no more (1 done)
+one run for all orders of independent steps; diagnose counts each order
+'''),
     # the runs are told in worked_ends.py
     Dialogue('a trap that another order of a match and a wait for any comes to', 'order_decides.mpd', f'''
 > check
 1 choices 1 1: done
 2 choices 2 2: trap: rank 0 at line 11 (assert)
 2 runs, and no more (1 done, 1 trap)
-one run for all orders of steps that don't meet; diagnose counts each order
+one run for all orders of independent steps; diagnose counts each order
 > deadlock
 no deadlock from here: 3 runs, and no more (2 done, 1 trap)
 > trap
@@ -593,7 +607,7 @@ depth 10
 1 choices 1 1: done
 2 choices 2 2: trap: rank 0 at line 11 (assert)
 2 runs, and no more (1 done, 1 trap)
-one run for all orders of steps that don't meet; diagnose counts each order
+one run for all orders of independent steps; diagnose counts each order
 > redo
 11 match 2.0 0.1: rank 2, line 13, to rank 0, line 9
 3 ahead: wake 2: line 13
@@ -602,7 +616,7 @@ one run for all orders of steps that don't meet; diagnose counts each order
 1 choices 1: done
 2 choices 2: trap: rank 0 at line 11 (assert)
 2 runs, and no more (1 done, 1 trap)
-one run for all orders of steps that don't meet; diagnose counts each order
+one run for all orders of independent steps; diagnose counts each order
 > follow 1
 run 1, done, is 3 steps ahead
 3 ahead: wake 2: line 13
@@ -662,13 +676,13 @@ no trap from here: 1 run, and no more (1 done)
 1 choices 1 1: deadlock: rank 0 at line 9
 2 choices 2: leftovers: rank 0 at line 8
 2 runs, and no more (1 leftovers, 1 deadlock)
-one run for all orders of steps that don't meet; diagnose counts each order
+one run for all orders of independent steps; diagnose counts each order
 > trap
 no trap from here: 2 runs, and no more (1 leftovers, 1 deadlock)
 > check 1
 1 choices 1 1: deadlock: rank 0 at line 9
 1 run, and there are more (1 deadlock)
-one run for all orders of steps that don't meet; diagnose counts each order
+one run for all orders of independent steps; diagnose counts each order
 > deadlock
 deadlock is 8 steps ahead: rank 0 at line 9
 8 ahead: local 0: line 6
@@ -699,7 +713,7 @@ depth 4
 1 choices 1 1: deadlock: rank 0 at line 9
 2 choices 2: leftovers: rank 0 at line 8
 2 runs, and no more (1 leftovers, 1 deadlock)
-one run for all orders of steps that don't meet; diagnose counts each order
+one run for all orders of independent steps; diagnose counts each order
 > follow 2
 run 2, leftovers, is 5 steps ahead: rank 0 at line 8
 5 ahead: match 0.0 1.0: rank 0, line 7, to rank 1, line 11
@@ -714,7 +728,7 @@ no deadlock from here: 1 run, and no more (1 leftovers)
 > check
 1 no choice: leftovers: rank 0 at line 8
 1 run, and no more (1 leftovers)
-one run for all orders of steps that don't meet; diagnose counts each order
+one run for all orders of independent steps; diagnose counts each order
 > redo all
 depth 9
 ended: leftovers: rank 0 at line 8
@@ -724,7 +738,7 @@ ended: leftovers: rank 0 at line 8
 > check
 1 no choice: deadlock: rank 0 at line 9
 1 run, and no more (1 deadlock)
-one run for all orders of steps that don't meet; diagnose counts each order
+one run for all orders of independent steps; diagnose counts each order
 > trap
 no trap from here: 1 run, and no more (1 deadlock)
 ''', 'slots:0'),
@@ -732,7 +746,7 @@ no trap from here: 1 run, and no more (1 deadlock)
 > check
 1 choices 1: leftovers: rank 0 at line 8
 1 run, and no more (1 leftovers)
-one run for all orders of steps that don't meet; diagnose counts each order
+one run for all orders of independent steps; diagnose counts each order
 > deadlock
 no deadlock from here: 1 run, and no more (1 leftovers)
 > trap

@@ -656,7 +656,7 @@ no trap from here: 2 runs, and no more (2 done)
 > check
 1 choices 1 1: done
 1 run, and no more (1 done)
-one run for all orders of steps that don't meet; diagnose counts each order
+one run for all orders of independent steps; diagnose counts each order
 ''', 'slots:1'),
     Dialogue('sends without any slot', 'head_to_head.mpd', '''
 > deadlock

@@ -125,7 +125,7 @@ request r[1], the receive of line 10 (value 20), for rank 0; wakeany 0 1
 1 choices 1 1: done
 2 choices 2 1: done
 2 runs, and no more (2 done)
-one run for all orders of steps that don't meet; diagnose counts each order
+one run for all orders of independent steps; diagnose counts each order
 > why 0
 line 12, 0.2 waitany 0 2
 line 9, 0.0 irecv from 1 tag 0 with 1.0 value 10

@@ -248,20 +248,20 @@ rank 2: r = no request
 1 choices 1: deadlock: rank 0 at line 9, rank 2 at line 13
 2 choices 2: done
 2 runs, and no more (1 done, 1 deadlock)
-one run for all orders of steps that don't meet; diagnose counts each order
+one run for all orders of independent steps; diagnose counts each order
 > check 1
 1 choices 1: deadlock: rank 0 at line 9, rank 2 at line 13
 1 run, and there are more (1 deadlock)
-one run for all orders of steps that don't meet; diagnose counts each order
+one run for all orders of independent steps; diagnose counts each order
 >
 1 choices 1: deadlock: rank 0 at line 9, rank 2 at line 13
 1 run, and there are more (1 deadlock)
-one run for all orders of steps that don't meet; diagnose counts each order
+one run for all orders of independent steps; diagnose counts each order
 > check 2
 1 choices 1: deadlock: rank 0 at line 9, rank 2 at line 13
 2 choices 2: done
 2 runs, and no more (1 done, 1 deadlock)
-one run for all orders of steps that don't meet; diagnose counts each order
+one run for all orders of independent steps; diagnose counts each order
 > next
 {STOLEN_CHOICE}
 > next 0
@@ -293,7 +293,7 @@ no step is enabled
 > check
 1 no choice: deadlock: rank 0 at line 9, rank 2 at line 13
 1 run, and no more (1 deadlock)
-one run for all orders of steps that don't meet; diagnose counts each order
+one run for all orders of independent steps; diagnose counts each order
 > run-back
 2 steps back, depth 9
 before breakpoint 0: match 8
@@ -584,7 +584,7 @@ refused: this step is not enabled
 > check
 1 no choice: cut
 1 run, and no more (1 cut)
-one run for all orders of steps that don't meet; diagnose counts each order
+one run for all orders of independent steps; diagnose counts each order
 > deadlock
 no deadlock found from here: 1 run, and no more (1 cut)
 > run 1
@@ -604,7 +604,7 @@ stopped: as many steps as were asked for
 > check
 1 no choice: cut
 1 run, and no more (1 cut)
-one run for all orders of steps that don't meet; diagnose counts each order
+one run for all orders of independent steps; diagnose counts each order
 > run 1
 1 step, depth 3
 stopped: no more than 1000000 steps are kept
@@ -615,7 +615,7 @@ next: local 0: line 2
 > check
 1 no choice: cut
 1 run, and no more (1 cut)
-one run for all orders of steps that don't meet; diagnose counts each order
+one run for all orders of independent steps; diagnose counts each order
 > run 4
 4 steps, depth 4
 stopped: as many steps as were asked for
@@ -624,7 +624,7 @@ next: local 0: line 7
 > check
 1 no choice: cut
 1 run, and no more (1 cut)
-one run for all orders of steps that don't meet; diagnose counts each order
+one run for all orders of independent steps; diagnose counts each order
 ''', limit=10),
     Dialogue('and where all are kept', 'loop.mpd', '''
 > run 3
@@ -635,7 +635,7 @@ next: local 0: line 6
 > check
 1 no choice: done
 1 run, and no more (1 done)
-one run for all orders of steps that don't meet; diagnose counts each order
+one run for all orders of independent steps; diagnose counts each order
 > deadlock
 no deadlock from here: 1 run, and no more (1 done)
 ''', limit=11),
@@ -644,7 +644,7 @@ no deadlock from here: 1 run, and no more (1 done)
 > check
 1 no choice: cut
 1 run, and no more (1 cut)
-one run for all orders of steps that don't meet; diagnose counts each order
+one run for all orders of independent steps; diagnose counts each order
 > deadlock
 no deadlock found from here: 1 run, and no more (1 cut)
 > next
@@ -654,7 +654,7 @@ next: local 0: line 2
 > check
 1 no choice: done
 1 run, and no more (1 done)
-one run for all orders of steps that don't meet; diagnose counts each order
+one run for all orders of independent steps; diagnose counts each order
 > deadlock
 no deadlock from here: 1 run, and no more (1 done)
 ''', fuel=10),
@@ -683,7 +683,7 @@ rank 1 runs line 5; local 1
 > check
 1 no choice: done
 1 run, and no more (1 done)
-one run for all orders of steps that don't meet; diagnose counts each order
+one run for all orders of independent steps; diagnose counts each order
 > redo
 2 local 1: line 5
 1 ahead: local 1: line 8
@@ -721,7 +721,7 @@ stopped at a choice of rank 0, line 9; next N takes one:
   2: rank 2 sends 2, tag 0 (line 15); match 2.0 0.0
 '''))
 # The last line of `check`.
-ORDERS = "one run for all orders of steps that don't meet; diagnose counts each order"
+ORDERS = "one run for all orders of independent steps; diagnose counts each order"
 # What takes the model some seconds.
 FIRST_RUNS = (
     Dialogue('more runs than are listed where no number is said', SEVEN_SENDERS,

@@ -70,6 +70,13 @@ class Dialogue(NamedTuple):
         return ''.join(answer for _, answer in self.told).encode()
 
 
+def many_messages(count):
+    """A script in which rank 0 receives so many messages of rank 1, each from any rank."""
+    return f'''mpd 1; ranks 2; var x; var i;
+if rank == 0 {{ while i < {count} {{ recv x from any tag 0; i = i + 1; }} }} else {{ while i < {count} {{ send 1 to 0 tag 0; i = i + 1; }} }}
+'''
+
+
 # Requests that are waited for, of which each is nearly the other's partner.
 WAITS = '''mpd 1; ranks 2;
 var x; req h; req r[2];

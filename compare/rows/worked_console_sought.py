@@ -30,11 +30,11 @@ SOUGHT = (
 1 choices 1 1 1 1 1: done
 2 choices 2 1 1 1 1: deadlock: rank 0 at line 3, rank 1 at line 3
 2 runs, and no more (1 done, 1 deadlock)
-one run for all orders of steps that don't meet; diagnose counts each order
+one run for all orders of independent steps; diagnose counts each order
 > check 1
 1 choices 1 1 1 1 1: done
 1 run, and there are more (1 done)
-one run for all orders of steps that don't meet; diagnose counts each order
+one run for all orders of independent steps; diagnose counts each order
 > follow 1
 run 1, done, is 68 steps ahead
 68 ahead: local 0: line 2
@@ -58,7 +58,7 @@ no trap from here: 60 runs, and no more (30 done, 30 deadlock)
 1 choices 1 1 1 1 1: done
 2 choices 2 1 1 1 1: deadlock: rank 0 at line 3, rank 1 at line 3
 2 runs, and no more (1 done, 1 deadlock)
-one run for all orders of steps that don't meet; diagnose counts each order
+one run for all orders of independent steps; diagnose counts each order
 '''),
     Dialogue('no more runs than are looked at, and the way to where a deadlock is decided', RARE, '''
 > trap
@@ -120,7 +120,7 @@ refused: there is no such run
 2 choices 2: deadlock: rank 1 at line 2, rank 3 at line 2
 3 choices 3: deadlock: rank 1 at line 2, rank 2 at line 2
 3 runs, and no more (3 deadlock)
-one run for all orders of steps that don't meet; diagnose counts each order
+one run for all orders of independent steps; diagnose counts each order
 > trap
 no trap from here: 3 runs, and no more (3 deadlock)
 '''),

@@ -41,7 +41,7 @@ refused: 1 to 65536 runs can be asked for
 > check 65536
 1 no choice: done
 1 run, and no more (1 done)
-one run for all orders of steps that don't meet; diagnose counts each order
+one run for all orders of independent steps; diagnose counts each order
 > follow 0
 refused: there is no such run
 > follow 65537
