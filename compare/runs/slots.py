@@ -5,11 +5,12 @@
     python3 compare/runs/slots.py --broken           and faults of the model (slots_faults.py), each of which must be noticed
 
 Of each script a report is asked for and a walk is traced, with what is shown behind its steps; every fifth one is a session too. No script
-has so many sends that 65,536 slots are taken. So all that is answered must be the same but for the mode's name, which the look `script` of a
-session tells; but for the mark `buffered`, which `slots:65536` alone has, behind the value of each standard send; and but for the status of a report without `--ends` that tells every way to end, where
-`--complete` asks for that: in a mode of slots none does. With `--ends` such a report does so in each mode, and in `slots:0` all is the same; in
-`slots:65536` a match that gives a slot back is a choice, so that choices, pieces and limits are others: there the ends must be the same, and
-the status, where both reports are whole. The status is 0 where scripts were compared, none differed, and all was met that must be.
+has so many sends that 65,536 slots are taken. So all that is answered must be the same but for the mode's name, which the look `script` of
+a session tells; but for the mark `buffered`, which `slots:65536` alone has, behind the value of each standard send; and but for the status
+of a report without `--ends` that tells every way to end, where `--complete` asks for that: in a mode of slots none does. With `--ends` such
+a report does so in each mode, and in `slots:0` all is the same; in `slots:65536` a match that gives a slot back is a choice, so that
+choices, pieces and limits are others: there the ends must be the same, and the status, where both reports are whole. The status is 0 where
+scripts were compared, none differed, and all was met that must be.
 """
 
 import os
