@@ -3,7 +3,7 @@ use Rattle.std.specs.Prelude.{ℕ, List, [], ◌∷◌, ◌++◌, codes}
 use Rattle.mpd_c.specs.declared.piece.Piece.{Piece}
 use Rattle.mpd_c.specs.declared.piece.Piece.TheVariants as piece
 
--- lines, each with the line feed behind it
+-- lines, each with the line feed after it
 abbrev pub fed : List (List ℕ) → List ℕ
 fed [] = []
 fed (l ∷ ls) = l ++ codes "\n" ++ fed ls

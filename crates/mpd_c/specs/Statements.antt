@@ -83,7 +83,7 @@ isend_lines ds call s = call_lines ds s.request (with_term ds piece.CallValueIs 
 abbrev pub taken_lines : List Declared → RecvStmt → List (List ℕ) → List (List ℕ)
 taken_lines ds s ls = checked_or_any ds piece.SourceIs piece.AsRank piece.AnySource s.from ∷ checked_or_any ds piece.TagIs piece.AsTag piece.AnyTag s.tag ∷ ls
 
--- a receive behind its source and its tag
+-- a receive after its source and its tag
 abbrev pub received_lines : List Declared → Option StatusStmt → List (List ℕ)
 received_lines ds None = piece_text piece.Recv ∷ []
 received_lines ds (Some s) =
@@ -110,7 +110,7 @@ waiting_text ds handles = piece_text piece.WaitAny ++ c_handles ds handles ++ co
 abbrev pub waitany_lines : List Declared → WaitanyStmt → List (List ℕ)
 waitany_lines ds s = place_line ds s.into ∷ waiting_text ds s.requests ∷ []
 
--- the lines of a statement that holds no other, behind the one that tells its line
+-- the lines of a statement that holds no other, after the one that tells its line
 abbrev pub simple_text : List Declared → ℕ → Simple → List ℕ
 simple_text ds n (st.Print e) = line_text n (with_term ds piece.Print e (codes ");"))
 simple_text ds n (st.Assign s) = assign_text ds n s s.into.index

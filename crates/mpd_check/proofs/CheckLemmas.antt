@@ -52,7 +52,7 @@ refused_answered want s mode plan workers old new pool.Memory same crew some man
 
 -- ---- one piece
 
-pub put_part : (text : List ℕ → List ℕ) (s : Program) (mode : Mode) (plan : CheckPlan) (number : ℕ) (old new : SinkSeen) (told : Told) (r : Result Tally CheckFault) → PartTold text s mode plan number (Ok told) → Put (string_bytes told.text) told.tally old new r → PartAnswered text s mode plan number old new r
+pub put_part : (text : List ℕ → List ℕ) (s : Program) (mode : Mode) (plan : CheckPlan) (number : ℕ) (old new : SinkSeen) (told : Told) (r : Result Tally CheckFault) → PartTold text s mode plan number (Ok told) → Put told.text.items told.tally old new r → PartAnswered text s mode plan number old new r
 put_part text s mode plan number old new told (Ok t) p h = (p.0, p.1, p.2, rw p.3 at h.0, h.1 ∙ p.4)
 put_part text s mode plan number old new told (Err (Engine WriteFailed)) p h = (p.0, p.1, p.2, rw p.3 at h)
 put_part text s mode plan number old new told (Err (Engine ReadFailed)) p h = h
@@ -80,7 +80,7 @@ piece_at xs ps i p is within read =
     ap (λ (ys : List (List ℕ)). slice_get ys i) (sym (ap choices_of is ∙ numbered_choices 0 xs)) ∙ slice_get-map (λ (q : Piece). q.choices) ps i ∙ ap (option_map (λ (q : Piece). q.choices)) (slice_get_read ps (length ps) i p refl within read)
 
 pub piece_told : (text : List ℕ → List ℕ) (s : Program) (mode : Mode) (plan : CheckPlan) (ps : List Piece) (number : ℕ) (p : Piece) (told : Told) → ps ≡ numbered 0 (pieces_of s mode plan) → number < length ps → p ≡ get_or ps number p → AreFew s mode plan
-    → string_bytes told.text ≡ text p.choices → told.tally ≡ tally_of (leaves_at s mode plan p.choices) (more_at s mode plan p.choices) → PartTold text s mode plan number (Ok told)
+    → told.text.items ≡ text p.choices → told.tally ≡ tally_of (leaves_at s mode plan p.choices) (more_at s mode plan p.choices) → PartTold text s mode plan number (Ok told)
 piece_told text s mode plan ps number p told is within read few told_so tally = (p.choices, piece_at (pieces_of s mode plan) ps number p is within read, few, told_so, tally)
 
 pub none_told : (text : List ℕ → List ℕ) (s : Program) (mode : Mode) (plan : CheckPlan) (ps : List Piece) (number : ℕ) → ps ≡ numbered 0 (pieces_of s mode plan) → length ps ≤ number → AreFew s mode plan → PartTold text s mode plan number (Err (NoSuchPiece number (length ps)))

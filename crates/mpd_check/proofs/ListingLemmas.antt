@@ -24,7 +24,7 @@ use Rattle.mpd_check.specs.Checked.{leaves_of, more_of, leaves_at, more_at, Part
 use Rattle.mpd_check.specs.declared.fault.CheckFault.{CheckFault}
 use Rattle.mpd_check.specs.declared.fault.CheckFault.TheVariants.{BadWorkers, TooManyPieces, NoSuchPiece, Engine}
 use Rattle.mpd_check.specs.declared.listing.Telling.{Telling}
-use Rattle.mpd_check.specs.Listing.{listing_at, report_listing, part_text, plain_part, IsPlain, sample_leaves, sample_more, PutSample, SampledBy}
+use Rattle.mpd_check.specs.Listing.{listing_at, listed_at, marked_if, report_listing, part_text, plain_part, IsPlain, sample_leaves, sample_more, PutSample, SampledBy}
 
 pub put_sampled : (want : List ℕ) (s : Program) (mode : Mode) (seed : ℕ) (l : Limits) (old new : SinkSeen) (text : List ℕ) (told : Tally) (r : Result Tally EngineFault) → text ≡ want → told ≡ tally_of (sample_leaves s mode seed l) (sample_more s mode seed l)
     → PutSample text told old new r → SampledBy want s mode seed l old new r
@@ -39,7 +39,9 @@ put_sampled want s mode seed l old new text told (Err Memory) is tells h = absur
 listing_plain : (t : Telling) (s : Program) (mode : Mode) (l : Limits) (leaves : List Leaf) (more : Bool) → IsPlain t → report_listing t s mode l leaves more ≡ report_text (decides_by l.ends) l.witnesses [] l.fuel (start s mode) leaves more
 listing_plain t s mode l leaves more plain =
     let texts = witness_texts (decides_by l.ends) l.witnesses [] l.fuel (start s mode) leaves in
-    plain_told {A = Unit {0}} {E = Unit {0}} (Ok tt) (λ (u : Unit {0}). report_listing t s mode l leaves more) t.group texts (explained_at (decides_by l.ends) t.explain l.fuel (first_standing s mode) leaves) leaves more plain.1 (ap (λ (b : Bool). explained_at (decides_by l.ends) b l.fuel (first_standing s mode) leaves) plain.0) refl
+    let listed : List ℕ = listed_at (decides_by l.ends) t.explain t.group l (first_standing s mode) leaves more in
+    ap (λ (b : Bool). marked_if b t.script.now listed) plain.0
+    ∙ plain_told {A = Unit {0}} {E = Unit {0}} (Ok tt) (λ (u : Unit {0}). listed) t.group texts (explained_at (decides_by l.ends) t.explain l.fuel (first_standing s mode) leaves) leaves more plain.1 (ap (λ (b : Bool). explained_at (decides_by l.ends) b l.fuel (first_standing s mode) leaves) plain.0) refl
     ∙ told_reports (decides_by l.ends) {A = Unit {0}} {E = Unit {0}} (Ok tt) (λ (u : Unit {0}). told_text texts leaves more) l.witnesses [] l.fuel (start s mode) texts leaves more refl refl
 
 part_plain : (t : Telling) (s : Program) (mode : Mode) (plan : CheckPlan) (choices : List ℕ) → IsPlain t → part_text t s mode plan choices ≡ plain_part s mode plan choices

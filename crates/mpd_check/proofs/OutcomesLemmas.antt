@@ -37,8 +37,8 @@ same_standing d e trail world = ap₂ (λ (t : Trail) (w : World). let s : Stand
 
 pub put_answered : (text : Outcomes → List ℕ → Type 0) (limits : StateLimits) (s : Program) (mode : Mode) (old new : SinkSeen) (told : Result ToldOutcomes AllocError) (r : Result OutcomesFound EngineFault)
     → IfOk told (IsTextOf text limits (start s mode)) → PutOutcomes told old new r → OutcomesAnsweredBy text limits s mode old new r
-put_answered text limits s mode old new (Ok told) (Ok found) tells h = (tells.0, tells.1, string_bytes told.text, tells.2, h.0, h.1 ∙ tells.3)
-put_answered text limits s mode old new (Ok told) (Err WriteFailed) tells h = (tells.0, tells.1, string_bytes told.text, tells.2, h)
+put_answered text limits s mode old new (Ok told) (Ok found) tells h = (tells.0, tells.1, told.text.items, tells.2, h.0, h.1 ∙ tells.3)
+put_answered text limits s mode old new (Ok told) (Err WriteFailed) tells h = (tells.0, tells.1, told.text.items, tells.2, h)
 put_answered text limits s mode old new (Ok told) (Err ReadFailed) tells h = h
 put_answered text limits s mode old new (Ok told) (Err TooManyTurns) tells h = h
 put_answered text limits s mode old new (Ok told) (Err Memory) tells h = absurd h

@@ -104,7 +104,7 @@ ModeAnswered s mode plan workers old new result = AnsweredBy (mode_line listed.L
 abbrev pub PartTold : (List ℕ → List ℕ) → Program → Mode → CheckPlan → ℕ → Result Told CheckFault → Type 0
 PartTold text s mode plan number (Ok told) =
     (choices : List ℕ) × (slice_get (pieces_of s mode plan) number ≡ Some choices) × AreFew s mode plan
-    × (string_bytes told.text ≡ text choices) × (told.tally ≡ tally_of (leaves_at s mode plan choices) (more_at s mode plan choices))
+    × (told.text.items ≡ text choices) × (told.tally ≡ tally_of (leaves_at s mode plan choices) (more_at s mode plan choices))
 PartTold text s mode plan number (Err (Engine WriteFailed)) = ⊥
 PartTold text s mode plan number (Err (Engine Memory)) = Unit {0}
 PartTold text s mode plan number (Err (Engine ReadFailed)) = ⊥

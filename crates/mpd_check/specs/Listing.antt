@@ -1,5 +1,5 @@
 -- A report that is explained, or whose leaves are grouped by how they end; and what is written of a sample.
-use Rattle.std.specs.Prelude.{◌≡◌, ℕ, Bool, false, nat_lt, List, length, map, Result, Ok, Err}
+use Rattle.std.specs.Prelude.{◌≡◌, ℕ, Bool, true, false, nat_lt, List, length, map, Result, Ok, Err}
 use Rattle.mpd_model.specs.declared.call.Mode.{Mode}
 use Rattle.mpd_model.specs.script.Program.{Program}
 use Rattle.mpd_model.specs.declared.decision.Decision.{Decision}
@@ -15,6 +15,7 @@ use Rattle.mpd_explore.specs.Report.{shown, ended_by}
 use Rattle.mpd_explore.specs.WitnessTexts.{witness_texts}
 use Rattle.mpd_explain.specs.Explanations.{explained_at}
 use Rattle.mpd_explain.specs.Told.{explained_text}
+use Rattle.mpd_marks.specs.Marked.{marked}
 use Rattle.mpd_runs.specs.Drawn.{seeded, draws, sampled}
 use Rattle.mpd_check.specs.declared.pool.CheckPlan.{CheckPlan}
 use Rattle.mpd_lines.specs.declared.engine.EngineFault.{EngineFault}
@@ -25,9 +26,18 @@ use Rattle.mpd_check.specs.declared.listing.Telling.{Telling}
 use Rattle.mpd_check.specs.Tally.{tally_of}
 use Rattle.mpd_check.specs.Checked.{leaves_of, more_of, leaves_at, more_at, text_of, Wrote, WrotePart, AnsweredBy}
 
--- the text of a report of these leaves, made where a debugger stands
+-- a text that has the places of marks of a script beside lines, if that is asked for
+abbrev pub marked_if : Bool → List ℕ → List ℕ → List ℕ
+marked_if false script text = text
+marked_if true script text = marked script text
+
+-- the text of a report of these leaves, made where a debugger stands, explained or not, and grouped or not
+abbrev pub listed_at : (World → Decision) → Bool → Bool → Limits → Standing → List Leaf → Bool → List ℕ
+listed_at decide explain group l d leaves more = explained_text group (witness_texts decide l.witnesses (done_steps d.trail) l.fuel d.world leaves) (explained_at decide explain l.fuel d leaves) leaves more
+
+-- the same with the places of marks beside lines, if it is explained
 abbrev pub listing_at : (World → Decision) → Telling → Limits → Standing → List Leaf → Bool → List ℕ
-listing_at decide t l d leaves more = explained_text t.group (witness_texts decide l.witnesses (done_steps d.trail) l.fuel d.world leaves) (explained_at decide t.explain l.fuel d leaves) leaves more
+listing_at decide t l d leaves more = marked_if t.explain t.script.now (listed_at decide t.explain t.group l d leaves more)
 
 -- the same from the start of a script
 abbrev pub listing_text : (World → Decision) → Telling → Program → Mode → Limits → List Leaf → Bool → List ℕ

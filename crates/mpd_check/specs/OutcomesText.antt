@@ -1,5 +1,5 @@
 -- What is written of the ways that runs end.
-use Rattle.std.specs.Prelude.{◌≡◌, ℕ, suc, Bool, true, false, slice_get, List, [], ◌∷◌, ◌++◌, length, Result, Ok, Err, codes, string_bytes}
+use Rattle.std.specs.Prelude.{◌≡◌, ℕ, suc, Bool, true, false, slice_get, List, [], ◌∷◌, ◌++◌, length, Result, Ok, Err, codes}
 use Rattle.std.specs.Fmt.{decimal}
 use Rattle.std.specs.declared.alloc.AllocError.{AllocError}
 use Rattle.mpd_model.specs.declared.call.Mode.{Mode}
@@ -25,6 +25,7 @@ use Rattle.mpd_check.specs.declared.counts.Tally.{Tally}
 use Rattle.mpd_check.specs.declared.modes.Listed.TheVariants as listed
 use Rattle.mpd_check.specs.declared.outcomes.OutcomesFound.{OutcomesFound}
 use Rattle.mpd_check.specs.declared.outcomes.ToldOutcomes.{ToldOutcomes}
+use Rattle.mpd_check.specs.Listing.{marked_if}
 use Rattle.mpd_check.specs.ModeText.{mode_line}
 use Rattle.mpd_check.specs.Tally.{tally_of}
 use Rattle.mpd_runs.specs.Counts.{told_counts}
@@ -60,9 +61,11 @@ abbrev pub AreDecided : Bool → StateLimits → Standing → List Leaf → List
 AreDecided false limits d leaves lines = lines ≡ []
 AreDecided true limits d leaves lines = AreBlamed limits.visited limits.fuel d leaves lines
 
--- the text of the ways to end where a debugger stands, which is at the start
-abbrev pub IsOutcomesText : Bool → StateLimits → Standing → Outcomes → List ℕ → Type 0
-IsOutcomesText explain limits d o text = (lines : List (List ℕ)) × AreDecided explain limits d o.firsts.leaves.items lines × (text ≡ outcomes_at explain limits.witnesses limits.fuel d lines o)
+-- the text of the ways to end where a debugger stands, which is at the start; if they are explained, the places of marks of the script stand
+-- beside lines
+abbrev pub IsOutcomesText : List ℕ → Bool → StateLimits → Standing → Outcomes → List ℕ → Type 0
+IsOutcomesText script explain limits d o text =
+    (lines : List (List ℕ)) × AreDecided explain limits d o.firsts.leaves.items lines × (text ≡ marked_if explain script (outcomes_at explain limits.witnesses limits.fuel d lines o))
 
 -- ---- what is answered
 
@@ -75,12 +78,12 @@ found_in o = record { tally = tally_in o; counts = told_counts o; states = o.vis
 
 -- the text that was made is of what is told of the runs from there, and so is what was found
 abbrev pub IsTextOf : (Outcomes → List ℕ → Type 0) → StateLimits → World → ToldOutcomes → Type 0
-IsTextOf tells limits w told = (o : Outcomes) × AreTold limits w o × tells o (string_bytes told.text) × (told.found ≡ found_in o)
+IsTextOf tells limits w told = (o : Outcomes) × AreTold limits w o × tells o told.text.items × (told.found ≡ found_in o)
 
 -- a text that was made is written, or a part of it until a write failed; and nothing where none was made
 abbrev pub PutOutcomes : Result ToldOutcomes AllocError → SinkSeen → SinkSeen → Result OutcomesFound EngineFault → Type 0
-PutOutcomes (Ok told) old new (Ok found) = Wrote (string_bytes told.text) old new × (found ≡ told.found)
-PutOutcomes (Ok told) old new (Err WriteFailed) = WrotePart (string_bytes told.text) old new
+PutOutcomes (Ok told) old new (Ok found) = Wrote told.text.items old new × (found ≡ told.found)
+PutOutcomes (Ok told) old new (Err WriteFailed) = WrotePart told.text.items old new
 PutOutcomes (Err refused) old new (Err Memory) = new ≡ old
 PutOutcomes told old new result = ⊥
 
@@ -94,8 +97,8 @@ OutcomesAnsweredBy tells limits s mode old new (Err ReadFailed) = ⊥
 OutcomesAnsweredBy tells limits s mode old new (Err TooManyTurns) = ⊥
 
 -- the ways to end
-abbrev pub OutcomesAnswered : Bool → StateLimits → Program → Mode → SinkSeen → SinkSeen → Result OutcomesFound EngineFault → Type 0
-OutcomesAnswered explain limits s mode old new result = OutcomesAnsweredBy (IsOutcomesText explain limits (first_standing s mode)) limits s mode old new result
+abbrev pub OutcomesAnswered : List ℕ → Bool → StateLimits → Program → Mode → SinkSeen → SinkSeen → Result OutcomesFound EngineFault → Type 0
+OutcomesAnswered script explain limits s mode old new result = OutcomesAnsweredBy (IsOutcomesText script explain limits (first_standing s mode)) limits s mode old new result
 
 -- one line of what they tell
 abbrev pub IsModeLine : Mode → Outcomes → List ℕ → Type 0

@@ -19,7 +19,7 @@ mod work;
 ghost use Rattle.mpd_check.specs.Checked.{pieces_of, leaves_of, more_of, text_of, AreFew, IsCrew, Answered, Put};
 ghost use Rattle.mpd_check.specs.Refused.{refused_by};
 ghost use Rattle.mpd_check.specs.Tally.{tally_of};
-ghost use Rattle.std.specs.Prelude.{◌≡◌, ◌↔◌, ◌≤◌, ◌<◌, ◌⊎◌, true, IfOk, OnOk, IsErrOf, length, string_bytes};
+ghost use Rattle.std.specs.Prelude.{◌≡◌, ◌↔◌, ◌≤◌, ◌<◌, ◌⊎◌, true, IfOk, OnOk, IsErrOf, length};
 
 use crate::counts::tally_of;
 pub use counts::Tally;
@@ -44,7 +44,7 @@ use std::thread::Threads;
 /// A report as text, and what it tells.
 #[derive(Drop)]
 pub(crate) struct Told {
-    pub(crate) text: String,
+    pub(crate) text: Vec<u8>,
     pub(crate) tally: Tally,
 }
 
@@ -68,9 +68,9 @@ pub fn is_crew(workers: usize) -> bool
 
 /// Writes the text of a report, and returns what it tells.
 pub(crate) fn put<W: Sink>(told: Told, sink: &mut W) -> Result<Tally, CheckFault>
-    ensures { Put (string_bytes told.text) told.tally (W.seen sink.old) (W.seen sink.new) result }
+    ensures { Put told.text.items told.tally (W.seen sink.old) (W.seen sink.new) result }
 {
-    if write_all(sink, told.text.as_bytes()).is_err() {
+    if write_all(sink, &told.text).is_err() {
         return Err(CheckFault::Engine(EngineFault::WriteFailed));
     }
     Ok(told.tally)
@@ -85,7 +85,7 @@ fn tell<G: Gate, R: Threads + Sync>(
     gate: &G,
 ) -> Result<Told, PoolFault>
     requires { plan.limits.fuel ≤ STEPS_MAX }
-    ensures text { IfOk result (λ told. string_bytes told.text ≡ text_of subject.entry.code.now.program subject.entry.mode plan (leaves_of subject.entry.code.now.program subject.entry.mode plan) (more_of subject.entry.code.now.program subject.entry.mode plan)) }
+    ensures text { IfOk result (λ told. told.text.items ≡ text_of subject.entry.code.now.program subject.entry.mode plan (leaves_of subject.entry.code.now.program subject.entry.mode plan) (more_of subject.entry.code.now.program subject.entry.mode plan)) }
     ensures tally { IfOk result (λ told. told.tally ≡ tally_of (leaves_of subject.entry.code.now.program subject.entry.mode plan) (more_of subject.entry.code.now.program subject.entry.mode plan)) }
     ensures workers { IsErrOf result PoolFault.BadWorkers → (crew.entry.workers ≡ 0) ⊎ (WORKERS_MAX < crew.entry.workers) }
     ensures few { OnOk result (AreFew subject.entry.code.now.program subject.entry.mode plan) }
@@ -106,7 +106,10 @@ fn tell<G: Gate, R: Threads + Sync>(
     let tally = tally_of(&report);
     drop(report);
     match printed {
-        Ok(text) => Ok(Told { text, tally }),
+        Ok(text) => {
+            let text = text.into_bytes();
+            Ok(Told { text, tally })
+        }
         Err(_) => Err(PoolFault::Memory),
     }
 }

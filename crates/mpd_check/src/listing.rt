@@ -10,7 +10,8 @@ ghost use Rattle.mpd_explore.specs.Witness.{HasWitness};
 ghost use Rattle.mpd_explore.specs.WitnessTexts.{witness_texts};
 ghost use Rattle.mpd_explain.specs.Explanations.{explained_at};
 ghost use Rattle.mpd_check.specs.Checked.{pieces_of, leaves_of, more_of, AreFew};
-ghost use Rattle.mpd_check.specs.Listing.{listing_at, listing_text, report_listing, sample_leaves, sample_more, ListingAnswered, PutSample, SampleAnswered};
+ghost use Rattle.mpd_marks.specs.Marked.{marked};
+ghost use Rattle.mpd_check.specs.Listing.{listed_at, listing_at, marked_if, listing_text, report_listing, sample_leaves, sample_more, ListingAnswered, PutSample, SampleAnswered};
 ghost use Rattle.mpd_check.specs.Tally.{tally_of};
 
 use crate::counts::{Tally, tally_of};
@@ -23,6 +24,7 @@ use mpd_core::Debugger;
 use mpd_explain::{Beside, explain_all, print_explained, print_grouped};
 use mpd_explore::{Limits, PIECES_MAX, Report, Watch};
 use mpd_lines::{EngineFault, Sink, write_all};
+use mpd_marks::push_marked;
 use mpd_model::STEPS_MAX;
 use mpd_policy::{Plain, Schedule, Wide};
 use mpd_runs::sample;
@@ -32,20 +34,22 @@ use std::thread::Threads;
 
 /// What a report has beside its leaves.
 #[derive(Clone, Copy)]
-pub struct Telling {
+pub struct Telling<'t> {
     /// Whether each deadlock and each trap is explained.
     pub explain: bool,
     /// Whether each different end is listed once, in place of the leaves.
     pub group: bool,
+    /// The text of the script, the places of whose marks stand beside lines that are told (docs/FROM_A_RUN.md, "Marks").
+    pub script: &'t [u8],
 }
 
 /// What is wanted of a report: of which runs it is, and what it has beside its leaves.
 #[derive(Clone, Copy)]
-pub struct Wanted {
+pub struct Wanted<'t> {
     /// How the runs are cut into pieces, and the limits of each.
     pub plan: CheckPlan,
     /// What it has beside its leaves.
-    pub telling: Telling,
+    pub telling: Telling<'t>,
 }
 
 /// Which runs are drawn.
@@ -80,8 +84,8 @@ pub(crate) fn explanations_of<S: Schedule>(
 
 /// The limits by which a report is made: if it is grouped, no texts of witnesses, since those of
 /// the first leaves are made afterwards.
-pub(crate) fn limits_for(limits: Limits, telling: Telling) -> Limits
-    ensures { result ≡ record limits { witnesses = limits.witnesses && not telling.group } }
+pub(crate) fn limits_for(limits: Limits, telling: Telling<'_>) -> Limits
+    ensures { result ≡ record limits { witnesses = limits.witnesses && not telling.entry.group } }
 {
     Limits {
         witnesses: limits.witnesses && !telling.group,
@@ -97,13 +101,13 @@ fn text_of<S: Schedule>(
     debugger: &mut Debugger<'_>,
     report: &Report,
     limits: Limits,
-    telling: Telling,
+    telling: Telling<'_>,
 ) -> Result<String, AllocError>
     requires clean { length debugger.old.trail.steps ≡ debugger.old.trail.depth }
     requires fits { debugger.old.trail.depth + limits.fuel ≤ STEPS_MAX }
     requires listed { AllByRecursion (HasWitness S.decides debugger.old.trail.program debugger.old.trail.mode (done_steps debugger.old.trail) limits.fuel debugger.old.world) report.now.leaves.items }
     requires texts { telling.group ≡ false → map string_bytes report.now.witnesses.items ≡ witness_texts S.decides limits.witnesses (done_steps debugger.old.trail) limits.fuel debugger.old.world report.now.leaves.items }
-    ensures text { IfOk result (λ t. string_bytes t ≡ listing_at S.decides telling limits (standing_of debugger.old) report.now.leaves.items report.now.more) }
+    ensures text { IfOk result (λ t. string_bytes t ≡ listed_at S.decides telling.entry.explain telling.entry.group limits (standing_of debugger.old) report.now.leaves.items report.now.more) }
 {
     let fuel = limits.fuel;
     let explain = telling.explain;
@@ -119,6 +123,30 @@ fn text_of<S: Schedule>(
     print_explained(alloc, report, &texts)
 }
 
+/// A text with the places of marks of the script beside lines, if that is asked for.
+pub(crate) fn marked_if(
+    alloc: Global,
+    script: &[u8],
+    text: String,
+    asked: bool,
+) -> Result<Vec<u8>, AllocError>
+    ensures { IfOk result (λ t. t.items ≡ marked_if asked script.now (string_bytes text)) }
+{
+    if !asked {
+        return Ok(text.into_bytes());
+    }
+    marked_text(alloc, script, &text)
+}
+
+/// A text with the places of marks of the script beside lines.
+fn marked_text(alloc: Global, script: &[u8], text: &str) -> Result<Vec<u8>, AllocError>
+    ensures { IfOk result (λ t. t.items ≡ marked script.now text.now) }
+{
+    let mut out = Vec::new(alloc);
+    push_marked(&mut out, script, text.as_bytes())?;
+    Ok(out)
+}
+
 /// The text of a report whose leaves were listed along a schedule, and what it tells.
 fn told_of<S: Schedule>(
     alloc: Global,
@@ -126,17 +154,18 @@ fn told_of<S: Schedule>(
     debugger: &mut Debugger<'_>,
     report: &Report,
     limits: Limits,
-    telling: Telling,
+    telling: Telling<'_>,
 ) -> Result<Told, AllocError>
     requires clean { length debugger.old.trail.steps ≡ debugger.old.trail.depth }
     requires fits { debugger.old.trail.depth + limits.fuel ≤ STEPS_MAX }
     requires listed { AllByRecursion (HasWitness S.decides debugger.old.trail.program debugger.old.trail.mode (done_steps debugger.old.trail) limits.fuel debugger.old.world) report.now.leaves.items }
     requires texts { telling.group ≡ false → map string_bytes report.now.witnesses.items ≡ witness_texts S.decides limits.witnesses (done_steps debugger.old.trail) limits.fuel debugger.old.world report.now.leaves.items }
-    ensures text { IfOk result (λ told. string_bytes told.text ≡ listing_at S.decides telling limits (standing_of debugger.old) report.now.leaves.items report.now.more) }
+    ensures text { IfOk result (λ told. told.text.items ≡ listing_at S.decides telling.entry limits (standing_of debugger.old) report.now.leaves.items report.now.more) }
     ensures tally { IfOk result (λ told. told.tally ≡ tally_of report.now.leaves.items report.now.more) }
 {
     let text = text_of(alloc, schedule, debugger, report, limits, telling)?;
     let tally = tally_of(report);
+    let text = marked_if(alloc, telling.script, text, telling.explain)?;
     Ok(Told { text, tally })
 }
 
@@ -147,13 +176,13 @@ pub(crate) fn told_by(
     debugger: &mut Debugger<'_>,
     report: &Report,
     limits: Limits,
-    telling: Telling,
+    telling: Telling<'_>,
 ) -> Result<Told, AllocError>
     requires clean { length debugger.old.trail.steps ≡ debugger.old.trail.depth }
     requires fits { debugger.old.trail.depth + limits.fuel ≤ STEPS_MAX }
     requires listed { AllByRecursion (HasWitness (decides_by limits.ends) debugger.old.trail.program debugger.old.trail.mode (done_steps debugger.old.trail) limits.fuel debugger.old.world) report.now.leaves.items }
     requires texts { telling.group ≡ false → map string_bytes report.now.witnesses.items ≡ witness_texts (decides_by limits.ends) limits.witnesses (done_steps debugger.old.trail) limits.fuel debugger.old.world report.now.leaves.items }
-    ensures text { IfOk result (λ told. string_bytes told.text ≡ listing_at (decides_by limits.ends) telling limits (standing_of debugger.old) report.now.leaves.items report.now.more) }
+    ensures text { IfOk result (λ told. told.text.items ≡ listing_at (decides_by limits.ends) telling.entry limits (standing_of debugger.old) report.now.leaves.items report.now.more) }
     ensures tally { IfOk result (λ told. told.tally ≡ tally_of report.now.leaves.items report.now.more) }
 {
     if limits.ends {
@@ -167,15 +196,15 @@ fn tell_listing<G: Gate, R: Threads + Sync>(
     crew: Crew<'_, R>,
     alloc: Global,
     subject: Subject<'_>,
-    wanted: Wanted,
+    wanted: Wanted<'_>,
     gate: &G,
 ) -> Result<Told, PoolFault>
     requires { wanted.plan.limits.fuel ≤ STEPS_MAX }
-    ensures text { IfOk result (λ told. string_bytes told.text ≡ report_listing wanted.telling subject.entry.code.now.program subject.entry.mode wanted.plan.limits (leaves_of subject.entry.code.now.program subject.entry.mode wanted.plan) (more_of subject.entry.code.now.program subject.entry.mode wanted.plan)) }
-    ensures tally { IfOk result (λ told. told.tally ≡ tally_of (leaves_of subject.entry.code.now.program subject.entry.mode wanted.plan) (more_of subject.entry.code.now.program subject.entry.mode wanted.plan)) }
+    ensures text { IfOk result (λ told. told.text.items ≡ report_listing wanted.entry.telling subject.entry.code.now.program subject.entry.mode wanted.entry.plan.limits (leaves_of subject.entry.code.now.program subject.entry.mode wanted.entry.plan) (more_of subject.entry.code.now.program subject.entry.mode wanted.entry.plan)) }
+    ensures tally { IfOk result (λ told. told.tally ≡ tally_of (leaves_of subject.entry.code.now.program subject.entry.mode wanted.entry.plan) (more_of subject.entry.code.now.program subject.entry.mode wanted.entry.plan)) }
     ensures workers { IsErrOf result PoolFault.BadWorkers → (crew.entry.workers ≡ 0) ⊎ (WORKERS_MAX < crew.entry.workers) }
-    ensures few { OnOk result (AreFew subject.entry.code.now.program subject.entry.mode wanted.plan) }
-    ensures many { IsErrOf result PoolFault.TooManyPieces → PIECES_MAX < length (pieces_of subject.entry.code.now.program subject.entry.mode wanted.plan) }
+    ensures few { OnOk result (AreFew subject.entry.code.now.program subject.entry.mode wanted.entry.plan) }
+    ensures many { IsErrOf result PoolFault.TooManyPieces → PIECES_MAX < length (pieces_of subject.entry.code.now.program subject.entry.mode wanted.entry.plan) }
 {
     let Ok(mut debugger) = Debugger::start(alloc, subject.code, subject.mode) else {
         return Err(PoolFault::Memory);
@@ -212,12 +241,12 @@ pub fn check_listing<W: Sink, G: Gate, R: Threads + Sync>(
     crew: Crew<'_, R>,
     alloc: Global,
     subject: Subject<'_>,
-    wanted: Wanted,
+    wanted: Wanted<'_>,
     sink: &mut W,
     gate: &G,
 ) -> Result<Tally, CheckFault>
     requires { wanted.plan.limits.fuel ≤ STEPS_MAX }
-    ensures { ListingAnswered wanted.telling subject.entry.code.now.program subject.entry.mode wanted.plan crew.entry.workers (W.seen sink.old) (W.seen sink.new) result }
+    ensures { ListingAnswered wanted.entry.telling subject.entry.code.now.program subject.entry.mode wanted.entry.plan crew.entry.workers (W.seen sink.old) (W.seen sink.new) result }
 {
     if !is_crew(crew.workers) {
         return Err(CheckFault::BadWorkers);
@@ -235,11 +264,11 @@ fn tell_sample<P: Watch>(
     alloc: Global,
     subject: Subject<'_>,
     plan: SamplePlan,
-    telling: Telling,
+    telling: Telling<'_>,
     watch: &mut P,
 ) -> Result<Told, AllocError>
     requires { plan.limits.fuel ≤ STEPS_MAX }
-    ensures text { IfOk result (λ told. string_bytes told.text ≡ listing_text wide_decision telling subject.entry.code.now.program subject.entry.mode plan.limits (sample_leaves subject.entry.code.now.program subject.entry.mode plan.seed plan.limits) (sample_more subject.entry.code.now.program subject.entry.mode plan.seed plan.limits)) }
+    ensures text { IfOk result (λ told. told.text.items ≡ listing_text wide_decision telling.entry subject.entry.code.now.program subject.entry.mode plan.limits (sample_leaves subject.entry.code.now.program subject.entry.mode plan.seed plan.limits) (sample_more subject.entry.code.now.program subject.entry.mode plan.seed plan.limits)) }
     ensures tally { IfOk result (λ told. told.tally ≡ tally_of (sample_leaves subject.entry.code.now.program subject.entry.mode plan.seed plan.limits) (sample_more subject.entry.code.now.program subject.entry.mode plan.seed plan.limits)) }
 {
     let mut debugger = Debugger::start(alloc, subject.code, subject.mode)?;
@@ -253,9 +282,9 @@ fn tell_sample<P: Watch>(
 
 /// Writes the text of a sample, and returns what it tells.
 fn put_sample<W: Sink>(told: Told, sink: &mut W) -> Result<Tally, EngineFault>
-    ensures { PutSample (string_bytes told.text) told.tally (W.seen sink.old) (W.seen sink.new) result }
+    ensures { PutSample told.text.items told.tally (W.seen sink.old) (W.seen sink.new) result }
 {
-    if write_all(sink, told.text.as_bytes()).is_err() {
+    if write_all(sink, &told.text).is_err() {
         return Err(EngineFault::WriteFailed);
     }
     Ok(told.tally)
@@ -271,12 +300,12 @@ pub fn check_sample<W: Sink, P: Watch>(
     alloc: Global,
     subject: Subject<'_>,
     plan: SamplePlan,
-    telling: Telling,
+    telling: Telling<'_>,
     sink: &mut W,
     watch: &mut P,
 ) -> Result<Tally, EngineFault>
     requires { plan.limits.fuel ≤ STEPS_MAX }
-    ensures { SampleAnswered telling subject.entry.code.now.program subject.entry.mode plan.seed plan.limits (W.seen sink.old) (W.seen sink.new) result }
+    ensures { SampleAnswered telling.entry subject.entry.code.now.program subject.entry.mode plan.seed plan.limits (W.seen sink.old) (W.seen sink.new) result }
 {
     let told = tell_sample(alloc, subject, plan, telling, watch);
     watch.end();

@@ -196,7 +196,10 @@ pub fn check_mode<W: Sink, G: Gate, R: Threads + Sync>(
     gate.done();
     match told {
         Ok(tally) => match line_of(alloc, Listed::Leaves, subject.mode, tally) {
-            Ok(text) => put(Told { text, tally }, sink),
+            Ok(text) => {
+                let text = text.into_bytes();
+                put(Told { text, tally }, sink)
+            }
             Err(_) => Err(CheckFault::Engine(EngineFault::Memory)),
         },
         Err(fault) => Err(refused(fault)),

@@ -12,7 +12,7 @@ ghost use Rattle.mpd_outcomes.specs.Goals.{AreTold};
 ghost use Rattle.mpd_check.specs.OutcomesText.{found_in, outcome_line, outcome_lines, outcomes_line, outcomes_text, AreDecided, IsModeLine, IsOutcomesText, IsTextOf, ModeOutcomesAnswered, OutcomesAnswered, PutOutcomes};
 
 use crate::counts::{Tally, tally_of};
-use crate::listing::explanations_of;
+use crate::listing::{explanations_of, marked_if};
 use crate::modes::{Listed, line_of};
 use mpd_blame::blame_lines;
 use mpd_code::Subject;
@@ -28,11 +28,13 @@ use std::alloc::{AllocError, Global};
 
 /// How the ways to end are looked for.
 #[derive(Clone, Copy)]
-pub struct OutcomesPlan {
+pub struct OutcomesPlan<'t> {
     /// How far the search goes, and whether witnesses are wanted.
     pub limits: StateLimits,
     /// Whether each deadlock and each trap is explained.
     pub explain: bool,
+    /// The text of the script, the places of whose marks stand beside lines that are told (docs/FROM_A_RUN.md, "Marks").
+    pub script: &'t [u8],
 }
 
 /// What was found of the ways to end.
@@ -49,7 +51,7 @@ pub struct OutcomesFound {
 /// The ways to end as text, and what was found of them.
 #[derive(Drop)]
 struct ToldOutcomes {
-    text: String,
+    text: Vec<u8>,
     found: OutcomesFound,
 }
 
@@ -133,14 +135,14 @@ fn found_in(outcomes: &Outcomes) -> OutcomesFound
 fn lines_of(
     alloc: Global,
     debugger: &mut Debugger<'_>,
-    plan: OutcomesPlan,
+    plan: OutcomesPlan<'_>,
     leaves: &[Leaf],
 ) -> Result<Vec<String>, AllocError>
     requires clean { length debugger.old.trail.steps ≡ debugger.old.trail.depth }
     requires at_start { debugger.old.trail.depth ≡ 0 }
     requires few { plan.limits.fuel ≤ STEPS_MAX }
     requires listed { AllByRecursion (HasWitness wide_decision debugger.old.trail.program debugger.old.trail.mode (done_steps debugger.old.trail) plan.limits.fuel debugger.old.world) leaves.now }
-    ensures lines { IfOk result (λ lines. AreDecided plan.explain plan.limits (standing_of debugger.old) leaves.now (map string_bytes lines.items)) }
+    ensures lines { IfOk result (λ lines. AreDecided plan.entry.explain plan.entry.limits (standing_of debugger.old) leaves.now (map string_bytes lines.items)) }
     ensures as_found { AsFound (standing_of debugger.old) (standing_of debugger.new) }
 {
     debugger.state_is_reached();
@@ -154,18 +156,19 @@ fn lines_of(
 fn tell_outcomes(
     alloc: Global,
     debugger: &mut Debugger<'_>,
-    plan: OutcomesPlan,
+    plan: OutcomesPlan<'_>,
 ) -> Result<ToldOutcomes, AllocError>
     requires clean { length debugger.old.trail.steps ≡ debugger.old.trail.depth }
     requires at_start { debugger.old.trail.depth ≡ 0 }
     requires few { plan.limits.fuel ≤ STEPS_MAX }
-    ensures { IfOk result (IsTextOf (IsOutcomesText plan.explain plan.limits (standing_of debugger.old)) plan.limits debugger.old.world) }
+    ensures { IfOk result (IsTextOf (IsOutcomesText plan.entry.script.now plan.entry.explain plan.entry.limits (standing_of debugger.old)) plan.entry.limits debugger.old.world) }
 {
     let outcomes = explore_outcomes(alloc, debugger, plan.limits)?;
     let fuel = plan.limits.fuel;
     let lines = lines_of(alloc, debugger, plan, &outcomes.firsts.leaves)?;
     let texts = explanations_of(alloc, &Wide, debugger, &outcomes.firsts, fuel, plan.explain)?;
     let text = print_outcomes(alloc, &outcomes, &texts, &lines)?;
+    let text = marked_if(alloc, plan.script, text, plan.explain)?;
     let found = found_in(&outcomes);
     Ok(ToldOutcomes { text, found })
 }
@@ -174,10 +177,10 @@ fn tell_outcomes(
 fn tell_from_start(
     alloc: Global,
     subject: Subject<'_>,
-    plan: OutcomesPlan,
+    plan: OutcomesPlan<'_>,
 ) -> Result<ToldOutcomes, AllocError>
     requires { plan.limits.fuel ≤ STEPS_MAX }
-    ensures { IfOk result (IsTextOf (IsOutcomesText plan.explain plan.limits (first_standing subject.entry.code.now.program subject.entry.mode)) plan.limits (start subject.entry.code.now.program subject.entry.mode)) }
+    ensures { IfOk result (IsTextOf (IsOutcomesText plan.entry.script.now plan.entry.explain plan.entry.limits (first_standing subject.entry.code.now.program subject.entry.mode)) plan.entry.limits (start subject.entry.code.now.program subject.entry.mode)) }
 {
     let mut debugger = Debugger::start(alloc, subject.code, subject.mode)?;
     let told = tell_outcomes(alloc, &mut debugger, plan);
@@ -213,6 +216,7 @@ fn tell_mode(
     let found = found_in(&outcomes);
     drop(outcomes);
     let text = line_of(alloc, Listed::Outcomes, subject.mode, found.tally)?;
+    let text = text.into_bytes();
     Ok(ToldOutcomes { text, found })
 }
 
@@ -226,7 +230,7 @@ fn put_outcomes<W: Sink>(
     let Ok(told) = told else {
         return Err(EngineFault::Memory);
     };
-    if write_all(sink, told.text.as_bytes()).is_err() {
+    if write_all(sink, &told.text).is_err() {
         return Err(EngineFault::WriteFailed);
     }
     Ok(told.found)
@@ -242,11 +246,11 @@ fn put_outcomes<W: Sink>(
 pub fn check_outcomes<W: Sink>(
     alloc: Global,
     subject: Subject<'_>,
-    plan: OutcomesPlan,
+    plan: OutcomesPlan<'_>,
     sink: &mut W,
 ) -> Result<OutcomesFound, EngineFault>
     requires { plan.limits.fuel ≤ STEPS_MAX }
-    ensures { OutcomesAnswered plan.explain plan.limits subject.entry.code.now.program subject.entry.mode (W.seen sink.old) (W.seen sink.new) result }
+    ensures { OutcomesAnswered plan.entry.script.now plan.entry.explain plan.entry.limits subject.entry.code.now.program subject.entry.mode (W.seen sink.old) (W.seen sink.new) result }
 {
     put_outcomes(tell_from_start(alloc, subject, plan), sink)
 }

@@ -97,15 +97,15 @@ pub fn count_pieces<W: Sink>(
 fn tell_at<P: Watch>(
     alloc: Global,
     debugger: &mut Debugger<'_>,
-    wanted: Wanted,
+    wanted: Wanted<'_>,
     piece: &Piece,
     watch: &mut P,
 ) -> Result<Told, AllocError>
     requires fuel { wanted.plan.limits.fuel ≤ STEPS_MAX }
     requires standing { standing_of debugger.old ≡ first_standing debugger.old.trail.program debugger.old.trail.mode }
     requires reaches { Reaches (decides_by wanted.plan.limits.ends) wanted.plan.limits.fuel piece.now.choices debugger.old.world }
-    ensures text { IfOk result (λ told. string_bytes told.text ≡ part_text wanted.telling debugger.old.trail.program debugger.old.trail.mode wanted.plan piece.now.choices) }
-    ensures tally { IfOk result (λ told. told.tally ≡ tally_of (leaves_at debugger.old.trail.program debugger.old.trail.mode wanted.plan piece.now.choices) (more_at debugger.old.trail.program debugger.old.trail.mode wanted.plan piece.now.choices)) }
+    ensures text { IfOk result (λ told. told.text.items ≡ part_text wanted.entry.telling debugger.old.trail.program debugger.old.trail.mode wanted.entry.plan piece.now.choices) }
+    ensures tally { IfOk result (λ told. told.tally ≡ tally_of (leaves_at debugger.old.trail.program debugger.old.trail.mode wanted.entry.plan piece.now.choices) (more_at debugger.old.trail.program debugger.old.trail.mode wanted.entry.plan piece.now.choices)) }
 {
     let limits = wanted.plan.limits;
     let asked = limits_for(limits, wanted.telling);
@@ -119,7 +119,7 @@ fn tell_at<P: Watch>(
 fn tell_number<P: Watch>(
     alloc: Global,
     debugger: &mut Debugger<'_>,
-    wanted: Wanted,
+    wanted: Wanted<'_>,
     pieces: &[Piece],
     number: usize,
     watch: &mut P,
@@ -128,7 +128,7 @@ fn tell_number<P: Watch>(
     requires standing { standing_of debugger.old ≡ first_standing debugger.old.trail.program debugger.old.trail.mode }
     requires pieces { pieces.now ≡ numbered 0 (pieces_of debugger.old.trail.program debugger.old.trail.mode wanted.plan) }
     requires few { AreFew debugger.old.trail.program debugger.old.trail.mode wanted.plan }
-    ensures { PartTold (part_text wanted.telling debugger.old.trail.program debugger.old.trail.mode wanted.plan) debugger.old.trail.program debugger.old.trail.mode wanted.plan number result }
+    ensures { PartTold (part_text wanted.entry.telling debugger.old.trail.program debugger.old.trail.mode wanted.entry.plan) debugger.old.trail.program debugger.old.trail.mode wanted.entry.plan number result }
 {
     let count = pieces.len();
     if number >= count {
@@ -144,12 +144,12 @@ fn tell_number<P: Watch>(
 fn tell_piece<P: Watch>(
     alloc: Global,
     subject: Subject<'_>,
-    wanted: Wanted,
+    wanted: Wanted<'_>,
     number: usize,
     watch: &mut P,
 ) -> Result<Told, CheckFault>
     requires { wanted.plan.limits.fuel ≤ STEPS_MAX }
-    ensures { PartTold (part_text wanted.telling subject.entry.code.now.program subject.entry.mode wanted.plan) subject.entry.code.now.program subject.entry.mode wanted.plan number result }
+    ensures { PartTold (part_text wanted.entry.telling subject.entry.code.now.program subject.entry.mode wanted.entry.plan) subject.entry.code.now.program subject.entry.mode wanted.entry.plan number result }
 {
     let begun = match begin(alloc, subject, wanted.plan) {
         Ok(begun) => begun,
@@ -166,13 +166,13 @@ fn tell_piece<P: Watch>(
 fn write_piece<W: Sink, P: Watch>(
     alloc: Global,
     subject: Subject<'_>,
-    wanted: Wanted,
+    wanted: Wanted<'_>,
     number: usize,
     sink: &mut W,
     watch: &mut P,
 ) -> Result<Tally, CheckFault>
     requires { wanted.plan.limits.fuel ≤ STEPS_MAX }
-    ensures { PartAnswered (part_text wanted.telling subject.entry.code.now.program subject.entry.mode wanted.plan) subject.entry.code.now.program subject.entry.mode wanted.plan number (W.seen sink.old) (W.seen sink.new) result }
+    ensures { PartAnswered (part_text wanted.entry.telling subject.entry.code.now.program subject.entry.mode wanted.entry.plan) subject.entry.code.now.program subject.entry.mode wanted.entry.plan number (W.seen sink.old) (W.seen sink.new) result }
 {
     let told = tell_piece(alloc, subject, wanted, number, watch);
     watch.end();
@@ -193,14 +193,14 @@ fn write_piece<W: Sink, P: Watch>(
 pub fn check_piece<W: Sink, P: Watch>(
     alloc: Global,
     subject: Subject<'_>,
-    wanted: Wanted,
+    wanted: Wanted<'_>,
     number: usize,
     sink: &mut W,
     watch: &mut P,
 ) -> Result<Tally, CheckFault>
     requires { wanted.plan.limits.fuel ≤ STEPS_MAX }
-    ensures told { PartAnswered (part_text wanted.telling subject.entry.code.now.program subject.entry.mode wanted.plan) subject.entry.code.now.program subject.entry.mode wanted.plan number (W.seen sink.old) (W.seen sink.new) result }
-    ensures plain { IsPlain wanted.telling → PartAnswered (plain_part subject.entry.code.now.program subject.entry.mode wanted.plan) subject.entry.code.now.program subject.entry.mode wanted.plan number (W.seen sink.old) (W.seen sink.new) result }
+    ensures told { PartAnswered (part_text wanted.entry.telling subject.entry.code.now.program subject.entry.mode wanted.entry.plan) subject.entry.code.now.program subject.entry.mode wanted.entry.plan number (W.seen sink.old) (W.seen sink.new) result }
+    ensures plain { IsPlain wanted.entry.telling → PartAnswered (plain_part subject.entry.code.now.program subject.entry.mode wanted.entry.plan) subject.entry.code.now.program subject.entry.mode wanted.entry.plan number (W.seen sink.old) (W.seen sink.new) result }
 {
     write_piece(alloc, subject, wanted, number, sink, watch)
 }

@@ -3,7 +3,7 @@ use Rattle.std.specs.Prelude.{ℕ, ◌+◌, List, [], ◌∷◌, ◌++◌, slice
 use Rattle.mpd_model.specs.script.Tree.{Tree, simple, branch, repeat, Block, no_more, then_more, block_of, trees, statements, statements_in, numbered}
 use Rattle.mpd_model.specs.script.Program.{Program}
 
--- A block is numbered from a number on, and `behind` is what is left behind it. Behind the body of a `while` stands the `while` again.
+-- A block is numbered from a number on, and `behind` is what is left after it. Behind the body of a `while` stands the `while` again.
 abbrev mutual
   pub lefts : ℕ → Block → List (ℕ × Tree) → List (List (ℕ × Tree))
   lefts n no_more behind = []

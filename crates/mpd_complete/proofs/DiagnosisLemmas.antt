@@ -61,9 +61,9 @@ all_taken : (fuel : ℕ) (u : World) (runs : ℕ) (more : Bool) → more ≡ nat
 all_taken fuel u runs more is none =
     take_all runs (leaves_from fuel u) (subst (λ (n : ℕ). n ≤ runs) (sym (length-map (wide_walk fuel u) shown)) (not_less runs (length (wide_walk fuel u)) (sym is ∙ none)))
 
-pub good_tells : (file : List ℕ) (ranks : Option ℕ) (limits : StateLimits) (most runs : ℕ) (s : Program) (mode : Mode) (told : Diagnosis) (strict : Bool) → IsDiagnosis file ranks limits most runs (first_standing s mode) told
+pub good_tells : (script file : List ℕ) (ranks : Option ℕ) (limits : StateLimits) (most runs : ℕ) (s : Program) (mode : Mode) (told : Diagnosis) (strict : Bool) → IsDiagnosis script file ranks limits most runs (first_standing s mode) told
     → verdict_of strict told.counts told.drawn ≡ Good → NoneEndsBadly (start s mode) × BoundsAllRuns limits.fuel (start s mode)
-good_tells file ranks limits most runs s mode told strict h good =
+good_tells script file ranks limits most runs s mode told strict h good =
     let fuel : ℕ = limits.fuel in
     let u : World = start s mode in
     let o = h.is_first.0 in

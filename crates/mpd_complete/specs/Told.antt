@@ -55,7 +55,7 @@ NoneEndsBadly u =
 -- Where the verdict on a diagnosis is good, that holds of all runs of the script.
 abbrev pub GoodDiagnosesAreOfAllRuns : Type 0
 GoodDiagnosesAreOfAllRuns =
-    (file : List ℕ) (ranks : Option ℕ) (limits : StateLimits) (most runs : ℕ) (s : Program) (mode : Mode) (told : Diagnosis) (strict : Bool) → IsDiagnosis file ranks limits most runs (first_standing s mode) told
+    (script file : List ℕ) (ranks : Option ℕ) (limits : StateLimits) (most runs : ℕ) (s : Program) (mode : Mode) (told : Diagnosis) (strict : Bool) → IsDiagnosis script file ranks limits most runs (first_standing s mode) told
     → verdict_of strict told.counts told.drawn ≡ Good → NoneEndsBadly (start s mode) × BoundsAllRuns limits.fuel (start s mode)
 
 -- And of the runs that the console looks at from where it stands, where it says that there is no deadlock or trap from there: by states, or

@@ -56,7 +56,7 @@ LastUndone old new result =
     StepsUndone (old.trail.depth - 1) (taken_back old.trail) 1
     (λ P. (step : Step) → done_steps old.trail ≡ done_steps new.trail ++ step ∷ [] → P (most_writes old.trail.program.ranks step)) old new result
 
--- all those behind a depth
+-- all those after a depth
 abbrev pub UndoneTo : {T E : Type 0} → ℕ → DebuggerView → DebuggerView → Result T E → Type 0
 UndoneTo depth old new result =
     StepsUndone depth (gone_back old.trail depth) (old.trail.depth - depth)

@@ -28,7 +28,7 @@ pub record Stepped {W R : Type 0} (goes : Option W) (there : W) (entry : Option 
   pub err : OnErr result (q ≡ r)
   pub err_board : OnErr result (c ≡ b)
 
--- a rank v and the board b, which are w and c behind the call
+-- a rank v and the board b, which are w and c after the call
 abbrev pub RankStepped : Program → RankView → BoardView → RankView → BoardView → Result LocalDone StepFault → Type 0
 RankStepped s v b w c result =
     Stepped (local_on s b.board v) (rank_of s w, c.board) (local_record v.rank s.ranks (rank_of s v)) (undone_rank s) v.rank (rank_of s v) (rank_of s w) b.board c.board (min v.room b.room) result
@@ -36,7 +36,7 @@ RankStepped s v b w c result =
 abbrev pub undone_at : Program → ℕ → List RankWorld → LocalDone → List RankWorld
 undone_at s p ranks done = update_at ranks p (λ r. undone_rank s r done)
 
--- all ranks vs and the board b, which are ws and c behind the call
+-- all ranks vs and the board b, which are ws and c after the call
 abbrev pub RanksStepped : Program → ℕ → List RankView → BoardView → List RankView → BoardView → Result LocalDone StepFault → Type 0
 RanksStepped s p vs b ws c result =
     Stepped (next (world_in s vs b.board) (Local p)) (world_in s ws c.board) (local_record_at (ranks_in s vs) p) (undone_at s p) p (ranks_in s vs) (ranks_in s ws) b.board c.board (room_in b.room vs) result

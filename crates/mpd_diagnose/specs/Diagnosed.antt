@@ -33,16 +33,16 @@ abbrev pub blaming : StateLimits → ℕ → StateLimits
 blaming limits most = record { fuel = limits.fuel; kept = limits.kept; visited = most; witnesses = limits.witnesses; until = limits.until }
 
 -- A text of ends, which has a beginning, and how many runs end in each way; the pictures of the ends are of a kind.
-pub record IsTold (file : List ℕ) (ranks : Option ℕ) (kind : List ℕ) (limits : StateLimits) (most : ℕ) (d : Standing) (o : Outcomes) (begun text : List ℕ) (c : WayCounts) : Type 0 where
+pub record IsTold (script file : List ℕ) (ranks : Option ℕ) (kind : List ℕ) (limits : StateLimits) (most : ℕ) (d : Standing) (o : Outcomes) (begun text : List ℕ) (c : WayCounts) : Type 0 where
   pub details : List (List ℕ)
   pub detailed : AreDetailed (blaming limits most) d o.firsts.leaves.items (groups_in limits.fuel d o) details
-  pub text_is : text ≡ begun ++ all_groups_text file ranks d.trail.mode kind o.total o.firsts.more (headings_of limits.fuel d o.firsts.leaves.items) o.firsts.leaves.items (groups_in limits.fuel d o) details
+  pub text_is : text ≡ begun ++ all_groups_text script file ranks d.trail.mode kind o.total o.firsts.more (headings_of limits.fuel d o.firsts.leaves.items) o.firsts.leaves.items (groups_in limits.fuel d o) details
   pub counts_are : c ≡ told_counts o
 
 -- It is of the runs that a search with these limits comes to.
-abbrev pub IsFirst : List ℕ → Option ℕ → StateLimits → ℕ → Standing → List ℕ → WayCounts → Type 0
-IsFirst file ranks limits most d text c =
-    (o : Outcomes) × AreTold limits d.world o × IsTold file ranks (codes "run") limits most d o (opening file ranks d.trail.mode (told_counts o) limits.fuel o.visited) text c
+abbrev pub IsFirst : List ℕ → List ℕ → Option ℕ → StateLimits → ℕ → Standing → List ℕ → WayCounts → Type 0
+IsFirst script file ranks limits most d text c =
+    (o : Outcomes) × AreTold limits d.world o × IsTold script file ranks (codes "run") limits most d o (opening file ranks d.trail.mode (told_counts o) limits.fuel o.visited) text c
 
 -- ---- runs that are drawn
 
@@ -57,21 +57,21 @@ pub record AreDrawn (fuel runs : ℕ) (w : World) (o : Outcomes) : Type 0 where
   pub total_is : o.total ≡ Exactly (length o.firsts.leaves.items)
   pub all_are : o.firsts.more ≡ false
 
-abbrev pub IsDrawn : List ℕ → Option ℕ → StateLimits → ℕ → ℕ → Standing → List ℕ → WayCounts → Type 0
-IsDrawn file ranks limits most runs d text c =
-    (o : Outcomes) × AreDrawn limits.fuel runs d.world o × IsTold file ranks (codes "drawn") limits most d o (drawn_opening file ranks d.trail.mode (told_counts o)) text c
+abbrev pub IsDrawn : List ℕ → List ℕ → Option ℕ → StateLimits → ℕ → ℕ → Standing → List ℕ → WayCounts → Type 0
+IsDrawn script file ranks limits most runs d text c =
+    (o : Outcomes) × AreDrawn limits.fuel runs d.world o × IsTold script file ranks (codes "drawn") limits most d o (drawn_opening file ranks d.trail.mode (told_counts o)) text c
 
 -- what is told of them, where they are drawn
-abbrev pub IsRest : Bool → List ℕ → Option ℕ → StateLimits → ℕ → ℕ → Standing → List ℕ → Option WayCounts → Type 0
-IsRest false file ranks limits most runs d text drawn = (text ≡ []) × (drawn ≡ None)
-IsRest true file ranks limits most runs d text drawn = (c : WayCounts) × IsDrawn file ranks limits most runs d text c × (drawn ≡ Some c)
+abbrev pub IsRest : Bool → List ℕ → List ℕ → Option ℕ → StateLimits → ℕ → ℕ → Standing → List ℕ → Option WayCounts → Type 0
+IsRest false script file ranks limits most runs d text drawn = (text ≡ []) × (drawn ≡ None)
+IsRest true script file ranks limits most runs d text drawn = (c : WayCounts) × IsDrawn script file ranks limits most runs d text c × (drawn ≡ Some c)
 
 -- ---- the whole
 
 -- What is told of the runs from where a debugger stands that the limits let be come to; and of others, so many of which are drawn.
-pub record IsDiagnosis (file : List ℕ) (ranks : Option ℕ) (limits : StateLimits) (most runs : ℕ) (d : Standing) (t : Diagnosis) : Type 0 where
+pub record IsDiagnosis (script file : List ℕ) (ranks : Option ℕ) (limits : StateLimits) (most runs : ℕ) (d : Standing) (t : Diagnosis) : Type 0 where
   pub first : List ℕ
-  pub is_first : IsFirst file ranks limits most d first t.counts
+  pub is_first : IsFirst script file ranks limits most d first t.counts
   pub rest : List ℕ
-  pub is_rest : IsRest (told.draws t.counts) file ranks limits most runs d rest t.drawn
+  pub is_rest : IsRest (told.draws t.counts) script file ranks limits most runs d rest t.drawn
   pub text_is : t.text.items ≡ first ++ rest

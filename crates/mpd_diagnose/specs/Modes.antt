@@ -33,8 +33,8 @@ modes_up_to most = Rendezvous ∷ slots_up_to most ++ Buffered ∷ []
 -- ---- one of them
 
 -- The line of a mode and its verdict are those of its diagnosis, and so is whether calls can be left over.
-abbrev pub IsModeTold : List ℕ → Option ℕ → StateLimits → ℕ → ℕ → Bool → Standing → Mode → ModeTold → Type 0
-IsModeTold file ranks limits most runs strict d mode t = (it : Diagnosis) × IsDiagnosis file ranks limits most runs d it × (t.line.items ≡ mode_line mode it.counts it.drawn) × (t.verdict ≡ verdict_of strict it.counts it.drawn) × (t.leaves ≡ leaves it.counts it.drawn)
+abbrev pub IsModeTold : List ℕ → List ℕ → Option ℕ → StateLimits → ℕ → ℕ → Bool → Standing → Mode → ModeTold → Type 0
+IsModeTold script file ranks limits most runs strict d mode t = (it : Diagnosis) × IsDiagnosis script file ranks limits most runs d it × (t.line.items ≡ mode_line mode it.counts it.drawn) × (t.verdict ≡ verdict_of strict it.counts it.drawn) × (t.leaves ≡ leaves it.counts it.drawn)
 
 -- ---- what verdicts come to
 

@@ -12,6 +12,7 @@ use Rattle.mpd_runs.specs.Counts.{is_count}
 use Rattle.mpd_runs.specs.Runs.{sees_all}
 use Rattle.mpd_explain.specs.Told.{text_at}
 use Rattle.mpd_lines.specs.Folding.{folded}
+use Rattle.mpd_marks.specs.Marked.{marked}
 use Rattle.mpd_diagnose.specs.declared.groups.Group.{Group}
 use Rattle.mpd_diagnose.specs.declared.told.TheConstants.{PICTURED_STEPS}
 use Rattle.mpd_diagnose.specs.Commands.{sample_command, modes_command, run_commands, picture_file}
@@ -156,22 +157,23 @@ group_said heading n total more details = line (heading ++ codes ": " ++ share n
 abbrev pub is_drawn : ℕ → Bool
 is_drawn steps = nat_le steps PICTURED_STEPS
 
--- the picture of one of them, whose run has so many steps, is written to a file, if it is drawn
-abbrev pub group_text : List ℕ → Option ℕ → Mode → List ℕ → List ℕ → Bool → ℕ → List ℕ → List ℕ
-group_text file ranks mode said choices drawn steps picture = 10 ∷ folded said ++ run_commands file ranks mode choices drawn steps picture
+-- the picture of one of them, whose run has so many steps, is written to a file, if it is drawn; beside lines of the script stand the places
+-- of its marks
+abbrev pub group_text : List ℕ → List ℕ → Option ℕ → Mode → List ℕ → List ℕ → Bool → ℕ → List ℕ → List ℕ
+group_text script file ranks mode said choices drawn steps picture = 10 ∷ folded (marked script said) ++ run_commands file ranks mode choices drawn steps picture
 
 -- Those of a report's leaves, which are called so, of so many runs, beside which there may be more. Their pictures are of a kind, and n stand
 -- before them.
-abbrev pub groups_text : List ℕ → Option ℕ → Mode → List ℕ → Bool → ℕ → Count → Bool → List (List ℕ) → List Leaf → List Group → List (List ℕ) → List ℕ
-groups_text file ranks mode kind several n total more headings leaves [] ts = []
-groups_text file ranks mode kind several n total more headings leaves (g ∷ gs) [] = []
-groups_text file ranks mode kind several n total more headings leaves (g ∷ gs) (t ∷ ts) =
-    group_text file ranks mode (group_said (text_at (slice_get headings g.first)) g.count total more t) (choices_of (slice_get leaves g.shown)) (is_drawn g.steps) g.steps (picture_file kind several (n + 1))
-    ++ groups_text file ranks mode kind several (n + 1) total more headings leaves gs ts
+abbrev pub groups_text : List ℕ → List ℕ → Option ℕ → Mode → List ℕ → Bool → ℕ → Count → Bool → List (List ℕ) → List Leaf → List Group → List (List ℕ) → List ℕ
+groups_text script file ranks mode kind several n total more headings leaves [] ts = []
+groups_text script file ranks mode kind several n total more headings leaves (g ∷ gs) [] = []
+groups_text script file ranks mode kind several n total more headings leaves (g ∷ gs) (t ∷ ts) =
+    group_text script file ranks mode (group_said (text_at (slice_get headings g.first)) g.count total more t) (choices_of (slice_get leaves g.shown)) (is_drawn g.steps) g.steps (picture_file kind several (n + 1))
+    ++ groups_text script file ranks mode kind several (n + 1) total more headings leaves gs ts
 
 -- all of them
-abbrev pub all_groups_text : List ℕ → Option ℕ → Mode → List ℕ → Count → Bool → List (List ℕ) → List Leaf → List Group → List (List ℕ) → List ℕ
-all_groups_text file ranks mode kind total more headings leaves gs ts = groups_text file ranks mode kind (nat_lt 1 (length gs)) 0 total more headings leaves gs ts
+abbrev pub all_groups_text : List ℕ → List ℕ → Option ℕ → Mode → List ℕ → Count → Bool → List (List ℕ) → List Leaf → List Group → List (List ℕ) → List ℕ
+all_groups_text script file ranks mode kind total more headings leaves gs ts = groups_text script file ranks mode kind (nat_lt 1 (length gs)) 0 total more headings leaves gs ts
 
 -- the command that tries other runs, where there are more
 abbrev pub others_command : Bool → List ℕ → Option ℕ → Mode → List ℕ

@@ -105,7 +105,7 @@ fn push_drawn(out: &mut String, drawn: Option<WayCounts>) -> Result<(), AllocErr
     }
 }
 
-/// What a diagnosis comes to, with what it is told of before it, and where that is said again behind how many runs there are.
+/// What a diagnosis comes to, with what it is told of before it, and where that is said again after how many runs there are.
 fn brief_text(
     alloc: Global,
     head: &str,

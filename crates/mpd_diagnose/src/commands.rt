@@ -53,7 +53,12 @@ pub fn full_command(
 ) -> Result<Vec<u8>, AllocError>
     ensures { IfOk result (λ t. t.items ≡ spec.full_command file.now ranks mode strict) }
 {
-    let named = Named { file, ranks, mode };
+    let named = Named {
+        script: &[],
+        file,
+        ranks,
+        mode,
+    };
     let mut out = Vec::new(alloc);
     push_text(&mut out, "  ./mpdbg diagnose ")?;
     push_named(alloc, &mut out, named)?;

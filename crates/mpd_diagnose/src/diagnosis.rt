@@ -32,6 +32,8 @@ pub struct DiagnosisPlan<'a> {
     pub blamed: usize,
     /// How many runs are drawn, where there are more than were come to, and none of these hangs or traps.
     pub drawn: usize,
+    /// The text of the script, whose marks name places of a program (docs/FROM_A_RUN.md, "Marks").
+    pub script: &'a [u8],
     /// The script's file, as it was given.
     pub file: &'a str,
     /// How many ranks it has, where that was asked for, as the commands name it.
@@ -122,7 +124,7 @@ fn tell(
     requires mode { debugger.old.trail.mode ≡ named.mode }
     requires few { plan.limits.fuel ≤ STEPS_MAX }
     requires listed { AllByRecursion (HasWitness wide_decision debugger.old.trail.program debugger.old.trail.mode (done_steps debugger.old.trail) plan.limits.fuel debugger.old.world) outcomes.now.firsts.leaves.items }
-    ensures told { IfOk result (λ p. IsTold named.entry.file.now named.entry.ranks begun.entry.kind.now plan.entry.limits plan.entry.blamed (standing_of debugger.old) outcomes.now begun.entry.text.items p.text.items p.counts) }
+    ensures told { IfOk result (λ p. IsTold named.entry.script.now named.entry.file.now named.entry.ranks begun.entry.kind.now plan.entry.limits plan.entry.blamed (standing_of debugger.old) outcomes.now begun.entry.text.items p.text.items p.counts) }
     ensures as_found { AsFound (standing_of debugger.old) (standing_of debugger.new) }
 {
     debugger.state_is_reached();
@@ -144,7 +146,7 @@ fn first_part(
     requires at_start { debugger.old.trail.depth ≡ 0 }
     requires mode { debugger.old.trail.mode ≡ named.mode }
     requires few { plan.limits.fuel ≤ STEPS_MAX }
-    ensures first { IfOk result (λ p. IsFirst named.entry.file.now named.entry.ranks plan.entry.limits plan.entry.blamed (standing_of debugger.old) p.text.items p.counts) }
+    ensures first { IfOk result (λ p. IsFirst named.entry.script.now named.entry.file.now named.entry.ranks plan.entry.limits plan.entry.blamed (standing_of debugger.old) p.text.items p.counts) }
     ensures as_found { AsFound (standing_of debugger.old) (standing_of debugger.new) }
 {
     debugger.state_is_reached();
@@ -213,7 +215,7 @@ fn drawn_part(
     requires at_start { debugger.old.trail.depth ≡ 0 }
     requires mode { debugger.old.trail.mode ≡ named.mode }
     requires few { plan.limits.fuel ≤ STEPS_MAX }
-    ensures drawn { IfOk result (λ p. IsDrawn named.entry.file.now named.entry.ranks plan.entry.limits plan.entry.blamed plan.entry.drawn (standing_of debugger.old) p.text.items p.counts) }
+    ensures drawn { IfOk result (λ p. IsDrawn named.entry.script.now named.entry.file.now named.entry.ranks plan.entry.limits plan.entry.blamed plan.entry.drawn (standing_of debugger.old) p.text.items p.counts) }
     ensures as_found { AsFound (standing_of debugger.old) (standing_of debugger.new) }
 {
     debugger.state_is_reached();
@@ -237,9 +239,10 @@ fn diagnose_there(
     requires at_start { debugger.old.trail.depth ≡ 0 }
     requires mode { debugger.old.trail.mode ≡ mode }
     requires few { plan.limits.fuel ≤ STEPS_MAX }
-    ensures { IfOk result (IsDiagnosis plan.entry.file.now plan.entry.ranks plan.entry.limits plan.entry.blamed plan.entry.drawn (standing_of debugger.old)) }
+    ensures { IfOk result (IsDiagnosis plan.entry.script.now plan.entry.file.now plan.entry.ranks plan.entry.limits plan.entry.blamed plan.entry.drawn (standing_of debugger.old)) }
 {
     let named = Named {
+        script: plan.script,
         file: plan.file,
         ranks: plan.ranks,
         mode,
@@ -270,7 +273,7 @@ pub fn diagnose(
     plan: DiagnosisPlan<'_>,
 ) -> Result<Diagnosis, AllocError>
     requires { plan.limits.fuel ≤ STEPS_MAX }
-    ensures { IfOk result (IsDiagnosis plan.entry.file.now plan.entry.ranks plan.entry.limits plan.entry.blamed plan.entry.drawn (first_standing subject.entry.code.now.program subject.entry.mode)) }
+    ensures { IfOk result (IsDiagnosis plan.entry.script.now plan.entry.file.now plan.entry.ranks plan.entry.limits plan.entry.blamed plan.entry.drawn (first_standing subject.entry.code.now.program subject.entry.mode)) }
 {
     let mut debugger = Debugger::start(alloc, subject.code, subject.mode)?;
     let told = diagnose_there(alloc, &mut debugger, subject.mode, plan);

@@ -64,7 +64,7 @@ pub fn diagnose_mode(
     strict: bool,
 ) -> Result<ModeTold, AllocError>
     requires { plan.limits.fuel ≤ STEPS_MAX }
-    ensures { IfOk result (spec.IsModeTold plan.entry.file.now plan.entry.ranks plan.entry.limits plan.entry.blamed plan.entry.drawn strict (first_standing subject.entry.code.now.program subject.entry.mode) subject.entry.mode) }
+    ensures { IfOk result (spec.IsModeTold plan.entry.script.now plan.entry.file.now plan.entry.ranks plan.entry.limits plan.entry.blamed plan.entry.drawn strict (first_standing subject.entry.code.now.program subject.entry.mode) subject.entry.mode) }
 {
     let mode = subject.mode;
     let told = diagnose(alloc, subject, plan)?;

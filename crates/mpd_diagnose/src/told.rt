@@ -2,6 +2,8 @@
 
 ghost use Rattle.std.specs.Prelude.{◌≡◌, ◌++◌, ◌&&◌, IfOk, OnOk, slice_get, map, string_bytes};
 ghost use Rattle.std.specs.Option.{option_map};
+ghost use Rattle.mpd_lines.specs.Folding.{folded};
+ghost use Rattle.mpd_marks.specs.Marked.{marked};
 ghost use Rattle.mpd_diagnose.specs.Commands as command;
 ghost use Rattle.mpd_diagnose.specs.Told as spec;
 
@@ -11,6 +13,7 @@ use crate::words::Named;
 use mpd_explain::text_at;
 use mpd_explore::Leaf;
 use mpd_lines::push_folded;
+use mpd_marks::push_marked;
 use mpd_model::Mode;
 use mpd_outcomes::{Count, Outcomes};
 use mpd_runs::{WayCounts, is_count, sees_all};
@@ -441,6 +444,20 @@ fn picture_of(
     })
 }
 
+/// Adds a text with the places of marks of the script beside lines. A long line goes on in further lines.
+fn push_folded_marked(
+    alloc: Global,
+    out: &mut Vec<u8>,
+    script: &[u8],
+    told: &str,
+) -> Result<(), AllocError>
+    ensures { OnOk result (out.new.items ≡ out.old.items ++ folded (marked script.now told.now)) }
+{
+    let mut text = Vec::new(alloc);
+    push_marked(&mut text, script, told.as_bytes())?;
+    push_folded(out, &text)
+}
+
 /// Adds what is told of ends together, and the commands that go to one of them, of which this is the picture.
 fn push_group(
     alloc: Global,
@@ -450,10 +467,10 @@ fn push_group(
     choices: &[usize],
     picture: &Picture,
 ) -> Result<(), AllocError>
-    ensures { OnOk result (out.new.items ≡ out.old.items ++ spec.group_text named.entry.file.now named.entry.ranks named.entry.mode said.now choices.now picture.now.is_drawn picture.now.steps (string_bytes picture.now.file)) }
+    ensures { OnOk result (out.new.items ≡ out.old.items ++ spec.group_text named.entry.script.now named.entry.file.now named.entry.ranks named.entry.mode said.now choices.now picture.now.is_drawn picture.now.steps (string_bytes picture.now.file)) }
 {
     out.push(b'\n')?;
-    push_folded(out, said.as_bytes())?;
+    push_folded_marked(alloc, out, named.script, said)?;
     push_run(alloc, out, named, choices, picture)?;
     Ok(())
 }
@@ -495,7 +512,7 @@ pub(crate) fn push_groups(
     told: &ToldEnds,
     kind: &str,
 ) -> Result<(), AllocError>
-    ensures { OnOk result (out.new.items ≡ out.old.items ++ spec.all_groups_text named.entry.file.now named.entry.ranks named.entry.mode kind.now outcomes.now.total outcomes.now.firsts.more (map string_bytes told.now.headings.items) outcomes.now.firsts.leaves.items told.now.groups.items (map string_bytes told.now.details.items)) }
+    ensures { OnOk result (out.new.items ≡ out.old.items ++ spec.all_groups_text named.entry.script.now named.entry.file.now named.entry.ranks named.entry.mode kind.now outcomes.now.total outcomes.now.firsts.more (map string_bytes told.now.headings.items) outcomes.now.firsts.leaves.items told.now.groups.items (map string_bytes told.now.details.items)) }
 {
     let leaves = &outcomes.firsts.leaves;
     let more = outcomes.firsts.more;

@@ -6,9 +6,11 @@ ghost use Rattle.mpd_diagnose.specs.Words as spec;
 use mpd_model::Mode;
 use std::alloc::{AllocError, Global};
 
-/// A script as words name it: its file, how many ranks it has where that is asked for, and the mode that it runs in.
+/// A script as it is told: its text, whose marks stand beside lines, and as words name it, its file, how many ranks it has where that is
+/// asked for, and the mode that it runs in.
 #[derive(Clone, Copy)]
 pub(crate) struct Named<'a> {
+    pub(crate) script: &'a [u8],
     pub(crate) file: &'a str,
     pub(crate) ranks: Option<usize>,
     pub(crate) mode: Mode,

@@ -1,5 +1,5 @@
 -- Candidates, for people: a match by its message, a wake from a waitany by its request; and every other step that is enabled, with the
--- trace word behind it (docs/CONSOLE.md, "Candidates").
+-- trace word after it (docs/CONSOLE.md, "Candidates").
 use Rattle.std.specs.Prelude.{ℕ, ℤ, Bool, false, if◌then◌else◌, List, [], ◌++◌, Option, Some, None, codes}
 use Rattle.std.specs.Fmt.{decimal, signed_decimal}
 use Rattle.mpd_model.specs.declared.step.CallId.{CallId}

@@ -101,7 +101,7 @@ absence_line q why = line (codes "    rank " ++ decimal q ++ codes " is not ther
 abbrev pub absent_line : Program → World → ℕ → List ℕ
 absent_line s w q = if is_at_barrier w q then [] else absence_line q (absence s w q (slice_get w.ranks q))
 
--- the lines behind that of a blocked call
+-- the lines after that of a blocked call
 abbrev pub details : Program → World → CallId → Option CallKind → List ℕ
 details s w c kind = if is_barrier kind then flat_map (absent_line s w) (rank_numbers w.board) else helps s w c ++ flat_map (request_lines s w) (requests w c.rank kind)
 

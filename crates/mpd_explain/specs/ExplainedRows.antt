@@ -195,7 +195,7 @@ four = a_leaf 0 (Ended o.Done) ∷ a_leaf 1 stuck ∷ a_leaf 2 (Ended o.Done) �
 pub row_firsts : firsts (codes "done" ∷ codes "cut" ∷ codes "done" ∷ codes "deadlock 0.1" ∷ codes "cut" ∷ []) ≡ 0 ∷ 1 ∷ 3 ∷ []
 row_firsts = refl
 
--- the texts of leaf 1 stand behind its line
+-- the texts of leaf 1 stand after its line
 pub row_leaves : explained_text false ([] ∷ line (codes ": local 0") ∷ []) ([] ∷ line (codes "  told") ∷ []) four true
     ≡ line (codes "leaf 0 [0] done") ++ line (codes "leaf 1 [1] deadlock 0.1") ++ line (codes "witness 1: local 0") ++ line (codes "  told") ++ line (codes "leaf 2 [2] done") ++ line (codes "leaf 3 [3] cut") ++ line (codes "leaves 4 more yes")
 unfolding digits

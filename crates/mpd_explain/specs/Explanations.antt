@@ -10,7 +10,7 @@ use Rattle.mpd_explore.specs.declared.report.Leaf.{Leaf}
 use Rattle.mpd_policy.specs.Walk.{run_by, steps_by}
 use Rattle.mpd_explain.specs.Explained.{explanation}
 
--- that of a leaf from a state, with so much fuel, behind some steps: empty where it is no deadlock and no trap
+-- that of a leaf from a state, with so much fuel, after some steps: empty where it is no deadlock and no trap
 abbrev pub explanation_of : (World → Decision) → Program → Mode → List Step → ℕ → World → Leaf → List ℕ
 explanation_of decide s mode before fuel w l = explanation s mode (before ++ steps_by (run_by decide fuel l.choices w)) l.ending
 

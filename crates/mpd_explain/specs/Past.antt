@@ -11,7 +11,7 @@ use Rattle.mpd_model.specs.texts.Texts.{line, step_text}
 use Rattle.mpd_model.specs.runs.Trail.{Trail, done_steps}
 use Rattle.mpd_explain.specs.Steps.{step_words}
 
--- `4 local 1: line 5`, on the state before it, behind so many steps
+-- `4 local 1: line 5`, on the state before it, after so many steps
 abbrev pub past_line : Program → World → ℕ → Step → List ℕ
 past_line s w place a = line (decimal (place + 1) ++ codes " " ++ step_words s w a)
 
@@ -25,7 +25,7 @@ abbrev pub past_lines : Program → World → ℕ → List Step → List ℕ
 past_lines s w place [] = []
 past_lines s w place (a ∷ steps) = past_line s w place a ++ told_from (λ v. past_lines s v (suc place) steps) (next w a)
 
--- of steps from the start of a script, those behind the first so many
+-- of steps from the start of a script, those after the first so many
 abbrev pub past_behind : Program → Mode → List Step → ℕ → List ℕ
 past_behind s mode steps first = told_from (λ w. past_lines s w first (drop first steps)) (fold (start s mode) (take first steps))
 

@@ -1,4 +1,4 @@
--- Where it stands: what is told behind each word that moves (docs/CONSOLE.md, "Where it stands").
+-- Where it stands: what is told after each word that moves (docs/CONSOLE.md, "Where it stands").
 use Rattle.std.specs.Prelude.{ℕ, suc, ◌+◌, ◌-◌, ◌==◌, Bool, false, if◌then◌else◌, List, [], ◌∷◌, ◌++◌, length, slice_get, Option, Some, None, is_some, codes}
 use Rattle.std.specs.Fmt.{decimal}
 use Rattle.std.specs.List.{list_all}

@@ -15,7 +15,7 @@ abbrev pub text_at : Option (List ℕ) → List ℕ
 text_at None = []
 text_at (Some text) = text
 
--- what stands behind the line of the leaf of a number: the line of its witness, and its explanation
+-- what stands after the line of the leaf of a number: the line of its witness, and its explanation
 abbrev pub behind_leaf : List (List ℕ) → List (List ℕ) → ℕ → List ℕ
 behind_leaf witnesses texts n = numbered_at n (slice_get witnesses n) ++ text_at (slice_get texts n)
 
@@ -44,7 +44,7 @@ firsts all = filter (is_first all) (range_with_len 0 (length all))
 abbrev pub end_line : ℕ → ℕ → ℕ → List ℕ → List ℕ
 end_line e count n text = line (codes "end " ++ decimal e ++ codes " leaves " ++ decimal count ++ codes " first " ++ decimal n ++ 32 ∷ text)
 
--- the lines of an end, which has a number, by a leaf that ends so: how many leaves do, the number of the first of them, and what stands behind that
+-- the lines of an end, which has a number, by a leaf that ends so: how many leaves do, the number of the first of them, and what stands after that
 abbrev pub end_lines : List (List ℕ) → List (List ℕ) → List Leaf → ℕ → Leaf → List ℕ
 end_lines witnesses texts leaves e l = end_line e (times leaves l) (before leaves l) (ending_text l.ending) ++ behind_leaf witnesses texts (before leaves l)
 

@@ -5,7 +5,7 @@ use Rattle.mpd_model.specs.texts.Texts.{line}
 use Rattle.mpd_explore.specs.declared.report.Leaf.{Leaf}
 use Rattle.mpd_explore.specs.ReportText.{leaf_line, more_text}
 
--- the line of a witness by what it has behind the number, where that isn't empty
+-- the line of a witness by what it has after the number, where that isn't empty
 abbrev pub numbered : ℕ → List ℕ → List ℕ
 numbered n [] = []
 numbered n (c ∷ cs) = codes "witness " ++ decimal n ++ c ∷ cs

@@ -38,7 +38,7 @@ abbrev pub witness_lines : ℕ → Option Witness → List ℕ
 witness_lines n None = []
 witness_lines n (Some x) = witness_line n x
 
--- the witness of a leaf behind some steps, where it is a deadlock or a trap
+-- the witness of a leaf after some steps, where it is a deadlock or a trap
 abbrev pub witness_part : (World → Decision) → List Step → ℕ → World → ℕ → Leaf → List ℕ
 witness_part decide before fuel w n l = witness_lines n (witness_by (before ++ steps_by (run_by decide fuel l.choices w)) l.ending)
 

@@ -15,7 +15,7 @@ pub record StopsAt (w : World) (steps : List Step) (e : WitnessFault) : Type 0 w
   pub before : IsSome (fold w (take place steps))
   pub refused : fold w (take (suc place) steps) ≡ None
 
--- Where a core is left that has taken steps, by what is wrong with them: behind those before the one that isn't enabled, else behind all.
+-- Where a core is left that has taken steps, by what is wrong with them: after those before the one that isn't enabled, else after all.
 -- Where memory was refused, `WantsMemory` tells it.
 abbrev pub IsLeft : World → List Step → World → WitnessFault → Type 0
 IsLeft w steps v (NoSuchStep place) = fold w (take place steps) ≡ Some v
@@ -23,7 +23,7 @@ IsLeft w steps v NotStuck = fold w steps ≡ Some v
 IsLeft w steps v WrongBlocked = fold w steps ≡ Some v
 IsLeft w steps v Memory = Unit {0}
 
--- what wants memory in a world: the step that is next, where it is enabled, or behind the last one what lists how the run has ended
+-- what wants memory in a world: the step that is next, where it is enabled, or after the last one what lists how the run has ended
 abbrev pub WantsNext : World → Option Step → Type 0
 WantsNext v (Some a) = IsSome (next v a)
 WantsNext v None = 0 < listed (outcome v)

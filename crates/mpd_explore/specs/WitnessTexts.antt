@@ -9,7 +9,7 @@ use Rattle.mpd_explore.specs.declared.report.Witness.{Witness}
 use Rattle.mpd_policy.specs.Walk.{run_by, steps_by}
 use Rattle.mpd_explore.specs.Witness.{witness_by}
 
--- what the line of a witness has behind its number: `: local 0, local 1`, and a line feed
+-- what the line of a witness has after its number: `: local 0, local 1`, and a line feed
 abbrev pub behind_number : Option Witness → List ℕ
 behind_number None = []
 behind_number (Some x) = 58 ∷ line (steps_text x.steps)

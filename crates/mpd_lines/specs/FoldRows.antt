@@ -25,7 +25,7 @@ pub row_folded : folded (ten ++ ten ++ ten ++ ten ++ ten ++ ten ++ ten ++ ten ++
 unfolding folded cut
 row_folded = refl
 
--- what has no blank stays whole, and so does a short line; behind a line feed a line has 80 bytes again
+-- what has no blank stays whole, and so does a short line; after a line feed a line has 80 bytes again
 pub row_kept : map {B = List ℕ} folded (ink 100 ∷ (codes "a b" ++ 10 ∷ ink 81) ∷ (ink 78 ++ codes " b" ++ 10 ∷ ink 78 ++ codes " b") ∷ [])
     ≡ ink 100 ∷ (codes "a b" ++ 10 ∷ ink 81) ∷ (ink 78 ++ codes " b" ++ 10 ∷ ink 78 ++ codes " b") ∷ []
 unfolding folded cut

@@ -65,7 +65,7 @@ abbrev pub begun : Bool → ℕ → List (List ℕ) → List (List ℕ)
 begun true b ls = [] ∷ ls
 begun false b ls = grown b ls
 
--- what stands before the first line feed, between two, and behind the last
+-- what stands before the first line feed, between two, and after the last
 abbrev pub lines : List ℕ → List (List ℕ)
 lines [] = [] ∷ []
 lines (b ∷ z) = begun (b == FEED) b (lines z)

@@ -1,4 +1,4 @@
--- Lines as they end one after another, behind the beginning of a line that was there before.
+-- Lines as they end one after another, after the beginning of a line that was there before.
 use Rattle.std.specs.Prelude.{ℕ, ◌==◌, if◌then◌else◌, List, [], ◌∷◌, ◌++◌}
 use Rattle.mpd_model.specs.texts.Lines.{bare}
 

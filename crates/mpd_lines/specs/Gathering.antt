@@ -31,7 +31,7 @@ abbrev pub Spoken : {D : Type 0} → (D → List ℕ → List ℕ → D → Type
 Spoken says below d ls old new e (Ok u) = Tells says d ls old.contents new.contents e × (new.failures ≡ old.failures)
 Spoken says below d ls old new e (Err f) = BreaksOff says below d ls old.contents [] new.contents e × (new.failures ≡ old.failures + 1)
 
--- of the lines that end within z behind the part p, all but those that end within rest behind the part q were answered
+-- of the lines that end within z after the part p, all but those that end within rest after the part q were answered
 pub record Fed {D : Type 0} (says : D → List ℕ → List ℕ → D → Type 0) (below : ℕ) (d : D) (p z : List ℕ) (old : SinkSeen) (before : List ℕ) (new : SinkSeen) (after : List ℕ) (e : D) (q rest : List ℕ) : Type 0 where
   pub lines : List (List ℕ)
   pub ended : lines ++ ended_from q rest ≡ ended_from p z

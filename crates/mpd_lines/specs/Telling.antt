@@ -17,8 +17,8 @@ abbrev pub waiting_below : Bool → ℕ
 waiting_below gathers = if gathers then 65536 else 1
 
 -- A write failed. The desk d was asked the first so many of these lines, and is e. Of the bytes that had waited before, and of its
--- answers behind them, a first part was written, not all of it, and nothing else. The last line stands apart: of what stood ahead of
--- its answer fewer bytes than `below` are unwritten. Where that is 1 none of these is, so there is a last line, e is the desk behind
+-- answers after them, a first part was written, not all of it, and nothing else. The last line stands apart: of what stood ahead of
+-- its answer fewer bytes than `below` are unwritten. Where that is 1 none of these is, so there is a last line, e is the desk after
 -- it, and its answer isn't written whole.
 pub record BreaksOff {D : Type 0} (says : D → List ℕ → List ℕ → D → Type 0) (below : ℕ) (d : D) (ls : List (List ℕ)) (old : Option (List ℕ)) (before : List ℕ) (new : Option (List ℕ)) (e : D) : Type 0 where
   pub earlier : List (List ℕ)

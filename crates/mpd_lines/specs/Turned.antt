@@ -10,7 +10,7 @@ use Rattle.mpd_lines.specs.declared.engine.EngineFault.TheVariants.{ReadFailed, 
 use Rattle.mpd_lines.specs.declared.engine.Turn.{Turn}
 use Rattle.mpd_lines.specs.declared.engine.Turn.TheVariants.{More, End}
 
--- One read, behind the part p of a line, which leaves the part q: when the turn is over, the answers to all lines that have ended are written.
+-- One read, after the part p of a line, which leaves the part q: when the turn is over, the answers to all lines that have ended are written.
 abbrev pub Turned : {D : Type 0} → (D → List ℕ → List ℕ → D → Type 0) → ℕ → D → List ℕ → SourceSeen → SourceSeen → SinkSeen → SinkSeen → D → List ℕ → Result Turn EngineFault → Type 0
 Turned says below d p s t v w e q (Ok More) =
     (piece : List ℕ) × Consumes s.remaining t.remaining piece × (0 < length piece) × (t.ends ≡ s.ends) × (q ≡ part_from p piece)
@@ -30,7 +30,7 @@ pub record CountedOnce (s t : SourceSeen) (v w : SinkSeen) (result : Result Turn
   pub reads_failed : t.failures ≡ s.failures + failed_reads result
   pub writes_failed : w.failures ≡ v.failures + failed_writes result
 
--- so many turns, behind what was read before: the answers to all lines that have ended are written
+-- so many turns, after what was read before: the answers to all lines that have ended are written
 pub record SoFar {D : Type 0} (says : D → List ℕ → List ℕ → D → Type 0) (d : D) (before : List ℕ) (turn : ℕ) (s t : SourceSeen) (v w : SinkSeen) (e : D) (q : List ℕ) : Type 0 where
   pub read : List ℕ
   pub consumed : Consumes s.remaining t.remaining read

@@ -17,7 +17,7 @@ pub record IsRead (max : ℕ) (s t : SourceSeen) (text : List ℕ) : Type 0 wher
   pub calls : t.calls ≤ s.calls + length text + 1
   pub failures : t.failures ≡ s.failures
 
--- a read failed behind these bytes, which may still be all
+-- a read failed after these bytes, which may still be all
 pub record IsCutOff (max : ℕ) (s t : SourceSeen) (text : List ℕ) : Type 0 where
   pub consumed : Consumes s.remaining t.remaining text
   pub short : length text ≤ max

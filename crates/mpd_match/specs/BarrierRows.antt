@@ -43,7 +43,7 @@ shows sets = record { mode = Rendezvous; calls = senders ∷ receivers ∷ []; s
 abbrev pub before_in : List (ℕ × ℕ) → List Bool
 before_in pairs = map (λ (c : ℕ × ℕ). before (shows []) (call_id 0 c.0) (call_id 0 c.1)) pairs
 
--- a barrier, before a send, another barrier, and a send behind that
+-- a barrier, before a send, another barrier, and a send after that
 pub row_barriers : before_in ((1, 2) ∷ (1, 3) ∷ (1, 4) ∷ (3, 4) ∷ []) ≡ true ∷ true ∷ true ∷ true ∷ []
 row_barriers = refl
 
@@ -73,7 +73,7 @@ row_second_release = refl
 pub row_third_release : left_by (set.Barrier ∷ set.Barrier ∷ []) (1 ∷ 3 ∷ []) ≡ false ∷ false ∷ []
 row_third_release = refl
 
--- a send behind a barrier is paired, and the ranks never left the barrier
+-- a send after a barrier is paired, and the ranks never left the barrier
 pub row_not_left : Ordered (shows (Pair (call_id 0 2) (call_id 1 0) ∷ [])) (call_id 0 1) (call_id 0 2) → ⊥
 row_not_left o = went_nowhere (o.went_on refl [] [] (Pair (call_id 0 2) (call_id 1 0)) refl refl)
 
@@ -81,7 +81,7 @@ one_cut : (b : Board) (x : CallId) (front : List MatchSet) (m : MatchSet) (behin
 one_cut b x [] m behind e exit = let same : m ≡ set.Barrier = cc in cc
 one_cut b x (f ∷ front) m behind e exit = absurd (empty_cut front m behind cc)
 
--- a send behind the second barrier is paired, and the ranks left the first one alone
+-- a send after the second barrier is paired, and the ranks left the first one alone
 abbrev pub one_left : Board
 one_left = shows (set.Barrier ∷ Pair (call_id 0 4) (call_id 1 0) ∷ [])
 
@@ -117,7 +117,7 @@ lines_of b = pending b 0 0 ∷ pending b 0 1 ∷ pending b 1 0 ∷ pending b 1 1
 pub row_lines : map lines_of (one_message [] ∷ at_barrier [] ∷ at_barrier (set.Barrier ∷ []) ∷ []) ≡ ([] ∷ (0 ∷ []) ∷ [] ∷ [] ∷ [] ∷ (0 ∷ []) ∷ []) ∷ ([] ∷ (0 ∷ []) ∷ [] ∷ [] ∷ [] ∷ (0 ∷ []) ∷ []) ∷ ([] ∷ (0 ∷ []) ∷ [] ∷ [] ∷ [] ∷ (0 ∷ []) ∷ []) ∷ []
 row_lines = refl
 
--- a message that is left behind may be taken behind the barrier
+-- a message that is left after may be taken after the barrier
 pub row_still_eligible : eligible (at_barrier (set.Barrier ∷ [])) (call_id 0 0) (call_id 1 0) ≡ true
 row_still_eligible = refl
 

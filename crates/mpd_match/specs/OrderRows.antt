@@ -38,7 +38,7 @@ before_in p pairs = map (λ (c : ℕ × ℕ). before two_ranks (call_id p c.0) (
 pub row_sends : before_in 0 ((0, 2) ∷ (0, 1) ∷ (0, 3) ∷ (2, 0) ∷ (0, 0) ∷ []) ≡ true ∷ false ∷ false ∷ false ∷ false ∷ []
 row_sends = refl
 
--- a wait for it, a wait for another, behind a wait, a send behind other waits, a call that was not issued
+-- a wait for it, a wait for another, after a wait, a send after other waits, a call that was not issued
 pub row_waits : before_in 0 ((1, 4) ∷ (0, 4) ∷ (4, 5) ∷ (0, 5) ∷ (5, 6) ∷ []) ≡ true ∷ false ∷ true ∷ false ∷ false ∷ []
 row_waits = refl
 
@@ -78,6 +78,6 @@ row_passed_over o = both_ways false refl (o.matched refl [] [] (call_id 0 0) (ca
 pub row_not_done : Ordered (shows (Woke (call_id 0 4) ∷ [])) (call_id 0 1) (call_id 0 4) → ⊥
 row_not_done o = both_ways false refl (o.waited refl [] [] refl)
 
--- a call behind a wait is paired, and the rank never went on from the wait
+-- a call after a wait is paired, and the rank never went on from the wait
 pub row_still_blocked : Ordered (shows (Pair (call_id 0 5) (call_id 1 0) ∷ [])) (call_id 0 4) (call_id 0 5) → ⊥
 row_still_blocked o = went_nowhere (o.went_on refl [] [] (Pair (call_id 0 5) (call_id 1 0)) refl refl)

@@ -16,14 +16,14 @@ pub record IsText (text : List ℕ) : Type 0 where
   pub bytes : All (λ b. is_text b ≡ true) text
 
 -- Of two texts whose tokens are the same up to one, the other has the same fault where the first has it at that token or before it. Only
--- a fault of too many cells or statements takes a token more: whether a name has a size is known by the token behind it.
+-- a fault of too many cells or statements takes a token more: whether a name has a size is known by the token after it.
 abbrev pub TokensUpToItDecideAFault : Type 0
 TokensUpToItDecideAFault =
     (text other : List ℕ) (before behind others : List Spot) (last : Spot) (f : ReadFault) → IsText text → IsText other
     → tokens text ≡ before ++ last ∷ behind → tokens other ≡ before ++ last ∷ others
     → reading text ≡ Err f → f.place ≤ last.place → (f.code ≡ TooMany → f.place < last.place) → reading other ≡ Err f
 
--- The same of bytes: two texts are the same up to the byte behind a token, at which or before which the fault is.
+-- The same of bytes: two texts are the same up to the byte after a token, at which or before which the fault is.
 abbrev pub TextUpToItDecidesAFault : Type 0
 TextUpToItDecidesAFault =
     (same rest other : List ℕ) (last : Spot) (f : ReadFault) → IsText (same ++ rest) → IsText (same ++ other)
@@ -56,7 +56,7 @@ abbrev pub OnlyALimitRefusesWhatIsWritten : Type 0
 OnlyALimitRefusesWhatIsWritten =
     (text : List ℕ) (p : Program) → All (λ b. is_text b ≡ true) text → WrittenScript (tokens text) p → (reading text ≡ Ok p) ⊎ IsRefusedByALimit (reading text)
 
--- Nor does any list of tokens that begins with those of the text up to that one, whatever is behind it.
+-- Nor does any list of tokens that begins with those of the text up to that one, whatever is after it.
 abbrev pub NothingWrittenBeginsWithAFault : Type 0
 NothingWrittenBeginsWithAFault =
     (text : List ℕ) (before behind others : List Spot) (last : Spot) (f : ReadFault) (p : Program) → IsText text

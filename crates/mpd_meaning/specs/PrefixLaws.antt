@@ -16,13 +16,13 @@ use Rattle.mpd_model.specs.grammar.Tokens.{Spot, tokens, tokens_after, front, si
 use Rattle.mpd_model.specs.grammar.Written.{WrittenScript}
 use Rattle.mpd_meaning.specs.FaultLaws.{IsText, IsLimit}
 
--- Some tokens behind these make of them a script that the grammar writes, however large.
+-- Some tokens after these make of them a script that the grammar writes, however large.
 pub record CanBeCompleted (before : List Spot) : Type 0 where
   pub more : List Spot
   pub program : Program
   pub written : WrittenScript (before ++ more) program
 
--- the words behind which a statement names a variable or a handle
+-- the words after which a statement names a variable or a handle
 abbrev pub names : DeclKind → Token → Bool
 names Variable (Is m.Recv) = true
 names Variable (Is m.Irecv) = true
@@ -48,7 +48,7 @@ abbrev pub some_declares : DeclKind → List Spot → Bool
 some_declares kind [] = false
 some_declares kind (s ∷ ss) = announces kind s.token || some_declares kind ss
 
--- Where a word stands among the tokens behind which a variable or a handle is named, some are declared among them.
+-- Where a word stands among the tokens after which a variable or a handle is named, some are declared among them.
 abbrev pub HasWhatItNames : List Spot → Type 0
 HasWhatItNames ss = (kind : DeclKind) → some_names kind ss ≡ true → some_declares kind ss ≡ true
 
@@ -57,7 +57,7 @@ abbrev pub before : ℕ → List Spot → List Spot
 before p [] = []
 before p (s ∷ ss) = if nat_lt s.place p then s ∷ before p ss else before p ss
 
--- Where no variable is declared nothing can follow `recv`, yet the fault is at the name behind it.
+-- Where no variable is declared nothing can follow `recv`, yet the fault is at the name after it.
 abbrev nothing_declared : List ℕ
 nothing_declared = codes "mpd 1; ranks 2; recv x;"
 

@@ -15,6 +15,6 @@ abbrev pub cells_in : DeclKind → List Declared → ℕ
 cells_in kind [] = 0
 cells_in kind (d ∷ ds) = kind_cells kind d + cells_in kind ds
 
--- all cells of the declaration of number i: they stand behind those of its kind that are declared before it
+-- all cells of the declaration of number i: they stand after those of its kind that are declared before it
 abbrev pub whole : List Declared → ℕ → Declared → Named
 whole ds i d = record { kind = d.kind; declaration = i; first = cells_in d.kind (take i ds); cells = cells_of d.size }

@@ -91,7 +91,7 @@ abbrev pub short_request : ℕ → Option ℕ → List ℕ
 short_request p None = codes "-"
 short_request p (Some i) = id_text (call_id p i)
 
--- what is told behind the first 16 of so many cells
+-- what is told after the first 16 of so many cells
 abbrev pub more_cells : ℕ → List ℕ
 more_cells count = if nat_lt 16 count then codes ", .." else []
 

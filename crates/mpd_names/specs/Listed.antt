@@ -65,7 +65,7 @@ is_shown (Some about) n = nat_le ((about - n) + (n - about)) 4
 abbrev pub list_line_if : Program → World → Option ℕ → ℕ → List ℕ → List ℕ
 list_line_if s w about n l = if is_shown about n then list_line s w n l else []
 
--- lines with their numbers, behind so many others
+-- lines with their numbers, after so many others
 abbrev pub list_lines : Program → World → Option ℕ → ℕ → List (List ℕ) → List ℕ
 list_lines s w about above [] = []
 list_lines s w about above (l ∷ ls) = list_line_if s w about (above + 1) l ++ list_lines s w about (above + 1) ls

@@ -23,7 +23,7 @@ name_len z = stop_len (λ b. b == 91) z
 abbrev pub digit_len : List ℕ → ℕ
 digit_len z = stop_len (λ b. not (is_ascii_digit b)) z
 
--- the digits of an index, where one at least and `]` alone stand behind its `[`
+-- the digits of an index, where one at least and `]` alone stand after its `[`
 abbrev pub digits_by : List ℕ → List ℕ → Option (List ℕ)
 digits_by [] end = None
 digits_by (b ∷ digits) end = if bytes_eq end (codes "]") then Some (b ∷ digits) else None
@@ -41,7 +41,7 @@ abbrev pub indexed : Named → Option ℕ → Option (List ℕ) → Result Named
 indexed all size None = Err Unknown
 indexed all size (Some digits) = element all size (number_of digits)
 
--- all cells of a declaration, or the one that what stands behind the name says
+-- all cells of a declaration, or the one that what stands after the name says
 abbrev pub meant_by : Named → Option ℕ → List ℕ → Result Named NameFault
 meant_by all size [] = Ok all
 meant_by all size (b ∷ z) = indexed all size (digits_of z)

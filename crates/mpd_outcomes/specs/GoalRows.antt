@@ -21,7 +21,7 @@ pub row_meets : map {B = List Bool} (λ (g : Goal). map {B = Bool} (meets g) end
     ∷ []
 row_meets = refl
 
--- no leaf; one that is done; a deadlock behind it; and one before it
+-- no leaf; one that is done; a deadlock after it; and one before it
 abbrev done : Leaf
 done = record { choices = 0 ∷ []; ending = Ended outcome_is.Done }
 

@@ -98,6 +98,6 @@ pub row_ended : part_at meeting 1
 unfolding number_word
 row_ended = refl
 
--- both parts, each behind its length
+-- both parts, each after its length
 pub row_lengths : length (part_at meeting 0) ∷ length (part_at meeting 1) ∷ length (key_words meeting) ∷ [] ≡ 32 ∷ 28 ∷ 62 ∷ []
 row_lengths = refl

@@ -67,7 +67,7 @@ part_of b p (Some r) = rank_words b p r
 abbrev pub part_at : World → ℕ → List ℤ
 part_at w p = part_of w.board p (slice_get w.ranks p)
 
--- all parts, each behind its length
+-- all parts, each after its length
 abbrev pub key_words : World → List ℤ
 key_words w = flat_map (λ p. sized (part_at w p)) (rank_numbers w.board)
 

@@ -147,7 +147,7 @@ abbrev first_statement : List (Option RankKey) → ℕ × ℕ
 first_statement (Some k ∷ ranks) = (free_statement k.calls, blocked_statement k.blocked)
 first_statement ranks = (0, 0)
 
--- a free call's, and that of the call at which a rank is blocked; none of a call that is paired, or of a barrier behind which its rank is
+-- a free call's, and that of the call at which a rank is blocked; none of a call that is paired, or of a barrier after which its rank is
 pub row_statements : map {B = ℕ × ℕ} (λ (w : ℕ → World). first_statement (key_of (w 4)).ranks)
     (issuing to_itself Running [] ∷ issuing to_itself Blocked [] ∷ issuing to_itself Running (Pair (call_id 0 0) (call_id 0 1) ∷ []) ∷ issuing Barrier Blocked [] ∷ issuing Barrier Running [] ∷ [])
     ≡ (4, 0) ∷ (4, 4) ∷ (0, 0) ∷ (0, 4) ∷ (0, 0) ∷ []

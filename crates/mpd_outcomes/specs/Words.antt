@@ -1,4 +1,4 @@
--- What a key tells of calls, word by word. Where a list of words ends is told by its own words, so that lists can stand behind one
+-- What a key tells of calls, word by word. Where a list of words ends is told by its own words, so that lists can stand after one
 -- another.
 use Rattle.std.specs.Prelude.{ℕ, ◌-◌, ◌^◌, nat_lt, ℤ, pos, negsuc, Bool, true, false, if◌then◌else◌, List, [], ◌∷◌, ◌++◌, length, Option, Some, None, is_some}
 use Rattle.mpd_model.specs.declared.step.CallId.{CallId}
@@ -26,7 +26,7 @@ abbrev pub number_or_zero : Option ℕ → ℤ
 number_or_zero None = pos 0
 number_or_zero (Some n) = number_word n
 
--- a list behind its length
+-- a list after its length
 abbrev pub sized : List ℤ → List ℤ
 sized xs = number_word (length xs) ∷ xs
 

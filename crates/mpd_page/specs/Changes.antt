@@ -106,7 +106,7 @@ handles_changed w v = flat_map (handles_at w v) (rank_numbers v.board)
 abbrev pub printed_entry : ℕ → ℤ → List ℕ
 printed_entry p y = codes ",[" ++ decimal p ++ codes ",\"" ++ signed_decimal y ++ codes "\"]"
 
--- the values behind the first so many
+-- the values after the first so many
 abbrev pub values_behind : {A : Type 0} → ℕ → List A → List A
 values_behind n xs = drop (min n (length xs)) xs
 

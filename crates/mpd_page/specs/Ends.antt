@@ -22,6 +22,7 @@ use Rattle.mpd_blame.specs.declared.back.Blame.{Blame}
 use Rattle.mpd_blame.specs.declared.back.Blame.TheVariants as blame_is
 use Rattle.mpd_blame.specs.Blame.{IsBlame, IsThere}
 use Rattle.mpd_blame.specs.Words.{blame_words}
+use Rattle.mpd_marks.specs.Marked.{marked}
 use Rattle.mpd_page.specs.Json.{quoted, member, line_texts}
 use Rattle.mpd_page.specs.Trees.{run_end, run_tree}
 use Rattle.mpd_page.specs.declared.tree.Branch.{Branch}
@@ -49,8 +50,9 @@ lines_if key text = member key (line_texts (lines_of text))
 unfoldable pub outcome_text : ℕ → Ending → List ℕ
 outcome_text n e = codes ",\n{\"node\":" ++ decimal n ++ codes ",\"outcome\":" ++ quoted (ending_text e)
 
-unfoldable pub end_text : Program → World → ℕ → Ending → List ℕ
-end_text s w n e = outcome_text n e ++ lines_if (codes "told") (told s w e) ++ lines_if (codes "lost") (lost_by s w e)
+-- what is told has the places of marks of the script beside lines
+unfoldable pub end_text : List ℕ → Program → World → ℕ → Ending → List ℕ
+end_text script s w n e = outcome_text n e ++ lines_if (codes "told") (marked script (told s w e)) ++ lines_if (codes "lost") (marked script (lost_by s w e))
 
 -- ---- the step that decided
 
@@ -71,35 +73,35 @@ abbrev pub share : ℕ → ℕ → ℕ
 share states runs = states / runs
 
 -- The text tells by which step it was decided how a run ends, as far as a search tells it that comes to so many states at most.
-pub record Decides (most : ℕ) (s : Program) (mode : Mode) (run : List Step) (text : List ℕ) : Type 0 where
+pub record Decides (script : List ℕ) (most : ℕ) (s : Program) (mode : Mode) (run : List Step) (text : List ℕ) : Type 0 where
   pub blame : Blame
   pub is : IsBlame most (run_limit (length run)) (start s mode) run blame
   pub world : World
   pub there : IsThere (start s mode) run blame world
-  pub text_is : text ≡ decided_text blame (blame_words s world blame)
+  pub text_is : text ≡ decided_text blame (marked script (blame_words s world blame))
 
 -- that is told of a run that hangs or traps
-abbrev pub DecidesIf : ℕ → Bool → Program → Mode → List Step → List ℕ → Type 0
-DecidesIf most false s mode run text = text ≡ []
-DecidesIf most true s mode run text = Decides most s mode run text
+abbrev pub DecidesIf : List ℕ → ℕ → Bool → Program → Mode → List Step → List ℕ → Type 0
+DecidesIf script most false s mode run text = text ≡ []
+DecidesIf script most true s mode run text = Decides script most s mode run text
 
 -- ---- the ends
 
 -- the text of a run that ends in the state of this number, with a comma and a line feed before it
-pub record IsEnd (most : ℕ) (s : Program) (mode : Mode) (n : ℕ) (run : List Step) (text : List ℕ) : Type 0 where
+pub record IsEnd (script : List ℕ) (most : ℕ) (s : Program) (mode : Mode) (n : ℕ) (run : List Step) (text : List ℕ) : Type 0 where
   pub world : World
   pub leads : fold (start s mode) run ≡ Some world
   pub decided : List ℕ
-  pub decides : DecidesIf most (meets Bad (ending_at world)) s mode run decided
-  pub text_is : text ≡ end_text s world n (ending_at world) ++ decided ++ codes "}"
+  pub decides : DecidesIf script most (meets Bad (ending_at world)) s mode run decided
+  pub text_is : text ≡ end_text script s world n (ending_at world) ++ decided ++ codes "}"
 
 -- that was added
-pub record EndAdded (most : ℕ) (s : Program) (mode : Mode) (n : ℕ) (run : List Step) (old new : List ℕ) : Type 0 where
+pub record EndAdded (script : List ℕ) (most : ℕ) (s : Program) (mode : Mode) (n : ℕ) (run : List Step) (old new : List ℕ) : Type 0 where
   pub one : List ℕ
-  pub is : IsEnd most s mode n run one
+  pub is : IsEnd script most s mode n run one
   pub added : new ≡ old ++ one
 
 -- the texts of runs, of which the first begins with this tree
-abbrev pub AreEnds : ℕ → Program → Mode → List Branch → List (List Step) → List ℕ → Type 0
-AreEnds most s mode tree [] text = text ≡ []
-AreEnds most s mode tree (run ∷ runs) text = (one : List ℕ) × (rest : List ℕ) × (IsEnd most s mode (run_end tree 0 run) run one × AreEnds most s mode (run_tree tree 0 run) runs rest × (text ≡ one ++ rest))
+abbrev pub AreEnds : List ℕ → ℕ → Program → Mode → List Branch → List (List Step) → List ℕ → Type 0
+AreEnds script most s mode tree [] text = text ≡ []
+AreEnds script most s mode tree (run ∷ runs) text = (one : List ℕ) × (rest : List ℕ) × (IsEnd script most s mode (run_end tree 0 run) run one × AreEnds script most s mode (run_tree tree 0 run) runs rest × (text ≡ one ++ rest))

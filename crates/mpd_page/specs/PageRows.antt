@@ -48,7 +48,7 @@ pub row_handles : handle_by 0 1 (Some None) (Some None) ∷ handle_by 0 1 (Some 
 unfolding digits
 row_handles = refl
 
--- the values behind none, one, all and more
+-- the values after none, one, all and more
 pub row_printed : map {B = List ℕ} (λ n. values_behind {A = ℕ} n (7 ∷ 8 ∷ [])) (0 ∷ 1 ∷ 2 ∷ 3 ∷ []) ≡ (7 ∷ 8 ∷ []) ∷ (8 ∷ []) ∷ [] ∷ [] ∷ []
 row_printed = refl
 

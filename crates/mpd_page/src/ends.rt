@@ -2,6 +2,7 @@
 
 ghost use Rattle.std.specs.Prelude.{◌≡◌, ◌≤◌, ◌++◌, IfOk, OnOk, length, string_bytes};
 ghost use Rattle.mpd_model.specs.runs.Trail.{done_steps};
+ghost use Rattle.mpd_marks.specs.Marked.{marked};
 ghost use Rattle.mpd_page.specs.Ends as spec;
 ghost use Rattle.mpd_page.specs.Ends.{Decides, DecidesIf, EndAdded};
 ghost use Rattle.mpd_explore.specs.ReportText.{ending_text};
@@ -12,6 +13,7 @@ use crate::json::{add, add_text, push_lines, push_member, push_quoted};
 use mpd_blame::{Blame, blame_run, push_blame};
 use mpd_core::{Core, Debugger};
 use mpd_explain::{push_all_lost, push_told};
+use mpd_marks::push_marked;
 use mpd_model::{STEPS_MAX, print_outcome};
 use mpd_outcomes::{Goal, StateLimits};
 use mpd_policy::Ending;
@@ -80,15 +82,38 @@ fn push_lost(core: &Core<'_>, out: &mut String, ending: &Ending) -> Result<(), A
     }
 }
 
+/// A told text with the places of marks of the script beside lines.
+fn marked_text(alloc: Global, script: &[u8], told: &str) -> Result<Vec<u8>, AllocError>
+    ensures { IfOk result (λ t. t.items ≡ marked script.now told.now) }
+{
+    let mut out = Vec::new(alloc);
+    push_marked(&mut out, script, told.as_bytes())?;
+    Ok(out)
+}
+
+/// Adds the lines of a told text under a key, if there are any, with the places of marks of the script beside lines.
+fn push_told_lines(
+    out: &mut Vec<u8>,
+    key: &str,
+    script: &[u8],
+    told: &str,
+) -> Result<(), AllocError>
+    ensures { OnOk result (out.new.items ≡ out.old.items ++ spec.lines_if key.now (marked script.now told.now)) }
+{
+    let text = marked_text(*out.allocator(), script, told)?;
+    push_lines_if(out, key, &text)
+}
+
 /// Adds what is told of an end.
 #[tactic(auto, unfolding(crate::specs::Ends::end_text))]
 fn push_end_text(
     core: &Core<'_>,
     out: &mut Vec<u8>,
     number: usize,
+    script: &[u8],
     ending: &Ending,
 ) -> Result<(), AllocError>
-    ensures { OnOk result (out.new.items ≡ out.old.items ++ spec.end_text core.now.program core.now.world number ending.now) }
+    ensures { OnOk result (out.new.items ≡ out.old.items ++ spec.end_text script.now core.now.program core.now.world number ending.now) }
 {
     let alloc = *out.allocator();
     let mut told = String::new(alloc);
@@ -96,8 +121,8 @@ fn push_end_text(
     let mut lost = String::new(alloc);
     push_lost(core, &mut lost, ending)?;
     push_outcome(alloc, out, number, ending)?;
-    push_lines_if(out, "told", told.as_bytes())?;
-    push_lines_if(out, "lost", lost.as_bytes())
+    push_told_lines(out, "told", script, &told)?;
+    push_told_lines(out, "lost", script, &lost)
 }
 
 /// How many steps a run has at most, from the start, if `taken` of them are taken.
@@ -131,7 +156,7 @@ fn push_depth(out: &mut String, blame: Blame) -> Result<(), AllocError>
 
 /// By which step it was decided, in these words.
 #[tactic(auto, unfolding(crate::specs::Ends::decided_text))]
-fn decided_text(alloc: Global, blame: Blame, words: &str) -> Result<Vec<u8>, AllocError>
+fn decided_text(alloc: Global, blame: Blame, words: &[u8]) -> Result<Vec<u8>, AllocError>
     ensures { IfOk result (λ t. t.items ≡ spec.decided_text blame words.now) }
 {
     let mut head = String::new(alloc);
@@ -140,16 +165,21 @@ fn decided_text(alloc: Global, blame: Blame, words: &str) -> Result<Vec<u8>, All
     head.push_str(",")?;
     let mut text = Vec::new(alloc);
     add_text(&mut text, &head)?;
-    push_quoted(&mut text, words.as_bytes())?;
+    push_quoted(&mut text, words)?;
     add_text(&mut text, "]")?;
     Ok(text)
 }
 
 /// By which step it was decided how the run of a debugger ends, as far as a search tells it that
 /// visits `most` states at most. On return the debugger is on the way back along its run.
-fn decided(alloc: Global, whole: &mut Debugger<'_>, most: usize) -> Result<Vec<u8>, AllocError>
+fn decided(
+    alloc: Global,
+    whole: &mut Debugger<'_>,
+    script: &[u8],
+    most: usize,
+) -> Result<Vec<u8>, AllocError>
     requires clean { length whole.old.trail.steps ≡ whole.old.trail.depth }
-    ensures { IfOk result (λ t. Decides most whole.old.trail.program whole.old.trail.mode whole.old.trail.steps t.items) }
+    ensures { IfOk result (λ t. Decides script.now most whole.old.trail.program whole.old.trail.mode whole.old.trail.steps t.items) }
 {
     whole.state_is_reached();
     let limits = StateLimits {
@@ -162,7 +192,8 @@ fn decided(alloc: Global, whole: &mut Debugger<'_>, most: usize) -> Result<Vec<u
     let blame = blame_run(alloc, whole, limits)?;
     let mut words = String::new(alloc);
     push_blame(whole.core(), &mut words, blame)?;
-    decided_text(alloc, blame, &words)
+    let told = marked_text(alloc, script, &words)?;
+    decided_text(alloc, blame, &told)
 }
 
 /// That, of a run that hangs or traps; no text of another.
@@ -170,13 +201,14 @@ fn decided_if(
     alloc: Global,
     whole: &mut Debugger<'_>,
     ending: &Ending,
+    script: &[u8],
     most: usize,
 ) -> Result<Vec<u8>, AllocError>
     requires clean { length whole.old.trail.steps ≡ whole.old.trail.depth }
-    ensures { IfOk result (λ t. DecidesIf most (meets Bad ending.now) whole.old.trail.program whole.old.trail.mode whole.old.trail.steps t.items) }
+    ensures { IfOk result (λ t. DecidesIf script.now most (meets Bad ending.now) whole.old.trail.program whole.old.trail.mode whole.old.trail.steps t.items) }
 {
     if Goal::Bad.is_met(ending) {
-        return decided(alloc, whole, most);
+        return decided(alloc, whole, script, most);
     }
     Ok(Vec::new(alloc))
 }
@@ -188,16 +220,17 @@ pub(crate) fn push_end(
     whole: &mut Debugger<'_>,
     out: &mut Vec<u8>,
     number: usize,
+    script: &[u8],
     most: usize,
 ) -> Result<(), AllocError>
-    ensures { OnOk result (EndAdded most whole.old.trail.program whole.old.trail.mode number (done_steps whole.old.trail) out.old.items out.new.items) }
+    ensures { OnOk result (EndAdded script.now most whole.old.trail.program whole.old.trail.mode number (done_steps whole.old.trail) out.old.items out.new.items) }
 {
     let alloc = *out.allocator();
     whole.state_is_reached();
     whole.forget_undone();
     let ending = ending_at(alloc, whole.core())?;
-    push_end_text(whole.core(), out, number, &ending)?;
-    let decided = decided_if(alloc, whole, &ending, most)?;
+    push_end_text(whole.core(), out, number, script, &ending)?;
+    let decided = decided_if(alloc, whole, &ending, script, most)?;
     add(out, &decided)?;
     add_text(out, "}")
 }

@@ -26,7 +26,9 @@ use std::alloc::{AllocError, Global};
 
 /// How runs are drawn.
 #[derive(Clone, Copy)]
-struct DrawPlan {
+struct DrawPlan<'t> {
+    /// The text of the script, the places of whose marks stand beside lines that are told.
+    script: &'t [u8],
     /// Along what choices are told.
     walk: Walk,
     /// How many states the search for the step that decides visits at most, of one run.
@@ -39,7 +41,7 @@ fn draw_with(
     behind: &mut Debugger<'_>,
     ahead: &mut Debugger<'_>,
     drawn: &mut Drawn,
-    plan: DrawPlan,
+    plan: DrawPlan<'_>,
     run: &StepList,
 ) -> Result<(), PageFault>
     requires world { ahead.old.world ≡ behind.old.world }
@@ -48,12 +50,12 @@ fn draw_with(
     requires few { length drawn.old.tree.items + 1 ≤ STATES_MAX }
     ensures tree { OnOk result (drawn.new.tree.items ≡ tree_spec.run_tree drawn.old.tree.items 0 run.now) }
     ensures few { OnOk result (length drawn.new.tree.items + 1 ≤ STATES_MAX) }
-    ensures text { OnOk result (drawn.new.text.items ≡ drawn.old.text.items ++ tree_spec.run_text behind.old.trail.program plan.walk drawn.old.tree.items 0 behind.old.world run.now) }
-    ensures ends { OnOk result (EndAdded plan.blamed ahead.old.trail.program ahead.old.trail.mode (tree_spec.run_end drawn.old.tree.items 0 run.now) run.now drawn.old.ends.items drawn.new.ends.items) }
+    ensures text { OnOk result (drawn.new.text.items ≡ drawn.old.text.items ++ tree_spec.run_text behind.old.trail.program plan.entry.walk drawn.old.tree.items 0 behind.old.world run.now) }
+    ensures ends { OnOk result (EndAdded plan.entry.script.now plan.entry.blamed ahead.old.trail.program ahead.old.trail.mode (tree_spec.run_end drawn.old.tree.items 0 run.now) run.now drawn.old.ends.items drawn.new.ends.items) }
     ensures too_many { IsErrOf result PageFault.TooMany → STATES_MAX < length (tree_spec.run_tree drawn.old.tree.items 0 run.now) + 1 }
 {
     let number = follow(behind, ahead, drawn, plan.walk, &run.items)?;
-    push_end(ahead, &mut drawn.ends, number, plan.blamed)?;
+    push_end(ahead, &mut drawn.ends, number, plan.script, plan.blamed)?;
     Ok(())
 }
 
@@ -62,15 +64,15 @@ fn draw_with(
 fn draw_by(
     behind: &mut Debugger<'_>,
     drawn: &mut Drawn,
-    plan: DrawPlan,
+    plan: DrawPlan<'_>,
     run: &StepList,
 ) -> Result<(), PageFault>
     requires first { done_steps behind.old.trail ≡ [] }
     requires few { length drawn.old.tree.items + 1 ≤ STATES_MAX }
     ensures tree { OnOk result (drawn.new.tree.items ≡ tree_spec.run_tree drawn.old.tree.items 0 run.now) }
     ensures few { OnOk result (length drawn.new.tree.items + 1 ≤ STATES_MAX) }
-    ensures text { OnOk result (drawn.new.text.items ≡ drawn.old.text.items ++ tree_spec.run_text behind.old.trail.program plan.walk drawn.old.tree.items 0 behind.old.world run.now) }
-    ensures ends { OnOk result (EndAdded plan.blamed behind.old.trail.program behind.old.trail.mode (tree_spec.run_end drawn.old.tree.items 0 run.now) run.now drawn.old.ends.items drawn.new.ends.items) }
+    ensures text { OnOk result (drawn.new.text.items ≡ drawn.old.text.items ++ tree_spec.run_text behind.old.trail.program plan.entry.walk drawn.old.tree.items 0 behind.old.world run.now) }
+    ensures ends { OnOk result (EndAdded plan.entry.script.now plan.entry.blamed behind.old.trail.program behind.old.trail.mode (tree_spec.run_end drawn.old.tree.items 0 run.now) run.now drawn.old.ends.items drawn.new.ends.items) }
     ensures too_many { IsErrOf result PageFault.TooMany → STATES_MAX < length (tree_spec.run_tree drawn.old.tree.items 0 run.now) + 1 }
 {
     let Ok(mut ahead) = behind.copy() else {
@@ -87,14 +89,14 @@ fn draw_run(
     code: &Code,
     mode: Mode,
     drawn: &mut Drawn,
-    plan: DrawPlan,
+    plan: DrawPlan<'_>,
     run: &StepList,
 ) -> Result<(), PageFault>
     requires few { length drawn.old.tree.items + 1 ≤ STATES_MAX }
     ensures tree { OnOk result (drawn.new.tree.items ≡ tree_spec.run_tree drawn.old.tree.items 0 run.now) }
     ensures few { OnOk result (length drawn.new.tree.items + 1 ≤ STATES_MAX) }
-    ensures text { OnOk result (drawn.new.text.items ≡ drawn.old.text.items ++ tree_spec.run_text code.now.program plan.walk drawn.old.tree.items 0 (start code.now.program mode) run.now) }
-    ensures ends { OnOk result (EndAdded plan.blamed code.now.program mode (tree_spec.run_end drawn.old.tree.items 0 run.now) run.now drawn.old.ends.items drawn.new.ends.items) }
+    ensures text { OnOk result (drawn.new.text.items ≡ drawn.old.text.items ++ tree_spec.run_text code.now.program plan.entry.walk drawn.old.tree.items 0 (start code.now.program mode) run.now) }
+    ensures ends { OnOk result (EndAdded plan.entry.script.now plan.entry.blamed code.now.program mode (tree_spec.run_end drawn.old.tree.items 0 run.now) run.now drawn.old.ends.items drawn.new.ends.items) }
     ensures too_many { IsErrOf result PageFault.TooMany → STATES_MAX < length (tree_spec.run_tree drawn.old.tree.items 0 run.now) + 1 }
 {
     let Ok(mut behind) = Debugger::start(alloc, code, mode) else {
@@ -112,14 +114,14 @@ fn draw_all(
     code: &Code,
     mode: Mode,
     drawn: &mut Drawn,
-    plan: DrawPlan,
+    plan: DrawPlan<'_>,
     runs: &[StepList],
 ) -> Result<(), PageFault>
     requires few { length drawn.old.tree.items + 1 ≤ STATES_MAX }
     requires empty { drawn.old.ends.items ≡ [] }
     ensures few { OnOk result (length (tree_spec.runs_tree drawn.old.tree.items runs.now) + 1 ≤ STATES_MAX) }
-    ensures text { OnOk result (drawn.new.text.items ≡ drawn.old.text.items ++ tree_spec.runs_text code.now.program plan.walk (start code.now.program mode) drawn.old.tree.items runs.now) }
-    ensures ends { OnOk result (AreEnds plan.blamed code.now.program mode drawn.old.tree.items runs.now drawn.new.ends.items) }
+    ensures text { OnOk result (drawn.new.text.items ≡ drawn.old.text.items ++ tree_spec.runs_text code.now.program plan.entry.walk (start code.now.program mode) drawn.old.tree.items runs.now) }
+    ensures ends { OnOk result (AreEnds plan.entry.script.now plan.entry.blamed code.now.program mode drawn.old.tree.items runs.now drawn.new.ends.items) }
     ensures too_many { IsErrOf result PageFault.TooMany → STATES_MAX < length (tree_spec.runs_tree drawn.old.tree.items runs.now) + 1 }
 {
     let mut left = runs;
@@ -274,6 +276,7 @@ pub fn make_page(
         ends: Vec::new(alloc),
     };
     let plan = DrawPlan {
+        script: title.text,
         walk: title.walk,
         blamed: share(states, runs.len()),
     };

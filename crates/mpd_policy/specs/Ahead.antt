@@ -38,7 +38,7 @@ abbrev pub Wants : Taking → ℕ → World → Type 0
 Wants taking.Forced made w = 0 < made
 Wants taking.Single made w = (0 < made) ⊎ ((forced_step w ≡ None) × (0 < length (choices w)))
 
--- what follows behind so many steps, by the decision
+-- what follows after so many steps, by the decision
 abbrev pub ahead_of : ℕ → Decision → Ahead
 ahead_of depth (next_is.Forced a) = if depth == STEPS_MAX then Halt for.Full else Take a
 ahead_of depth (next_is.Choice steps) = Halt for.Choice

@@ -1,4 +1,4 @@
--- What breakpoints in numbered places hit, told apart: by the state behind a step, and by cells and handles before it and behind it.
+-- What breakpoints in numbered places hit, told apart: by the state after a step, and by cells and handles before it and after it.
 use Rattle.std.specs.Prelude.{◌≡◌, ℕ, ℤ, ◌≤◌, ◌==◌, Bool, true, false, not, if◌then◌else◌, nat_lt, List, length, slice_index_or, Option, Some, None}
 use Rattle.std.specs.List.{filter, range_with_len}
 use Rattle.std.specs.Ordering.{int_eq}

@@ -74,7 +74,7 @@ impl Breaks {
         self.bound() == 0
     }
 
-    /// The number behind the last place that is taken.
+    /// The number after the last place that is taken.
     #[tactic(auto, using(crate::proofs::PlaceLemmas::ending))]
     fn end(&self) -> usize
         ensures within { result ≤ BREAKS_MAX }

@@ -185,7 +185,7 @@ fn put_back(debugger: &mut Debugger<'_>, depth: usize, saved: Option<Vec<Step>>)
     }
 }
 
-/// Runs, and stops behind the first step that hits a breakpoint, and before a step at a leaf, at a choice, where 1,000,000 steps are
+/// Runs, and stops after the first step that hits a breakpoint, and before a step at a leaf, at a choice, where 1,000,000 steps are
 /// not undone, or after `max` steps, in this order. An `Err` is want of memory, and then the state and all steps, undone ones too, are
 /// as before.
 fn run_by(
@@ -215,7 +215,7 @@ fn run_by(
     }
 }
 
-/// Runs along decisions (docs/DEFINITIONS.md, "Runs"): it makes every forced step, and stops behind the first that a breakpoint
+/// Runs along decisions (docs/DEFINITIONS.md, "Runs"): it makes every forced step, and stops after the first that a breakpoint
 /// hits, and before a step at a leaf, at a choice, where 1,000,000 steps are not undone, or after `max` steps, in this order. An
 /// `Err` is want of memory, and then the state and all steps, undone ones too, are as before; it comes only where steps are undone,
 /// whose list is set aside, or where the run makes a step.

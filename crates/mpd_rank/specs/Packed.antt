@@ -13,7 +13,7 @@ before (Some w) ws = w ∷ ws
 abbrev pub all_listed : Option (ℕ × ℤ) → Option (ℕ × ℤ) → Option (ℕ × ℤ) → Option (ℕ × ℤ) → List (ℕ × ℤ)
 all_listed a b c d = before a (before b (before c (before d [])))
 
--- none stands behind a gap
+-- none stands after a gap
 abbrev pub IsPacked : Option (ℕ × ℤ) → Option (ℕ × ℤ) → Option (ℕ × ℤ) → Option (ℕ × ℤ) → Type 0
 IsPacked a b c d = (a ≡ None → b ≡ None) × (b ≡ None → c ≡ None) × (c ≡ None → d ≡ None)
 

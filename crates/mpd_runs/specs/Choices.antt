@@ -5,7 +5,7 @@ use Rattle.mpd_model.specs.texts.Words.{has_some, number_of}
 use Rattle.mpd_runs.specs.declared.fault.ChoicesFault.{ChoicesFault}
 use Rattle.mpd_runs.specs.declared.fault.ChoicesFault.TheVariants.{NotANumber, Memory}
 
--- what stands before, between and behind spaces
+-- what stands before, between and after spaces
 abbrev pub cut_at_spaces : List ℕ → List (List ℕ)
 cut_at_spaces z = slice_split (λ b. b == 32) z
 

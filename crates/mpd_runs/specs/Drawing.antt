@@ -34,7 +34,7 @@ pub record Drew (n : ℕ) (d : Standing) (s : Stream) (choices : List ℕ) (endi
 
 -- ---- a place among leaves
 
--- So many leaves come before some choices, and those behind them don't.
+-- So many leaves come before some choices, and those after them don't.
 pub record IsPlace (choices : List ℕ) (leaves : List Leaf) (i : ℕ) : Type 0 where
   pub within : i ≤ length leaves
   pub before : AllByRecursion (λ l. order l.choices choices ≡ Less) (take i leaves)

@@ -34,7 +34,7 @@ drawn_by draw w (Some a) s = drawn_from draw (next w a) s
 abbrev pub led : ℕ → List ℕ × Stream → List ℕ × Stream
 led c d = (c ∷ d.0, d.1)
 
--- behind the candidate with this number
+-- after the candidate with this number
 abbrev pub drawn_choice : (World → Stream → List ℕ × Stream) → World → List Step → ℕ × Stream → List ℕ × Stream
 drawn_choice draw w candidates d = led d.0 (drawn_by draw w (slice_get candidates d.0) d.1)
 
@@ -54,7 +54,7 @@ abbrev pub is_bad_run : Option Run → Bool
 is_bad_run None = false
 is_bad_run (Some r) = is_bad r.ending
 
--- So many runs, one after another from one stream. Where that is asked for, the drawing ends behind the first that ends in a deadlock or
+-- So many runs, one after another from one stream. Where that is asked for, the drawing ends after the first that ends in a deadlock or
 -- a trap.
 unfoldable pub draws : Bool → ℕ → ℕ → World → Stream → List (List ℕ)
 draws until_bad fuel zero w s = []

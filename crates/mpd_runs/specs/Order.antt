@@ -21,7 +21,7 @@ run_order a b = order a.choices b.choices
 abbrev pub leaf_order : Leaf → Leaf → Ordering
 leaf_order a b = order a.choices b.choices
 
--- each leaf comes before all behind it, so none is there twice
+-- each leaf comes before all after it, so none is there twice
 abbrev pub Rises : List Leaf → Type 0
 Rises leaves = IsStrictlySortedBy leaf_order leaves
 

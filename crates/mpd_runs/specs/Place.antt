@@ -11,7 +11,7 @@ abbrev pub left_over : ℕ → List ℕ → Option ℕ
 left_over k [] = None
 left_over k (c ∷ cs) = Some k
 
--- behind a step, where it is enabled
+-- after a step, where it is enabled
 abbrev pub bad_behind : (World → Option ℕ) → ℕ → Option World → Option ℕ
 bad_behind bad k None = Some k
 bad_behind bad k (Some w) = bad w

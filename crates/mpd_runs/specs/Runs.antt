@@ -22,7 +22,7 @@ use Rattle.mpd_runs.specs.Counts.{counts_of, count_of, is_count}
 
 -- ---- runs
 
--- how many steps a run may have behind so many
+-- how many steps a run may have after so many
 abbrev pub fuel_at : ℕ → ℕ
 fuel_at depth = if nat_lt (STEPS_MAX - depth) FUEL then STEPS_MAX - depth else FUEL
 
@@ -93,7 +93,7 @@ separator false = codes ", "
 abbrev pub way_words : Bool → Count → Way → List ℕ
 way_words first c x = if is_count 0 c then [] else separator first ++ count_text c ++ 32 ∷ way_name x
 
--- whether a way that comes behind is still the first that is told
+-- whether a way that comes after is still the first that is told
 abbrev pub still_first : Bool → Count → Bool
 still_first first c = if is_count 0 c then first else false
 

@@ -92,7 +92,7 @@ pub row_wide : map {B = List ℕ} (λ w. (drawn 9 (start two_sends (Slots 1)) (w
 unfolding drawn wide_decision canon next_u32
 row_wide = refl
 
--- of these three one was drawn twice: it is listed once, and behind the one that comes before it
+-- of these three one was drawn twice: it is listed once, and after the one that comes before it
 pub row_sampled : map {B = List ℕ} (λ (r : Run). r.choices) (sampled ((2 ∷ 1 ∷ []) ∷ (0 ∷ 0 ∷ []) ∷ (2 ∷ 1 ∷ []) ∷ []) 30 (start races Rendezvous)) ≡ (0 ∷ 0 ∷ []) ∷ (2 ∷ 1 ∷ []) ∷ []
 unfolding wide_walk wide_decision
 row_sampled = refl

@@ -70,7 +70,7 @@ nothing_line k x t w = none_line x (counts_in k (fuel_at t.depth) w)
 abbrev pub whole_run : List Step → ℕ → World → Leaf → WholeRun
 whole_run before fuel w l = record { steps = before ++ steps_by (run_by wide_decision fuel l.choices w); ending = l.ending }
 
--- the first of the runs that are looked at which ends so, behind some steps
+-- the first of the runs that are looked at which ends so, after some steps
 abbrev pub found_in : Scope → Way → List Step → ℕ → World → Option WholeRun
 found_in k x before fuel w = option_map (whole_run before fuel w) (first_in x (runs_in k fuel w))
 

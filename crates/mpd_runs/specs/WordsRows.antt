@@ -57,7 +57,7 @@ wrong k = Some k
 abbrev no_run : Option (List Step)
 no_run = None
 
--- the choice is come to behind six steps, which nobody has to choose
+-- the choice is come to after six steps, which nobody has to choose
 abbrev six : List Step
 six = Local 0 ∷ Local 0 ∷ Local 1 ∷ Local 1 ∷ Local 2 ∷ Local 2 ∷ []
 
@@ -73,7 +73,7 @@ asked q = steps_at decision q.0 q.1 begun
 abbrev place : ℕ × List ℕ → Option ℕ
 place q = bad_place decision q.0 0 q.1 begun
 
--- both runs, and the beginnings of one for want of fuel, at the choice and right behind it
+-- both runs, and the beginnings of one for want of fuel, at the choice and right after it
 pub row_steps : map {B = Option (List Step)} asked ((20, 0 ∷ 0 ∷ []) ∷ (20, 1 ∷ []) ∷ (6, []) ∷ (7, 0 ∷ []) ∷ [])
     ≡ Some (six ++ first_taken) ∷ Some (six ++ second_taken) ∷ Some six ∷ Some (six ++ Match (call_id 1 0) (call_id 0 0) ∷ []) ∷ []
 unfolding run_by decision
@@ -83,7 +83,7 @@ pub row_right : map {B = Option ℕ} place ((20, 0 ∷ 0 ∷ []) ∷ (20, 1 ∷ 
 unfolding bad_place decision
 row_right = refl
 
--- too few choices; fewer candidates; choices behind the end; and behind the last step that there is fuel for
+-- too few choices; fewer candidates; choices after the end; and after the last step that there is fuel for
 abbrev none_of : List (ℕ × List ℕ)
 none_of = (20, []) ∷ (20, 0 ∷ []) ∷ (7, []) ∷ (20, 2 ∷ []) ∷ (20, 2 ∷ 0 ∷ []) ∷ (20, 0 ∷ 1 ∷ []) ∷ (20, 1 ∷ 0 ∷ []) ∷ (20, 0 ∷ 0 ∷ 0 ∷ []) ∷ (6, 0 ∷ []) ∷ (7, 0 ∷ 0 ∷ []) ∷ (0, 5 ∷ []) ∷ []
 

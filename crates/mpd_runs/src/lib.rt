@@ -1,6 +1,7 @@
 //! Runs and their steps: the run that some choices tell, the run of the first candidates, steps or
 //! trace words that are given, the runs from a debugger's state, the first of them that ends in one
-//! way, the last choice that was made, and a sample of all runs.
+//! way, the last choice that was made and the last place where a run would have stopped, and a
+//! sample of all runs.
 #![tactic(auto)]
 
 pub mod by_choices;
@@ -22,7 +23,7 @@ pub mod way;
 pub mod write;
 
 pub use by_choices::steps_by_choices;
-pub use choice::{last_choice, push_no_choice};
+pub use choice::{last_choice, last_stop, push_no_choice};
 pub use choices::choices_of;
 pub use counts::{WayCounts, counts_told, is_count};
 pub use fault::{ChoicesFault, WordsFault, WriteFault};

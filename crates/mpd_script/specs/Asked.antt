@@ -1,4 +1,4 @@
--- An expression by itself, as whoever debugs a script asks for it, and the number of a rank behind it, if one is given.
+-- An expression by itself, as whoever debugs a script asks for it, and the number of a rank after it, if one is given.
 use Rattle.std.specs.Prelude.{ℕ, nat_lt, if◌then◌else◌, List, length, Option, None, Result, Ok, Err}
 use Rattle.std.specs.List.{prefix_len}
 use Rattle.mpd_model.specs.declared.read_fault.FaultCode.TheVariants.{TooLong, NotText}
@@ -43,7 +43,7 @@ abbrev pub asked_of : Outcome (Term × Option ℕ) → Result (Term × Option �
 asked_of (Ok p) = Ok p.0
 asked_of (Err f) = Err f
 
--- The expression that a text spells and the number of a rank behind it, or the text's leftmost fault.
+-- The expression that a text spells and the number of a rank after it, or the text's leftmost fault.
 unfoldable pub asking : List Declared → List ℕ → Result (Term × Option ℕ) ReadFault
 asking ds text =
     if nat_lt max_text (length text) then Err (fault TooLong max_text)

@@ -13,7 +13,7 @@ use crate::script::{natural, text_len};
 use mpd_model::{Decl, Expr, FaultCode, ReadFault, SCRIPT_MAX, Token};
 use std::alloc::Global;
 
-/// An expression that stands by itself, and the number of a rank behind it, if one is given.
+/// An expression that stands by itself, and the number of a rank after it, if one is given.
 #[derive(Drop)]
 pub struct Asked {
     pub expr: Expr,
@@ -78,7 +78,7 @@ fn whole(alloc: Global, tokens: &mut Tokens<'_>) -> Result<Asked, ReadFault>
     Ok(Asked { expr, rank })
 }
 
-/// The expression that a text spells, where names stand for what is declared, and the number of a rank behind it, if one is given;
+/// The expression that a text spells, where names stand for what is declared, and the number of a rank after it, if one is given;
 /// or the text's leftmost fault, as one of a script. Where memory is refused the fault is `Memory` at 0, and says nothing of the text.
 /// Any bytes may be given.
 #[tactic(auto, unfolding(crate::specs::Asked::asking))]

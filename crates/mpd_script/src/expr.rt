@@ -103,7 +103,7 @@ fn expr(alloc: Global, tokens: &mut Tokens<'_>, depth: usize, of: usize) -> Resu
     level(alloc, tokens, depth - 1, of)
 }
 
-/// An operand of the level below, and the operators of the level behind it.
+/// An operand of the level below, and the operators of the level after it.
 #[cycle(expr)]
 #[tactic(auto, using(crate::proofs::Steps::levels))]
 fn level(alloc: Global, tokens: &mut Tokens<'_>, depth: usize, of: usize) -> Result<Expr, ReadFault>
@@ -118,7 +118,7 @@ fn level(alloc: Global, tokens: &mut Tokens<'_>, depth: usize, of: usize) -> Res
     chain(alloc, tokens, depth, of, most, left)
 }
 
-/// The operators of a level, each with the operand to its right, behind what stands to the left.
+/// The operators of a level, each with the operand to its right, after what stands to the left.
 #[cycle(expr)]
 #[tactic(auto, using(crate::proofs::Steps::turning))]
 fn chain(

@@ -63,7 +63,7 @@ fn target(alloc: Global, tokens: &mut Tokens<'_>, kind: DeclKind) -> Result<Targ
     index_outside(alloc, tokens, slot)
 }
 
-/// The place of the kind that a statement names behind its word.
+/// The place of the kind that a statement names after its word.
 #[tactic(auto, unfolding(mpd_model::specs::grammar::Grammar::statement_place))]
 pub(crate) fn statement_place(
     alloc: Global,

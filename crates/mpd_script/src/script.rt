@@ -90,7 +90,7 @@ pub(crate) fn natural(value: i64) -> Option<usize>
     }
 }
 
-/// The size of an array, and what is behind it.
+/// The size of an array, and what is after it.
 #[tactic(auto, unfolding(mpd_model::specs::grammar::Grammar::array_size))]
 fn array_size<'a>(tokens: &mut Tokens<'a>, kind: DeclKind, name: &'a [u8]) -> Result<(), ReadFault>
     requires ascii { IsAscii name.now }
@@ -112,7 +112,7 @@ fn array_size<'a>(tokens: &mut Tokens<'a>, kind: DeclKind, name: &'a [u8]) -> Re
     }
 }
 
-/// What is behind a name without a size. A fault of it is at the place of the name.
+/// What is after a name without a size. A fault of it is at the place of the name.
 #[tactic(auto, unfolding(mpd_model::specs::grammar::Grammar::single))]
 fn single<'a>(
     tokens: &mut Tokens<'a>,
@@ -128,7 +128,7 @@ fn single<'a>(
     tokens.expect(Symbol::Semicolon)
 }
 
-/// The name in a declaration, and what is behind it.
+/// The name in a declaration, and what is after it.
 #[tactic(auto, unfolding(mpd_model::specs::grammar::Grammar::declarator))]
 fn declarator(tokens: &mut Tokens<'_>, kind: DeclKind) -> Result<(), ReadFault>
     ensures { Reads (spec.declarator kind tokens.old) result tokens.new }

@@ -74,7 +74,7 @@ pub(crate) fn by_form(
     }
 }
 
-/// The statement, with the `;` behind it.
+/// The statement, with the `;` after it.
 fn end_statement(tokens: &mut Tokens<'_>, made: Simple) -> Result<Stmt, ReadFault>
     ensures { Reads (spec.fill [] (λ c. simple made) tokens.old) result tokens.new }
 {
@@ -156,7 +156,7 @@ fn send_parts(
     send_behind_value(alloc, tokens, synchronous, request, value)
 }
 
-/// The rest of a send, behind what it sends.
+/// The rest of a send, after what it sends.
 fn send_behind_value(
     alloc: Global,
     tokens: &mut Tokens<'_>,
@@ -212,7 +212,7 @@ fn recv_parts(
     recv_behind_place(alloc, tokens, request, into)
 }
 
-/// The rest of a receive, behind the place that it writes.
+/// The rest of a receive, after the place that it writes.
 fn recv_behind_place(
     alloc: Global,
     tokens: &mut Tokens<'_>,
@@ -226,7 +226,7 @@ fn recv_behind_place(
     recv_behind_source(alloc, tokens, request, into, from)
 }
 
-/// The rest of a receive, behind its source.
+/// The rest of a receive, after its source.
 fn recv_behind_source(
     alloc: Global,
     tokens: &mut Tokens<'_>,

@@ -1,4 +1,4 @@
--- Which tokens the grammar allows behind the front of a text, and what is told of them.
+-- Which tokens the grammar allows after the front of a text, and what is told of them.
 use Rattle.std.specs.Prelude.{ℕ, ◌+◌, Bool, true, false, not, ◌&&◌, ◌||◌, ◌==◌, if◌then◌else◌, List, [], ◌∷◌, ◌++◌, length, map, take, drop, codes, Result, Ok, Err}
 use Rattle.std.specs.List.{flat_map}
 use Rattle.mpd_model.specs.grammar.Grammar.{reading}
@@ -29,7 +29,7 @@ abbrev pub is_refused_at : ℕ → Result Program ReadFault → Bool
 is_refused_at place (Ok p) = false
 is_refused_at place (Err f) = is_expected f.code && f.place == place
 
--- whether the text that ends with the token, behind the front and a line feed, isn't refused at that token
+-- whether the text that ends with the token, after the front and a line feed, isn't refused at that token
 abbrev pub allows : List ℕ → List ℕ → Bool
 allows front token = not (is_refused_at (length front + 1) (reading (front ++ 10 ∷ token)))
 
@@ -39,7 +39,7 @@ allows_one front (t ∷ ts) = allows front t || allows_one front ts
 
 -- ---- what is told
 
--- those of some kinds that are allowed behind the front, each by how it is told; a kind has that and a token, which stands for all of it
+-- those of some kinds that are allowed after the front, each by how it is told; a kind has that and a token, which stands for all of it
 abbrev pub told_if : List ℕ → List ℕ × List ℕ → List (List ℕ)
 told_if front k = if allows front k.1 then k.0 ∷ [] else []
 

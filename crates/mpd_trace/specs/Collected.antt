@@ -17,7 +17,7 @@ use Rattle.mpd_trace.specs.declared.plain_trace.Head.{Head}
 abbrev pub IsJustRead : List ℕ → Type 0
 IsJustRead read = (before : List ℕ) × (last : List ℕ) × (read ≡ before ++ last) × (length last ≤ READ_MAX) × IsOpen before
 
--- where the input stands after these bytes, of so many reads: the script and the bytes behind the line that divides
+-- where the input stands after these bytes, of so many reads: the script and the bytes after the line that divides
 abbrev pub HeadOf : HeadEnd → List ℕ → ℕ → SourceSeen → SourceSeen → List ℕ → List ℕ → Type 0
 HeadOf InputEnds read reads s t script behind = IsAtEnd t.remaining × (t.ends ≡ s.ends + 1) × (divided read ≡ (script, [])) × (behind ≡ [])
 HeadOf LineDivides read reads s t script behind = (t.ends ≡ s.ends) × ((z : List ℕ) → divided (read ++ z) ≡ (script, behind ++ z)) × (reads ≤ length read)

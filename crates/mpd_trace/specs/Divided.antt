@@ -64,7 +64,7 @@ Measures n Open = n ≤ SCRIPT_MAX
 Measures n Here = ⊥
 Measures n TooLong = SCRIPT_MAX < n
 
--- the line that divides is among these bytes, with its end: a byte more stands behind it
+-- the line that divides is among these bytes, with its end: a byte more stands after it
 abbrev pub has_divider : List ℕ → Bool
 has_divider read = not (is_none (divided (read ++ 10 ∷ [])).1)
 

@@ -102,11 +102,11 @@ expected_line text place =
     reserved_line (word_at text place) (is_reserved (word_at text place) && names_alone (take place text)) ++ misplaced_line (take place text) (word_at text place)
     else open_line (innermost (still_open false 1 [] text))
 
--- of a comma behind the name that a declaration has
+-- of a comma after the name that a declaration has
 unfoldable pub list_line : List ℕ
 list_line = line (codes "  a declaration has one name: write 'var x; var y;'")
 
--- whether the front of a text ends with such a name: its size could follow, and behind a semicolon another declaration
+-- whether the front of a text ends with such a name: its size could follow, and after a semicolon another declaration
 abbrev pub declares_name : List ℕ → Bool
 declares_name front = allows front (codes "[") && allows (front ++ 59 ∷ []) (codes "var")
 

@@ -32,17 +32,17 @@ abbrev pub Traces : List ℕ → List (List ℕ) → SinkSeen → SinkSeen → T
 Traces read lines v w =
     (p : Program) × (e : Standing) × (reading (divided read).0 ≡ Ok p) × Tells AnswerOrMemory (first_standing p Rendezvous) lines v.contents w.contents e
 
--- or a write failed behind a part of these answers
+-- or a write failed after a part of these answers
 abbrev pub TracesPart : List ℕ → List (List ℕ) → SinkSeen → SinkSeen → Type 0
 TracesPart read lines v w =
     (p : Program) × (e : Standing) × (reading (divided read).0 ≡ Ok p)
     × BreaksOff AnswerOrMemory (waiting_below true) (first_standing p Rendezvous) lines v.contents [] w.contents e
 
--- before the line that divides nothing is written; behind it, the answers to the lines that have ended
+-- before the line that divides nothing is written; after it, the answers to the lines that have ended
 abbrev pub TracesSoFar : List ℕ → SinkSeen → SinkSeen → Type 0
 TracesSoFar read v w = (IsOpen read × (w ≡ v)) ⊎ ((has_divider read ≡ true) × Traces read (ended_lines (divided read).1) v w)
 
--- What was read and written, by what is answered: at the end of the input the answers to all lines behind the script; where
+-- What was read and written, by what is answered: at the end of the input the answers to all lines after the script; where
 -- a read failed, or no more may be made, those to the lines that have ended; where a write failed, a part of these, but not all of
 -- them, and all but fewer bytes than are gathered and the last answer. A script that is refused writes nothing, and is refused at
 -- once. Where memory is refused, nothing is written.

@@ -56,7 +56,7 @@ const COMPARISONS: [&[u8]; 6] = [b"==", b"!=", b"<", b"<=", b">", b">="];
 /// The other operators between two operands. One of them also stands before one.
 const OTHERS: [&[u8]; 7] = [b"+", b"-", b"*", b"/", b"%", b"&&", b"||"];
 
-/// Whether the grammar allows a token behind the front of a text: the text that ends with it isn't refused there as `Expected`.
+/// Whether the grammar allows a token after the front of a text: the text that ends with it isn't refused there as `Expected`.
 pub(crate) fn is_allowed(alloc: Global, front: &[u8], token: &[u8]) -> Result<bool, AllocError>
     ensures { IfOk result (λ found. found ≡ allows front.now token.now) }
 {
@@ -74,7 +74,7 @@ pub(crate) fn is_allowed(alloc: Global, front: &[u8], token: &[u8]) -> Result<bo
     }
 }
 
-/// Whether the grammar allows one of some tokens behind the front of a text.
+/// Whether the grammar allows one of some tokens after the front of a text.
 fn is_one_allowed(alloc: Global, front: &[u8], tokens: &[&[u8]]) -> Result<bool, AllocError>
     ensures { IfOk result (λ found. found ≡ allows_one front.now (map (λ t. t.now) tokens.now)) }
 {
@@ -100,7 +100,7 @@ fn push_if(
     Ok(())
 }
 
-/// How those of some kinds are told that the grammar allows behind the front of a text.
+/// How those of some kinds are told that the grammar allows after the front of a text.
 fn told_of(
     alloc: Global,
     front: &[u8],
@@ -131,7 +131,7 @@ fn push_operators(
     }
 }
 
-/// How the kinds of tokens are told that the grammar allows behind the front of a text.
+/// How the kinds of tokens are told that the grammar allows after the front of a text.
 fn allowed_kinds(alloc: Global, front: &[u8]) -> Result<Vec<&'static str>, AllocError>
     ensures { IfOk result (λ kinds. map (λ t. t.now) kinds.items ≡ all_told front.now) }
 {

@@ -240,7 +240,7 @@ impl<'c> LineDesk for TraceDesk<'c> {
     ghost use Rattle.std.specs.Prelude.{true};
     ghost use Rattle.mpd_model.specs.texts.Answers.{AnswerOrMemory};
 
-    // nothing is seen of the debugger behind the answers, so they may wait for one another
+    // nothing is seen of the debugger after the answers, so they may wait for one another
     ghost gathers = { true };
 
     ghost says = { AnswerOrMemory };

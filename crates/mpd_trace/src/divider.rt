@@ -1,4 +1,4 @@
-//! Divides an input into a script and what stands behind the line `---`.
+//! Divides an input into a script and what stands after the line `---`.
 ghost use Rattle.std.specs.Prelude.{◌≡◌, ◌+◌, ◌<◌, ◌≤◌, [], ◌∷◌, ◌++◌, true, false, length, IfOk};
 ghost use Rattle.mpd_model.specs.texts.Lines.{same_bytes, is_divider};
 ghost use Rattle.mpd_trace.specs.Divided.{may_divide, ends_script, splits, begun, added, IsHeld, PieceBrings, ByteBrings, Measures};

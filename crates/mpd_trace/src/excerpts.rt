@@ -12,7 +12,7 @@ pub const SHOWN_MAX: usize = 72;
 /// Bytes of a line that are shown before the place, where the line is cut at its front.
 pub const SHOWN_BEFORE: usize = 36;
 
-/// How many bytes stand behind the last line feed of a text, or all.
+/// How many bytes stand after the last line feed of a text, or all.
 fn column(text: &[u8]) -> usize
     ensures value { result ≡ position_or_len is_feed (reverse text.now) }
     ensures bound { result ≤ length text.now }

@@ -34,7 +34,7 @@ pub enum HeadEnd {
 pub struct Head {
     /// The script; where it is too long, a beginning of it that is too long.
     pub script: Vec<u8>,
-    /// The bytes that the last read gave behind the line that divides.
+    /// The bytes that the last read gave after the line that divides.
     pub behind: Vec<u8>,
     pub end: HeadEnd,
     /// The reads that were made, at most 1,000,000.
@@ -190,7 +190,7 @@ pub(crate) fn refusal(text: &[u8], fault: ReadFault) -> PlainFault
     }
 }
 
-/// Traces a script behind bytes that were read before, in so many reads at most.
+/// Traces a script after bytes that were read before, in so many reads at most.
 fn trace_script<S: Source, W: Sink>(
     alloc: Global,
     script: Script,
@@ -212,7 +212,7 @@ fn trace_script<S: Source, W: Sink>(
     trace_behind(alloc, subject, source, sink, before, turns)
 }
 
-/// Reads a script up to a line `---` (docs/FORMATS.md) and answers the trace words behind it. Standard sends are not
+/// Reads a script up to a line `---` (docs/FORMATS.md) and answers the trace words after it. Standard sends are not
 /// buffered. A script that is refused writes nothing, and the reads of the script count towards 1,000,000.
 pub fn plain<S: Source, W: Sink>(
     alloc: Global,

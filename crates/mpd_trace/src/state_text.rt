@@ -106,7 +106,7 @@ fn push_handle(out: &mut String, handle: Option<usize>) -> Result<(), AllocError
     }
 }
 
-/// Adds a number behind a space.
+/// Adds a number after a space.
 fn push_index(out: &mut String, index: usize) -> Result<(), AllocError>
     ensures { OnOk result (string_bytes out.new ≡ string_bytes out.old ++ 32 ∷ decimal index) }
 {

@@ -47,7 +47,7 @@ pub fn trace_echoing<S: Source, W: Sink>(
     run(alloc, source, sink, &mut desk)
 }
 
-/// The same as `trace` behind bytes that were read before, in so many reads at most.
+/// The same as `trace` after bytes that were read before, in so many reads at most.
 pub(crate) fn trace_behind<S: Source, W: Sink>(
     alloc: Global,
     subject: Subject<'_>,

@@ -14,7 +14,7 @@ use Rattle.mpd_witness.specs.WitnessText.{parts_at, cut_at, behind_word, end_rea
 
 -- ---- what a line is
 
--- the number behind a word, where the line begins with that word, a space, and that number
+-- the number after a word, where the line begins with that word, a space, and that number
 abbrev pub second_number : List (List ℕ) → Option ℕ
 second_number [] = None
 second_number (z ∷ zs) = number_of z
@@ -26,7 +26,7 @@ number_behind word (z ∷ zs) = if bytes_eq z word then second_number zs else No
 abbrev pub numbered : List ℕ → List ℕ → Option ℕ
 numbered word l = number_behind word (parts_at 32 l)
 
--- the number behind one word, or else behind another
+-- the number after one word, or else after another
 abbrev pub number_or : Option ℕ → Option ℕ → Option ℕ
 number_or None other = other
 number_or (Some n) other = Some n
@@ -39,7 +39,7 @@ abbrev pub number_and : Option ℕ → Option ℕ → Option ℕ
 number_and None other = None
 number_and (Some n) other = other
 
--- the number of the first leaf of those that end in one way, `end 0 leaves 3 first 5 ..`: behind three words each with a number, the last
+-- the number of the first leaf of those that end in one way, `end 0 leaves 3 first 5 ..`: after three words each with a number, the last
 abbrev pub first_in : List (List ℕ) → Option ℕ
 first_in ps = number_and (number_behind (codes "end") ps) (number_and (number_behind (codes "leaves") (drop 2 ps)) (number_behind (codes "first") (drop 4 ps)))
 
@@ -84,7 +84,7 @@ abbrev pub is_number : Option ℕ → ℕ → Bool
 is_number None n = false
 is_number (Some m) n = m == n
 
--- a witness stands right behind the leaf of its number
+-- a witness stands right after the leaf of its number
 abbrev pub may_follow : Option ℕ → LineKind → Bool
 may_follow before Passed = true
 may_follow before (OfLeaf n) = true
@@ -116,7 +116,7 @@ is_leaf n (OfLeaf m) = m == n
 is_leaf n (OfWitness m) = false
 is_leaf n Wrong = false
 
--- the place of the first of some lines that is a witness, where the first has place i, and the lines behind it
+-- the place of the first of some lines that is a witness, where the first has place i, and the lines after it
 abbrev pub witness_from : ℕ → List (List ℕ) → Option (ℕ × List (List ℕ))
 witness_from i [] = None
 witness_from i (l ∷ ls) = if is_witness (kind_of (line_of l)) then Some (i, ls) else witness_from (suc i) ls
@@ -143,7 +143,7 @@ leaf_from n i (l ∷ ls) = if is_leaf n (kind_of (line_of l)) then Some (i, l �
 abbrev pub has_word : List ℕ → List ℕ → Bool
 has_word word l = is_some (behind_word word (parts_at 32 l))
 
--- what is wrong with a leaf's line without a witness behind it: that it has none, where it is a deadlock or a trap, or that it is neither
+-- what is wrong with a leaf's line without a witness after it: that it has none, where it is a deadlock or a trap, or that it is neither
 abbrev pub unwitnessed : List ℕ → ReportFault
 unwitnessed l = if has_word (codes "deadlock") l || has_word (codes "trap") l then NoWitness else NoDeadlock
 
@@ -225,7 +225,7 @@ ReadsReport read (Err (Engine engine.ReadFailed)) = ⊥
 ReadsReport read (Err (Engine engine.WriteFailed)) = ⊥
 ReadsReport read (Err (Engine engine.TooManyTurns)) = ⊥
 
--- which line is found, and which lines are left behind it
+-- which line is found, and which lines are left after it
 abbrev pub FindsWitness : ℕ → List (List ℕ) → List (List ℕ) → Option ℕ → Type 0
 FindsWitness i old new None = witness_from i old ≡ None
 FindsWitness i old new (Some place) = witness_from i old ≡ Some (place, new)

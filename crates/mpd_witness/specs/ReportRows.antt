@@ -33,7 +33,7 @@ row_passed = refl
 pub row_named : map kind_of (codes "leaf 0 [] done" ∷ codes "leaf 12 [0 2] deadlock 0.1" ∷ codes "witness 12: local 0, local 1" ∷ codes "witness 0:" ∷ codes "leaf 7" ∷ codes "outcome 5 runs at least 18446744073709551615 first [0 2] deadlock 0.1" ∷ codes "outcome 8" ∷ []) ≡ OfLeaf 0 ∷ OfLeaf 12 ∷ OfWitness 12 ∷ OfWitness 0 ∷ OfLeaf 7 ∷ OfLeaf 5 ∷ OfLeaf 8 ∷ []
 row_named = refl
 
--- of those that end in one way the first leaf is meant, whatever stands behind its number
+-- of those that end in one way the first leaf is meant, whatever stands after its number
 pub row_grouped : map kind_of (codes "end 0 leaves 1 first 0 done" ∷ codes "end 1 leaves 65536 first 3 deadlock 0.1 2.0" ∷ codes "end 5 leaves 4 first 3" ∷ codes "end 007 leaves 012 first 08 cut" ∷ []) ≡ OfLeaf 0 ∷ OfLeaf 3 ∷ OfLeaf 3 ∷ OfLeaf 8 ∷ []
 row_grouped = refl
 
@@ -87,7 +87,7 @@ pub row_groups : map (λ leaf. witness_of_report leaf groups) (None ∷ Some 3 �
     ≡ read (Local 0 ∷ Wake 1 ∷ []) (call_id 0 1 ∷ call_id 1 0 ∷ []) ∷ read (Local 0 ∷ Wake 1 ∷ []) (call_id 0 1 ∷ call_id 1 0 ∷ []) ∷ refused NoSuchLeaf ∷ refused NoDeadlock ∷ refused NoDeadlock ∷ refused NoSuchLeaf ∷ refused NoSuchLeaf ∷ []
 row_groups = refl
 
--- a witness by the number of the end, and not of its first leaf; no witness; and none behind a deadlock that is asked for
+-- a witness by the number of the end, and not of its first leaf; no witness; and none after a deadlock that is asked for
 pub row_groups_wrong : map alone (
     codes "end 0 leaves 3 first 1 deadlock 0.1\nwitness 0: local 0\nleaves 3 more no\n"
     ∷ codes "end 0 leaves 3 first 1 deadlock 0.1\nend 1 leaves 1 first 3 done\nleaves 4 more no\n"
@@ -104,7 +104,7 @@ row_one = refl
 pub row_several : map (λ leaf. witness_of_report leaf two) (None ∷ Some 0 ∷ Some 1 ∷ Some 2 ∷ Some 3 ∷ []) ≡ refused SeveralWitnesses ∷ first_of_two ∷ second_of_two ∷ refused NoWitness ∷ refused NoSuchLeaf ∷ []
 row_several = refl
 
--- no witness; one that isn't right behind its leaf, or is of another; another line; and what is wrong with the lines of the witness itself
+-- no witness; one that isn't right after its leaf, or is of another; another line; and what is wrong with the lines of the witness itself
 pub row_none : map alone (
     codes "leaf 0 [0] deadlock 0.1\nleaf 1 [1] done\nleaves 2 more no\n"
     ∷ codes "leaf 0 [0] deadlock 0.1\n\nwitness 0: local 0\nleaves 1 more no\n"

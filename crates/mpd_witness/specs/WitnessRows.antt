@@ -94,7 +94,7 @@ trap_wrong : map witness_of (
     ∷ []) ≡ wrong 1 ∷ wrong 1 ∷ wrong 1 ∷ wrong 1 ∷ wrong 1 ∷ wrong 1 ∷ wrong 1 ∷ wrong 1 ∷ wrong 1 ∷ wrong 1 ∷ wrong 1 ∷ []
 trap_wrong = refl
 
--- the second is, or something stands behind it
+-- the second is, or something stands after it
 second_wrong : map witness_of (
     codes "deadlock 0.1"
     ∷ codes "deadlock 0.1\n"

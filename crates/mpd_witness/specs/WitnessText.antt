@@ -16,11 +16,11 @@ use Rattle.mpd_witness.specs.declared.witness_text.WitnessTextFault.TheVariants.
 
 -- ---- pieces
 
--- the pieces before, between and behind the bytes of one kind
+-- the pieces before, between and after the bytes of one kind
 abbrev pub parts_at : ℕ → List ℕ → List (List ℕ)
 parts_at c z = slice_split (λ b. b == c) z
 
--- what stands before the first such byte, and what stands behind it
+-- what stands before the first such byte, and what stands after it
 abbrev pub cut_at : ℕ → List ℕ → Option (List ℕ × List ℕ)
 cut_at c [] = None
 cut_at c (b ∷ z) = if b == c then Some ([], z) else option_map (λ q. (b ∷ q.0, q.1)) (cut_at c z)
@@ -61,7 +61,7 @@ pairs_read read (y ∷ z ∷ zs) = put_first (read y z) (pairs_read read zs)
 
 -- ---- the first line: `leaf 1 [1] deadlock 0.1 1.0`, `leaf 2 [0] trap 1 overflow`
 
--- the pieces behind the first that is this word
+-- the pieces after the first that is this word
 abbrev pub behind_word : List ℕ → List (List ℕ) → Option (List (List ℕ))
 behind_word word [] = None
 behind_word word (z ∷ zs) = if bytes_eq z word then Some zs else behind_word word zs
@@ -71,19 +71,19 @@ abbrev pub some_of : {A : Type 0} → (List (List ℕ) → Option (List A)) → 
 some_of read [] = None
 some_of read (z ∷ zs) = read (z ∷ zs)
 
--- by what stands behind `deadlock`, and what behind `trap`: where the line has the first word, the second isn't looked for
+-- by what stands after `deadlock`, and what after `trap`: where the line has the first word, the second isn't looked for
 abbrev pub end_with : Option (List (List ℕ)) → Option (List (List ℕ)) → Option WitnessEnd
 end_with (Some ps) traps = option_map end_is.Deadlock (some_of (each_read call_of) ps)
 end_with None (Some ps) = option_map end_is.Trap (some_of (pairs_read rank_trap_of) ps)
 end_with None None = None
 
--- what the line says that the steps lead to, each call, rank and trap behind a space: what stands in front of the word isn't looked at
+-- what the line says that the steps lead to, each call, rank and trap after a space: what stands in front of the word isn't looked at
 abbrev pub end_read : List ℕ → Option WitnessEnd
 end_read l = end_with (behind_word (codes "deadlock") (parts_at 32 l)) (behind_word (codes "trap") (parts_at 32 l))
 
 -- ---- the second line: `witness 1: local 0, local 1`
 
--- what stands behind the first colon; all, where there is none
+-- what stands after the first colon; all, where there is none
 abbrev pub behind_cut : List ℕ → Option (List ℕ × List ℕ) → List ℕ
 behind_cut z None = z
 behind_cut z (Some q) = q.1
@@ -121,12 +121,12 @@ witness_of z = witness_in (parts_at 10 z)
 
 -- ---- what is answered
 
--- whether there are pieces behind a word, and which are left
+-- whether there are pieces after a word, and which are left
 abbrev pub Skipped : Option (List (List ℕ)) → List (List ℕ) → Bool → Type 0
 Skipped behind left true = behind ≡ Some left
 Skipped behind left false = behind ≡ None
 
--- what is read of the next piece, behind one that was taken, and which pieces are left
+-- what is read of the next piece, after one that was taken, and which pieces are left
 abbrev pub PairRead : {A : Type 0} → (List ℕ → List ℕ → Option A) → List ℕ → List (List ℕ) → List (List ℕ) → Option A → Type 0
 PairRead read one old new None = pairs_read read (one ∷ old) ≡ None
 PairRead read one old new (Some x) = pairs_read read (one ∷ old) ≡ put_first (Some x) (pairs_read read new)

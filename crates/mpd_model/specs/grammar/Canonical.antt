@@ -160,7 +160,7 @@ abbrev pub indent : ℕ → List ℕ
 indent zero = []
 indent (suc n) = codes "  " ++ indent n
 
--- what stands behind the first block of an `if`: an empty `else` isn't printed
+-- what stands after the first block of an `if`: an empty `else` isn't printed
 abbrev pub else_text : Block → ℕ → List ℕ → List ℕ
 else_text no_more n inside = []
 else_text (then_more t b) n inside = codes " else {\n" ++ inside ++ indent n ++ codes "}"

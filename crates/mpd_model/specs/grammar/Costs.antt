@@ -46,7 +46,7 @@ at ss b i = record i { tokens = ss; budget = b }
 abbrev pub on : List Spot → List ℕ → ℕ → Input → Input
 on ss ls b i = record i { tokens = ss; lines = ls; budget = b }
 
--- what was read, with the tokens behind it and the lines of all statements that began; some budget is left of the last expression
+-- what was read, with the tokens after it and the lines of all statements that began; some budget is left of the last expression
 pub record Gives {A : Type 0} (o : Outcome A) (a : A) (rest : List Spot) (ls : List ℕ) (i : Input) : Type 0 where
   pub left : ℕ
   pub is : o ≡ Ok (a, on rest ls left i)

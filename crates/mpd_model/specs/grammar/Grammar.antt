@@ -86,7 +86,7 @@ bracket = λ i. if sees m.SquareOpen i then spend i else refuse i
 
 -- the parser of what stands inside, by its level
 module _ (inner : ℕ → Parser Term) where
-  -- a place: an array has its index behind it
+  -- a place: an array has its index after it
   abbrev pub index_inside : Place → Option ℕ → Parser Term
   index_inside p None = pure (cell p)
   index_inside p (Some n) = do
@@ -174,7 +174,7 @@ abbrev pub statement_place_by : DeclKind → Token → Parser Target
 statement_place_by kind Name = target kind
 statement_place_by kind _ = refuse
 
--- a place that a statement names behind its word
+-- a place that a statement names after its word
 unfoldable pub statement_place : DeclKind → Parser Target
 statement_place kind = peek >>= statement_place_by kind
 
@@ -200,7 +200,7 @@ status_by false = pure None
 unfoldable pub status : Parser (Option StatusStmt)
 status = eat m.Status >>= status_by
 
--- what fills the holes of a statement, and the `;` behind them
+-- what fills the holes of a statement, and the `;` after them
 abbrev pub fill : {A : Type 0} → (hs : List Hole) → (Contents hs → A) → Parser A
 fill [] made = expect m.Semicolon >> pure (made tt)
 fill (symbol_hole k ∷ hs) made = expect k >> fill hs made
@@ -235,7 +235,7 @@ AreClear (name_hole kind ∷ hs) = AreClear hs
 AreClear (source_hole ∷ hs) = EndsTerm hs × AreClear hs
 AreClear (status_hole ∷ hs) = EndsStatus hs × AreClear hs
 
--- the statements of one word: the holes behind it, and what is made of what fills them
+-- the statements of one word: the holes after it, and what is made of what fills them
 pub record Form : Type 0 where
   pub word : Symbol
   pub holes : List Hole
@@ -327,7 +327,7 @@ form_of m.Waitany = Some waitany_form
 form_of m.Barrier = Some barrier_form
 form_of _ = None
 
--- what stands behind the word
+-- what stands after the word
 abbrev pub behind_word : Form → Parser Tree
 behind_word f = fill f.holes (λ c. simple (f.made c))
 
@@ -473,7 +473,7 @@ abbrev pub array_size_by : DeclKind → List ℕ → Token → Parser (Unit {0})
 array_size_by kind name (Number n) = array_size_at kind name (natural n)
 array_size_by kind name _ = refuse
 
--- a size, and what is behind it
+-- a size, and what is after it
 unfoldable pub array_size : DeclKind → List ℕ → Parser (Unit {0})
 array_size kind name = peek >>= array_size_by kind name
 

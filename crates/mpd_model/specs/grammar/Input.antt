@@ -24,7 +24,7 @@ pub record Input : Type 0 where
   -- the tokens from the next one on, and the length of the whole text
   pub tokens : List Spot
   pub end : ℕ
-  -- the version that the text is in: 1, until the number behind `mpd` is read
+  -- the version that the text is in: 1, until the number after `mpd` is read
   pub version : ℕ
   -- the declarations so far
   pub decls : List Declared
@@ -81,7 +81,7 @@ place i = place_of i.end i.tokens
 unfoldable pub advanced : Input → Input
 advanced i = record i { tokens = behind i.tokens }
 
--- ---- parsers: what was read and the input behind it, or the leftmost fault
+-- ---- parsers: what was read and the input after it, or the leftmost fault
 
 abbrev pub Outcome : Type 0 → Type 0
 Outcome A = Result (A × Input) ReadFault

@@ -68,7 +68,7 @@ TurnsAreEnough =
     ((depth : ℕ) (inside : Bool) (turns : ℕ) (found : List Tree) (i : Input) → length i.tokens < turns → stmts (block depth) inside turns found i ≡ stmts (block depth) inside (suc turns) found i)
     × ((turns : ℕ) (i : Input) → length i.tokens < turns → decls_from turns i ≡ decls_from (suc turns) i)
 
--- What is written as an expression is read as that, where the budget is enough for its brackets and operators and no operator goes on behind it.
+-- What is written as an expression is read as that, where the budget is enough for its brackets and operators and no operator goes on after it.
 abbrev pub WrittenExpressionsAreRead : Type 0
 WrittenExpressionsAreRead =
     (depth level : ℕ) (ss rest : List Spot) (t : Term) (i : Input) → WrittenTerm i.decls level ss t → i.tokens ≡ ss ++ rest → Stops level rest → cost ss ≤ i.budget → i.budget < depth

@@ -63,7 +63,7 @@ IsSound k p = (i j : Input) (t : Term) → p i ≡ Ok (t, j) → TermBetween k t
 
 -- ---- statements, with the line of each: that of its first token, in text order
 
--- a place of a kind that a statement names: behind the name of an array stands its index, an expression of its own
+-- a place of a kind that a statement names: after the name of an array stands its index, an expression of its own
 pub data WrittenTarget (ds : List Declared) (kind : DeclKind) : List Spot → Target → Type 0 where
   whole : (s : Spot) (p : Place) → Names ds kind s false p → WrittenTarget ds kind (s ∷ []) (record { place = p; index = None })
   part : (s a b : Spot) (ss : List Spot) (p : Place) (t : Term) → Names ds kind s true p → a.token ≡ Is m.SquareOpen → WrittenTerm ds 5 ss t → b.token ≡ Is m.SquareClose
@@ -130,7 +130,7 @@ BodyBetween ts = LinesBetween (λ ds ss ls. WrittenBody ds ss ts ls)
 abbrev pub declared_as : DeclKind → List ℕ → Option ℕ → Declared
 declared_as kind bytes cells = record { kind = kind; name = bytes; size = cells }
 
--- the tokens bring declarations behind those that stand before them, each with a new name
+-- the tokens bring declarations after those that stand before them, each with a new name
 pub data WrittenDecls : List Declared → List Spot → List Declared → Type 0 where
   none : (ds : List Declared) → WrittenDecls ds [] ds
   declares_one : (ds es : List Declared) (kind : DeclKind) (v n end : Spot) (ss : List Spot)

@@ -23,7 +23,7 @@ pub record Ran : Type 0 where
 abbrev pub stopped : Cause → Ran
 stopped cause = record { steps = []; cause = cause }
 
--- a step, and what the run makes behind it, where the step hits no breakpoint
+-- a step, and what the run makes after it, where the step hits no breakpoint
 abbrev pub behind : Step → Option ℕ → Ran → Ran
 behind a (Some n) more = record { steps = a ∷ []; cause = for.Break n }
 behind a None more = record { steps = a ∷ more.steps; cause = more.cause }
@@ -43,7 +43,7 @@ at_most depth (next_is.Forced a) = if depth == STEPS_MAX then for.Full else for.
 at_most depth (next_is.Choice steps) = for.Choice
 at_most depth (next_is.Leaf o) = for.Leaf
 
--- a run of at most so many steps, from a world behind so many steps, along what comes next in each world
+-- a run of at most so many steps, from a world after so many steps, along what comes next in each world
 abbrev pub ran_along : (World → Decision) → Program → List (Option Break) → ℕ → ℕ → World → Ran
 ran_along comes s places zero depth w = stopped (at_most depth (comes w))
 ran_along comes s places (suc n) depth w = ran_by (ran_along comes s places n (depth + 1)) s places depth w (comes w)
@@ -62,7 +62,7 @@ stop_of r = record { steps = length r.steps; cause = r.cause }
 
 -- ---- back
 
--- the world behind the first so many steps of a trail
+-- the world after the first so many steps of a trail
 abbrev pub world_at : Trail → ℕ → Option World
 world_at t n = fold (start t.program t.mode) (take n t.steps)
 
@@ -72,7 +72,7 @@ hit_of s places (Some old) (Some a) None = None
 hit_of s places (Some old) None new = None
 hit_of s places None a new = None
 
--- the lowest breakpoint that the step behind the first so many hits
+-- the lowest breakpoint that the step after the first so many hits
 abbrev pub hit_at : List (Option Break) → Trail → ℕ → Option ℕ
 hit_at places t n = hit_of t.program places (world_at t n) (slice_get t.steps n) (world_at t (n + 1))
 
@@ -80,7 +80,7 @@ abbrev pub one_back : Option ℕ → Stop → Stop
 one_back (Some n) more = record { steps = 1; cause = for.Break n }
 one_back None more = record { steps = more.steps + 1; cause = more.cause }
 
--- a run back from behind so many steps: it undoes the last of them that hits a breakpoint, and all behind that; or all of them
+-- a run back from after so many steps: it undoes the last of them that hits a breakpoint, and all after that; or all of them
 abbrev pub ran_back : List (Option Break) → Trail → ℕ → Stop
 ran_back places t zero = record { steps = 0; cause = for.Start }
 ran_back places t (suc n) = one_back (hit_at places t n) (ran_back places t n)

@@ -40,7 +40,7 @@ abbrev pub is_step : Option Step → Step → Bool
 is_step None a = false
 is_step (Some b) a = step_eq b a
 
--- A step that stands there already is taken again, and those behind it stay; another drops them all.
+-- A step that stands there already is taken again, and those after it stay; another drops them all.
 abbrev pub noted : List Step → ℕ → Step → List Step
 noted steps depth a = if is_step (slice_get steps depth) a then steps else take depth steps ++ a ∷ []
 

@@ -40,7 +40,7 @@ abbrev mutual
   statements_in no_more = 0
   statements_in (then_more t b) = statements t + statements_in b
 
--- Statements in text order are numbered from 0, those inside a statement right behind it.
+-- Statements in text order are numbered from 0, those inside a statement right after it.
 abbrev pub numbered : ℕ → List Tree → List (ℕ × Tree)
 numbered n [] = []
 numbered n (t ∷ ts) = (n, t) ∷ numbered (n + statements t) ts

@@ -7,7 +7,7 @@ use Rattle.mpd_model.specs.contracts.stmt.Simple as simple_row
 use Rattle.mpd_model.specs.script.TermCode.{front_of, back_of, term_code, term_inj}
 use Rattle.mpd_model.specs.script.Tree.{Tree, simple, branch, repeat, Block, no_more, then_more}
 
--- a number for the kind, and behind it what the statement has
+-- a number for the kind, and after it what the statement has
 abbrev mutual
   pub tree_code : Tree → Gv
   tree_code (simple s) = gcons (gnum 0) (simple_row.the_row.coded.code s)
@@ -18,7 +18,7 @@ abbrev mutual
   block_code no_more = gnil
   block_code (then_more t b) = gcons (tree_code t) (block_code b)
 
--- the condition, and what stands behind it
+-- the condition, and what stands after it
 abbrev test_code : Gv → Gv
 test_code g = front_of (back_of g)
 

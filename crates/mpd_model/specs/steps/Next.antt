@@ -175,7 +175,7 @@ abbrev pub asserted : RankWorld → List (ℕ × Tree) → Value → RankWorld
 asserted r ts (Ok v) = if is_zero v then trapped r Assertion else record r { rest = ts }
 asserted r ts (Err t) = trapped r t
 
--- the block that is chosen, its statements numbered behind the `if`
+-- the block that is chosen, its statements numbered after the `if`
 abbrev pub taken : ℕ → ℤ → Block → Block → List (ℕ × Tree)
 taken number v first second = if is_zero v then numbered (number + 1 + statements_in first) (trees second) else numbered (number + 1) (trees first)
 
@@ -192,7 +192,7 @@ repeated r ts number (Err t) c body = trapped r t
 abbrev pub env_of : ℕ → ℕ → RankWorld → Env
 env_of p n r = record { vars = r.vars; handles = r.handles; rank = p; size = n }
 
--- what a statement that holds no other makes of a rank with so many calls, given its number and what is left behind it
+-- what a statement that holds no other makes of a rank with so many calls, given its number and what is left after it
 abbrev pub ran_simple : Env → RankWorld → ℕ → ℕ → Simple → List (ℕ × Tree) → Ran
 ran_simple env r count number (st.Print e) ts = alone (printed r ts (value_of e env))
 ran_simple env r count number (st.Assign s) ts = alone (assigned r ts (assignment s env))
@@ -369,7 +369,7 @@ is_complete_some b (Some c) = complete b c
 abbrev pub can_wake_any : World → ℕ → ℕ → Bool
 can_wake_any w p i = waits (slice_get w.ranks p) && is_complete_some w.board (any_call w p i)
 
--- what the rank writes as it goes on by that request: what a wait for it writes, and the index behind that
+-- what the rank writes as it goes on by that request: what a wait for it writes, and the index after that
 abbrev pub any_writes : World → ℕ → ℕ → List (ℕ × ℤ)
 any_writes w p i = writes_by w.board (any_call w p i) ++ index_writes (kind_at w.board (last_call w.board p)) i
 

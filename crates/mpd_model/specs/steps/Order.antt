@@ -75,7 +75,7 @@ barriers calls = count_by (λ c. is_barrier (Some c.kind)) calls
 abbrev pub barriers_before : Board → CallId → ℕ
 barriers_before b c = barriers (take c.index (calls_of b c.rank))
 
--- A release is of one barrier of each rank: behind n others it is of that before which the rank had issued n barriers.
+-- A release is of one barrier of each rank: after n others it is of that before which the rank had issued n barriers.
 abbrev pub is_released_by : Board → ℕ → CallId → Bool
 is_released_by b n c = is_barrier (kind_at b c) && (barriers_before b c == n)
 
@@ -107,7 +107,7 @@ PairedAfter b x y = (front behind : List MatchSet) (s r : CallId) → b.sets ≡
 abbrev pub DoneBefore : Board → CallId → CallId → Type 0
 DoneBefore b x y = (front behind : List MatchSet) → b.sets ≡ front ++ (Woke y ∷ behind) → is_done (record b { sets = front }) x ≡ true
 
--- each match set that names y stands behind the one by which the rank went on from x
+-- each match set that names y stands after the one by which the rank went on from x
 abbrev pub WentOnBefore : Board → CallId → CallId → Type 0
 WentOnBefore b x y = (front behind : List MatchSet) (m : MatchSet) → b.sets ≡ front ++ (m ∷ behind) → names b front m y ≡ true → WentOn b front x
 

@@ -62,7 +62,7 @@ same_bytes (b ∷ l) (c ∷ m) = b == c && same_bytes l m
 abbrev pub is_divider : List ℕ → Bool
 is_divider l = same_bytes (bare l) (45 ∷ 45 ∷ 45 ∷ [])
 
--- the bytes before the first line that divides, and those behind it
+-- the bytes before the first line that divides, and those after it
 abbrev pub divided_lines : List (List ℕ) → List ℕ × List ℕ
 divided_lines [] = ([], [])
 divided_lines (l ∷ ls) = if is_divider l then ([], joined ls) else (l ++ (divided_lines ls).0, (divided_lines ls).1)

@@ -33,7 +33,7 @@ abbrev pub put_before : Bool → ℕ → List (List ℕ) → List (List ℕ)
 put_before true b pieces = [] ∷ pieces
 put_before false b pieces = with_byte b pieces
 
--- the pieces before, between and behind the blanks
+-- the pieces before, between and after the blanks
 abbrev pub pieces : List ℕ → List (List ℕ)
 pieces [] = [] ∷ []
 pieces (b ∷ z) = put_before (is_blank b) b (pieces z)
@@ -50,7 +50,7 @@ has_word z = has_some (words z)
 
 -- ---- numbers and calls
 
--- the value of digits, behind digits of the value so far
+-- the value of digits, after digits of the value so far
 abbrev pub digits_value : ℕ → List ℕ → ℕ
 digits_value so_far [] = so_far
 digits_value so_far (b ∷ z) = digits_value (so_far * 10 + (b - 48)) z
@@ -62,7 +62,7 @@ is_number z = nat_le 1 (length z) && (nat_le (length z) 9 && list_all is_ascii_d
 abbrev pub number_of : List ℕ → Option ℕ
 number_of z = if is_number z then Some (digits_value 0 z) else None
 
--- what stands before the first `.`, and what stands behind it
+-- what stands before the first `.`, and what stands after it
 abbrev pub cut_at_dot : List ℕ → Option (List ℕ × List ℕ)
 cut_at_dot [] = None
 cut_at_dot (b ∷ z) = if b == 46 then Some ([], z) else option_map (λ q. (b ∷ q.0, q.1)) (cut_at_dot z)
@@ -76,7 +76,7 @@ call_with (Some p) (Some i) = Some (call_id p i)
 abbrev pub call_of : List ℕ → Option CallId
 call_of z = option_and_then (λ q. call_with (number_of q.0) (number_of q.1)) (cut_at_dot z)
 
--- ---- steps and commands: a name, and the words behind it
+-- ---- steps and commands: a name, and the words after it
 
 abbrev pub only_number : List (List ℕ) → Option ℕ
 only_number [] = None

@@ -1,4 +1,4 @@
--- Worked rows of a wait for one of several requests. What is wanted was worked out by hand. No statement issues it yet: here it is issued behind what scripts lead to.
+-- Worked rows of a wait for one of several requests. What is wanted was worked out by hand. No statement issues it yet: here it is issued after what scripts lead to.
 use Rattle.std.specs.Prelude.{◌≡◌, ℕ, ℤ, pos, negsuc, map, List, [], ◌∷◌, ◌++◌, Option, Some, None, length, slice_get, codes, refl}
 use Rattle.std.specs.Option.{option_map, option_and_then}
 use Rattle.std.specs.Fmt.{digits}
@@ -124,7 +124,7 @@ pub row_chosen : map {B = Option (List (List ℤ × List (Option ℕ)))} (λ k. 
     ∷ Some ((pos 0 ∷ pos 6 ∷ pos 1 ∷ [], Some 0 ∷ None ∷ []) ∷ (pos 0 ∷ pos 0 ∷ pos 0 ∷ [], None ∷ None ∷ []) ∷ []) ∷ []
 row_chosen = refl
 
--- ---- four cells are written, and the handle behind the first is cleared
+-- ---- four cells are written, and the handle after the first is cleared
 
 abbrev source : Place
 source = record { declaration = 1; first = 1; cells = 1 }
@@ -184,11 +184,11 @@ all_paired = Match (call_id 0 1) (call_id 1 0) ∷ Match (call_id 1 1) (call_id 
 pub row_all_enabled : option_map enabled (both_wait (Some other_rank) all_paired) ≡ Some (WakeAny 0 0 ∷ WakeAny 0 1 ∷ WakeAny 1 0 ∷ WakeAny 1 1 ∷ [])
 row_all_enabled = refl
 
--- behind the wakes, of which there is none, and before the matches
+-- after the wakes, of which there is none, and before the matches
 pub row_before_matches : option_map enabled (both_wait (Some other_rank) one_paired) ≡ Some (WakeAny 0 1 ∷ WakeAny 1 0 ∷ Match (call_id 1 1) (call_id 0 0) ∷ [])
 row_before_matches = refl
 
--- the choice is that of the lowest rank; a match whose receive names its source comes before it, and one of any source behind it
+-- the choice is that of the lowest rank; a match whose receive names its source comes before it, and one of any source after it
 pub row_decisions : option_map decision (both_wait (Some other_rank) all_paired) ∷ option_map decision (both_wait (Some other_rank) one_paired) ∷ option_map decision (both_wait None one_paired) ∷ []
     ≡ Some (Choice (WakeAny 0 0 ∷ WakeAny 0 1 ∷ [])) ∷ Some (Forced (Match (call_id 1 1) (call_id 0 0))) ∷ Some (Choice (WakeAny 0 1 ∷ [])) ∷ []
 unfolding decision

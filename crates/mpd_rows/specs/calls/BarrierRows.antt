@@ -81,7 +81,7 @@ pub row_one_trapped : trace (script 2 [] (two_parts (then_more (check (n 0)) no_
 unfolding digits
 row_one_trapped = refl
 
--- one that is blocked on a receive, with a barrier behind it: `if rank == 0 { recv x from 1 tag 0; } barrier;`
+-- one that is blocked on a receive, with a barrier after it: `if rank == 0 { recv x from 1 tag 0; } barrier;`
 abbrev one_receives : Program
 one_receives = script 2 (variable (codes "x") ∷ []) (branch (op2 Equal own_rank (n 0)) (then_more (recv (whole x) (n 1) (n 0)) no_more) no_more ∷ barrier ∷ [])
 
@@ -183,14 +183,14 @@ sends waited = record { statement = 1; kind = Send (record { to = 1; tag = 0; va
 abbrev between : Board
 between = record { mode = Rendezvous; calls = (issued_barrier ∷ sends false ∷ issued_barrier ∷ sends true ∷ issued_barrier ∷ []) ∷ (issued_barrier ∷ issued_barrier ∷ []) ∷ []; sets = [] }
 
--- the later of two calls of rank 0, for each earlier one: a barrier completes before all that follow it, and is behind what blocks
+-- the later of two calls of rank 0, for each earlier one: a barrier completes before all that follow it, and is after what blocks
 pub row_before : map {B = Bool} (λ (c : ℕ × ℕ). before between (call_id 0 c.0) (call_id 0 c.1)) ((0, 1) ∷ (0, 2) ∷ (0, 4) ∷ (1, 2) ∷ (1, 4) ∷ (3, 4) ∷ (2, 0) ∷ (4, 5) ∷ []) ≡ true ∷ true ∷ true ∷ false ∷ false ∷ true ∷ false ∷ false ∷ []
 row_before = refl
 
 pub row_before_elsewhere : before between (call_id 0 0) (call_id 1 1) ≡ false
 row_before_elsewhere = refl
 
--- which calls of rank 0, and then of rank 1, a release names: the first, and the third behind two
+-- which calls of rank 0, and then of rank 1, a release names: the first, and the third after two
 abbrev named_by : List MatchSet → List Bool
 named_by front = map {B = Bool} (λ i. names between front set.Barrier (call_id 0 i)) (0 ∷ 1 ∷ 2 ∷ 3 ∷ 4 ∷ []) ++ map {B = Bool} (λ i. names between front set.Barrier (call_id 1 i)) (0 ∷ 1 ∷ 2 ∷ [])
 

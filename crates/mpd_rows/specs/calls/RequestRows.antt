@@ -46,7 +46,7 @@ whole p = record { place = p; index = None }
 abbrev pub part : Place → Term → Target
 part p e = record { place = p; index = Some e }
 
--- ---- one rank of two, before statement 5 and with statement 20 behind it
+-- ---- one rank of two, before statement 5 and with statement 20 after it
 
 -- `var x; var a[3]; req h; req g[2]; req none[0];`
 abbrev pub x : Place
@@ -211,7 +211,7 @@ Cells = Option (List (List ℤ × List (Option ℕ)))
 abbrev pub cells : Option World → Cells
 cells w = option_map (λ v. map {B = List ℤ × List (Option ℕ)} (λ r. (r.vars, r.handles)) v.ranks) w
 
--- a place declared behind others of its kind
+-- a place declared after others of its kind
 abbrev y : Place
 y = record { declaration = 1; first = 1; cells = 1 }
 
@@ -325,7 +325,7 @@ pub row_waiting : trace waiting (codes "local 0\nshow\nwake 0\nshow\nback\nback\
 unfolding digits
 row_waiting = refl
 
--- the handle of a wait is null behind its wake, so a second wait is for nothing
+-- the handle of a wait is null after its wake, so a second wait is for nothing
 abbrev waiting_twice : Program
 waiting_twice = script 1 one_handle (isend (whole r) (n 4) (n 0) (n 0) ∷ recv (whole x) (n 0) (n 0) ∷ wait (whole r) ∷ wait (whole r) ∷ [])
 

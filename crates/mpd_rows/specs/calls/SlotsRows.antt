@@ -59,7 +59,7 @@ in_slots count s steps = fold (start s (Slots count)) steps
 abbrev are_buffered : ℕ → List ℕ → Option World → Option (List Bool)
 are_buffered p numbers w = option_map (λ v. map {B = Bool} (λ i. is_buffered (kind_at v.board (call_id p i))) numbers) w
 
--- how many slots of rank p are held behind each of some lists of steps
+-- how many slots of rank p are held after each of some lists of steps
 abbrev held : ℕ → Program → ℕ → List (List Step) → List (Option ℕ)
 held count s p runs = map {B = Option ℕ} (λ steps. option_map (λ w. slots_used w.board p) (in_slots count s steps)) runs
 
@@ -96,7 +96,7 @@ pub row_buffered : map {B = Option (List Bool)} (λ steps. are_buffered 0 (0 ∷
     ≡ Some (true ∷ false ∷ true ∷ false ∷ []) ∷ Some (true ∷ false ∷ false ∷ false ∷ []) ∷ Some (true ∷ false ∷ false ∷ false ∷ []) ∷ []
 row_buffered = refl
 
--- none; one with the first send; still one with the receive; none with the match; one with the second send; still one behind the wait and its wake
+-- none; one with the first send; still one with the receive; none with the match; one with the second send; still one after the wait and its wake
 pub row_held_matched_first : held 1 to_itself 0
     ([] ∷ (Local 0 ∷ []) ∷ (Local 0 ∷ Local 0 ∷ []) ∷ (Local 0 ∷ Local 0 ∷ first_pair ∷ []) ∷ (Local 0 ∷ Local 0 ∷ first_pair ∷ Local 0 ∷ []) ∷ matched_first ∷ (matched_first ++ Wake 0 ∷ []) ∷ [])
     ≡ Some 0 ∷ Some 1 ∷ Some 1 ∷ Some 0 ∷ Some 1 ∷ Some 1 ∷ Some 1 ∷ []
@@ -121,7 +121,7 @@ told_in mode s z = told (opening s mode) (lines_of z)
 abbrev words_matched_first : List ℕ
 words_matched_first = codes "local 0\nlocal 0\nmatch 0.0 0.1\nlocal 0\nlocal 0\nwake 0\nshow\n"
 
--- that it is buffered stands behind the value, and stays behind the match
+-- that it is buffered stands after the value, and stays after the match
 pub row_told_matched_first : told_in (Slots 1) to_itself words_matched_first
     ≡ codes "ok 1\nok 2\nok 3\nok 4\nok 5\nok 6\n"
     ++ codes "depth 6 of 6\nrank 0 ended\nvars 0\nhandles 0 1 -\nout\ncall 0.0 isend to 0 tag 0 value 1 buffered with 0.1\ncall 0.1 irecv from 0 tag 0 with 0.0 value 1\n"

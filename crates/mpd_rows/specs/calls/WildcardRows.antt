@@ -95,7 +95,7 @@ row_race_stuck = refl
 pub row_order : option_map enabled (after racing (Local 0 ∷ Local 0 ∷ Local 2 ∷ Local 2 ∷ Match (call_id 2 0) (call_id 0 0) ∷ [])) ≡ Some (Local 1 ∷ Wake 0 ∷ Wake 2 ∷ [])
 row_order = refl
 
--- a word behind `enabled` makes it none
+-- a word after `enabled` makes it none
 pub row_enabled_alone : trace racing (codes "enabled\nenabled 0\n enabled\t\nEnabled\n") ≡ codes "enabled local 0, local 1, local 2\nrefused bad-word\nenabled local 0, local 1, local 2\nrefused bad-word\n"
 unfolding digits
 row_enabled_alone = refl

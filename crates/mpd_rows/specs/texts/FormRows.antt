@@ -15,7 +15,7 @@ use Rattle.mpd_model.specs.script.Parts.{Hole, symbol_hole, term_hole, target_ho
 use Rattle.mpd_model.specs.script.Term.{lit, cell, Target}
 use Rattle.mpd_model.specs.grammar.Tokens.{reserved, tokens_after, front, sign, word, number}
 
--- x is a variable, a an array of ten cells behind it
+-- x is a variable, a an array of ten cells after it
 abbrev declared_here : List Declared
 declared_here = record { kind = Variable; name = codes "x"; size = None } ∷ record { kind = Variable; name = codes "a"; size = Some 10 } ∷ []
 

@@ -28,7 +28,7 @@ one_carriage_dropped = refl
 last_without_feed : lines_of (codes "a" ++ feed ++ codes "b" ++ carriage) ≡ codes "a" ∷ (codes "b" ++ carriage) ∷ []
 last_without_feed = refl
 
--- behind the last line feed there is no line
+-- after the last line feed there is no line
 no_line_behind : lines_of (codes "a" ++ feed ++ feed) ≡ codes "a" ∷ [] ∷ []
 no_line_behind = refl
 
@@ -60,7 +60,7 @@ not_divided_at_end = refl
 not_divided_blank_before : divided (codes " ---" ++ feed ++ codes "back") ≡ (codes " ---" ++ feed ++ codes "back", [])
 not_divided_blank_before = refl
 
--- nor behind it
+-- nor after it
 not_divided_blank_behind : divided (codes "--- " ++ feed ++ codes "back") ≡ (codes "--- " ++ feed ++ codes "back", [])
 not_divided_blank_behind = refl
 

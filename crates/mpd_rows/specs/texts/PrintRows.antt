@@ -16,7 +16,7 @@ use Rattle.mpd_model.specs.grammar.Tokens.{tokens_after, front, sign, word, numb
 use Rattle.mpd_model.specs.script.Tree.{Tree, branch, repeat, no_more, then_more}
 use Rattle.mpd_rows.specs.worlds.Statements.{print, send, recv, assign, check}
 
--- ---- what the rows speak of: x is a variable, a an array of ten cells behind it
+-- ---- what the rows speak of: x is a variable, a an array of ten cells after it
 
 abbrev declared : List Declared
 declared =

@@ -201,7 +201,7 @@ pub row_lines : reading (codes "mpd 1;ranks 2;# two ranks\nvar a;var b;\n\nif a\
 unfolding reading script header version ranks decls decls_from decl declarator single array_size body stmts stmt block if_statement otherwise while_statement target statement_place source status assignment expr level chain atom place_inside bracket rounds unary count spend seek slot_in fresh add expect after sees same_symbol advanced place spelling token refusal tokens_after front sign word number
 row_lines = refl
 
--- ---- where a limit is reached: each text stands behind 1,024 cells and 4,096 statements
+-- ---- where a limit is reached: each text stands after 1,024 cells and 4,096 statements
 
 pub row_full : declarator Variable (at_limits (codes "b;")) ≡ Err (fault f.TooMany 0)
 unfolding reading script header version ranks decls decls_from decl declarator single array_size body stmts stmt block if_statement otherwise while_statement target statement_place source status assignment expr level chain atom place_inside bracket rounds unary count spend seek slot_in fresh add expect after sees same_symbol advanced place spelling token refusal tokens_after front sign word number

@@ -214,7 +214,7 @@ pub row_losing : reading (codes "mpd 1; ranks 2; var x; var y; req r;\nif rank =
 unfolding reading script header version ranks decls decls_from decl declarator single array_size body stmts stmt block if_statement otherwise while_statement target statement_place source status assignment expr level chain atom place_inside bracket rounds unary count spend seek slot_in fresh add expect after sees same_symbol advanced place spelling token refusal tokens_after front sign word number
 row_losing = refl
 
--- ---- statement 4,097: behind so many statements, each text begins at byte 0
+-- ---- statement 4,097: after so many statements, each text begins at byte 0
 
 abbrev stmt_after : ℕ → List ℕ → Outcome Tree
 stmt_after k text = stmt (block 64) (record (start_of text) { decls = four; lines = replicate k 1 })

@@ -19,7 +19,7 @@ use Rattle.mpd_model.specs.script.Tree.{Tree, branch, no_more, then_more}
 use Rattle.mpd_rows.specs.worlds.Statements.{waitany}
 use Rattle.mpd_rows.specs.texts.RequestReaderRows.{Read, Places, wanted_places, declared, n, whole, part}
 
--- ---- the version behind `mpd`
+-- ---- the version after `mpd`
 
 abbrev other_versions : Places
 other_versions =

@@ -59,7 +59,7 @@ minus = op1 Negate
 abbrev same : ℕ → List ℕ → List ℕ
 same k text = flat_map {X = ℕ} (λ _. text) (replicate k 0)
 
--- ---- expressions: each text begins at byte 35, and a semicolon stands behind it
+-- ---- expressions: each text begins at byte 35, and a semicolon stands after it
 
 abbrev printing_of : List ℕ → Read
 printing_of text = reading (codes "mpd 1;ranks 1;var x;var a[3];print " ++ text ++ codes ";")
@@ -155,7 +155,7 @@ pub row_places : read_terms places ≡ wanted_terms places
 unfolding reading script header version ranks decls decls_from decl declarator single array_size body stmts stmt block if_statement otherwise while_statement target statement_place source status assignment expr level chain atom place_inside bracket rounds unary count spend seek slot_in fresh add expect after sees same_symbol advanced place spelling token refusal tokens_after front sign word number
 row_places = refl
 
--- ---- what is refused in an expression: the fault, and how far behind byte 35
+-- ---- what is refused in an expression: the fault, and how far after byte 35
 
 abbrev Faults : Type 0
 Faults = List (List ℕ × (FaultCode × ℕ))
@@ -199,7 +199,7 @@ pub row_no_tokens : read_faults no_tokens ≡ wanted_faults no_tokens
 unfolding reading script header version ranks decls decls_from decl declarator single array_size body stmts stmt block if_statement otherwise while_statement target statement_place source status assignment expr level chain atom place_inside bracket rounds unary count spend seek slot_in fresh add expect after sees same_symbol advanced place spelling token refusal tokens_after front sign word number
 row_no_tokens = refl
 
--- a name with a size has an index behind it, and one without has none
+-- a name with a size has an index after it, and one without has none
 abbrev indexed : Faults
 indexed =
     (codes "x[0]", (f.Expected, 1)) ∷ (codes "a", (f.Expected, 1)) ∷ (codes "a+1", (f.Expected, 1)) ∷ (codes "a(0)", (f.Expected, 1)) ∷ (codes "(a)", (f.Expected, 2)) ∷ (codes "a a", (f.Expected, 2))
@@ -225,7 +225,7 @@ row_ends = refl
 
 -- ---- 64 operators and brackets in one expression
 
--- so many operators of one kind, with a 1 behind each, or before it
+-- so many operators of one kind, with a 1 after each, or before it
 abbrev with_ones : BinaryOp → ℕ → Term → Term
 with_ones op zero t = t
 with_ones op (suc k) t = op2 op (with_ones op k t) (n 1)
@@ -276,7 +276,7 @@ pub row_not_too_deep : read_faults not_too_deep ≡ wanted_faults not_too_deep
 unfolding reading script header version ranks decls decls_from decl declarator single array_size body stmts stmt block if_statement otherwise while_statement target statement_place source status assignment expr level chain atom place_inside bracket rounds unary count spend seek slot_in fresh add expect after sees same_symbol advanced place spelling token refusal tokens_after front sign word number
 row_not_too_deep = refl
 
--- ---- statements, behind the same declarations: each text begins at byte 29
+-- ---- statements, after the same declarations: each text begins at byte 29
 
 -- statements, and how many they are, nested ones included
 abbrev runs : List Tree → ℕ → Read
@@ -443,7 +443,7 @@ pub row_bad_declarations : map {B = Read} (λ r. reading_of r.0) bad_declaration
 unfolding reading script header version ranks decls decls_from decl declarator single array_size body stmts stmt block if_statement otherwise while_statement target statement_place source status assignment expr level chain atom place_inside bracket rounds unary count spend seek slot_in fresh add expect after sees same_symbol advanced place spelling token refusal tokens_after front sign word number
 row_bad_declarations = refl
 
--- ---- statement 4,097: behind so many statements, each text begins at byte 0
+-- ---- statement 4,097: after so many statements, each text begins at byte 0
 
 abbrev stmt_after : ℕ → List ℕ → Outcome Tree
 stmt_after k text = stmt (block 64) (record (start_of text) { decls = declared (codes "x") None ∷ declared (codes "a") (Some 3) ∷ []; lines = replicate k 1 })

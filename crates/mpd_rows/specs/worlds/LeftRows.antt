@@ -32,18 +32,18 @@ program = record { version = 1; ranks = 1; decls = []; body = p1 ∷ loop ∷ p4
 row_1 : left_at program 0 ≡ (0, p1) ∷ (1, loop) ∷ (5, p4) ∷ []
 row_1 = refl
 
--- at the `while`: it and what is behind it
+-- at the `while`: it and what is after it
 row_2 : left_at program 1 ≡ (1, loop) ∷ (5, p4) ∷ []
 row_2 = refl
 
--- in its body: what is left of the body, the `while` again, and what is behind it
+-- in its body: what is left of the body, the `while` again, and what is after it
 row_3 : left_at program 2 ≡ (2, p2) ∷ (3, test) ∷ (1, loop) ∷ (5, p4) ∷ []
 row_3 = refl
 
 row_4 : left_at program 3 ≡ (3, test) ∷ (1, loop) ∷ (5, p4) ∷ []
 row_4 = refl
 
--- in a block of an `if` inside: behind it what is behind the `if`
+-- in a block of an `if` inside: after it what is after the `if`
 row_5 : left_at program 4 ≡ (4, p3) ∷ (1, loop) ∷ (5, p4) ∷ []
 row_5 = refl
 

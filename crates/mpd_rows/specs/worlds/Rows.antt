@@ -65,7 +65,7 @@ row_one_message_sets = refl
 pub row_one_message_done : option_map outcome (fold (start one_message Rendezvous) one_message_steps) ≡ Some (Some o.Done)
 row_one_message_done = refl
 
--- statements keep their numbers: the `else` block's come behind those of the first block
+-- statements keep their numbers: the `else` block's come after those of the first block
 pub row_numbers : option_map numbers_left (fold (start one_message Rendezvous) (Local 0 ∷ Local 1 ∷ [])) ≡ Some ((1 ∷ []) ∷ (2 ∷ 3 ∷ []) ∷ [])
 row_numbers = refl
 
@@ -221,7 +221,7 @@ t0 = opening one_message Rendezvous
 abbrev t1 : Trail
 t1 = taken_back (applied (applied t0 (Local 0)) (Local 1))
 
--- the undone step, taken again, keeps what is behind it; another drops it
+-- the undone step, taken again, keeps what is after it; another drops it
 pub row_kept : (taken_back (applied (applied t0 (Local 0)) (Local 1))).steps ≡ Local 0 ∷ Local 1 ∷ []
 row_kept = refl
 

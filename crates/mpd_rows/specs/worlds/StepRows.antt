@@ -57,7 +57,7 @@ over_zero = op2 Divide (n 1) (n 0)
 abbrev too_large : Term
 too_large = op2 Add (n 9223372036854775807) (n 1)
 
--- ---- one rank of two, before statement 5 and with statement 20 behind it: x is 1, a is 10 20 30
+-- ---- one rank of two, before statement 5 and with statement 20 after it: x is 1, a is 10 20 30
 
 abbrev earlier : Call
 earlier = record { statement = 3; kind = Send (record { to = 1; tag = 0; value = pos 8; synchronous = false; blocks = true; buffered = false }) }

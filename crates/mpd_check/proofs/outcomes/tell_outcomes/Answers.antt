@@ -4,6 +4,7 @@ use Rattle.mpd_core.specs.DebuggerViews.{standing_of}
 use Rattle.mpd_policy.specs.Wide.{wide_decision}
 use Rattle.mpd_explore.specs.declared.report.Leaf.{Leaf}
 use Rattle.mpd_explain.specs.Explanations.{explained_at}
+use Rattle.mpd_check.specs.Listing.{marked_if}
 use Rattle.mpd_check.specs.OutcomesText.{outcomes_text, AreDecided}
 use Rattle.mpd_check.proofs.OutcomesLemmas.{same_standing}
 use Rattle.mpd_check.proofs.outcomes.tell_outcomes.Goals as goal
@@ -23,6 +24,6 @@ returns c =
     let lent = ap (map string_bytes) c.deref-3.ensures.value in (
       o,
       (c.in_ok-outcomes.ensures.last, c.in_ok-outcomes.ensures.stops, c.in_ok-outcomes.ensures.limit),
-      (lines, decided, c.in_ok-text.ensures ∙ (λ i. outcomes_text (c.in_ok-outcomes.ensures.texts i) (texts i) (lent i) o)),
+      (lines, decided, c.in_ok-text-2.ensures ∙ ap (marked_if plan.explain plan.script.now) (c.in_ok-text.ensures ∙ (λ i. outcomes_text (c.in_ok-outcomes.ensures.texts i) (texts i) (lent i) o))),
       c.found_in-found.ensures,
     )

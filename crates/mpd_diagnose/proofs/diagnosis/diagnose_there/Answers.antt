@@ -15,7 +15,7 @@ returns-then-not-draws c =
       first = p.text.items;
       is_first = c.in_ok-text.ensures.first;
       rest = [];
-      is_rest = subst (λ (b : Bool). IsRest b plan.file.now plan.ranks plan.limits plan.blamed plan.drawn d [] None) none (refl, refl);
+      is_rest = subst (λ (b : Bool). IsRest b plan.script.now plan.file.now plan.ranks plan.limits plan.blamed plan.drawn d [] None) none (refl, refl);
       text_is = sym (append-nil p.text.items);
     }
 
@@ -28,11 +28,11 @@ returns c =
     let found = c.first_part.ensures.as_found in
     let same = standing_same c.args.debugger.now c.first_part.new.debugger found.trail found.world in
     let some = sym (sym c.draws.ensures ∙ c.if-not-draws.false) in
-    let drawn = subst (λ (s : Standing). IsDrawn plan.file.now plan.ranks plan.limits plan.blamed plan.drawn s r.text.items r.counts) same c.in_ok-rest.ensures.drawn in
+    let drawn = subst (λ (s : Standing). IsDrawn plan.script.now plan.file.now plan.ranks plan.limits plan.blamed plan.drawn s r.text.items r.counts) same c.in_ok-rest.ensures.drawn in
     record {
       first = p.text.items;
       is_first = c.in_ok-text.ensures.first;
       rest = r.text.items;
-      is_rest = subst (λ (b : Bool). IsRest b plan.file.now plan.ranks plan.limits plan.blamed plan.drawn d r.text.items (Some r.counts)) some (r.counts, drawn, refl);
+      is_rest = subst (λ (b : Bool). IsRest b plan.script.now plan.file.now plan.ranks plan.limits plan.blamed plan.drawn d r.text.items (Some r.counts)) some (r.counts, drawn, refl);
       text_is = c.in_ok-extend_from_slice.ensures.items ∙ ap (λ (x : List ℕ). p.text.items ++ x) c.deref.ensures.value;
     }

@@ -14,6 +14,7 @@ returns-clause-drawn c =
     let found = c.drawn_runs.ensures.as_found in
     let limits = c.args.plan.limits in
     let most = c.args.plan.blamed in
+    let script = c.args.named.script.now in
     let file = c.args.named.file.now in
     let ranks = c.args.named.ranks in
     let kind = codes "drawn" in
@@ -26,6 +27,6 @@ returns-clause-drawn c =
     (λ p h. (
       o,
       c.in_ok-outcomes.ensures.drawn,
-      subst (λ (b : List ℕ). IsTold file ranks kind limits most d o b p.text.items p.counts) begun (subst (λ (s : Standing). IsTold file ranks kind limits most s o c.in_ok-text.text.items p.text.items p.counts) same h),
+      subst (λ (b : List ℕ). IsTold script file ranks kind limits most d o b p.text.items p.counts) begun (subst (λ (s : Standing). IsTold script file ranks kind limits most s o c.in_ok-text.text.items p.text.items p.counts) same h),
     ))
     c.tell.ensures.told

@@ -15,6 +15,7 @@ returns-clause-first c =
     let limits = c.args.plan.limits in
     let most = c.args.plan.blamed in
     let fuel = limits.fuel in
+    let script = c.args.named.script.now in
     let file = c.args.named.file.now in
     let ranks = c.args.named.ranks in
     let kind = codes "run" in
@@ -28,6 +29,6 @@ returns-clause-first c =
     (λ p h. (
       o,
       (c.in_ok-outcomes.ensures.last, c.in_ok-outcomes.ensures.stops, c.in_ok-outcomes.ensures.limit),
-      subst (λ (b : List ℕ). IsTold file ranks kind limits most d o b p.text.items p.counts) begun (subst (λ (s : Standing). IsTold file ranks kind limits most s o c.push_opening.new.out.items p.text.items p.counts) same h),
+      subst (λ (b : List ℕ). IsTold script file ranks kind limits most d o b p.text.items p.counts) begun (subst (λ (s : Standing). IsTold script file ranks kind limits most s o c.push_opening.new.out.items p.text.items p.counts) same h),
     ))
     c.tell.ensures.told

@@ -1,6 +1,6 @@
 use Rattle.mpd_core.specs.DebuggerViews.{standing_of}
 use Rattle.mpd_runs.proofs.LastChoiceLemmas.{Undoing}
-use Rattle.mpd_runs.proofs.choice.undo_to_choice.Given as goal
+use Rattle.mpd_runs.proofs.choice.undo_to_stop.Given as goal
 
 abbrev pub invariant-loop-undone : goal.invariant-loop-undone
-invariant-loop-undone l = Undoing l.fn.debugger.trail (standing_of l.debugger) l.undone
+invariant-loop-undone l = Undoing l.breaks l.fn.debugger.trail (standing_of l.debugger) l.undone

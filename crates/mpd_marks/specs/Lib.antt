@@ -1,0 +1,4 @@
+pub mod Marks
+pub mod Marked
+pub mod MarkRows
+pub mod MarkedRows
