@@ -20,11 +20,17 @@ use Rattle.mpd_policy.specs.contracts.breaks.Breaks as Breaks
 use Rattle.mpd_model.specs.contracts.expr.Expr as Expr
 use Rattle.mpd_model.proofs.expr.Expr.TheLaws.TheKnot as expr_knot
 use Rattle.mpd_model.specs.contracts.place.Decl as Decl
+use Rattle.mpd_model.specs.contracts.step.Step as Step
+use Rattle.mpd_model.specs.contracts.breakpoint.Stop as Stop
 use Rattle.mpd_code.specs.contracts.node.Node as Node
 use Rattle.mpd_code.specs.contracts.code.Code as Code
 use Rattle.mpd_session.specs.contracts.request.Request as Request
 use Rattle.mpd_session.specs.contracts.reply.TextList as TextList
 use Rattle.mpd_session.specs.contracts.reply.HoldingList as HoldingList
+use Rattle.mpd_session.specs.contracts.reply.HandleList as HandleList
+use Rattle.mpd_session.specs.contracts.reply.IntegerList as IntegerList
+use Rattle.mpd_session.specs.contracts.reply.NumberList as NumberList
+use Rattle.mpd_session.specs.contracts.reply.PartnerList as PartnerList
 use Rattle.mpd_session.specs.contracts.reply.Answer as Answer
 use Rattle.mpd_session.specs.contracts.reply.Reply as Reply
 use Rattle.mpd_session.specs.contracts.history.Entry as Entry
@@ -85,8 +91,26 @@ texts_send = search (sendable, crosses) depth 100 fits 20000
 holdings_send : IsSend HoldingList.the_row
 holdings_send = search (sendable, crosses) depth 100 fits 20000
 
+handles_send : IsSend HandleList.the_row
+handles_send = search (sendable, crosses) depth 100 fits 20000
+
+integers_send : IsSend IntegerList.the_row
+integers_send = search (sendable, crosses) depth 100 fits 20000
+
+numbers_send : IsSend NumberList.the_row
+numbers_send = search (sendable, crosses) depth 100 fits 20000
+
+partners_send : IsSend PartnerList.the_row
+partners_send = search (sendable, crosses) depth 100 fits 20000
+
+step_send : IsSend Step.the_row
+step_send = search (sendable, crosses) depth 100 fits 20000
+
+stop_send : IsSend Stop.the_row
+stop_send = search (sendable, crosses) depth 100 fits 20000
+
 answer_send : IsSend Answer.the_row
-answer_send = search (texts_send, holdings_send, sendable, crosses) depth 100 fits 50000
+answer_send = search (texts_send, holdings_send, handles_send, integers_send, numbers_send, partners_send, step_send, stop_send, sendable, crosses) depth 100 fits 50000
 
 reply_send : IsSend Reply.the_row
 reply_send = variants_send Reply.enum (search (answer_send, sendable, crosses) depth 100 fits 50000)

@@ -21,7 +21,7 @@ empty_seat client = record { client = client; receipts = [] }
 abbrev pub empty_seats : ℕ → List Noted
 empty_seats clients = map empty_seat (range_with_len 0 clients)
 
--- the reply is the one that a session on this script gives to the request, behind some history of so many entries, each of which
+-- the reply is the one that a session on this script gives to the request, after some history of so many entries, each of which
 -- has the reply that the session gives there
 abbrev pub IsGiven : Program → Mode → ℕ → Request → Reply → Type 0
 IsGiven p mode n q r = (history : List Entry) × (s : Held) × Leads (opened p mode) history s × (length history ≡ n) × (r ≡ (respond s q).0)

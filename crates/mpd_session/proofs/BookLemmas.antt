@@ -162,6 +162,7 @@ carried_fits t places w (command.Why c) = look_fits {X = Both} (t, places) (why_
 carried_fits t places w (command.Break b) = let q : OnBreaks = break_effect places w b in on_breaks_fits t places q.1 q.0 (break_fits places w b)
 carried_fits t places w (command.Unbreak n) = let q : OnBreaks = unbreak_effect places n in on_breaks_fits t places q.1 q.0 (unbreak_fits places n)
 carried_fits t places w command.Breaks = refl
+carried_fits t places w command.Hit = refl
 carried_fits t places w (command.Explore runs fuel) = look_fits {X = Both} (t, places) (explore_effect t w runs fuel) (looks_by (is_within 1 RUNS_MAX runs && is_within 1 (STEPS_MAX - t.depth) fuel) _ _ tt tt)
 carried_fits t places w (command.Look l) = look_fits {X = Both} (t, places) (look_effect t w l) (looks_only t w l)
 
@@ -240,6 +241,7 @@ carried_keeps t places w (command.Why c) = (refl, refl)
 carried_keeps t places w (command.Break b) = (refl, refl)
 carried_keeps t places w (command.Unbreak n) = (refl, refl)
 carried_keeps t places w command.Breaks = (refl, refl)
+carried_keeps t places w command.Hit = (refl, refl)
 carried_keeps t places w (command.Explore runs fuel) = (refl, refl)
 carried_keeps t places w (command.Look l) = (refl, refl)
 

@@ -17,6 +17,7 @@ lists_in (answer.Partners partners) = true
 lists_in (answer.Added n) = false
 lists_in answer.Removed = false
 lists_in (answer.Breaks breaks) = true
+lists_in (answer.Hit hit) = false
 lists_in (answer.Explored leaves more) = true
 lists_in (answer.Script ranks mode vars handles lines) = true
 lists_in (answer.Where ranks lines ready held) = true

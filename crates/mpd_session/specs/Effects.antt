@@ -19,6 +19,7 @@ use Rattle.mpd_model.specs.runs.Trail.{Trail, applied, gone_back}
 use Rattle.mpd_model.specs.runs.Breakpoints.{break_at, cell_at, lowest_free}
 use Rattle.mpd_model.specs.runs.Running.{Ran, ran, stop_of, all_applied, ran_back}
 use Rattle.mpd_model.specs.texts.Texts.{id_text, step_text, rank_text, set_text, call_text, outcome_text, meant_text, compared_text}
+use Rattle.mpd_policy.specs.Last.{last_hit}
 use Rattle.mpd_policy.specs.Single.{ran_on}
 use Rattle.mpd_explore.specs.declared.report.Leaf.{Leaf as RunLeaf}
 use Rattle.mpd_policy.specs.Walk.{walk}
@@ -39,7 +40,7 @@ is_within low high n = nat_le low n && nat_le n high
 abbrev pub OnTrail : Type 0
 OnTrail = Effect × Trail
 
--- a step, which the relation of steps leads on from here, or doesn't; what is answered is told by the depth behind it
+-- a step, which the relation of steps leads on from here, or doesn't; what is answered is told by the depth after it
 abbrev pub applied_effect : (ℕ → Answer) → Trail → Step → Option World → OnTrail
 applied_effect f t a None = (Refused NotEnabled, t)
 applied_effect f t a (Some v) = if nat_lt t.depth STEPS_MAX then (Changed (f (t.depth + 1)), applied t a) else (Refused Full, t)
@@ -194,6 +195,10 @@ place_texts n (Some b) = (decimal n ++ break_text b) ∷ []
 
 abbrev pub breaks_effect : List (Option Break) → Effect
 breaks_effect places = Told (answer.Breaks (flat_map (λ n. place_texts n (break_at places n)) (range_with_len 0 BREAKS_MAX)))
+
+-- the lowest breakpoint that the last step hits
+abbrev pub hit_effect : List (Option Break) → Trail → Effect
+hit_effect places t = Told (answer.Hit (last_hit places t))
 
 abbrev pub leaves_effect : ℕ → List RunLeaf → Effect
 leaves_effect runs leaves = Told (answer.Explored (map leaf_text (take runs leaves)) (nat_lt runs (length leaves)))

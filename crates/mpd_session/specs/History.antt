@@ -9,7 +9,7 @@ use Rattle.mpd_session.specs.contracts.history.Receipt as receipt_row
 use Rattle.mpd_session.specs.Held.{Held, held_code, opened}
 use Rattle.mpd_session.specs.Respond.{respond}
 
--- the session behind a history, in which each reply is the one that the session gives there
+-- the session after a history, in which each reply is the one that the session gives there
 abbrev pub Leads : Held → List Entry → Held → Type 0
 Leads s [] t = s ≡ t
 Leads s (e ∷ es) t = (e.reply ≡ (respond s e.request).0) × Leads (respond s e.request).1 es t

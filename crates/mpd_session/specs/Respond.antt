@@ -15,7 +15,7 @@ use Rattle.mpd_session.specs.declared.limits.TheConstants.{VERSION_MAX}
 use Rattle.mpd_session.specs.declared.effect.Effect.{Effect}
 use Rattle.mpd_session.specs.declared.effect.Effect.TheVariants.{Refused, Told, Changed}
 use Rattle.mpd_session.specs.Held.{Held}
-use Rattle.mpd_session.specs.Effects.{step_effect, next_effect, run_effect, run_on_effect, back_effect, redo_effect, goto_effect, run_back_effect, enabled_effect, state_effect, vars_effect, calls_effect, why_effect, break_effect, unbreak_effect, breaks_effect, explore_effect}
+use Rattle.mpd_session.specs.Effects.{step_effect, next_effect, run_effect, run_on_effect, back_effect, redo_effect, goto_effect, run_back_effect, enabled_effect, state_effect, vars_effect, calls_effect, why_effect, break_effect, unbreak_effect, breaks_effect, hit_effect, explore_effect}
 use Rattle.mpd_session.specs.Looks.{look_effect}
 
 -- ---- what a command comes to, with what is changed
@@ -46,10 +46,11 @@ carried t places w (command.Why c) = (why_effect w c, (t, places))
 carried t places w (command.Break b) = on_breaks t (break_effect places w b)
 carried t places w (command.Unbreak n) = on_breaks t (unbreak_effect places n)
 carried t places w command.Breaks = (breaks_effect places, (t, places))
+carried t places w command.Hit = (hit_effect places t, (t, places))
 carried t places w (command.Explore runs fuel) = (explore_effect t w runs fuel, (t, places))
 carried t places w (command.Look l) = (look_effect t w l, (t, places))
 
--- Memory may be wanted by what takes a step, and by what has a list in its answer, and by nothing else.
+-- Memory may be wanted by what takes a step, by what has a list in its answer, and by a look at the last step, which is taken again; by nothing else.
 abbrev pub may_want : Command → Bool
 may_want (command.Back n) = false
 may_want (command.Goto n) = false
@@ -67,6 +68,7 @@ may_want (command.Vars p) = true
 may_want (command.Calls p) = true
 may_want (command.Why c) = true
 may_want command.Breaks = true
+may_want command.Hit = true
 may_want (command.Explore runs fuel) = true
 may_want (command.Look l) = true
 
@@ -81,7 +83,7 @@ version_then v (Refused r) = v
 version_then v (Told a) = v
 version_then v (Changed a) = raised v
 
--- an answer has the version behind it
+-- an answer has the version after it
 abbrev pub reply_to : ℕ → Effect → Reply
 reply_to v (Refused r) = reply.Refused r
 reply_to v (Told a) = reply.Done v a
@@ -112,7 +114,7 @@ respond s q = respond_at s (world_of s.trail) q
 abbrev pub Responds : Held → Request → Reply → Held → Type 0
 Responds s q r t = (r ≡ (respond s q).0) × (t ≡ (respond s q).1)
 
--- the same session with these steps, of which as many are not undone as were before: those behind lie ahead, and the version is raised
+-- the same session with these steps, of which as many are not undone as were before: those after lie ahead, and the version is raised
 abbrev pub laid : Held → List Step → Held
 laid s steps = record { trail = with_steps s.trail steps; breaks = s.breaks; version = raised s.version }
 

@@ -1,18 +1,19 @@
 //! Commands on breakpoints.
 
-ghost use Rattle.std.specs.Prelude.{◌≡◌, ◌-◌, ◌++◌, IfOk, OnOk, IfSome, IfNone, codes, map, length, is_some, slice_get, string_bytes};
+ghost use Rattle.std.specs.Prelude.{◌≡◌, ◌-◌, ◌<◌, ◌++◌, IfOk, OnOk, OnErr, IfSome, IfNone, codes, map, length, is_some, slice_get, string_bytes};
 ghost use Rattle.std.specs.Fmt.{decimal};
 ghost use Rattle.mpd_session.specs.Effects as spec;
-ghost use Rattle.mpd_session.specs.Effects.{break_effect, unbreak_effect, breaks_effect, break_text, line_text, match_text, place_texts};
+ghost use Rattle.mpd_session.specs.Effects.{break_effect, unbreak_effect, breaks_effect, hit_effect, break_text, line_text, match_text, place_texts};
 ghost use Rattle.mpd_model.specs.runs.Breakpoints.{cell_at, break_at};
+ghost use Rattle.mpd_core.specs.DebuggerViews.{standing_of};
 
 use crate::effect::{Effect, is_within};
 use crate::limits::LINES_MAX;
 use crate::looks::push_text;
 use crate::reply::{Answer, Refusal, TextList};
-use mpd_core::Core;
+use mpd_core::{Core, Debugger};
 use mpd_model::{BREAKS_MAX, Break, Condition, push_compared, push_meant};
-use mpd_policy::Breaks;
+use mpd_policy::{Breaks, last_hit};
 use std::alloc::{AllocError, Global};
 
 /// Whether a rank has a cell.
@@ -191,4 +192,15 @@ pub fn list(alloc: Global, breaks: &Breaks) -> Result<Effect, AllocError>
         push_place(alloc, &mut items, number, breaks.get(number))?;
     }
     Ok(Effect::Told(Answer::Breaks(TextList { items })))
+}
+
+/// Tells which breakpoint the last step hits. `Err` means that memory was refused, which happens
+/// only if a step is taken; nothing changes in any case.
+pub fn hit(debugger: &mut Debugger<'_>, breaks: &Breaks) -> Result<Effect, AllocError>
+    ensures effect { IfOk result (λ effect. effect ≡ hit_effect breaks.now debugger.old.trail) }
+    ensures trail { debugger.new.trail ≡ debugger.old.trail }
+    ensures taken { OnErr result (0 < debugger.old.trail.depth) }
+{
+    let hit = last_hit(debugger, breaks)?;
+    Ok(Effect::Told(Answer::Hit(hit)))
 }

@@ -325,6 +325,7 @@ fn copy_answer(alloc: Global, answer: &Answer) -> Result<Answer, AllocError>
         Answer::Added(number) => Ok(Answer::Added(*number)),
         Answer::Removed => Ok(Answer::Removed),
         Answer::Breaks(breaks) => copy_texts(alloc, &breaks.items).map(Answer::Breaks),
+        Answer::Hit(hit) => Ok(Answer::Hit(*hit)),
         Answer::Explored { leaves, more } => copy_leaves(alloc, leaves, *more),
         Answer::Script {
             ranks,

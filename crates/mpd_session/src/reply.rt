@@ -186,6 +186,9 @@ pub enum Answer {
     Removed,
     /// Of `breaks`: the texts of the breakpoints, by number.
     Breaks(TextList),
+    /// Of `hit`: the number of the lowest breakpoint that the last step hits, 0 to 63; none if no step
+    /// is taken, or if it hits none.
+    Hit(Option<usize>),
     /// Of `explore`.
     Explored {
         /// The texts of the leaves.

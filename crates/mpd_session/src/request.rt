@@ -63,6 +63,8 @@ pub enum Command {
     Unbreak(usize),
     /// List the breakpoints.
     Breaks,
+    /// Tell which breakpoint the last step hits.
+    Hit,
     /// List the runs from here, in the order of their choices.
     Explore {
         /// How many at most, 1 to 65,536.

@@ -184,6 +184,7 @@ fn same_command(one: Command, other: Command) -> bool
         Command::Break(stop) => is_break(other, stop),
         Command::Unbreak(number) => matches!(other, Command::Unbreak(also) if also == number),
         Command::Breaks => matches!(other, Command::Breaks),
+        Command::Hit => matches!(other, Command::Hit),
         Command::Explore { runs, fuel } => is_explore(other, runs, fuel),
         Command::Look(look) => is_look(other, look),
     }
@@ -545,6 +546,7 @@ fn same_answer(one: &Answer, other: &Answer) -> bool
         Answer::Breaks(breaks) => {
             matches!(other, Answer::Breaks(also) if same_texts(&also.items, &breaks.items))
         }
+        Answer::Hit(hit) => matches!(other, Answer::Hit(also) if *also == *hit),
         Answer::Explored { leaves, more } => is_explored(other, leaves, *more),
         Answer::Script {
             ranks,

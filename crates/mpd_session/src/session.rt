@@ -91,6 +91,7 @@ fn carry_out(
         Command::Break(stop) => Ok(breaks::add(debugger.core(), breaks, stop)),
         Command::Unbreak(number) => Ok(breaks::remove(breaks, number)),
         Command::Breaks => breaks::list(alloc, breaks),
+        Command::Hit => breaks::hit(debugger, breaks),
         Command::Explore { runs, fuel } => looks::explore(alloc, debugger, runs, fuel),
         Command::Look(look) => looks::look(alloc, debugger, look),
     }

@@ -11,7 +11,7 @@ use Rattle.mpd_session.specs.declared.reply.Reply.{Reply}
 use Rattle.mpd_wire.specs.Requests.{request_in}
 use Rattle.mpd_wire.specs.Replies.{members, refused, reply_line}
 
--- the two lines that stand in the place of a reply: where memory is refused before the desk has taken the request, and behind that
+-- the two lines that stand in the place of a reply: where memory is refused before the desk has taken the request, and after that
 abbrev pub memory_line : List ℕ
 memory_line = codes "{\"error\":\"memory\",\"ok\":false}\n"
 

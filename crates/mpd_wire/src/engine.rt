@@ -148,7 +148,7 @@ pub struct End {
 
 /// Answers the lines of a source, however they are cut into reads, in 1,000,000 reads at most. The reply to each request is written
 /// before the next is asked, and all replies to what a read brought before the next read. `Ok` comes only where the input has ended,
-/// `ReadFailed` (45) and `WriteFailed` (46) only where that device failed in this call, `TooManyTurns` (47) only behind 1,000,000
+/// `ReadFailed` (45) and `WriteFailed` (46) only where that device failed in this call, `TooManyTurns` (47) only after 1,000,000
 /// reads none of which was the end, and `Memory` only before anything was read or written.
 pub fn serve<S: Source, W: Sink, D: Desk>(
     alloc: Global,

@@ -220,6 +220,7 @@ fn done(alloc: Global, version: u64, answer: &Answer) -> Result<Value, AllocErro
         Answer::Added(number) => added_value(alloc, version, *number),
         Answer::Removed => removed_value(alloc, version),
         Answer::Breaks(breaks) => breaks_value(alloc, version, &breaks.items),
+        Answer::Hit(hit) => hit_value(alloc, version, *hit),
         Answer::Explored { leaves, more } => leaves_value(alloc, version, &leaves.items, *more),
         Answer::Script {
             ranks,
@@ -300,13 +301,23 @@ fn stop_name(cause: Cause) -> &'static str
     }
 }
 
-/// The fields of why a run has stopped that stand before its depth.
-fn break_fields(alloc: Global, cause: Cause) -> Fields
-    ensures { IfOk result (λ f. members_view f.entries ≡ members (maybe (codes "break") natural (stop_number cause))) }
+/// The breakpoint at which a run has stopped, if it was one.
+fn stop_number(cause: Cause) -> Option<usize>
+    ensures { result ≡ stop_number cause }
 {
     match cause {
-        Cause::Break(number) => with_number(alloc, no_fields(alloc), "break", number),
-        Cause::Leaf | Cause::Choice | Cause::Full | Cause::Max | Cause::Start => no_fields(alloc),
+        Cause::Break(number) => Some(number),
+        Cause::Leaf | Cause::Choice | Cause::Full | Cause::Max | Cause::Start => None,
+    }
+}
+
+/// The field of a breakpoint, if there is one.
+fn break_fields(alloc: Global, number: Option<usize>) -> Fields
+    ensures { IfOk result (λ f. members_view f.entries ≡ members (maybe (codes "break") natural number)) }
+{
+    match number {
+        None => no_fields(alloc),
+        Some(number) => with_number(alloc, no_fields(alloc), "break", number),
     }
 }
 
@@ -314,7 +325,7 @@ fn ran_value(alloc: Global, version: u64, depth: usize, stop: Stop) -> Result<Va
     ensures { IfOk result (λ v. view v ≡ object (members (answer_fields (answer.Ran depth stop) ++ (codes "version", natural version) ∷ []))) }
 {
     let Stop { steps, cause } = stop;
-    let fields = with_depth(alloc, break_fields(alloc, cause), depth);
+    let fields = with_depth(alloc, break_fields(alloc, stop_number(cause)), depth);
     let fields = with_number(alloc, fields, "steps", steps);
     let fields = with_text(alloc, fields, "stop", stop_name(cause));
     with_version(alloc, fields, version)
@@ -475,6 +486,14 @@ fn breaks_value(alloc: Global, version: u64, breaks: &[String]) -> Result<Value,
 {
     let breaks = texts_value(alloc, breaks)?;
     before_ok(alloc, version, "breaks", breaks)
+}
+
+/// The object of the breakpoint that the last step hits, or of none.
+fn hit_value(alloc: Global, version: u64, hit: Option<usize>) -> Result<Value, AllocError>
+    ensures { IfOk result (λ v. view v ≡ object (members (answer_fields (answer.Hit hit) ++ (codes "version", natural version) ∷ []))) }
+{
+    let fields = with_flag(alloc, break_fields(alloc, hit), "ok", true);
+    with_version(alloc, fields, version)
 }
 
 fn leaves_value(

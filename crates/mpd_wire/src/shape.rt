@@ -23,6 +23,7 @@ pub(crate) enum Shape {
     BreakRank,
     Unbreak,
     Breaks,
+    Hit,
     Explore,
     Script,
     Where,
