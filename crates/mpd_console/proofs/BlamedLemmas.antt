@@ -4,6 +4,7 @@ use Rattle.mpd_session.specs.Held.{Held}
 use Rattle.mpd_session.specs.declared.request.Command.{Command}
 use Rattle.mpd_vocabulary.specs.declared.word.Word.TheVariants as word
 use Rattle.mpd_lines.specs.Folding.{folded_at}
+use Rattle.mpd_marks.specs.Marked.{marked}
 use Rattle.mpd_console.specs.Moves.{goto_command}
 use Rattle.mpd_blame.specs.declared.back.Blame.{Blame}
 use Rattle.mpd_blame.specs.declared.back.Blame.TheVariants as blame_is
@@ -12,11 +13,11 @@ use Rattle.mpd_console.specs.Blamed.{TellsBlame}
 use Rattle.mpd_console.specs.declared.prompts.Look.{Look}
 use Rattle.mpd_console.specs.Says.{memory_line, Carried, IsGone, BlamedAs, BlamedBy, Adds}
 
-pub gone_after : (p : Look) (script : List ℕ) (s t : Held) (depth : ℕ) (c : Command) (told before middle after : List ℕ) → middle ≡ before ++ folded_at p.width told → c ≡ goto_command s.trail depth → Adds (Carried p script s (word.Goto depth) c t) middle after
+pub gone_after : (p : Look) (script : List ℕ) (s t : Held) (depth : ℕ) (c : Command) (told before middle after : List ℕ) → middle ≡ before ++ folded_at p.width (marked script told) → c ≡ goto_command s.trail depth → Adds (Carried p script s (word.Goto depth) c t) middle after
     → Adds (IsGone p script s depth told t) before after
 gone_after p script s t depth c told before middle after m is (z, h, k) = (
-  folded_at p.width told ++ z,
-  h ∙ ap (λ x. x ++ z) m ∙ append_assoc before (folded_at p.width told) z,
+  folded_at p.width (marked script told) ++ z,
+  h ∙ ap (λ x. x ++ z) m ∙ append_assoc before (folded_at p.width (marked script told)) z,
   inl (z, refl, subst (λ x. Carried p script s (word.Goto depth) x t z) is k),
 )
 

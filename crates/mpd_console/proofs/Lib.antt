@@ -4,3 +4,5 @@ pub mod OpeningLemmas
 pub mod OnwardLemmas
 pub mod MoveLemmas
 pub mod NewsLemmas
+pub mod AgainLemmas
+pub mod QuitLemmas

@@ -19,7 +19,7 @@ use Rattle.mpd_console.specs.declared.moves.Doing.TheVariants.{Asks, Undoes, See
 use Rattle.mpd_vocabulary.specs.declared.word.Word.{Word}
 use Rattle.mpd_vocabulary.specs.declared.word.WordFault.{WordFault}
 use Rattle.mpd_vocabulary.specs.declared.read.Line.{Line}
-use Rattle.mpd_vocabulary.specs.declared.read.Line.TheVariants.{Blank, Comment, Says, Evaluates, Wrong}
+use Rattle.mpd_vocabulary.specs.declared.read.Line.TheVariants.{Blank, Comment, Says, Evaluates, Reloads, Sources, Wrong}
 use Rattle.mpd_lines.specs.Echo.{echo, long_echo}
 use Rattle.mpd_lines.proofs.EchoLaws.{long_echo_is}
 use Rattle.mpd_lines.specs.Folding.{folded_at}
@@ -27,6 +27,9 @@ use Rattle.mpd_console.specs.News.{Known}
 use Rattle.mpd_console.specs.Moves.{doing_of, lead_text, reply_text, way_known}
 use Rattle.mpd_console.specs.Looks.{look_text}
 use Rattle.mpd_vocabulary.specs.Reading.{line_of, behind_word}
+use Rattle.mpd_vocabulary.specs.Faults.{word_at}
+use Rattle.mpd_model.specs.texts.Words.{words}
+use Rattle.mpd_marks.specs.Marked.{marked}
 use Rattle.mpd_console.specs.Values.{asked_text, is_asked, kept_if}
 use Rattle.mpd_runs.specs.declared.counts.WayCounts.{WayCounts}
 use Rattle.mpd_runs.specs.declared.search.Search.{Search}
@@ -39,7 +42,7 @@ use Rattle.mpd_runs.specs.declared.way.Way.{Way}
 use Rattle.mpd_runs.specs.Runs.{fuel_at, none_line}
 use Rattle.mpd_runs.specs.Seek.{found_run, numbered_run, nothing_line, LiesAhead, FoundLies, IsSought, IsSearch, TooMany, ahead_line, no_run_line}
 use Rattle.mpd_runs.specs.LastChoice.{last_choice, no_choice_line}
-use Rattle.mpd_console.specs.Says.{memory_line, unprinted_line, too_long_line, at_world, prompt, said, lead_said, known_at, known_in, reply_said, laid_out, look_said, laid_said, not_found_said, prompts_behind, fault_said, Told, Looked, asking, Carried, UndoneBy, LaidBy, found_from, numbered_from, FoundAs, IsFoundFrom, SoughtBy, SoughtFrom, FollowedBy, doing_at, doing_in, AnsweredBy, Answered, Console, again, WordSays, RepeatSays, BlankSays, LineSays, Evaluated, keeps_none, value_said, SaysBy, shown, long_shown, ConsoleSays, Adds, OrElse, BlamedBy}
+use Rattle.mpd_console.specs.Says.{memory_line, unprinted_line, too_long_line, at_world, prompt, said, said_marked, lead_said, known_at, known_in, reply_said, laid_out, look_said, laid_said, not_found_said, prompts_behind, fault_said, Told, Looked, asking, Carried, UndoneBy, LaidBy, found_from, numbered_from, FoundAs, IsFoundFrom, SoughtBy, SoughtFrom, FollowedBy, doing_at, doing_in, AnsweredBy, Answered, Console, again, WordSays, RepeatSays, BlankSays, LineSays, NameSays, Evaluated, keeps_none, value_said, SaysBy, shown, long_shown, ConsoleSays, Adds, OrElse, BlamedBy}
 
 -- ---- texts on the world of a trail
 
@@ -51,10 +54,10 @@ told_at : (tell : Trail → World → List ℕ) (s : Held) (d : DebuggerView) �
 told_at tell s d r e = ap (λ t. tell t d.world) e ∙ sym (ap (at_world (tell s.trail)) (world_at s d r e))
 
 pub replied : (p : Look) (script : List ℕ) (s : Held) (d : DebuggerView) (places : List (Option Break)) (x : Word) (lead begun one lent text : List ℕ) (k : Known) (r : Reply) → IsReached (standing_of d) → d.trail ≡ s.trail → places ≡ s.breaks
-    → begun ≡ [] → one ≡ begun ++ reply_text script d.trail d.world places x lead k r → lent ≡ one → text ≡ said p s lent → text ≡ reply_said p script s x lead k r
+    → begun ≡ [] → one ≡ begun ++ reply_text script d.trail d.world places x lead k r → lent ≡ one → text ≡ said_marked p script s lent → text ≡ reply_said p script s x lead k r
 replied p script s d places x lead begun one lent text k r reached e pl b h l m =
     let u : one ≡ reply_text script d.trail d.world s.breaks x lead k r = h ∙ ap (λ z. z ++ reply_text script d.trail d.world places x lead k r) b ∙ ap (λ z. reply_text script d.trail d.world z x lead k r) pl in
-    m ∙ ap (said p s) (l ∙ u ∙ told_at (λ t w. reply_text script t w s.breaks x lead k r) s d reached e)
+    m ∙ ap (said_marked p script s) (l ∙ u ∙ told_at (λ t w. reply_text script t w s.breaks x lead k r) s d reached e)
 
 pub led : (s : Held) (d : DebuggerView) (x : Word) (text : List ℕ) → IsReached (standing_of d) → d.trail ≡ s.trail → text ≡ lead_text d.trail d.world x → text ≡ lead_said s x
 led s d x text reached e h = h ∙ told_at (λ t w. lead_text t w x) s d reached e
@@ -63,20 +66,20 @@ pub known : (s : Held) (d : DebuggerView) (x : Word) (k : Known) → IsReached (
 known s d x k reached e h = h ∙ ap (λ t. way_known t d.world x) e ∙ sym (ap (known_at s.trail x) (world_at s d reached e))
 
 pub looked : (p : Look) (q : Bool) (script : List ℕ) (s : Held) (d : DebuggerView) (places : List (Option Break)) (x : Word) (begun one lent none two text : List ℕ) → IsReached (standing_of d) → d.trail ≡ s.trail → places ≡ s.breaks
-    → q ≡ prompts_behind p.is_prompting x → begun ≡ [] → one ≡ begun ++ look_text d.trail d.world places script x → lent ≡ one → none ≡ [] → two ≡ none ++ laid_out p.width x lent → text ≡ two ++ prompt q s → text ≡ look_said p script s x
+    → q ≡ prompts_behind p.is_prompting x → begun ≡ [] → one ≡ begun ++ look_text d.trail d.world places script x → lent ≡ one → none ≡ [] → two ≡ none ++ laid_out p.width script x lent → text ≡ two ++ prompt q s → text ≡ look_said p script s x
 looked p q script s d places x begun one lent none two text reached e pl is b h l n m k =
     let u : one ≡ look_text d.trail d.world s.breaks script x = h ∙ ap (λ z. z ++ look_text d.trail d.world places script x) b ∙ ap (λ z. look_text d.trail d.world z script x) pl in
-    k ∙ ap (λ z. z ++ prompt q s) (m ∙ ap (λ z. z ++ laid_out p.width x lent) n) ∙ ap (λ z. laid_out p.width x z ++ prompt q s) (l ∙ u ∙ told_at (λ t w. look_text t w s.breaks script x) s d reached e)
-    ∙ ap (λ z. laid_out p.width x (at_world (λ w. look_text s.trail w s.breaks script x) (world_of s.trail)) ++ prompt z s) is
+    k ∙ ap (λ z. z ++ prompt q s) (m ∙ ap (λ z. z ++ laid_out p.width script x lent) n) ∙ ap (λ z. laid_out p.width script x z ++ prompt q s) (l ∙ u ∙ told_at (λ t w. look_text t w s.breaks script x) s d reached e)
+    ∙ ap (λ z. laid_out p.width script x (at_world (λ w. look_text s.trail w s.breaks script x) (world_of s.trail)) ++ prompt z s) is
 
 pub found : (p : Look) (script : List ℕ) (s : Held) (d : DebuggerView) (lines : List ℕ) (number : Option ℕ) (e : Ending) (ahead : ℕ) (begun one two lent text : List ℕ) → IsReached (standing_of d) → d.trail ≡ s.trail
-    → lines ≡ d.trail.program.lines → begun ≡ [] → one ≡ begun ++ ahead_line lines number e ahead → two ≡ one ++ standing_text script d.trail d.world → lent ≡ two → text ≡ said p s lent
+    → lines ≡ d.trail.program.lines → begun ≡ [] → one ≡ begun ++ ahead_line lines number e ahead → two ≡ one ++ standing_text script d.trail d.world → lent ≡ two → text ≡ said_marked p script s lent
     → text ≡ laid_said p script s number e ahead
 found p script s d lines number e ahead begun one two lent text reached at is b h k l m =
     let own : List ℕ = ahead_line s.trail.program.lines number e ahead in
     let u : one ≡ own = h ∙ ap (λ z. z ++ ahead_line lines number e ahead) b ∙ ap (λ z. ahead_line z number e ahead) is ∙ ap (λ (t : Trail). ahead_line t.program.lines number e ahead) at in
     let v : two ≡ own ++ at_world (standing_text script s.trail) (world_of s.trail) = k ∙ ap (λ z. z ++ standing_text script d.trail d.world) u ∙ ap (λ z. own ++ z) (told_at (standing_text script) s d reached at) in
-    m ∙ ap (said p s) (l ∙ v)
+    m ∙ ap (said_marked p script s) (l ∙ v)
 
 -- what is told of nothing but what is given
 pub told_so : (p : Look) (s : Held) (told begun one lent text : List ℕ) → begun ≡ [] → one ≡ begun ++ told → lent ≡ one → text ≡ said p s lent → text ≡ said p s told
@@ -89,7 +92,37 @@ said_is p s told begun one two lent b l h k = k ∙ ap (λ z. z ++ prompt p.is_p
 pub idle_is : (p : Bool) (s : Held) (old now idle lent : List ℕ) → idle ≡ prompt p s → lent ≡ idle → now ≡ old ++ lent → now ≡ old ++ prompt p s
 idle_is p s old now idle lent i l k = k ∙ ap (λ z. old ++ z) (l ∙ i)
 
-pub ruleset saying = (told_so, said_is, idle_is)
+-- the same of a text with the places of marks
+pub said_marked_is : (p : Look) (script : List ℕ) (s : Held) (told begun one two text lent : List ℕ) → begun ≡ [] → text ≡ marked script told → lent ≡ text → one ≡ begun ++ folded_at p.width lent → two ≡ one ++ prompt p.is_prompting s → two ≡ said_marked p script s told
+said_marked_is p script s told begun one two text lent b m l h k = said_is p s (marked script told) begun one two lent b (l ∙ m) h k
+
+pub marked_is : (script told begun one lent : List ℕ) → begun ≡ [] → lent ≡ told → one ≡ begun ++ marked script lent → one ≡ marked script told
+marked_is script told begun one lent b l h = h ∙ ap (λ z. z ++ marked script lent) b ∙ ap (marked script) l
+
+pub ruleset marking = (marked_is, marked_is)
+
+-- bytes that are told, lent as they are, and with the places of marks
+pub bytes_said : (p : Look) (s : Held) (told begun one two : List ℕ) → begun ≡ [] → one ≡ begun ++ folded_at p.width told → two ≡ one ++ prompt p.is_prompting s → two ≡ said p s told
+bytes_said p s told begun one two b h k = said_is p s told begun one two told b refl h k
+
+pub lent_said : (p : Look) (s : Held) (told lent text : List ℕ) → lent ≡ told → text ≡ said p s lent → text ≡ said p s told
+lent_said p s told lent text l k = k ∙ ap (said p s) l
+
+pub marked_said : (p : Look) (script : List ℕ) (s : Held) (told places lent text : List ℕ) → places ≡ marked script told → lent ≡ places → text ≡ said p s lent → text ≡ said_marked p script s told
+marked_said p script s told places lent text m l k = k ∙ ap (said p s) (l ∙ m)
+
+pub ruleset wrapping = (bytes_said, lent_said, marked_said)
+
+-- where it stands, with the places of marks
+pub stood : (script : List ℕ) (s : Held) (d : DebuggerView) (begun one lent text : List ℕ) → IsReached (standing_of d) → d.trail ≡ s.trail → begun ≡ [] → one ≡ begun ++ standing_text script d.trail d.world → lent ≡ one → text ≡ marked script lent
+    → text ≡ marked script (at_world (standing_text script s.trail) (world_of s.trail))
+stood script s d begun one lent text reached at b h l m =
+    let u : one ≡ standing_text script d.trail d.world = h ∙ ap (λ z. z ++ standing_text script d.trail d.world) b in
+    m ∙ ap (marked script) (l ∙ u ∙ told_at (standing_text script) s d reached at)
+
+pub ruleset standing = (stood, marked_is)
+
+pub ruleset saying = (told_so, said_is, said_marked_is, idle_is)
 
 pub ruleset replying = (replied, led)
 
@@ -309,9 +342,9 @@ pub ruleset evaluating = (evaluated_whole, evaluated_not)
 
 -- ---- lines
 
-pub word_said : (d e : Console) (x : Word) (before after : List ℕ) → e.script ≡ d.script → e.last ≡ d.last → e.asked ≡ d.asked → e.look ≡ d.look → Adds (Answered d.look d.script d.session x e.session) before after
+pub word_said : (d e : Console) (x : Word) (before after : List ℕ) → e.script ≡ d.script → e.last ≡ d.last → e.asked ≡ d.asked → e.named ≡ d.named → e.look ≡ d.look → Adds (Answered d.look d.script d.session x e.session) before after
     → Adds (λ text. WordSays d x text e) before after
-word_said d e x before after a b c f (z, h, told) = (z, h, (a, b, c, f, told))
+word_said d e x before after a b c g f (z, h, told) = (z, h, (a, b, c, g, f, told))
 
 pub repeated_none : (d e : Console) (before after : List ℕ) → d.last ≡ None → e ≡ d → Adds (Looked (prompt d.look.is_prompting d.session)) before after → Adds (λ text. RepeatSays d d.last text e) before after
 repeated_none d e before after is same (z, h, told) = (z, h, subst (λ o. RepeatSays d o z e) (sym is) (same, told))
@@ -327,6 +360,18 @@ line_comment d e l line before after is same (z, h, told) = (z, h, subst (λ k. 
 
 pub line_wrong : (d e : Console) (l : Line) (f : WordFault) (line before after : List ℕ) → l ≡ Wrong f → e ≡ d → Adds (Looked (fault_said d.look d.session line f)) before after → Adds (λ text. LineSays d l line text e) before after
 line_wrong d e l f line before after is same (z, h, told) = (z, h, subst (λ k. LineSays d k line z e) (sym is) (same, told))
+
+pub line_reloads : (d e : Console) (l : Line) (line before after : List ℕ) → l ≡ Reloads → e ≡ d → after ≡ before → Adds (λ text. LineSays d l line text e) before after
+line_reloads d e l line before after is same h = ([], h ∙ sym (append-nil before), subst (λ k. LineSays d k line [] e) (sym is) (same, refl))
+
+pub name_kept : (d e : Console) (name before after : List ℕ) → e ≡ record d { named = name } → after ≡ before → Adds (λ text. NameSays d name text e) before after
+name_kept d e name before after same h = ([], h ∙ sym (append-nil before), inl (same, refl))
+
+pub name_refused : (d e : Console) (name before after : List ℕ) → e ≡ record d { named = [] } → after ≡ before ++ memory_line → Adds (λ text. NameSays d name text e) before after
+name_refused d e name before after same h = (memory_line, h, inr (same, refl))
+
+pub line_sources : (d e : Console) (l : Line) (name line before after : List ℕ) → l ≡ Sources → name ≡ word_at (words line) 1 → Adds (λ text. NameSays d name text e) before after → Adds (λ text. LineSays d l line text e) before after
+line_sources d e l name line before after is named (z, h, told) = (z, h, subst (λ k. LineSays d k line z e) (sym is) (subst (λ n. NameSays d n z e) named told))
 
 pub line_says : (d c e : Console) (l : Line) (x : Word) (line before after : List ℕ) → l ≡ Says x → c ≡ record d { last = Some (again x); asked = [] } → Adds (λ text. WordSays c x text e) before after → Adds (λ text. LineSays d l line text e) before after
 line_says d c e l x line before after is same (z, h, told) = (z, h, subst (λ k. LineSays d k line z e) (sym is) (subst (λ k. WordSays k x z e) same told))
@@ -395,4 +440,6 @@ long_said d e before mid after same is h =
       λ line l. (told, ap (λ t. t ++ told) (long_shown_is d.look.is_echoing line l), subst (λ b. SaysBy b d line told e) (sym (long (length line) l)) (same, refl)),
     )
 
-pub ruleset speaking = (word_said, repeated_none, repeated_some, line_blank, line_comment, line_wrong, line_says, line_evaluates, line_said, long_said)
+pub ruleset speaking = (word_said, repeated_none, repeated_some, line_blank, line_comment, line_wrong, line_says, line_evaluates, line_reloads, line_sources, line_said, long_said)
+
+pub ruleset naming = (name_kept, name_refused)

@@ -1,7 +1,9 @@
 pub mod Looks
 pub mod Blamed
 pub mod Says
+pub mod Again
 pub mod Quitting
+pub mod Sourced
 pub mod News
 pub mod Onward
 pub mod Moves

@@ -38,7 +38,7 @@ use Rattle.mpd_console.specs.declared.moves.Doing.TheVariants.{Asks, Undoes, See
 use Rattle.mpd_runs.specs.declared.way.Way.TheVariants as way
 use Rattle.mpd_runs.specs.Seek.{count_words}
 use Rattle.mpd_console.specs.News.{Known, known_for, news_text}
-use Rattle.mpd_console.specs.Onward.{on_line, begins, is_line, steps_to_line, steps_to_wake, finish_rank}
+use Rattle.mpd_console.specs.Onward.{on_line, begins, is_line, steps_to, steps_to_wake, is_rank, depth_before, finish_rank}
 use Rattle.mpd_vocabulary.specs.declared.word.Word.{Word}
 use Rattle.mpd_vocabulary.specs.declared.word.Word.TheVariants as word
 
@@ -118,11 +118,19 @@ up_to t w n = no_further n (run_command t w STEPS_MAX)
 
 -- up to where a rank comes to a line, as `run` goes on; what is no line is refused as a breakpoint on it is
 abbrev pub until_command : Trail → World → ℕ → Command
-until_command t w n = if is_line n then up_to t w (steps_to_line t w n) else command.Break (on_line n)
+until_command t w n = if is_line n then up_to t w (steps_to t w (on_line n)) else command.Break (on_line n)
 
 -- where no statement begins at the line nothing is done
 abbrev pub until_doing : Trail → World → ℕ → Doing
 until_doing t w n = if is_line n && not (begins t.program.lines n) then Looks else Asks (until_command t w n)
+
+-- up to where a rank has gone on; one that isn't there is told of
+abbrev pub until_rank_doing : Trail → World → ℕ → Doing
+until_rank_doing t w p = if is_rank w p then Asks (up_to t w (steps_to t w (on.Rank p))) else Looks
+
+-- back to before the last local step of a rank; one that isn't there is told of
+abbrev pub back_rank_doing : Trail → World → ℕ → Doing
+back_rank_doing t w p = if is_rank w p then Asks (command.Goto (depth_before p t.steps t.depth)) else Looks
 
 -- up to where a rank goes on that waits
 abbrev pub finish_command : Trail → World → ℕ → Command
@@ -139,8 +147,10 @@ abbrev pub doing_of : Trail → World → Word → Doing
 doing_of t w (word.Next n) = Asks (next_command t w n)
 doing_of t w (word.Run n) = Asks (run_command t w n)
 doing_of t w (word.Until n) = until_doing t w n
+doing_of t w (word.UntilRank p) = until_rank_doing t w p
 doing_of t w (word.Finish p) = finish_doing t w (finish_rank t p)
 doing_of t w (word.Back n) = Asks (command.Back n)
+doing_of t w (word.BackRank p) = back_rank_doing t w p
 doing_of t w word.RunBack = Asks command.RunBack
 doing_of t w word.UndoChoice = Undoes
 doing_of t w (word.Goto n) = Asks (goto_command t n)
@@ -187,6 +197,7 @@ abbrev pub step_for : Trail → World → Word → Option Step
 step_for t w (word.Next n) = picked (slice_get t.steps t.depth) n (decision w)
 step_for t w (word.Run n) = redone_step t (run_command t w n)
 step_for t w (word.Until n) = redone_step t (run_command t w STEPS_MAX)
+step_for t w (word.UntilRank p) = redone_step t (run_command t w STEPS_MAX)
 step_for t w (word.Finish p) = redone_step t (run_command t w STEPS_MAX)
 step_for t w (word.Redo n) = redone_step t (redo_command t n)
 step_for t w (word.Step a) = Some a
@@ -215,7 +226,7 @@ way_known t w x = known_for t w x (gone_by t (step_for t w x))
 
 -- ---- what is told of a move
 
--- the step that was taken, with the depth behind it; or the depth alone
+-- the step that was taken, with the depth after it; or the depth alone
 abbrev pub moved_line : ℕ → List ℕ → List ℕ
 moved_line depth [] = line (codes "depth " ++ decimal depth)
 moved_line depth (b ∷ lead) = line (decimal depth ++ 32 ∷ b ∷ lead)
@@ -243,20 +254,21 @@ abbrev pub hit_line : List Declared → List (Option Break) → Option ℕ → L
 hit_line ds places None = []
 hit_line ds places (Some n) = break_line_of ds n (break_at places n)
 
-abbrev pub behind_choice : List ℕ
-behind_choice = line (codes "stopped: behind the choice")
+abbrev pub after_choice : List ℕ
+after_choice = line (codes "stopped: after the choice")
 
 -- what goes on as `run` does takes a single step only at a choice, and says so where that hits no breakpoint
 abbrev pub along_line : Word → Option ℕ → List ℕ
-along_line (word.Run n) None = behind_choice
-along_line (word.Until n) None = behind_choice
-along_line (word.Finish p) None = behind_choice
+along_line (word.Run n) None = after_choice
+along_line (word.Until n) None = after_choice
+along_line (word.UntilRank p) None = after_choice
+along_line (word.Finish p) None = after_choice
 along_line other hit = []
 
 abbrev pub hit_text : List Declared → List (Option Break) → Word → Option ℕ → List ℕ
 hit_text ds places x hit = hit_line ds places hit ++ along_line x hit
 
--- behind a step that is told
+-- after a step that is told
 abbrev pub stepped_text : Trail → List (Option Break) → Word → List ℕ → List ℕ
 stepped_text t places x [] = []
 stepped_text t places x (b ∷ lead) = hit_text t.program.decls places x (last_hit places t)
@@ -270,7 +282,7 @@ abbrev pub back_words : Word → List ℕ
 back_words word.RunBack = codes " back"
 back_words other = []
 
--- a run back stops before the step that hits a breakpoint, and a run behind it
+-- a run back stops before the step that hits a breakpoint, and a run after it
 abbrev pub before_words : Word → List ℕ
 before_words word.RunBack = codes "before "
 before_words other = []
@@ -283,9 +295,16 @@ abbrev pub most_words : Word → List ℕ
 most_words (word.Finish p) = line (codes "stopped: that call is over")
 most_words other = line (codes "stopped: as many steps as were asked for")
 
+abbrev pub gone_on_text : ℕ → List ℕ
+gone_on_text p = codes "stopped: rank " ++ decimal p ++ codes " has gone on"
+
+abbrev pub gone_on_line : ℕ → List ℕ
+gone_on_line p = line (gone_on_text p)
+
 -- why it made no more steps than it was to make
 abbrev pub most_line : Word → List ℕ
 most_line (word.Until n) = line (codes "stopped: a rank is at line " ++ decimal n)
+most_line (word.UntilRank p) = gone_on_line p
 most_line other = most_words other
 
 -- why a run stopped, where that isn't told by where it stands
@@ -365,7 +384,7 @@ stands_behind next other = next
 abbrev pub refused_text : List ℕ → Trail → World → Word → Refusal → List ℕ
 refused_text text t w x r = refusal_line (asks_next w x) x r ++ (if stands_behind (asks_next w x) r then standing_text text t w else [])
 
--- ---- what is told of a reply, behind the request, given the text of the script
+-- ---- what is told of a reply, after the request, given the text of the script
 
 abbrev pub answer_text : List ℕ → Trail → World → List (Option Break) → Word → List ℕ → Known → Answer → List ℕ
 answer_text text t w places x lead k (answer.Depth depth) = move_text text t w places x depth lead k

@@ -38,6 +38,7 @@ known_of t w gone = told t.depth (printed_counts w) (lost_calls w) gone
 -- Words that go back tell nothing of this, so nothing but the depth has to be known for them, and no memory is asked for.
 abbrev pub goes_back : Word → Bool
 goes_back (word.Back n) = true
+goes_back (word.BackRank p) = true
 goes_back word.RunBack = true
 goes_back word.UndoChoice = true
 goes_back other = false
@@ -51,7 +52,7 @@ known_for t w x gone = if goes_back x then told t.depth [] [] 0 else known_of t 
 abbrev pub prints_line : ℕ → List ℤ → List ℕ
 prints_line p values = line (codes "rank " ++ decimal p ++ codes " prints" ++ spaced signed_decimal values)
 
--- the values behind the first so many
+-- the values after the first so many
 abbrev pub prints_behind : ℕ → ℕ → List ℤ → List ℕ
 prints_behind p count values = if nat_lt count (length values) then prints_line p (drop count values) else []
 

@@ -1,5 +1,5 @@
--- How far `until` and `finish` go on (docs/CONSOLE.md, "Words that move").
-use Rattle.std.specs.Prelude.{ℕ, ◌+◌, ◌-◌, ◌==◌, Bool, true, false, ◌&&◌, nat_le, if◌then◌else◌, List, drop, slice_get, slice_set, Option, Some, None, option_and_then}
+-- How far `until` and `finish` go on, and `back rank` goes back (docs/CONSOLE.md, "Words that move").
+use Rattle.std.specs.Prelude.{ℕ, zero, suc, ◌+◌, ◌-◌, ◌==◌, Bool, true, false, ◌&&◌, nat_le, nat_lt, if◌then◌else◌, List, length, drop, slice_get, slice_set, Option, Some, None, option_and_then}
 use Rattle.std.specs.List.{list_any, position}
 use Rattle.mpd_model.specs.declared.limits.TheConstants.{STEPS_MAX}
 use Rattle.mpd_session.specs.declared.limits.TheConstants.{LINES_MAX}
@@ -16,7 +16,7 @@ use Rattle.mpd_model.specs.runs.Running.{all_applied, stop_of}
 use Rattle.mpd_model.specs.runs.Trail.{Trail, forgotten}
 use Rattle.mpd_policy.specs.Single.{ran_on}
 
--- ---- up to a line
+-- ---- up to where a breakpoint would stop, as one of a line
 
 -- the lines that a breakpoint may be on
 abbrev pub is_line : ℕ → Bool
@@ -30,9 +30,9 @@ begins lines n = list_any (λ l. l == n) lines
 abbrev pub on_line : ℕ → Break
 on_line n = on.Line n None None
 
--- such a one, and no other
-abbrev pub alone : ℕ → List (Option Break)
-alone n = slice_set no_breaks 0 (Some (on_line n))
+-- a breakpoint, and no other
+abbrev pub alone : Break → List (Option Break)
+alone b = slice_set no_breaks 0 (Some b)
 
 -- as many steps as a run made that stopped for a breakpoint; else as many as there can be
 abbrev pub steps_for : ℕ → Cause → ℕ
@@ -42,9 +42,9 @@ steps_for n other = STEPS_MAX
 abbrev pub steps_by : Stop → ℕ
 steps_by s = steps_for s.steps s.cause
 
--- how many steps a run takes to where a rank comes to a line
-unfoldable pub steps_to_line : Trail → World → ℕ → ℕ
-steps_to_line t w n = steps_by (stop_of (ran_on t.program (alone n) STEPS_MAX t.depth w))
+-- how many steps a run takes to where one hits a breakpoint
+unfoldable pub steps_to : Trail → World → Break → ℕ
+steps_to t w b = steps_by (stop_of (ran_on t.program (alone b) STEPS_MAX t.depth w))
 
 -- ---- up to the end of a call
 
@@ -67,6 +67,27 @@ ran_free t w = all_applied (forgotten t) (ran_on t.program no_breaks STEPS_MAX t
 -- how many steps a run takes to where a rank goes on that waits
 unfoldable pub steps_to_wake : Trail → World → ℕ → ℕ
 steps_to_wake t w p = steps_with (position (frees p) (drop t.depth (ran_free t w).steps))
+
+-- ---- of a rank
+
+-- one that is there
+abbrev pub is_rank : World → ℕ → Bool
+is_rank w p = nat_lt p (length w.ranks)
+
+-- ---- back to before the last local step of a rank
+
+abbrev pub is_local_of : ℕ → Step → Bool
+is_local_of p (Local q) = q == p
+is_local_of p other = false
+
+abbrev pub is_local_at : ℕ → Option Step → Bool
+is_local_at p None = false
+is_local_at p (Some a) = is_local_of p a
+
+-- the greatest depth below this one that such a step leads away from; 0 where there is none
+abbrev pub depth_before : ℕ → List Step → ℕ → ℕ
+depth_before p steps zero = 0
+depth_before p steps (suc n) = if is_local_at p (slice_get steps n) then n else depth_before p steps n
 
 -- ---- whose call
 

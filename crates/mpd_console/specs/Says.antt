@@ -9,6 +9,7 @@ use Rattle.mpd_model.specs.script.Program.{Program}
 use Rattle.mpd_model.specs.steps.World.{World, start}
 use Rattle.mpd_model.specs.runs.Trail.{Trail, world_of}
 use Rattle.mpd_model.specs.texts.Texts.{line}
+use Rattle.mpd_model.specs.texts.Words.{words}
 use Rattle.mpd_policy.specs.declared.ending.Ending.{Ending}
 use Rattle.mpd_explore.specs.declared.report.Witness.{Witness}
 use Rattle.mpd_explore.specs.Witness.{end_of}
@@ -24,7 +25,7 @@ use Rattle.mpd_vocabulary.specs.declared.word.Word.{Word}
 use Rattle.mpd_vocabulary.specs.declared.word.Word.TheVariants as word
 use Rattle.mpd_vocabulary.specs.declared.word.WordFault.{WordFault}
 use Rattle.mpd_vocabulary.specs.declared.read.Line.{Line}
-use Rattle.mpd_vocabulary.specs.declared.read.Line.TheVariants.{Blank, Comment, Says, Evaluates, Wrong}
+use Rattle.mpd_vocabulary.specs.declared.read.Line.TheVariants.{Blank, Comment, Says, Evaluates, Reloads, Sources, Wrong}
 use Rattle.mpd_vocabulary.specs.Reading.{line_of, behind_word}
 use Rattle.mpd_console.specs.declared.prompts.Look.{Look}
 use Rattle.mpd_console.specs.declared.moves.Doing.{Doing}
@@ -46,11 +47,12 @@ use Rattle.mpd_runs.specs.declared.way.Way.{Way}
 use Rattle.mpd_runs.specs.Runs.{fuel_at, none_line}
 use Rattle.mpd_runs.specs.Seek.{found_run, numbered_run, nothing_line, LeadsTo, LiesAhead, TooMany, ahead_line, no_run_line}
 use Rattle.mpd_runs.specs.LastChoice.{last_choice, no_choice_line}
-use Rattle.mpd_vocabulary.specs.Faults.{fault_text}
+use Rattle.mpd_vocabulary.specs.Faults.{fault_text, word_at}
 use Rattle.mpd_lines.specs.Echo.{echo, long_echo}
 use Rattle.mpd_lines.specs.Folding.{folded_at}
+use Rattle.mpd_marks.specs.Marked.{marked}
 
--- the lines that stand in the place of an answer: where memory is refused before anything was done, and behind that
+-- the lines that stand in the place of an answer: where memory is refused before anything was done, and after that
 abbrev pub memory_line : List ℕ
 memory_line = line (codes "refused: memory")
 
@@ -65,7 +67,7 @@ abbrev pub at_world : (World → List ℕ) → Option World → List ℕ
 at_world tell None = []
 at_world tell (Some w) = tell w
 
--- ---- answers, each with the prompt behind it
+-- ---- answers, each with the prompt after it
 
 abbrev pub prompt : Bool → Held → List ℕ
 prompt false s = []
@@ -74,6 +76,10 @@ prompt true s = codes "(" ++ decimal s.trail.depth ++ codes ") "
 -- an answer whose long lines go on in further lines
 abbrev pub said : Look → Held → List ℕ → List ℕ
 said p s told = folded_at p.width told ++ prompt p.is_prompting s
+
+-- the same of one that has the places of marks of the script beside lines
+abbrev pub said_marked : Look → List ℕ → Held → List ℕ → List ℕ
+said_marked p script s told = said p s (marked script told)
 
 abbrev pub lead_said : Held → Word → List ℕ
 lead_said s x = at_world (λ w. lead_text s.trail w x) (world_of s.trail)
@@ -87,27 +93,27 @@ abbrev pub known_in : Held → Word → Known
 known_in s x = known_at s.trail x (world_of s.trail)
 
 abbrev pub reply_said : Look → List ℕ → Held → Word → List ℕ → Known → Reply → List ℕ
-reply_said p script s x lead k r = said p s (at_world (λ w. reply_text script s.trail w s.breaks x lead k r) (world_of s.trail))
+reply_said p script s x lead k r = said_marked p script s (at_world (λ w. reply_text script s.trail w s.breaks x lead k r) (world_of s.trail))
 
--- behind `quit` no prompt stands
+-- after `quit` no prompt stands
 abbrev pub prompts_behind : Bool → Word → Bool
 prompts_behind p word.Quit = false
 prompts_behind p other = p
 
--- what a word shows as it is, however long its lines are
-abbrev pub laid_out : ℕ → Word → List ℕ → List ℕ
-laid_out width (word.List rank) told = told
-laid_out width word.Show told = told
-laid_out width word.Words told = told
-laid_out width word.Picture told = told
-laid_out width other told = folded_at width told
+-- what a word shows as it is, however long its lines are; of any other word the places of marks stand beside lines
+abbrev pub laid_out : ℕ → List ℕ → Word → List ℕ → List ℕ
+laid_out width script (word.List rank) told = told
+laid_out width script word.Show told = told
+laid_out width script word.Words told = told
+laid_out width script word.Picture told = told
+laid_out width script other told = folded_at width (marked script told)
 
 abbrev pub look_said : Look → List ℕ → Held → Word → List ℕ
-look_said p script s x = laid_out p.width x (at_world (λ w. look_text s.trail w s.breaks script x) (world_of s.trail)) ++ prompt (prompts_behind p.is_prompting x) s
+look_said p script s x = laid_out p.width script x (at_world (λ w. look_text s.trail w s.breaks script x) (world_of s.trail)) ++ prompt (prompts_behind p.is_prompting x) s
 
 -- of a run that lies ahead, which ends so and has so many steps more than are taken; of the run of a number this, too
 abbrev pub laid_said : Look → List ℕ → Held → Option ℕ → Ending → ℕ → List ℕ
-laid_said p script s number e ahead = said p s (ahead_line s.trail.program.lines number e ahead ++ at_world (λ w. standing_text script s.trail w) (world_of s.trail))
+laid_said p script s number e ahead = said_marked p script s (ahead_line s.trail.program.lines number e ahead ++ at_world (λ w. standing_text script s.trail w) (world_of s.trail))
 
 -- of steps that lie ahead from the start of a script: how the run ends that they make
 abbrev pub AlongSaid : Program → Mode → Look → List ℕ → List Step → List ℕ → Type 0
@@ -127,7 +133,7 @@ fault_said p s z f = said p s (fault_text z f)
 abbrev pub none_said : Scope → Look → Held → Way → List ℕ
 none_said k p s x = said p s (at_world (λ w. nothing_line k x s.trail w) (world_of s.trail))
 
--- of what stands behind `print` and is to be an expression
+-- of what stands after `print` and is to be an expression
 abbrev pub value_said : Look → Held → List ℕ → List ℕ
 value_said p s z = said p s (at_world (λ w. asked_text s.trail.program w z) (world_of s.trail))
 
@@ -144,7 +150,7 @@ Looked whole text = (text ≡ whole) ⊎ (text ≡ memory_line)
 abbrev pub asking : Command → Request
 asking c = record { command = c; at = None }
 
--- A word that asks the session: the session behind it is the one behind that request, and its reply is told; or memory was refused, and
+-- A word that asks the session: the session after it is the one after that request, and its reply is told; or memory was refused, and
 -- the session is as before.
 abbrev pub Carried : Look → List ℕ → Held → Word → Command → Held → List ℕ → Type 0
 Carried p script s x c t text =
@@ -199,12 +205,12 @@ FollowedBy p script s n (Some r) t text = LaidBy p script s (Some n) r t text
 -- a line is told, or memory for it was refused; and what `goto` answers of a depth
 abbrev pub IsGone : Look → List ℕ → Held → ℕ → List ℕ → Held → List ℕ → Type 0
 IsGone p script s depth told t text =
-    ((rest : List ℕ) × (text ≡ folded_at p.width told ++ rest) × Carried p script s (word.Goto depth) (goto_command s.trail depth) t rest) ⊎ ((t ≡ s) × (text ≡ memory_line))
+    ((rest : List ℕ) × (text ≡ folded_at p.width (marked script told) ++ rest) × Carried p script s (word.Goto depth) (goto_command s.trail depth) t rest) ⊎ ((t ≡ s) × (text ≡ memory_line))
 
 -- The step that decided is told, and it is gone to, as `goto` goes there; or where it isn't known which, that is told.
 abbrev pub BlamedAs : Look → List ℕ → Held → Blame → List ℕ → Held → List ℕ → Type 0
 BlamedAs p script s (blame_is.At d) told t text = IsGone p script s d.depth told t text
-BlamedAs p script s b told t text = (t ≡ s) × Looked (said p s told) text
+BlamedAs p script s b told t text = (t ≡ s) × Looked (said_marked p script s told) text
 
 -- It is told of the run that is kept; or memory was refused, and the session is as before.
 abbrev pub BlamedBy : Look → List ℕ → Held → Held → List ℕ → Type 0
@@ -237,12 +243,13 @@ Evaluated p s old z new text = ((new ≡ kept_if (is_asked s.trail.program.decls
 -- ---- lines
 
 -- what a console holds: a session, the text of its script, what an empty line repeats, which is an expression or, where that is empty,
--- a word, and how answers look
+-- a word, the file whose words are to be answered, which is empty if none is, and how answers look
 pub record Console : Type 0 where
   pub session : Held
   pub script : List ℕ
   pub last : Option Word
   pub asked : List ℕ
+  pub named : List ℕ
   pub look : Look
 
 abbrev pub look_code : Coded Look
@@ -252,11 +259,12 @@ look_code =
 
 abbrev pub console_code : Coded Console
 console_code =
-    code_by (Held × (List ℕ × (Option Word × (List ℕ × Look)))) (coded× held_code (coded× (coded_list coded_ℕ) (coded× (coded_option word_row.the_row.coded) (coded× (coded_list coded_ℕ) look_code))))
-    (λ d. (d.session, (d.script, (d.last, (d.asked, d.look))))) (λ q. record { session = q.0; script = q.1.0; last = q.1.1.0; asked = q.1.1.1.0; look = q.1.1.1.1 }) (λ _. refl)
+    code_by (Held × (List ℕ × (Option Word × (List ℕ × (List ℕ × Look)))))
+    (coded× held_code (coded× (coded_list coded_ℕ) (coded× (coded_option word_row.the_row.coded) (coded× (coded_list coded_ℕ) (coded× (coded_list coded_ℕ) look_code)))))
+    (λ d. (d.session, (d.script, (d.last, (d.asked, (d.named, d.look)))))) (λ q. record { session = q.0; script = q.1.0; last = q.1.1.0; asked = q.1.1.1.0; named = q.1.1.1.1.0; look = q.1.1.1.1.1 }) (λ _. refl)
 
 abbrev pub WordSays : Console → Word → List ℕ → Console → Type 0
-WordSays d x text e = (e.script ≡ d.script) × (e.last ≡ d.last) × (e.asked ≡ d.asked) × (e.look ≡ d.look) × Answered d.look d.script d.session x e.session text
+WordSays d x text e = (e.script ≡ d.script) × (e.last ≡ d.last) × (e.asked ≡ d.asked) × (e.named ≡ d.named) × (e.look ≡ d.look) × Answered d.look d.script d.session x e.session text
 
 abbrev pub RepeatSays : Console → Option Word → List ℕ → Console → Type 0
 RepeatSays d None text e = (e ≡ d) × Looked (prompt d.look.is_prompting d.session) text
@@ -272,16 +280,23 @@ abbrev pub BlankSays : Console → List ℕ → List ℕ → Console → Type 0
 BlankSays d [] text e = RepeatSays d d.last text e
 BlankSays d (b ∷ z) text e = (e ≡ d) × Looked (value_said d.look d.session (b ∷ z)) text
 
--- what an empty line does behind a word: `next` lists the candidates of the next choice, and doesn't take one of the same number
+-- what an empty line does after a word: `next` lists the candidates of the next choice, and doesn't take one of the same number
 abbrev pub again : Word → Word
 again (word.Next n) = word.Next None
 again other = other
+
+-- a name is kept, which what reads files takes, or memory for it was refused
+abbrev pub NameSays : Console → List ℕ → List ℕ → Console → Type 0
+NameSays d name text e = ((e ≡ record d { named = name }) × (text ≡ [])) ⊎ ((e ≡ record d { named = [] }) × (text ≡ memory_line))
 
 abbrev pub LineSays : Console → Line → List ℕ → List ℕ → Console → Type 0
 LineSays d Blank z text e = BlankSays d d.asked text e
 LineSays d Comment z text e = (e ≡ d) × Looked (prompt d.look.is_prompting d.session) text
 LineSays d (Says x) z text e = WordSays (record d { last = Some (again x); asked = [] }) x text e
 LineSays d Evaluates z text e = (e ≡ record d { asked = e.asked }) × Evaluated d.look d.session d.asked (behind_word z) e.asked text
+-- what reads the script again answers
+LineSays d Reloads z text e = (e ≡ d) × (text ≡ [])
+LineSays d Sources z text e = NameSays d (word_at (words z) 1) text e
 LineSays d (Wrong f) z text e = (e ≡ d) × Looked (fault_said d.look d.session z f) text
 
 abbrev pub SaysBy : Bool → Console → List ℕ → List ℕ → Console → Type 0

@@ -1,4 +1,4 @@
--- What is told of an expression that stands behind `print` (docs/CONSOLE.md, "Looks").
+-- What is told of an expression that stands after `print` (docs/CONSOLE.md, "Looks").
 use Rattle.std.specs.Prelude.{◌≡◌, ℕ, ◌+◌, ◌⊎◌, Bool, true, false, not, ◌&&◌, ◌==◌, if◌then◌else◌, List, [], ◌∷◌, ◌++◌, length, map, take, drop, slice_get, Option, Some, None, Result, Ok, Err, codes}
 use Rattle.std.specs.Fmt.{decimal, signed_decimal}
 use Rattle.std.specs.List.{flat_map}
@@ -47,11 +47,11 @@ abbrev pub is_refused_at : ℕ → Result (Term × Option ℕ) ReadFault → Boo
 is_refused_at place (Ok a) = false
 is_refused_at place (Err f) = is_expected f.code && f.place == place
 
--- whether the text that ends with the token, behind the front and a space, isn't refused at that token
+-- whether the text that ends with the token, after the front and a space, isn't refused at that token
 abbrev pub allows : List Declared → List ℕ → List ℕ → Bool
 allows ds front token = not (is_refused_at (length front + 1) (asking ds (front ++ 32 ∷ token)))
 
--- what stands first in a table of those that may stand behind the front; an entry has how it is told, and a token that stands for it
+-- what stands first in a table of those that may stand after the front; an entry has how it is told, and a token that stands for it
 abbrev pub first_allowed : List Declared → List ℕ → List (List ℕ × List ℕ) → List ℕ
 first_allowed ds front [] = []
 first_allowed ds front (k ∷ ks) = if allows ds front k.1 then k.0 else first_allowed ds front ks
@@ -87,7 +87,7 @@ fault_of ds text other place = bad_fault (drop place text)
 
 -- ---- either
 
--- what is told of what stands behind `print`
+-- what is told of what stands after `print`
 abbrev pub asked_by : Program → World → List ℕ → Result (Term × Option ℕ) ReadFault → List ℕ
 asked_by s w text (Ok a) = values_text s w a.0 a.1
 asked_by s w text (Err f) = fault_of s.decls text f.code f.place

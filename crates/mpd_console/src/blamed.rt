@@ -4,6 +4,7 @@ ghost use Rattle.std.specs.Prelude.{◌≡◌, ◌+◌, ◌<◌, ◌≤◌, ◌+
 ghost use Rattle.std.specs.List.{position};
 ghost use Rattle.mpd_model.specs.runs.Trail.{step_eq};
 ghost use Rattle.mpd_lines.specs.Folding.{folded_at};
+ghost use Rattle.mpd_marks.specs.Marked.{marked};
 ghost use Rattle.mpd_console.specs.Blamed as way;
 ghost use Rattle.mpd_console.specs.Blamed.{kept_limit, IsWhole, TellsBlame};
 ghost use Rattle.mpd_console.specs.Says as spec;
@@ -11,7 +12,7 @@ ghost use Rattle.mpd_console.specs.Says.{Adds, Looked, IsGone, BlamedBy};
 
 use crate::desk::{MEMORY, Screen, add, carry_out};
 use crate::moves::goto_command;
-use crate::prompts::{Look, said};
+use crate::prompts::{marked_bytes, said_marked};
 use mpd_blame::{Blame, blame_run, push_blame};
 use mpd_core::{Core, Debugger};
 use mpd_lines::{ROOM, push_all, push_folded_at};
@@ -166,16 +167,17 @@ fn blame_in(alloc: Global, session: &Session<'_>) -> Result<BlameLine, AllocErro
     told
 }
 
-/// Adds a line, and keeps room for a short answer after it.
-fn push_line(line: &str, width: usize, out: &mut Vec<u8>) -> Result<(), AllocError>
-    ensures text { OnOk result (out.new.items ≡ out.old.items ++ folded_at width line.now) }
+/// Adds a line with the places of marks of the script beside lines, and keeps room for a short answer after it.
+fn push_line(line: &str, screen: Screen<'_>, out: &mut Vec<u8>) -> Result<(), AllocError>
+    ensures text { OnOk result (out.new.items ≡ out.old.items ++ folded_at screen.entry.look.width (marked screen.entry.script.now line.now)) }
     ensures room { OnOk result (vec_len out.new + ROOM ≤ vec_capacity out.new) }
     ensures err { OnErr result (out.new.items ≡ out.old.items) }
     ensures len { OnErr result (vec_len out.new ≡ vec_len out.old) }
     ensures capacity { vec_capacity out.old ≤ vec_capacity out.new }
 {
+    let told = marked_bytes(*out.allocator(), screen.script, line)?;
     let mut text = Vec::new(*out.allocator());
-    push_folded_at(&mut text, line.as_bytes(), width)?;
+    push_folded_at(&mut text, &told, screen.look.width)?;
     out.reserve(text.len() + ROOM)?;
     push_all(out, &text);
     Ok(())
@@ -195,7 +197,7 @@ fn go_there(
     ensures gone { Adds (IsGone screen.entry.look screen.entry.script.now session.old depth line.now session.new) out.old.items out.new.items }
     ensures capacity { vec_capacity out.old ≤ vec_capacity out.new }
 {
-    let Ok(()) = push_line(line, screen.look.width, out) else {
+    let Ok(()) = push_line(line, screen, out) else {
         return push_all(out, MEMORY);
     };
     let command = goto_command(session.debugger(), depth);
@@ -204,12 +206,12 @@ fn go_there(
 
 /// Tells that it is not known by which step it was decided, or that it isn't decided.
 #[tactic(auto, using(crate::proofs::SaidLemmas::telling))]
-fn stay(alloc: Global, session: &Session<'_>, look: Look, line: &str, out: &mut Vec<u8>)
+fn stay(alloc: Global, session: &Session<'_>, screen: Screen<'_>, line: &str, out: &mut Vec<u8>)
     requires room { vec_len out.old + ROOM ≤ vec_capacity out.old }
-    ensures told { Adds (Looked (spec.said look session.now line.now)) out.old.items out.new.items }
+    ensures told { Adds (Looked (spec.said_marked screen.entry.look screen.entry.script.now session.now line.now)) out.old.items out.new.items }
     ensures capacity { vec_capacity out.old ≤ vec_capacity out.new }
 {
-    let Ok(text) = said(alloc, session, look, line) else {
+    let Ok(text) = said_marked(alloc, session, screen.look, screen.script, line) else {
         return push_all(out, MEMORY);
     };
     add(&text, MEMORY, out)
@@ -234,7 +236,7 @@ pub(crate) fn tell_blame(
     match told.blame {
         Blame::At(decided) => go_there(alloc, session, screen, decided.depth, line, out),
         Blame::FromStart | Blame::OrEarlier(_) | Blame::Open | Blame::Unknown => {
-            stay(alloc, session, screen.look, line, out)
+            stay(alloc, session, screen, line, out)
         }
     }
 }

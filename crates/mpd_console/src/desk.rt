@@ -1,42 +1,37 @@
 //! What answers the lines of the console: a desk with a session.
 
-ghost use Rattle.std.specs.Prelude.{◌≡◌, ◌+◌, ◌-◌, ◌≤◌, ◌++◌, ℕ, Bool, List, None, IfOk, IfSome, OnOk, [], length, string_bytes, vec_len, vec_capacity};
-ghost use Rattle.mpd_session.specs.Respond.{laid};
-ghost use Rattle.mpd_runs.specs.Seek.{LiesAhead, FoundLies, no_run_line};
-ghost use Rattle.mpd_runs.specs.LastChoice.{last_choice as last_choice_of, no_choice_line};
+ghost use Rattle.std.specs.Prelude.{◌≡◌, ◌+◌, ◌≤◌, ◌++◌, None, true, IfOk, OnOk, OnErr, [], length, string_bytes, vec_len, vec_capacity};
+ghost use Rattle.mpd_session.specs.Respond.{may_want, respond};
 ghost use Rattle.mpd_vocabulary.specs.Reading.{behind_word, line_of};
+ghost use Rattle.mpd_lines.specs.Folding.{folded_at};
+ghost use Rattle.mpd_marks.specs.Marked.{marked};
 ghost use Rattle.mpd_console.specs.News.{told};
 ghost use Rattle.mpd_console.specs.Moves.{told_hit};
 ghost use Rattle.mpd_console.specs.Says as spec;
-ghost use Rattle.mpd_console.specs.Says.{Adds, OrElse, Told, Carried, UndoneBy, SoughtFrom, FollowedBy, Answered, BlankSays, Evaluated, Looked, RepeatSays};
+ghost use Rattle.mpd_console.specs.Says.{Adds, OrElse, Told, Carried, Answered, BlankSays, Evaluated, Looked, RepeatSays};
 
 use crate::blamed::tell_blame;
+use crate::found::{follow, seek, undo_choice};
 use crate::looks::push_look;
 use crate::moves::{Doing, doing_of, lead_of, push_reply};
 use crate::news::Lead;
-use crate::prompts::{Look, idle_text, push_idle, said};
+use crate::prompts::{Look, idle_text, marked_bytes, push_idle, said, said_marked};
 use crate::standing::Scene;
 use crate::values::{evaluate, evaluate_again, keeps_none};
 use itoa::Buffer;
-use mpd_explain::push_standing;
-use mpd_explore::Ending;
 use mpd_lines::{LINE_ROOM, LineDesk, ROOM, push_all, push_echo, push_folded_at, push_long_echo};
 use mpd_model::LINE_MAX;
-use mpd_policy::decide;
-use mpd_runs::{
-    Search, Sought, Way, WayCounts, WholeRun, last_choice, numbered_run, push_ahead,
-    push_no_choice, push_no_run, push_none, seek as seek_run,
-};
 use mpd_session::{Command, Reply, Request, Session};
-use mpd_vocabulary::{Line, Word, WordFault, behind_word, line_of, push_fault};
+use mpd_vocabulary::{Line, Word, WordFault, behind_word, line_of, push_fault, word_at};
 use std::alloc::{AllocError, Global};
 use std::marker::Model;
+use std::mem;
 
 /// What stands in the place of an answer where memory is refused before anything was done.
 pub(crate) const MEMORY: &[u8] = b"refused: memory\n";
 
 /// What stands in the place of an answer whose text is refused memory: what the word does is done.
-const UNPRINTED: &[u8] = b"done, but memory for the answer was refused\n";
+pub(crate) const UNPRINTED: &[u8] = b"done, but memory for the answer was refused\n";
 
 /// What answers a line that is too long.
 const TOO_LONG: &[u8] = b"refused: this line is too long\n";
@@ -48,17 +43,6 @@ pub struct Screen<'t> {
     pub script: &'t [u8],
     /// How answers look.
     pub look: Look,
-}
-
-/// A run whose steps lie ahead.
-#[derive(Clone, Copy)]
-pub(crate) struct RunAhead<'r> {
-    /// Its number, where it was asked for by that.
-    pub(crate) number: Option<usize>,
-    /// How it ends.
-    pub(crate) ending: &'r Ending,
-    /// How many of its steps lie ahead.
-    pub(crate) steps: usize,
 }
 
 /// Adds a text, or the line that stands in its place where that is refused memory.
@@ -86,7 +70,7 @@ fn hit_told(session: &mut Session<'_>, lead: &str) -> Result<Option<usize>, Allo
     session.last_hit()
 }
 
-/// The answer to a word by the reply of the session, behind it, given the breakpoint that the step hits which was told.
+/// The answer to a word by the reply of the session, after it, given the breakpoint that the step hits which was told.
 #[tactic(auto, using(crate::proofs::SaidLemmas::replying))]
 fn reply_text(
     alloc: Global,
@@ -109,7 +93,7 @@ fn reply_text(
         hit,
     };
     push_reply(alloc, scene, &mut told, lead, reply)?;
-    said(alloc, session, screen.look, &told)
+    said_marked(alloc, session, screen.look, screen.script, &told)
 }
 
 /// The same, whatever that step hits. The session is as it was found.
@@ -128,7 +112,7 @@ fn told_text(
     reply_text(alloc, session, screen, lead, reply, hit)
 }
 
-/// Adds the answer to a word by the reply of the session, behind it. The session is as it was found.
+/// Adds the answer to a word by the reply of the session, after it. The session is as it was found.
 #[tactic(auto, using(crate::proofs::SaidLemmas::telling))]
 fn tell_reply(
     alloc: Global,
@@ -185,7 +169,7 @@ pub(crate) fn carry_out(
     }
 }
 
-/// Whether a prompt stands behind the answer to a word that changes nothing.
+/// Whether a prompt stands after the answer to a word that changes nothing.
 fn prompts_behind(is_prompting: bool, word: Word) -> bool
     ensures { result ≡ spec.prompts_behind is_prompting word }
 {
@@ -195,13 +179,36 @@ fn prompts_behind(is_prompting: bool, word: Word) -> bool
     }
 }
 
-/// Adds the answer to a word that changes nothing: its long lines go on in further lines, but of a word that shows them as they are.
-fn push_laid_out(out: &mut Vec<u8>, width: usize, word: Word, told: &[u8]) -> Result<(), AllocError>
-    ensures { OnOk result (out.new.items ≡ out.old.items ++ spec.laid_out width word told.now) }
+/// Adds a text with the places of marks of the script beside lines, whose long lines go on in further lines.
+fn push_marked_at(
+    alloc: Global,
+    out: &mut Vec<u8>,
+    width: usize,
+    script: &[u8],
+    told: &str,
+) -> Result<(), AllocError>
+    ensures { OnOk result (out.new.items ≡ out.old.items ++ folded_at width (marked script.now told.now)) }
+{
+    let text = marked_bytes(alloc, script, told)?;
+    push_folded_at(out, &text, width)
+}
+
+/// Adds the answer to a word that changes nothing: of a word that shows its lines as they are just these, of any other with the places of
+/// marks beside lines, and its long lines go on in further lines.
+fn push_laid_out(
+    alloc: Global,
+    out: &mut Vec<u8>,
+    screen: Screen<'_>,
+    word: Word,
+    told: &str,
+) -> Result<(), AllocError>
+    ensures { OnOk result (out.new.items ≡ out.old.items ++ spec.laid_out screen.entry.look.width screen.entry.script.now word told.now) }
 {
     match word {
-        Word::List(_) | Word::Show | Word::Words | Word::Picture => out.extend_from_slice(told),
-        _ => push_folded_at(out, told, width),
+        Word::List(_) | Word::Show | Word::Words | Word::Picture => {
+            out.extend_from_slice(told.as_bytes())
+        }
+        _ => push_marked_at(alloc, out, screen.look.width, screen.script, told),
     }
 }
 
@@ -227,7 +234,7 @@ fn look_text(
         word,
     )?;
     let mut out = Vec::new(alloc);
-    push_laid_out(&mut out, screen.look.width, word, told.as_bytes())?;
+    push_laid_out(alloc, &mut out, screen, word, &told)?;
     push_idle(
         alloc,
         session,
@@ -235,257 +242,6 @@ fn look_text(
         &mut out,
     )?;
     Ok(out)
-}
-
-/// What is told of a run that lies ahead; of the run of a number this number, too.
-#[tactic(auto, using(crate::proofs::SaidLemmas::finding))]
-pub(crate) fn laid_text(
-    alloc: Global,
-    session: &Session<'_>,
-    screen: Screen<'_>,
-    run: RunAhead<'_>,
-) -> Result<Vec<u8>, AllocError>
-    ensures { IfOk result (λ t. t.items ≡ spec.laid_said screen.entry.look screen.entry.script.now session.now run.entry.number run.entry.ending.now run.entry.steps) }
-{
-    let mut told = String::new(alloc);
-    let debugger = session.debugger();
-    debugger.state_is_reached();
-    let lines = debugger.core().code().lines();
-    push_ahead(&mut told, lines, run.number, run.ending, run.steps)?;
-    let decided = decide(alloc, debugger.core())?;
-    push_standing(alloc, debugger, screen.script, &mut told, decided)?;
-    said(alloc, session, screen.look, &told)
-}
-
-/// What is told where no run ends so.
-#[tactic(auto, using(crate::proofs::SaidLemmas::saying))]
-fn not_found_text(
-    alloc: Global,
-    session: &Session<'_>,
-    look: Look,
-    way: Way,
-    counts: WayCounts,
-) -> Result<Vec<u8>, AllocError>
-    ensures { IfOk result (λ t. t.items ≡ spec.not_found_said look session.now way counts) }
-{
-    let mut told = String::new(alloc);
-    push_none(&mut told, way, counts)?;
-    said(alloc, session, look, &told)
-}
-
-/// Tells of a run that lies ahead.
-#[tactic(auto, using(crate::proofs::SaidLemmas::telling))]
-fn tell_laid(
-    alloc: Global,
-    session: &Session<'_>,
-    screen: Screen<'_>,
-    run: RunAhead<'_>,
-    out: &mut Vec<u8>,
-)
-    requires room { vec_len out.old + ROOM ≤ vec_capacity out.old }
-    ensures told { Adds (Told (spec.laid_said screen.entry.look screen.entry.script.now session.now run.entry.number run.entry.ending.now run.entry.steps)) out.old.items out.new.items }
-    ensures capacity { vec_capacity out.old ≤ vec_capacity out.new }
-{
-    let Ok(text) = laid_text(alloc, session, screen, run) else {
-        return push_all(out, UNPRINTED);
-    };
-    add(&text, UNPRINTED, out)
-}
-
-/// Has the steps of a run lie ahead, and tells so.
-#[tactic(auto, using(crate::proofs::SaidLemmas::laying))]
-fn lay(
-    alloc: Global,
-    session: &mut Session<'_>,
-    screen: Screen<'_>,
-    number: Option<usize>,
-    run: WholeRun,
-    out: &mut Vec<u8>,
-)
-    requires lies { LiesAhead session.old.trail run }
-    requires room { vec_len out.old + ROOM ≤ vec_capacity out.old }
-    ensures session { session.new ≡ laid session.old run.steps }
-    ensures told { Adds (Told (spec.laid_said screen.entry.look screen.entry.script.now session.new number run.ending (length run.steps - session.old.trail.depth))) out.old.items out.new.items }
-    ensures capacity { vec_capacity out.old ≤ vec_capacity out.new }
-{
-    let depth = session.debugger().depth();
-    let steps = run.steps.items.len().saturating_sub(depth);
-    let ending = run.ending;
-    session.lay(run.steps.items);
-    let ahead = RunAhead {
-        number,
-        ending: &ending,
-        steps,
-    };
-    tell_laid(alloc, session, screen, ahead, out)
-}
-
-/// Tells that no run ends so.
-#[tactic(auto, using(crate::proofs::SaidLemmas::telling))]
-fn tell_none(
-    alloc: Global,
-    session: &Session<'_>,
-    look: Look,
-    way: Way,
-    counts: WayCounts,
-    out: &mut Vec<u8>,
-)
-    requires room { vec_len out.old + ROOM ≤ vec_capacity out.old }
-    ensures told { Adds (Looked (spec.not_found_said look session.now way counts)) out.old.items out.new.items }
-    ensures capacity { vec_capacity out.old ≤ vec_capacity out.new }
-{
-    let Ok(text) = not_found_text(alloc, session, look, way, counts) else {
-        return push_all(out, MEMORY);
-    };
-    add(&text, MEMORY, out)
-}
-
-/// The search from where a session stands.
-#[tactic(auto, using(crate::proofs::SaidLemmas::seeking))]
-fn sought_from(alloc: Global, session: &Session<'_>, way: Way) -> Result<Search, AllocError>
-    ensures found { IfOk result (λ s. spec.IsFoundFrom s.scope session.now way s.sought) }
-    ensures lies { IfOk result (λ s. FoundLies session.now.trail s.sought) }
-{
-    let debugger = session.debugger();
-    debugger.state_is_reached();
-    seek_run(alloc, debugger, way)
-}
-
-/// Looks for the first run that ends so, has its steps lie ahead, and tells so.
-#[tactic(auto, using(crate::proofs::SaidLemmas::laying))]
-fn seek(alloc: Global, session: &mut Session<'_>, screen: Screen<'_>, way: Way, out: &mut Vec<u8>)
-    requires room { vec_len out.old + ROOM ≤ vec_capacity out.old }
-    ensures sought { Adds (SoughtFrom screen.entry.look screen.entry.script.now session.old way session.new) out.old.items out.new.items }
-    ensures capacity { vec_capacity out.old ≤ vec_capacity out.new }
-{
-    let Ok(search) = sought_from(alloc, session, way) else {
-        return push_all(out, MEMORY);
-    };
-    let Search {
-        scope: _,
-        states: _,
-        sought,
-    } = search;
-    match sought {
-        Sought::Found(run) => lay(alloc, session, screen, None, run, out),
-        Sought::Nothing(counts) => tell_none(alloc, session, screen.look, way, counts, out),
-    }
-}
-
-/// The run of a number from where a session stands.
-#[tactic(auto, using(crate::proofs::SaidLemmas::seeking))]
-fn numbered_from(
-    alloc: Global,
-    session: &Session<'_>,
-    number: usize,
-) -> Result<Option<WholeRun>, AllocError>
-    ensures found { IfOk result (λ o. o ≡ spec.numbered_from session.now number) }
-    ensures lies { IfOk result (λ o. IfSome o (LiesAhead session.now.trail)) }
-{
-    let debugger = session.debugger();
-    debugger.state_is_reached();
-    numbered_run(alloc, debugger, number)
-}
-
-/// What is told of a number that no run has.
-#[tactic(auto, using(crate::proofs::SaidLemmas::saying))]
-fn no_run_text(alloc: Global, session: &Session<'_>, look: Look) -> Result<Vec<u8>, AllocError>
-    ensures { IfOk result (λ t. t.items ≡ spec.said look session.now no_run_line) }
-{
-    let mut told = String::new(alloc);
-    push_no_run(&mut told)?;
-    said(alloc, session, look, &told)
-}
-
-/// Tells of a number that no run has.
-#[tactic(auto, using(crate::proofs::SaidLemmas::telling))]
-fn tell_no_run(alloc: Global, session: &Session<'_>, look: Look, out: &mut Vec<u8>)
-    requires room { vec_len out.old + ROOM ≤ vec_capacity out.old }
-    ensures told { Adds (Told (spec.said look session.now no_run_line)) out.old.items out.new.items }
-    ensures capacity { vec_capacity out.old ≤ vec_capacity out.new }
-{
-    let Ok(text) = no_run_text(alloc, session, look) else {
-        return push_all(out, UNPRINTED);
-    };
-    add(&text, UNPRINTED, out)
-}
-
-/// Has the steps of the run of a number lie ahead, and tells so.
-#[tactic(auto, using(crate::proofs::SaidLemmas::laying))]
-fn follow(
-    alloc: Global,
-    session: &mut Session<'_>,
-    screen: Screen<'_>,
-    number: usize,
-    out: &mut Vec<u8>,
-)
-    requires room { vec_len out.old + ROOM ≤ vec_capacity out.old }
-    ensures followed { Adds (FollowedBy screen.entry.look screen.entry.script.now session.old number (spec.numbered_from session.old number) session.new) out.old.items out.new.items }
-    ensures capacity { vec_capacity out.old ≤ vec_capacity out.new }
-{
-    let Ok(found) = numbered_from(alloc, session, number) else {
-        return push_all(out, MEMORY);
-    };
-    match found {
-        Some(run) => lay(alloc, session, screen, Some(number), run, out),
-        None => tell_no_run(alloc, session, screen.look, out),
-    }
-}
-
-/// The last choice that was made in a session, by the steps before it.
-#[tactic(auto, using(crate::proofs::SaidLemmas::undoing))]
-fn last_choice_in(alloc: Global, session: &Session<'_>) -> Result<Option<usize>, AllocError>
-    ensures { IfOk result (λ o. o ≡ last_choice_of session.now.trail) }
-{
-    last_choice(alloc, session.debugger())
-}
-
-/// What is told where no choice was made.
-#[tactic(auto, using(crate::proofs::SaidLemmas::saying))]
-fn no_choice_text(alloc: Global, session: &Session<'_>, look: Look) -> Result<Vec<u8>, AllocError>
-    ensures { IfOk result (λ t. t.items ≡ spec.said look session.now no_choice_line) }
-{
-    let mut told = String::new(alloc);
-    push_no_choice(&mut told)?;
-    said(alloc, session, look, &told)
-}
-
-/// Tells that no choice was made.
-#[tactic(auto, using(crate::proofs::SaidLemmas::telling))]
-fn tell_no_choice(alloc: Global, session: &Session<'_>, look: Look, out: &mut Vec<u8>)
-    requires room { vec_len out.old + ROOM ≤ vec_capacity out.old }
-    ensures told { Adds (Told (spec.said look session.now no_choice_line)) out.old.items out.new.items }
-    ensures capacity { vec_capacity out.old ≤ vec_capacity out.new }
-{
-    let Ok(text) = no_choice_text(alloc, session, look) else {
-        return push_all(out, UNPRINTED);
-    };
-    add(&text, UNPRINTED, out)
-}
-
-/// Goes back to the last choice, and tells so.
-#[tactic(auto, using(crate::proofs::SaidLemmas::undoing))]
-fn undo_choice(
-    alloc: Global,
-    session: &mut Session<'_>,
-    screen: Screen<'_>,
-    word: Word,
-    out: &mut Vec<u8>,
-)
-    requires room { vec_len out.old + ROOM ≤ vec_capacity out.old }
-    ensures undone { Adds (UndoneBy screen.entry.look screen.entry.script.now session.old word (last_choice_of session.old.trail) session.new) out.old.items out.new.items }
-    ensures capacity { vec_capacity out.old ≤ vec_capacity out.new }
-{
-    let Ok(found) = last_choice_in(alloc, session) else {
-        return push_all(out, MEMORY);
-    };
-    match found {
-        Some(depth) => {
-            let command = Command::Goto(depth);
-            carry_out(alloc, session, screen, word, command, out)
-        }
-        None => tell_no_choice(alloc, session, screen.look, out),
-    }
 }
 
 /// Looks, and tells what is seen.
@@ -578,7 +334,7 @@ fn refuse_long(session: &Session<'_>, is_prompting: bool, out: &mut Vec<u8>)
     push_short_prompt(session, is_prompting, out)
 }
 
-/// What an empty line does behind a word.
+/// What an empty line does after a word.
 fn again(word: Word) -> Word
     ensures { result ≡ spec.again word }
 {
@@ -598,6 +354,8 @@ pub struct ConsoleDesk<'c, 't> {
     last: Option<Word>,
     /// The expression that was told after it; empty if none was.
     asked: Vec<u8>,
+    /// The file whose words are to be answered next; empty if there is none.
+    named: Vec<u8>,
 }
 
 impl<'c, 't> Model for ConsoleDesk<'c, 't> {
@@ -607,20 +365,29 @@ impl<'c, 't> Model for ConsoleDesk<'c, 't> {
 
     ghost coded = { console_code };
 
-    ghost view = { λ d. record { session = d.session; script = d.screen.script.now; last = d.last; asked = d.asked.items; look = d.screen.look } };
+    ghost view = { λ d. record { session = d.session; script = d.screen.script.now; last = d.last; asked = d.asked.items; named = d.named.items; look = d.screen.look } };
 }
 
 impl<'c, 't> ConsoleDesk<'c, 't> {
     /// A console over a session, given the text of its script and how its answers look.
     pub fn new(alloc: Global, session: Session<'c>, screen: Screen<'t>) -> ConsoleDesk<'c, 't>
-        ensures { result ≡ record { session = session.entry; script = screen.entry.script.now; last = None; asked = []; look = screen.entry.look } }
+        ensures { result ≡ record { session = session.entry; script = screen.entry.script.now; last = None; asked = []; named = []; look = screen.entry.look } }
     {
         ConsoleDesk {
             session,
             screen,
             last: None,
             asked: Vec::new(alloc),
+            named: Vec::new(alloc),
         }
+    }
+
+    /// The text of its script, and how its answers look.
+    pub(crate) fn screen(&self) -> Screen<'t>
+        ensures script { result.script.now ≡ self.now.script }
+        ensures look { result.look ≡ self.now.look }
+    {
+        self.screen
     }
 
     /// Shows a line before its answer, where lines are shown. Room for a short answer is left.
@@ -650,9 +417,27 @@ impl<'c, 't> ConsoleDesk<'c, 't> {
         }
     }
 
-    /// Answers a word.
+    /// Its session, to look at.
+    pub fn session(&self) -> &Session<'c>
+        ensures { result.now ≡ self.now.session }
+    {
+        &self.session
+    }
+
+    /// Asks its session by itself, past the words of the console: what an empty line repeats stays. An `Err` is want of memory, and
+    /// then nothing has changed.
+    pub fn ask(&mut self, alloc: Global, request: &Request) -> Result<Reply, AllocError>
+        ensures reply { IfOk result (λ reply. reply ≡ (respond self.old.session request.now).0) }
+        ensures held { OnOk result (self.new ≡ record self.old { session = (respond self.old.session request.now).1 }) }
+        ensures err { OnErr result (self.new ≡ self.old) }
+        ensures wants { OnErr result (may_want request.now.command ≡ true) }
+    {
+        self.session.answer(alloc, request)
+    }
+
+    /// Answers a word. What an empty line repeats stays.
     #[tactic(auto, using(crate::proofs::SaidLemmas::speaking))]
-    fn say(&mut self, alloc: Global, word: Word, out: &mut Vec<u8>)
+    pub fn say(&mut self, alloc: Global, word: Word, out: &mut Vec<u8>)
         requires room { vec_len out.old + ROOM ≤ vec_capacity out.old }
         ensures said { Adds (λ text. spec.WordSays self.old word text self.new) out.old.items out.new.items }
         ensures capacity { vec_capacity out.old ≤ vec_capacity out.new }
@@ -727,6 +512,28 @@ impl<'c, 't> ConsoleDesk<'c, 't> {
         add(&text, MEMORY, out)
     }
 
+    /// Keeps the name of the file whose words are to be answered.
+    #[tactic(auto, using(crate::proofs::SaidLemmas::naming))]
+    fn keep_name(&mut self, name: &[u8], out: &mut Vec<u8>)
+        requires room { vec_len out.old + ROOM ≤ vec_capacity out.old }
+        ensures said { Adds (λ text. spec.NameSays self.old name.now text self.new) out.old.items out.new.items }
+        ensures capacity { vec_capacity out.old ≤ vec_capacity out.new }
+    {
+        self.named.clear();
+        match self.named.extend_from_slice(name) {
+            Ok(()) => {}
+            Err(_) => push_all(out, MEMORY),
+        }
+    }
+
+    /// The file whose words are to be answered, which a line has named since this was asked last; empty if none has.
+    pub fn take_named(&mut self, alloc: Global) -> Vec<u8>
+        ensures name { result.items ≡ self.old.named }
+        ensures taken { self.new ≡ record self.old { named = [] } }
+    {
+        mem::replace(&mut self.named, Vec::new(alloc))
+    }
+
     /// Answers a line that is not too long.
     #[tactic(auto, using(crate::proofs::SaidLemmas::speaking))]
     fn answer_line(&mut self, alloc: Global, line: &[u8], out: &mut Vec<u8>)
@@ -739,6 +546,8 @@ impl<'c, 't> ConsoleDesk<'c, 't> {
             Line::Comment => self.say_nothing(alloc, out),
             Line::Wrong(fault) => self.refuse(alloc, line, fault, out),
             Line::Evaluates => self.say_value(alloc, line, out),
+            Line::Reloads => {}
+            Line::Sources => self.keep_name(word_at(line, 1), out),
             Line::Says(word) => {
                 self.last = Some(again(word));
                 self.asked.clear();

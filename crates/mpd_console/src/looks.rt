@@ -242,6 +242,7 @@ pub(crate) fn push_look(
         Word::WhyRank(rank) => push_why_of(alloc, core, out, rank),
         Word::Finish(rank) => push_unfinished(alloc, core, out, finish_rank(debugger, rank)),
         Word::Until(line) => push_no_statement(out, line),
+        Word::UntilRank(_) | Word::BackRank(_) => out.push_str(NO_SUCH_RANK),
         Word::History(count) => push_history(debugger, out, count),
         Word::Picture => push_picture(debugger, out),
         Word::Check(runs) => push_runs(alloc, debugger, out, runs),

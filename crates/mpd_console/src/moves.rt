@@ -11,7 +11,10 @@ ghost use Rattle.mpd_console.specs.Moves as spec;
 ghost use Rattle.mpd_console.specs.Onward.{begins};
 
 use crate::news::{Lead, known_for, push_news};
-use crate::onward::{finish_doing, finish_rank, is_line, until_doing};
+use crate::onward::{
+    back_rank_doing, finish_doing, finish_rank, is_line, push_gone_on, until_doing,
+    until_rank_doing,
+};
 use crate::standing::{Scene, standing_of};
 use mpd_code::Code;
 use mpd_core::{Core, Debugger};
@@ -239,8 +242,10 @@ pub fn doing_of(alloc: Global, debugger: &Debugger<'_>, word: Word) -> Result<Do
         Word::Next(number) => Ok(Doing::Asks(next_command(alloc, debugger, number)?)),
         Word::Run(max) => Ok(Doing::Asks(run_command(alloc, debugger, max)?)),
         Word::Until(line) => until_doing(alloc, debugger, line),
+        Word::UntilRank(rank) => until_rank_doing(alloc, debugger, rank),
         Word::Finish(rank) => finish_doing(alloc, debugger, finish_rank(debugger, rank)),
         Word::Back(count) => Ok(Doing::Asks(Command::Back(count))),
+        Word::BackRank(rank) => Ok(back_rank_doing(debugger, rank)),
         Word::RunBack => Ok(Doing::Asks(Command::RunBack)),
         Word::UndoChoice => Ok(Doing::Undoes),
         Word::Goto(depth) => Ok(Doing::Asks(goto_command(debugger, depth))),
@@ -331,7 +336,7 @@ fn step_of(alloc: Global, debugger: &Debugger<'_>, word: Word) -> Result<Option<
     match word {
         Word::Next(number) => next_step(alloc, debugger, number),
         Word::Run(max) => Ok(redone_step(debugger, run_command(alloc, debugger, max)?)),
-        Word::Until(_) | Word::Finish(_) => Ok(redone_step(
+        Word::Until(_) | Word::UntilRank(_) | Word::Finish(_) => Ok(redone_step(
             debugger,
             run_command(alloc, debugger, STEPS_MAX)?,
         )),
@@ -475,6 +480,7 @@ fn push_most(out: &mut String, word: Word) -> Result<(), AllocError>
 {
     match word {
         Word::Until(line) => write!(out, "stopped: a rank is at line {line}\n"),
+        Word::UntilRank(rank) => push_gone_on(out, rank),
         _ => out.push_str(most_words(word)),
     }
 }
@@ -695,17 +701,19 @@ fn push_hit(
     }
 }
 
-/// What is told behind a step that `run` takes at a choice, and that hits no breakpoint.
+/// What is told after a step that `run` takes at a choice, and that hits no breakpoint.
 fn along_line(word: Word, hit: Option<usize>) -> &'static str
     ensures { result.now ≡ spec.along_line word hit }
 {
     match (word, hit) {
-        (Word::Run(_) | Word::Until(_) | Word::Finish(_), None) => "stopped: behind the choice\n",
+        (Word::Run(_) | Word::Until(_) | Word::UntilRank(_) | Word::Finish(_), None) => {
+            "stopped: after the choice\n"
+        }
         _ => "",
     }
 }
 
-/// Adds what is told behind a step that was told: the breakpoint that it hits, or why `run` stops behind it.
+/// Adds what is told after a step that was told: the breakpoint that it hits, or why `run` stops after it.
 fn push_stepped(
     scene: Scene<'_, '_>,
     out: &mut String,
@@ -776,6 +784,7 @@ pub fn push_reply(
             | Answer::Calls(_)
             | Answer::Partners(_)
             | Answer::Breaks(_)
+            | Answer::Hit(_)
             | Answer::Explored { .. }
             | Answer::Script { .. }
             | Answer::Where { .. }

@@ -78,7 +78,10 @@ fn known_of(alloc: Global, debugger: &Debugger<'_>, gone: usize) -> Result<Known
 fn goes_back(word: Word) -> bool
     ensures { result ≡ spec.goes_back word }
 {
-    matches!(word, Word::Back(_) | Word::RunBack | Word::UndoChoice)
+    matches!(
+        word,
+        Word::Back(_) | Word::BackRank(_) | Word::RunBack | Word::UndoChoice
+    )
 }
 
 /// What is known before a word is done, given how many steps that are ahead will be gone by it: of

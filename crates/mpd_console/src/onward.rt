@@ -1,6 +1,6 @@
-//! What `until` and `finish` ask for: how far they go on (docs/CONSOLE.md, "Words that move").
+//! What `until`, `finish` and `back rank` ask for: how far they go on, or back (docs/CONSOLE.md, "Words that move").
 
-ghost use Rattle.std.specs.Prelude.{◌≡◌, ◌≤◌, ◌<◌, IfOk, IfSome, drop, length};
+ghost use Rattle.std.specs.Prelude.{◌≡◌, ◌≤◌, ◌<◌, IfOk, IfSome, drop, length, ◌++◌, OnOk, string_bytes};
 ghost use Rattle.std.specs.List.{position};
 ghost use Rattle.mpd_console.specs.Onward as spec;
 ghost use Rattle.mpd_console.specs.Moves as moves;
@@ -34,13 +34,13 @@ fn on_line(line: usize) -> Break
     }
 }
 
-/// A breakpoint on a line, and no other.
+/// One breakpoint, and no other.
 #[tactic(auto, using(crate::proofs::OnwardLemmas::added_alone))]
-fn alone(line: usize) -> Breaks
-    ensures { result ≡ spec.alone line }
+fn alone(stop: Break) -> Breaks
+    ensures { result ≡ spec.alone stop }
 {
     let mut breaks = Breaks::new();
-    let _ = breaks.add(on_line(line));
+    let _ = breaks.add(stop);
     breaks
 }
 
@@ -54,13 +54,13 @@ fn steps_by(stop: Stop) -> usize
     }
 }
 
-/// How many steps a run on takes to where a rank comes to a line. A copy of the debugger runs. An `Err` is want of memory.
-fn steps_to_line(alloc: Global, debugger: &Debugger<'_>, line: usize) -> Result<usize, AllocError>
-    ensures { IfOk result (λ n. n ≡ spec.steps_to_line debugger.now.trail debugger.now.world line) }
+/// How many steps a run on takes to where one hits a breakpoint. A copy of the debugger runs. An `Err` is want of memory.
+fn steps_to(alloc: Global, debugger: &Debugger<'_>, stop: Break) -> Result<usize, AllocError>
+    ensures { IfOk result (λ n. n ≡ spec.steps_to debugger.now.trail debugger.now.world stop) }
 {
     debugger.state_is_reached();
     let mut copy = debugger.copy()?;
-    match run_on(alloc, &mut copy, &alone(line), STEPS_MAX) {
+    match run_on(alloc, &mut copy, &alone(stop), STEPS_MAX) {
         Ok(stop) => {
             drop(copy);
             Ok(steps_by(stop))
@@ -130,8 +130,8 @@ fn steps_to_wake(alloc: Global, debugger: &Debugger<'_>, rank: usize) -> Result<
     }
 }
 
-/// The rank of a step: of a match that of its receive.
-fn rank_of(step: Step) -> Option<usize>
+/// The rank of a step, from 0: of a match that of its receive; a release is of no rank.
+pub fn rank_of(step: Step) -> Option<usize>
     ensures { result ≡ spec.rank_of step }
 {
     match step {
@@ -154,7 +154,7 @@ fn rank_behind(steps: &[Step], depth: usize) -> Option<usize>
 }
 
 /// The rank that is named, or that of the last step.
-pub(crate) fn finish_rank(debugger: &Debugger<'_>, rank: Option<usize>) -> Option<usize>
+pub fn finish_rank(debugger: &Debugger<'_>, rank: Option<usize>) -> Option<usize>
     ensures { result ≡ spec.finish_rank debugger.now.trail rank }
 {
     match rank {
@@ -189,7 +189,7 @@ fn until_command(alloc: Global, debugger: &Debugger<'_>, line: usize) -> Result<
     if !is_line(line) {
         return Ok(Command::Break(on_line(line)));
     }
-    let max = steps_to_line(alloc, debugger, line)?;
+    let max = steps_to(alloc, debugger, on_line(line))?;
     up_to(alloc, debugger, max)
 }
 
@@ -205,6 +205,80 @@ pub(crate) fn until_doing(
         return Ok(Doing::Looks);
     }
     Ok(Doing::Asks(until_command(alloc, debugger, line)?))
+}
+
+/// Whether there is such a rank.
+fn is_rank(debugger: &Debugger<'_>, rank: usize) -> bool
+    ensures { result ≡ spec.is_rank debugger.now.world rank }
+{
+    rank < debugger.core().rank_count()
+}
+
+/// What `until rank` does of a rank: where there is such a rank, it goes on to where the rank has gone on.
+pub(crate) fn until_rank_doing(
+    alloc: Global,
+    debugger: &Debugger<'_>,
+    rank: usize,
+) -> Result<Doing, AllocError>
+    ensures { IfOk result (λ doing. doing ≡ moves.until_rank_doing debugger.now.trail debugger.now.world rank) }
+{
+    if !is_rank(debugger, rank) {
+        return Ok(Doing::Looks);
+    }
+    let max = steps_to(alloc, debugger, Break::Rank(rank))?;
+    Ok(Doing::Asks(up_to(alloc, debugger, max)?))
+}
+
+/// Adds that a run stopped where a rank has gone on, without a line feed.
+fn push_gone_on_text(out: &mut String, rank: usize) -> Result<(), AllocError>
+    ensures { OnOk result (string_bytes out.new ≡ string_bytes out.old ++ moves.gone_on_text rank) }
+{
+    write!(out, "stopped: rank {rank} has gone on")
+}
+
+/// The same as a line.
+pub(crate) fn push_gone_on(out: &mut String, rank: usize) -> Result<(), AllocError>
+    ensures { OnOk result (string_bytes out.new ≡ string_bytes out.old ++ moves.gone_on_line rank) }
+{
+    push_gone_on_text(out, rank)?;
+    out.push('\n')
+}
+
+/// Whether a step is a local one of a rank.
+fn is_local_of(rank: usize, step: Step) -> bool
+    ensures { result ≡ spec.is_local_of rank step }
+{
+    match step {
+        Step::Local(other) => other == rank,
+        Step::Match(_, _) | Step::Wake(_) | Step::WakeAny { .. } | Step::Release => false,
+    }
+}
+
+/// How many steps come before the last local one of a rank, of the first so many; 0 where none is.
+#[tactic(auto, using(crate::proofs::OnwardLemmas::seeking_local))]
+fn depth_before(rank: usize, steps: &[Step], depth: usize) -> usize
+    requires { depth ≤ length steps.now }
+    ensures { result ≡ spec.depth_before rank steps.now depth }
+{
+    for undone in 0..depth {
+        let place = depth - undone - 1;
+        if is_local_of(rank, steps[place]) {
+            return place;
+        }
+    }
+    0
+}
+
+/// What `back rank` does of a rank: where there is such a rank, it goes back to before its last local step.
+pub(crate) fn back_rank_doing(debugger: &Debugger<'_>, rank: usize) -> Doing
+    ensures { result ≡ moves.back_rank_doing debugger.now.trail debugger.now.world rank }
+{
+    if !is_rank(debugger, rank) {
+        return Doing::Looks;
+    }
+    debugger.state_is_reached();
+    let depth = depth_before(rank, debugger.steps(), debugger.depth());
+    Doing::Asks(Command::Goto(depth))
 }
 
 /// What `finish` asks for: to go on to where a rank goes on that waits.

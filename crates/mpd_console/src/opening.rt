@@ -10,7 +10,8 @@ ghost use Rattle.mpd_runs.specs.Given.{StopsAt};
 ghost use Rattle.mpd_runs.specs.Seek.{EndsAs, LeadsTo};
 ghost use Rattle.mpd_console.specs.Says.{prompt, laid_said, AlongSaid, WitnessSaid};
 
-use crate::desk::{ConsoleDesk, RunAhead, Screen, laid_text};
+use crate::desk::{ConsoleDesk, Screen};
+use crate::found::{RunAhead, laid_text};
 use crate::prompts::idle_bytes;
 use mpd_code::Subject;
 use mpd_core::Debugger;
@@ -44,7 +45,7 @@ pub fn open<'c, 't>(
     subject: Subject<'c>,
     screen: Screen<'t>,
 ) -> Result<Opened<'c, 't>, OpenFault>
-    ensures desk { IfOk result (λ o. o.desk ≡ record { session = opened subject.entry.code.now.program subject.entry.mode; script = screen.entry.script.now; last = None; asked = []; look = screen.entry.look }) }
+    ensures desk { IfOk result (λ o. o.desk ≡ record { session = opened subject.entry.code.now.program subject.entry.mode; script = screen.entry.script.now; last = None; asked = []; named = []; look = screen.entry.look }) }
     ensures said { IfOk result (λ o. o.said.items ≡ prompt screen.entry.look.is_prompting (opened subject.entry.code.now.program subject.entry.mode)) }
 {
     let Ok(session) = Session::start(alloc, subject.code, subject.mode) else {
@@ -80,7 +81,7 @@ fn console_before<'c, 't>(
     screen: Screen<'t>,
     run: RunAhead<'_>,
 ) -> Result<Opened<'c, 't>, AllocError>
-    ensures desk { IfOk result (λ o. o.desk ≡ record { session = session.entry; script = screen.entry.script.now; last = None; asked = []; look = screen.entry.look }) }
+    ensures desk { IfOk result (λ o. o.desk ≡ record { session = session.entry; script = screen.entry.script.now; last = None; asked = []; named = []; look = screen.entry.look }) }
     ensures said { IfOk result (λ o. o.said.items ≡ laid_said screen.entry.look screen.entry.script.now session.entry run.entry.number run.entry.ending.now run.entry.steps) }
 {
     match laid_text(alloc, &session, screen, run) {
@@ -105,7 +106,7 @@ fn console_along<'c, 't>(
     ending: &Ending,
 ) -> Result<Opened<'c, 't>, AllocError>
     requires { IsRun subject.code.now.program subject.mode steps }
-    ensures desk { IfOk result (λ o. o.desk ≡ record { session = laid (opened subject.entry.code.now.program subject.entry.mode) steps; script = screen.entry.script.now; last = None; asked = []; look = screen.entry.look }) }
+    ensures desk { IfOk result (λ o. o.desk ≡ record { session = laid (opened subject.entry.code.now.program subject.entry.mode) steps; script = screen.entry.script.now; last = None; asked = []; named = []; look = screen.entry.look }) }
     ensures said { IfOk result (λ o. o.said.items ≡ laid_said screen.entry.look screen.entry.script.now (laid (opened subject.entry.code.now.program subject.entry.mode) steps) None ending.now (length steps)) }
 {
     let mut session = Session::start(alloc, subject.code, subject.mode)?;
@@ -175,7 +176,7 @@ pub fn open_along<'c, 't>(
     steps: StepList,
 ) -> Result<Opened<'c, 't>, StepsFault>
     ensures run { IfOk result (λ _. IsRun subject.entry.code.now.program subject.entry.mode steps) }
-    ensures desk { IfOk result (λ o. o.desk ≡ record { session = laid (opened subject.entry.code.now.program subject.entry.mode) steps; script = screen.entry.script.now; last = None; asked = []; look = screen.entry.look }) }
+    ensures desk { IfOk result (λ o. o.desk ≡ record { session = laid (opened subject.entry.code.now.program subject.entry.mode) steps; script = screen.entry.script.now; last = None; asked = []; named = []; look = screen.entry.look }) }
     ensures said { IfOk result (λ o. AlongSaid subject.entry.code.now.program subject.entry.mode screen.entry.look screen.entry.script.now steps o.said.items) }
     ensures not_enabled { (place : ℕ) → IsErrOf result (StepsFault.NotEnabled place) → StopsAt (start subject.entry.code.now.program subject.entry.mode) steps place }
 {
@@ -196,7 +197,7 @@ pub fn open_with<'c, 't>(
     witness: Witness,
 ) -> Result<Opened<'c, 't>, OpenFault>
     ensures is { IfOk result (λ _. IsWitness subject.entry.code.now.program subject.entry.mode witness) }
-    ensures desk { IfOk result (λ o. o.desk ≡ record { session = laid (opened subject.entry.code.now.program subject.entry.mode) witness.steps; script = screen.entry.script.now; last = None; asked = []; look = screen.entry.look }) }
+    ensures desk { IfOk result (λ o. o.desk ≡ record { session = laid (opened subject.entry.code.now.program subject.entry.mode) witness.steps; script = screen.entry.script.now; last = None; asked = []; named = []; look = screen.entry.look }) }
     ensures said { IfOk result (λ o. WitnessSaid subject.entry.code.now.program subject.entry.mode screen.entry.look screen.entry.script.now witness o.said.items) }
 {
     check_witness(alloc, subject, &witness)?;

@@ -1,9 +1,11 @@
 //! How the answers of the console look: the prompt of the console, and what stands before it.
 
 ghost use Rattle.std.specs.Prelude.{◌≡◌, ◌++◌, IfOk, OnOk, string_bytes};
+ghost use Rattle.mpd_marks.specs.Marked.{marked};
 ghost use Rattle.mpd_console.specs.Says as spec;
 
 use mpd_lines::push_folded_at;
+use mpd_marks::push_marked;
 use mpd_session::Session;
 use std::alloc::{AllocError, Global};
 
@@ -74,8 +76,24 @@ pub(crate) fn idle_bytes(
     Ok(out)
 }
 
-/// An answer whose long lines go on in further lines, with the prompt behind it.
-#[tactic(auto, using(crate::proofs::SaidLemmas::saying))]
+/// The bytes of an answer, whose long lines go on in further lines, with the prompt after it.
+#[tactic(auto, using(crate::proofs::SaidLemmas::wrapping))]
+pub(crate) fn said_bytes(
+    alloc: Global,
+    session: &Session<'_>,
+    look: Look,
+    told: &[u8],
+) -> Result<Vec<u8>, AllocError>
+    ensures { IfOk result (λ t. t.items ≡ spec.said look session.now told.now) }
+{
+    let mut out = Vec::new(alloc);
+    push_folded_at(&mut out, told, look.width)?;
+    push_idle(alloc, session, look.is_prompting, &mut out)?;
+    Ok(out)
+}
+
+/// An answer whose long lines go on in further lines, with the prompt after it.
+#[tactic(auto, using(crate::proofs::SaidLemmas::wrapping))]
 pub(crate) fn said(
     alloc: Global,
     session: &Session<'_>,
@@ -84,8 +102,31 @@ pub(crate) fn said(
 ) -> Result<Vec<u8>, AllocError>
     ensures { IfOk result (λ t. t.items ≡ spec.said look session.now told.now) }
 {
+    said_bytes(alloc, session, look, told.as_bytes())
+}
+
+/// A told text with the places of marks of the script beside lines (docs/FROM_A_RUN.md, "Marks"). `Err` means that memory was refused.
+#[tactic(auto, using(crate::proofs::SaidLemmas::marking))]
+pub(crate) fn marked_bytes(alloc: Global, script: &[u8], told: &str) -> Result<Vec<u8>, AllocError>
+    ensures { IfOk result (λ t. t.items ≡ marked script.now told.now) }
+{
     let mut out = Vec::new(alloc);
-    push_folded_at(&mut out, told.as_bytes(), look.width)?;
-    push_idle(alloc, session, look.is_prompting, &mut out)?;
+    push_marked(&mut out, script, told.as_bytes())?;
     Ok(out)
+}
+
+/// An answer with the places of marks of the script beside lines, whose long lines go on in further lines, with the prompt after it.
+/// `Err` means that memory was refused.
+#[tactic(auto, using(crate::proofs::SaidLemmas::wrapping))]
+pub(crate) fn said_marked(
+    alloc: Global,
+    session: &Session<'_>,
+    look: Look,
+    script: &[u8],
+    told: &str,
+) -> Result<Vec<u8>, AllocError>
+    ensures { IfOk result (λ t. t.items ≡ spec.said_marked look script.now session.now told.now) }
+{
+    let text = marked_bytes(alloc, script, told)?;
+    said_bytes(alloc, session, look, &text)
 }

@@ -1,5 +1,5 @@
 -- What a line of the console asks for (docs/CONSOLE.md, "Words").
-use Rattle.std.specs.Prelude.{ℕ, ◌+◌, ◌==◌, Bool, true, false, bytes_eq, if◌then◌else◌, List, [], ◌∷◌, drop, Option, Some, None, option_map, Result, Ok, Err, codes}
+use Rattle.std.specs.Prelude.{ℕ, ◌+◌, ◌==◌, Bool, true, false, bytes_eq, not, is_some, if◌then◌else◌, List, [], ◌∷◌, drop, Option, Some, None, option_map, Result, Ok, Err, codes}
 use Rattle.std.specs.List.{position}
 use Rattle.mpd_model.specs.declared.limits.TheConstants.{STEPS_MAX}
 use Rattle.mpd_model.specs.declared.breakpoint.Condition.{Condition}
@@ -11,7 +11,7 @@ use Rattle.mpd_model.specs.declared.words.TraceWord.{TraceWord}
 use Rattle.mpd_model.specs.declared.words.TraceWord.TheVariants as trace_word
 use Rattle.mpd_model.specs.declared.step.CallId.{CallId}
 use Rattle.mpd_model.specs.script.Declaration.{Declared}
-use Rattle.mpd_model.specs.texts.Words.{words, number_of, call_of, trace_word_of, is_blank, is_no_blank}
+use Rattle.mpd_model.specs.texts.Words.{words, has_some, number_of, call_of, trace_word_of, is_blank, is_no_blank}
 use Rattle.mpd_names.specs.declared.name.Named.{Named}
 use Rattle.mpd_names.specs.declared.name.NameFault.{NameFault}
 use Rattle.mpd_names.specs.declared.name.NameFault.TheVariants as name
@@ -24,11 +24,11 @@ use Rattle.mpd_vocabulary.specs.declared.word.HelpOn.TheVariants as help_on
 use Rattle.mpd_vocabulary.specs.declared.word.WordFault.{WordFault}
 use Rattle.mpd_vocabulary.specs.declared.word.WordFault.TheVariants.{Unknown, Usage, NoName, NoSuchIndex, NoIndex}
 use Rattle.mpd_vocabulary.specs.declared.read.Line.{Line}
-use Rattle.mpd_vocabulary.specs.declared.read.Line.TheVariants.{Blank, Comment, Says, Evaluates, Wrong}
+use Rattle.mpd_vocabulary.specs.declared.read.Line.TheVariants.{Blank, Comment, Says, Evaluates, Reloads, Sources, Wrong}
 use Rattle.mpd_vocabulary.specs.Topics.{topic_of}
 use Rattle.mpd_vocabulary.specs.Conditions.{pieces_of, condition_in}
 
--- ---- what stands behind a word: some words
+-- ---- what stands after a word: some words
 
 abbrev pub only_word : List (List ℕ) → Option (List ℕ)
 only_word [] = None
@@ -223,7 +223,19 @@ help_in [] = Ok (word.Help help_on.First)
 help_in (a ∷ []) = help_with a
 help_in (a ∷ b ∷ more) = Err (Usage topic.Help)
 
--- ---- a word by its name, the line that it stands in, and what stands behind it
+-- ---- how far to go on, and back
+
+-- a line, or `rank` and a rank
+abbrev pub until_in : List (List ℕ) → Option Word
+until_in [] = None
+until_in (a ∷ rest) = if bytes_eq a (codes "rank") then option_map word.UntilRank (only_number rest) else option_map word.Until (only_number (a ∷ rest))
+
+-- so many steps, one where no word is left, or `rank` and a rank
+abbrev pub back_in : List (List ℕ) → Option Word
+back_in [] = Some (word.Back 1)
+back_in (a ∷ rest) = if bytes_eq a (codes "rank") then option_map word.BackRank (only_number rest) else option_map word.Back (only_number (a ∷ rest))
+
+-- ---- a word by its name, the line that it stands in, and what stands after it
 
 abbrev pub word_with : List Declared → Topic → List ℕ → List (List ℕ) → Result Word WordFault
 word_with ds topic.Break z rest = break_in ds rest
@@ -232,13 +244,15 @@ word_with ds topic.Print z rest = print_in ds rest
 word_with ds topic.Help z rest = help_in rest
 word_with ds topic.Next z rest = fitting topic.Next (option_map word.Next (optional_number rest))
 word_with ds topic.Run z rest = fitting topic.Run (option_map word.Run (number_or STEPS_MAX rest))
-word_with ds topic.Until z rest = fitting topic.Until (option_map word.Until (only_number rest))
+word_with ds topic.Until z rest = fitting topic.Until (until_in rest)
 word_with ds topic.Finish z rest = fitting topic.Finish (option_map word.Finish (optional_number rest))
-word_with ds topic.Back z rest = fitting topic.Back (option_map word.Back (number_or 1 rest))
+word_with ds topic.Back z rest = fitting topic.Back (back_in rest)
 word_with ds topic.RunBack z rest = fitting topic.RunBack (alone word.RunBack rest)
 word_with ds topic.UndoChoice z rest = fitting topic.UndoChoice (alone word.UndoChoice rest)
 word_with ds topic.Goto z rest = fitting topic.Goto (option_map word.Goto (only_number rest))
 word_with ds topic.Restart z rest = fitting topic.Restart (alone (word.Goto 0) rest)
+word_with ds topic.Reload z rest = Err (Usage topic.Reload)
+word_with ds topic.Source z rest = Err (Usage topic.Source)
 word_with ds topic.Redo z rest = fitting topic.Redo (option_map word.Redo (redo_in rest))
 word_with ds topic.Local z rest = fitting topic.Local (step_in z)
 word_with ds topic.Match z rest = fitting topic.Match (step_in z)
@@ -273,7 +287,7 @@ word_by ds (Some t) z rest = word_with ds t z rest
 abbrev pub word_named : List Declared → List ℕ → List ℕ → List (List ℕ) → Result Word WordFault
 word_named ds z a rest = word_by ds (topic_of a) z rest
 
--- ---- expressions: what stands behind `print` and is no name with the number of a rank or none
+-- ---- expressions: what stands after `print` and is no name with the number of a rank or none
 
 abbrev pub names_nothing : Result Named NameFault → Bool
 names_nothing (Ok n) = false
@@ -300,9 +314,21 @@ from_place (Some n) z = drop n z
 abbrev pub from_first : (ℕ → Bool) → List ℕ → List ℕ
 from_first test z = from_place (position test z) z
 
--- what stands behind the first word of a line
+-- what stands after the first word of a line
 abbrev pub behind_word : List ℕ → List ℕ
 behind_word z = from_first is_blank (from_first is_no_blank z)
+
+-- ---- the script once more: `reload` alone
+
+abbrev pub asks_reload : Option Topic → List (List ℕ) → Bool
+asks_reload (Some topic.Reload) rest = not (has_some rest)
+asks_reload other rest = false
+
+-- ---- the words of a file: `source`, and its name
+
+abbrev pub asks_source : Option Topic → List (List ℕ) → Bool
+asks_source (Some topic.Source) rest = is_some (only_word rest)
+asks_source other rest = false
 
 -- ---- lines
 
@@ -317,7 +343,7 @@ begins_comment (b ∷ a) = b == 35
 
 abbrev pub line_by : List Declared → List ℕ → List (List ℕ) → Line
 line_by ds z [] = Blank
-line_by ds z (a ∷ rest) = if begins_comment a then Comment else (if asks_value ds (topic_of a) rest then Evaluates else says (word_named ds z a rest))
+line_by ds z (a ∷ rest) = if begins_comment a then Comment else (if asks_value ds (topic_of a) rest then Evaluates else (if asks_reload (topic_of a) rest then Reloads else (if asks_source (topic_of a) rest then Sources else says (word_named ds z a rest))))
 
 abbrev pub line_of : List Declared → List ℕ → Line
 line_of ds z = line_by ds z (words z)

@@ -32,9 +32,9 @@ pub const CHOICE: &str =
     "choice: a state in which one of several steps is to be taken next, as which message a receive of any source gets; next lists them, next N takes one, from 1 (reports count them from 0, in [..]), undo-choice comes back to take another, and check tries all of them
 ";
 
-/// The word of a number of a line; empty where there is none.
+/// The word of a number of a line, from 0; empty if there is none.
 #[tactic(auto, using(crate::proofs::FaultLemmas::skipping))]
-fn word_at(line: &[u8], number: usize) -> &[u8]
+pub fn word_at(line: &[u8], number: usize) -> &[u8]
     ensures { result.now ≡ spec.word_at (words line.now) number }
 {
     let mut rest = line;
@@ -104,7 +104,7 @@ fn push_unknown(out: &mut String, word: &[u8]) -> Result<(), AllocError>
     push_hint(out, nearest(word))
 }
 
-/// Adds what is told of a name that is none, behind a text.
+/// Adds what is told of a name that is none, after a text.
 fn push_missing(out: &mut String, begun: &str, name: &[u8]) -> Result<(), AllocError>
     ensures { OnOk result (string_bytes out.new ≡ string_bytes out.old ++ spec.missing_line begun.now name.now) }
 {

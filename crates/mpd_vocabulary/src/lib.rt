@@ -9,7 +9,7 @@ pub mod topic;
 pub mod value;
 pub mod word;
 
-pub use faults::{push_fault, push_help, push_no_name, push_quoted};
+pub use faults::{push_fault, push_help, push_no_name, push_quoted, word_at};
 pub use read::{Line, line_of};
 pub use topic::{FIRST, NAMES, TOPICS, Topic};
 pub use value::behind_word;

@@ -378,7 +378,31 @@ fn help_in(rest: &[u8]) -> Result<Word, WordFault>
     }
 }
 
-/// A word by its name, the line that it stands in, and what stands behind it.
+/// How far to go on: to a line, or until a rank, which is the word after `rank`, has gone on.
+fn until_in(rest: &[u8]) -> Option<Word>
+    ensures { result ≡ spec.until_in (words rest.now) }
+{
+    let (word, behind) = next_word(rest)?;
+    if word == b"rank".as_slice() {
+        return only_number(behind).map(Word::UntilRank);
+    }
+    only_number(rest).map(Word::Until)
+}
+
+/// How far to go back: by so many steps, by one where no word is left, or by the last local step of a rank.
+fn back_in(rest: &[u8]) -> Option<Word>
+    ensures { result ≡ spec.back_in (words rest.now) }
+{
+    let Some((word, behind)) = next_word(rest) else {
+        return Some(Word::Back(1));
+    };
+    if word == b"rank".as_slice() {
+        return only_number(behind).map(Word::BackRank);
+    }
+    only_number(rest).map(Word::Back)
+}
+
+/// A word by its name, the line that it stands in, and what stands after it.
 fn word_with(code: &Code, topic: Topic, line: &[u8], rest: &[u8]) -> Result<Word, WordFault>
     ensures { result ≡ spec.word_with code.now.program.decls topic line.now (words rest.now) }
 {
@@ -389,13 +413,14 @@ fn word_with(code: &Code, topic: Topic, line: &[u8], rest: &[u8]) -> Result<Word
         Topic::Help => help_in(rest),
         Topic::Next => fitting(topic, optional_number(rest).map(Word::Next)),
         Topic::Run => fitting(topic, number_or(STEPS_MAX, rest).map(Word::Run)),
-        Topic::Until => fitting(topic, only_number(rest).map(Word::Until)),
+        Topic::Until => fitting(topic, until_in(rest)),
         Topic::Finish => fitting(topic, optional_number(rest).map(Word::Finish)),
-        Topic::Back => fitting(topic, number_or(1, rest).map(Word::Back)),
+        Topic::Back => fitting(topic, back_in(rest)),
         Topic::RunBack => fitting(topic, alone(Word::RunBack, rest)),
         Topic::UndoChoice => fitting(topic, alone(Word::UndoChoice, rest)),
         Topic::Goto => fitting(topic, only_number(rest).map(Word::Goto)),
         Topic::Restart => fitting(topic, alone(Word::Goto(0), rest)),
+        Topic::Reload | Topic::Source => Err(WordFault::Usage(topic)),
         Topic::Redo => fitting(topic, redo_in(rest).map(Word::Redo)),
         Topic::Local | Topic::Match | Topic::Wake | Topic::WakeAny | Topic::Release => {
             fitting(topic, step_in(line))
@@ -443,6 +468,26 @@ fn begins_comment(name: &[u8]) -> bool
     }
 }
 
+/// Whether a word asks that the script be read again: it is `reload`, and nothing follows it.
+fn asks_reload(topic: Option<Topic>, rest: &[u8]) -> bool
+    ensures { result ≡ spec.asks_reload topic (words rest.now) }
+{
+    match topic {
+        Some(Topic::Reload) => !has_word(rest),
+        _ => false,
+    }
+}
+
+/// Whether a word asks for the words of a file: it is `source`, and one word follows it.
+fn asks_source(topic: Option<Topic>, rest: &[u8]) -> bool
+    ensures { result ≡ spec.asks_source topic (words rest.now) }
+{
+    match topic {
+        Some(Topic::Source) => only_word(rest).is_some(),
+        _ => false,
+    }
+}
+
 /// What a line is.
 #[derive(Clone, Copy)]
 pub enum Line {
@@ -452,8 +497,12 @@ pub enum Line {
     Comment,
     /// A word.
     Says(Word),
-    /// `print`, and behind it what is to be read as an expression (`behind_word`).
+    /// `print`, and after it what is to be read as an expression (`behind_word`).
     Evaluates,
+    /// `reload`: the file of the script is to be read again, which a desk can't do.
+    Reloads,
+    /// `source`, and a name (`word_at`): the words of this file are to be answered, which a desk can't read.
+    Sources,
     /// Nothing that can be done.
     Wrong(WordFault),
 }
@@ -470,6 +519,12 @@ pub fn line_of(code: &Code, line: &[u8]) -> Line
     }
     if asks_value(code, topic_of(name), rest) {
         return Line::Evaluates;
+    }
+    if asks_reload(topic_of(name), rest) {
+        return Line::Reloads;
+    }
+    if asks_source(topic_of(name), rest) {
+        return Line::Sources;
     }
     match word_of(code, line, name, rest) {
         Ok(word) => Line::Says(word),

@@ -15,6 +15,8 @@ pub enum Topic {
     UndoChoice,
     Goto,
     Restart,
+    Reload,
+    Source,
     Redo,
     Local,
     Match,
@@ -48,7 +50,7 @@ pub enum Topic {
 }
 
 /// What the words are called, in the order of the table, the whole name of each before its short forms.
-pub const NAMES: [(&str, Topic); 67] = [
+pub const NAMES: [(&str, Topic); 69] = [
     ("next", Topic::Next),
     ("n", Topic::Next),
     ("step", Topic::Next),
@@ -73,6 +75,8 @@ pub const NAMES: [(&str, Topic); 67] = [
     ("goto", Topic::Goto),
     ("g", Topic::Goto),
     ("restart", Topic::Restart),
+    ("reload", Topic::Reload),
+    ("source", Topic::Source),
     ("redo", Topic::Redo),
     ("local", Topic::Local),
     ("match", Topic::Match),
@@ -119,7 +123,7 @@ pub const NAMES: [(&str, Topic); 67] = [
 ];
 
 /// A word of each line of `help all`, in the order of the table.
-pub const TOPICS: [Topic; 35] = [
+pub const TOPICS: [Topic; 37] = [
     Topic::Next,
     Topic::Run,
     Topic::Until,
@@ -129,6 +133,8 @@ pub const TOPICS: [Topic; 35] = [
     Topic::UndoChoice,
     Topic::Goto,
     Topic::Restart,
+    Topic::Reload,
+    Topic::Source,
     Topic::Redo,
     Topic::Local,
     Topic::Break,
@@ -271,9 +277,9 @@ pub const RUN: Told = (
 );
 
 pub const UNTIL: Told = (
-    "until LINE",
+    "until LINE, until rank P",
     "goes on until a rank comes to that line",
-    "; as run does to a breakpoint there",
+    "; as run does to a breakpoint there; or until rank P has gone on",
     "",
 );
 
@@ -285,9 +291,9 @@ pub const FINISH: Told = (
 );
 
 pub const BACK: Told = (
-    "back [N]",
+    "back [N], back rank P",
     "takes a step back, or so many",
-    "",
+    "; or goes back to before the last local step of rank P",
     "bk, undo, rs, reverse-step, reverse-next",
 );
 
@@ -316,6 +322,20 @@ pub const RESTART: Told = (
     "restart",
     "goes back to the start",
     "; redo all goes along the same steps again",
+    "",
+);
+
+pub const RELOAD: Told = (
+    "reload",
+    "reads the file of the script again",
+    "; breakpoints stay, and the steps that were taken are taken again, as far as they fit",
+    "",
+);
+
+pub const SOURCE: Told = (
+    "source FILE",
+    "answers the words of a file",
+    "; each of its lines is answered as if it was typed, and none of them is a source",
     "",
 );
 
@@ -488,6 +508,8 @@ fn told_of(topic: Topic) -> Told
         Topic::UndoChoice => UNDO_CHOICE,
         Topic::Goto => GOTO,
         Topic::Restart => RESTART,
+        Topic::Reload => RELOAD,
+        Topic::Source => SOURCE,
         Topic::Redo => REDO,
         Topic::Local => LOCAL,
         Topic::Match => MATCH,

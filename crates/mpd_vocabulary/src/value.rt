@@ -35,7 +35,7 @@ fn is_value(code: &Code, rest: &[u8]) -> bool
     }
 }
 
-/// Whether a word with what stands behind it asks for the value of an expression.
+/// Whether a word with what stands after it asks for the value of an expression.
 pub(crate) fn asks_value(code: &Code, topic: Option<Topic>, rest: &[u8]) -> bool
     ensures { result ≡ spec.asks_value code.now.program.decls topic (words rest.now) }
 {
@@ -86,7 +86,7 @@ fn from_place(text: &[u8], place: Option<usize>) -> &[u8]
     }
 }
 
-/// What stands behind the first word of a line. Blanks are spaces and tabs.
+/// What stands after the first word of a line. Blanks are spaces and tabs.
 pub fn behind_word(line: &[u8]) -> &[u8]
     ensures { result.now ≡ spec.behind_word line.now }
 {

@@ -14,10 +14,14 @@ pub enum Word {
     Run(usize),
     /// Go on until a rank comes to this line.
     Until(usize),
+    /// Go on until this rank has gone on.
+    UntilRank(usize),
     /// Go on until the call is over that this rank waits in, or the rank of the last step.
     Finish(Option<usize>),
     /// Take so many steps back.
     Back(usize),
+    /// Go back to before the last local step of this rank.
+    BackRank(usize),
     /// Go back to a breakpoint, or to the start.
     RunBack,
     /// Go back to the last choice.

@@ -1,7 +1,0 @@
-use Rattle.mpd_console.proofs.OnwardLemmas.{line_is}
-use Rattle.mpd_console.proofs.onward.steps_to_line.Goals as goal
-
-pub returns-in-Ok : goal.returns-in-Ok
-returns-in-Ok c =
-    let k = c.in_ok-copy.copy in
-    line_is c.args.debugger.now.trail k.trail c.args.debugger.now.world k.world _ c.args.line _ c.in-Ok.stop c.in_ok-copy.ensures.trail c.in_ok-copy.ensures.world c.alone.ensures c.in-Ok.ensures.stop c.steps_by.ensures

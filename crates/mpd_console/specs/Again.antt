@@ -1,0 +1,179 @@
+-- A script that is read again: what is kept of a session, and the session that begins anew with it.
+use Rattle.std.specs.Prelude.{ℕ, suc, ◌+◌, ◌++◌, Bool, true, false, if◌then◌else◌, nat_lt, List, [], ◌∷◌, length, flat_map, Option, Some, None, option_and_then, codes}
+use Rattle.std.specs.List.{range_with_len}
+use Rattle.std.specs.Fmt.{decimal}
+use Rattle.mpd_model.specs.declared.limits.TheConstants.{BREAKS_MAX}
+use Rattle.mpd_model.specs.declared.breakpoint.Break.{Break}
+use Rattle.mpd_model.specs.declared.breakpoint.Break.TheVariants as on
+use Rattle.mpd_model.specs.declared.read_fault.ReadFault.{ReadFault}
+use Rattle.mpd_model.specs.declared.step.Step.{Step}
+use Rattle.mpd_model.specs.script.Declaration.{Declared}
+use Rattle.mpd_model.specs.script.Program.{Program}
+use Rattle.mpd_model.specs.runs.Breakpoints.{break_at}
+use Rattle.mpd_model.specs.runs.Trail.{world_of}
+use Rattle.mpd_model.specs.texts.Texts.{line}
+use Rattle.mpd_model.specs.texts.FaultText.{read_fault_text}
+use Rattle.mpd_names.specs.Called.{break_text}
+use Rattle.mpd_explain.specs.Standing.{standing_text}
+use Rattle.mpd_runs.specs.Seek.{count_words}
+use Rattle.mpd_session.specs.declared.request.Command.{Command}
+use Rattle.mpd_session.specs.declared.request.Command.TheVariants as command
+use Rattle.mpd_session.specs.declared.reply.Reply.{Reply}
+use Rattle.mpd_session.specs.declared.reply.Reply.TheVariants as reply
+use Rattle.mpd_session.specs.Held.{Held}
+use Rattle.mpd_session.specs.Respond.{respond}
+use Rattle.mpd_vocabulary.specs.declared.word.Word.{Word}
+use Rattle.mpd_vocabulary.specs.declared.word.Word.TheVariants as word
+use Rattle.mpd_vocabulary.specs.declared.read.Line.{Line}
+use Rattle.mpd_vocabulary.specs.declared.read.Line.TheVariants.{Says}
+use Rattle.mpd_vocabulary.specs.Reading.{line_of}
+use Rattle.mpd_console.specs.declared.prompts.Look.{Look}
+use Rattle.mpd_console.specs.declared.again.Unread.{Unread}
+use Rattle.mpd_console.specs.declared.again.Unread.TheVariants as why
+use Rattle.mpd_console.specs.Moves.{break_line}
+use Rattle.mpd_marks.specs.Marked.{marked}
+use Rattle.mpd_console.specs.Says.{said, asking, at_world}
+
+-- ---- breakpoints, as the script that is read again has their names
+
+-- the breakpoint that a word sets
+abbrev pub break_in : Word → Option Break
+break_in (word.Break b) = Some b
+break_in other = None
+
+abbrev pub break_of : Line → Option Break
+break_of (Says x) = break_in x
+break_of other = None
+
+-- the rank that a breakpoint is about
+abbrev pub rank_meant : Break → Option ℕ
+rank_meant (on.Line n of when) = of
+rank_meant (on.Match n of) = of
+rank_meant (on.Rank p) = Some p
+rank_meant (on.Change p c) = Some p
+rank_meant (on.Handle p h) = Some p
+
+abbrev pub is_below : ℕ → Option ℕ → Bool
+is_below ranks None = true
+is_below ranks (Some p) = nat_lt p ranks
+
+-- one of a rank that isn't there is none
+abbrev pub with_rank : ℕ → Option Break → Option Break
+with_rank ranks None = None
+with_rank ranks (Some b) = if is_below ranks (rank_meant b) then Some b else None
+
+-- the line that sets a breakpoint, by the names of a script
+abbrev pub break_words : List Declared → Break → List ℕ
+break_words ds b = codes "break " ++ break_text ds b
+
+-- A breakpoint of one script is, in another, the one that the line sets there that sets it here; or none.
+abbrev pub break_again : List Declared → Program → Break → Option Break
+break_again ds s b = with_rank s.ranks (break_of (line_of s.decls (break_words ds b)))
+
+abbrev pub place_again : List Declared → Program → Option Break → Option Break
+place_again ds s p = option_and_then (break_again ds s) p
+
+-- all places, by number
+abbrev pub places_again : List Declared → Program → List (Option Break) → List (Option Break)
+places_again ds s places = flat_map (λ n. place_again ds s (break_at places n) ∷ []) (range_with_len 0 BREAKS_MAX)
+
+-- what is told of one that can't be set there
+abbrev pub lost_by : List Declared → ℕ → Break → Option Break → List ℕ
+lost_by ds n b None = codes "not set again: " ++ break_line ds n b
+lost_by ds n b (Some c) = []
+
+abbrev pub lost_of : List Declared → Program → ℕ → Option Break → List ℕ
+lost_of ds s n None = []
+lost_of ds s n (Some b) = lost_by ds n b (break_again ds s b)
+
+abbrev pub lost_text : List Declared → Program → List (Option Break) → List ℕ
+lost_text ds s places = flat_map (λ n. lost_of ds s n (break_at places n)) (range_with_len 0 BREAKS_MAX)
+
+-- the same as a console tells it, with the places of marks of its script
+abbrev pub lost_said : List ℕ → Held → Program → List ℕ
+lost_said script d s = marked script (lost_text d.trail.program.decls s d.breaks)
+
+-- ---- the session that begins anew
+
+-- a session that was asked something, whatever it has replied
+abbrev pub asked : Held → Command → Held
+asked s c = (respond s (asking c)).1
+
+-- A session sets a breakpoint in the lowest place that is free. So that each comes to its own place, one of rank 0 stands in a place
+-- that is to be free, until all are set.
+abbrev pub or_filler : Option Break → Break
+or_filler None = on.Rank 0
+or_filler (Some b) = b
+
+abbrev pub filled : Held → List (Option Break) → Held
+filled s [] = s
+filled s (p ∷ places) = filled (asked s (command.Break (or_filler p))) places
+
+abbrev pub freed : Held → ℕ → Option Break → Held
+freed s n None = asked s (command.Unbreak n)
+freed s n (Some b) = s
+
+abbrev pub all_freed : Held → ℕ → List (Option Break) → Held
+all_freed s n [] = s
+all_freed s n (p ∷ places) = all_freed (freed s n p) (n + 1) places
+
+abbrev pub with_breaks : Held → List (Option Break) → Held
+with_breaks s places = all_freed (filled s places) 0 places
+
+-- Steps are taken one after another, as far as they fit: up to the first that the session refuses.
+abbrev pub is_done : Reply → Bool
+is_done (reply.Done v a) = true
+is_done (reply.Refused r) = false
+
+abbrev pub does : Held → Command → Bool
+does s c = is_done (respond s (asking c)).0
+
+abbrev pub fits : Held → Step → Bool
+fits s a = does s (command.Step a)
+
+abbrev pub fitting : Held → List Step → ℕ
+fitting s [] = 0
+fitting s (a ∷ steps) = if fits s a then suc (fitting (asked s (command.Step a)) steps) else 0
+
+abbrev pub retaken : Held → List Step → Held
+retaken s [] = s
+retaken s (a ∷ steps) = if fits s a then retaken (asked s (command.Step a)) steps else asked s (command.Step a)
+
+-- a session that has these breakpoints again, and has taken these steps again as far as they fit
+abbrev pub gone_again : Held → List (Option Break) → List Step → Held
+gone_again s places steps = retaken (with_breaks s places) steps
+
+-- ---- what is told
+
+abbrev pub head_words : ℕ → List ℕ
+head_words taken = decimal taken ++ codes " of "
+
+abbrev pub taken_words : ℕ → List ℕ
+taken_words all = count_words all ++ line (codes " taken again")
+
+abbrev pub again_line : ℕ → ℕ → List ℕ
+again_line taken all = head_words taken ++ taken_words all
+
+abbrev pub standing_said : List ℕ → Held → List ℕ
+standing_said script s = marked script (at_world (λ w. standing_text script s.trail w) (world_of s.trail))
+
+abbrev pub again_said : Look → List ℕ → Held → ℕ → ℕ → List ℕ → List ℕ
+again_said p script s taken all lost = said p s (again_line taken all ++ lost ++ standing_said script s)
+
+abbrev pub told_again : Look → List ℕ → Held → List (Option Break) → List Step → List ℕ → List ℕ
+told_again p script s places steps lost = again_said p script (gone_again s places steps) (fitting (with_breaks s places) steps) (length steps) lost
+
+-- why a script isn't read again
+abbrev pub fault_words : ReadFault → ℕ → List ℕ
+fault_words fault n = line (read_fault_text fault ++ codes " line " ++ decimal n)
+
+abbrev pub script_fault_line : ReadFault → ℕ → List ℕ
+script_fault_line fault n = codes "refused: the script has a fault, " ++ fault_words fault n
+
+abbrev pub no_file_line : List ℕ
+no_file_line = line (codes "refused: the file can't be read")
+
+abbrev pub unread_line : Unread → List ℕ
+unread_line (why.Script fault n) = script_fault_line fault n
+unread_line why.File = no_file_line
+unread_line why.Memory = line (codes "refused: memory")

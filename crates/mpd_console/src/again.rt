@@ -1,0 +1,455 @@
+//! A script that is read again (docs/CONSOLE.md, "The script once more"): what is kept of a console, and the console that begins anew.
+
+ghost use Rattle.std.specs.Prelude.{◌≡◌, ◌++◌, ◌∷◌, [], IfOk, OnOk, None, flat_map, length, string_bytes};
+ghost use Rattle.std.specs.List.{range_with_len};
+ghost use Rattle.mpd_model.specs.runs.Breakpoints.{break_at};
+ghost use Rattle.mpd_model.specs.runs.Trail.{done_steps};
+ghost use Rattle.mpd_session.specs.Held.{opened};
+ghost use Rattle.mpd_console.specs.Again as spec;
+ghost use Rattle.mpd_console.specs.Says as says;
+
+use crate::desk::{ConsoleDesk, Screen};
+use crate::moves::push_break_line;
+use crate::opening::Opened;
+use crate::prompts::{marked_bytes, said, said_bytes};
+use mpd_code::{Code, Subject};
+use mpd_explain::push_standing;
+use mpd_model::{BREAKS_MAX, Break, ReadFault, Step};
+use mpd_names::push_break;
+use mpd_policy::{Breaks, decide};
+use mpd_runs::push_count;
+use mpd_session::{Command, Reply, Request, Session};
+use mpd_vocabulary::{Line, Word, line_of};
+use std::alloc::{AllocError, Global};
+
+/// What is kept of a console while its script is read again.
+#[derive(Drop)]
+pub struct Kept {
+    /// The steps that are taken.
+    pub steps: Vec<Step>,
+    /// The breakpoints by number, as the script that was read again has them: none in a place that is free, and of one that can't be
+    /// set there.
+    pub breaks: Vec<Option<Break>>,
+    /// A line for each of the latter, with the places of marks of the script that was.
+    pub lost: Vec<u8>,
+}
+
+/// The breakpoint that a line sets.
+fn break_of(line: Line) -> Option<Break>
+    ensures { result ≡ spec.break_of line }
+{
+    match line {
+        Line::Says(Word::Break(stop)) => Some(stop),
+        _ => None,
+    }
+}
+
+/// The rank that a breakpoint is about, if it is of one.
+fn rank_meant(stop: Break) -> Option<usize>
+    ensures { result ≡ spec.rank_meant stop }
+{
+    match stop {
+        Break::Line { of, .. } | Break::Match { of, .. } => of,
+        Break::Rank(rank) => Some(rank),
+        Break::Change { rank, .. } | Break::Handle { rank, .. } => Some(rank),
+    }
+}
+
+/// Whether a rank is there, or none is meant.
+fn is_below(ranks: usize, rank: Option<usize>) -> bool
+    ensures { result ≡ spec.is_below ranks rank }
+{
+    match rank {
+        None => true,
+        Some(rank) => rank < ranks,
+    }
+}
+
+/// A breakpoint, if its rank is there.
+fn with_rank(ranks: usize, stop: Option<Break>) -> Option<Break>
+    ensures { result ≡ spec.with_rank ranks stop }
+{
+    match stop {
+        Some(stop) if is_below(ranks, rank_meant(stop)) => Some(stop),
+        _ => None,
+    }
+}
+
+/// The line that sets a breakpoint, by the names of a script.
+fn break_words(alloc: Global, code: &Code, stop: Break) -> Result<String, AllocError>
+    ensures { IfOk result (λ t. string_bytes t ≡ spec.break_words code.now.program.decls stop) }
+{
+    let mut words = String::new(alloc);
+    words.push_str("break ")?;
+    push_break(&mut words, code.decls(), stop)?;
+    Ok(words)
+}
+
+/// The breakpoint of another script that a breakpoint of a script is: the one that the same line sets there, if it can be set.
+fn break_again(
+    alloc: Global,
+    old: &Code,
+    new: &Code,
+    stop: Break,
+) -> Result<Option<Break>, AllocError>
+    ensures { IfOk result (λ o. o ≡ spec.break_again old.now.program.decls new.now.program stop) }
+{
+    let words = break_words(alloc, old, stop)?;
+    let line = line_of(new, words.as_bytes());
+    Ok(with_rank(new.ranks(), break_of(line)))
+}
+
+/// The same of the breakpoint of a place.
+fn place_again(
+    alloc: Global,
+    old: &Code,
+    new: &Code,
+    breaks: &Breaks,
+    number: usize,
+) -> Result<Option<Break>, AllocError>
+    ensures { IfOk result (λ o. o ≡ spec.place_again old.now.program.decls new.now.program (break_at breaks.now number)) }
+{
+    match breaks.get(number) {
+        None => Ok(None),
+        Some(stop) => break_again(alloc, old, new, stop),
+    }
+}
+
+/// The same of all places.
+fn places_again(
+    alloc: Global,
+    old: &Code,
+    new: &Code,
+    breaks: &Breaks,
+) -> Result<Vec<Option<Break>>, AllocError>
+    ensures { IfOk result (λ v. v.items ≡ spec.places_again old.now.program.decls new.now.program breaks.now) }
+{
+    let mut places = Vec::new(alloc);
+    for number in 0..BREAKS_MAX {
+        let place = place_again(alloc, old, new, breaks, number)?;
+        places.push(place)?;
+    }
+    Ok(places)
+}
+
+/// Adds what is told of the breakpoint of a place if it can't be set in the other script.
+fn push_lost_at(
+    out: &mut String,
+    old: &Code,
+    new: &Code,
+    breaks: &Breaks,
+    number: usize,
+) -> Result<(), AllocError>
+    ensures { OnOk result (string_bytes out.new ≡ string_bytes out.old ++ spec.lost_of old.now.program.decls new.now.program number (break_at breaks.now number)) }
+{
+    let Some(stop) = breaks.get(number) else {
+        return Ok(());
+    };
+    match break_again(*out.allocator(), old, new, stop)? {
+        Some(_) => Ok(()),
+        None => {
+            out.push_str("not set again: ")?;
+            push_break_line(out, old.decls(), number, stop)
+        }
+    }
+}
+
+/// Adds what is told of all that can't be.
+fn push_lost(out: &mut String, old: &Code, new: &Code, breaks: &Breaks) -> Result<(), AllocError>
+    ensures { OnOk result (string_bytes out.new ≡ string_bytes out.old ++ spec.lost_text old.now.program.decls new.now.program breaks.now) }
+{
+    for number in 0..BREAKS_MAX {
+        push_lost_at(out, old, new, breaks, number)?;
+    }
+    Ok(())
+}
+
+/// The same of a console, with the places of marks of its script.
+#[tactic(auto, using(crate::proofs::AgainLemmas::losing))]
+fn lost_said(alloc: Global, desk: &ConsoleDesk<'_, '_>, new: &Code) -> Result<Vec<u8>, AllocError>
+    ensures { IfOk result (λ t. t.items ≡ spec.lost_said desk.now.script desk.now.session new.now.program) }
+{
+    let session = desk.session();
+    let mut lost = String::new(alloc);
+    push_lost(&mut lost, session.code(), new, session.breaks())?;
+    marked_bytes(alloc, desk.screen().script, &lost)
+}
+
+/// The steps that a session has taken.
+fn steps_of(alloc: Global, session: &Session<'_>) -> Result<Vec<Step>, AllocError>
+    ensures { IfOk result (λ v. v.items ≡ done_steps session.now.trail) }
+{
+    let debugger = session.debugger();
+    debugger.state_is_reached();
+    let (taken, _) = debugger.steps().split_at(debugger.depth());
+    let mut steps = Vec::new(alloc);
+    steps.extend_from_slice(taken)?;
+    Ok(steps)
+}
+
+/// What is kept of a console if its script is read again, given the code of that. An `Err` is want of memory. The console is as it was.
+pub fn keep(alloc: Global, desk: &ConsoleDesk<'_, '_>, new: &Code) -> Result<Kept, AllocError>
+    ensures steps { IfOk result (λ k. k.steps.items ≡ done_steps desk.now.session.trail) }
+    ensures breaks { IfOk result (λ k. k.breaks.items ≡ spec.places_again desk.now.session.trail.program.decls new.now.program desk.now.session.breaks) }
+    ensures lost { IfOk result (λ k. k.lost.items ≡ spec.lost_said desk.now.script desk.now.session new.now.program) }
+{
+    let session = desk.session();
+    Ok(Kept {
+        steps: steps_of(alloc, session)?,
+        breaks: places_again(alloc, session.code(), new, session.breaks())?,
+        lost: lost_said(alloc, desk, new)?,
+    })
+}
+
+/// Asks a session something, and tells whether it is done.
+fn ask(alloc: Global, session: &mut Session<'_>, command: Command) -> Result<bool, AllocError>
+    ensures done { IfOk result (λ b. b ≡ spec.does session.old command) }
+    ensures session { OnOk result (session.new ≡ spec.asked session.old command) }
+{
+    let request = Request { command, at: None };
+    match session.answer(alloc, &request)? {
+        Reply::Done { .. } => Ok(true),
+        Reply::Refused(_) => Ok(false),
+    }
+}
+
+/// The breakpoint that stands in a place, or one in its place that is taken away again.
+fn or_filler(place: Option<Break>) -> Break
+    ensures { result ≡ spec.or_filler place }
+{
+    match place {
+        None => Break::Rank(0),
+        Some(stop) => stop,
+    }
+}
+
+/// Sets a breakpoint in each place, from the lowest on.
+fn fill(
+    alloc: Global,
+    session: &mut Session<'_>,
+    places: &[Option<Break>],
+) -> Result<(), AllocError>
+    ensures { OnOk result (session.new ≡ spec.filled session.old places.now) }
+{
+    for place in places {
+        let _is_done = ask(alloc, session, Command::Break(or_filler(*place)))?;
+    }
+    Ok(())
+}
+
+/// Takes away what stands in a place that is to be free.
+fn free_place(
+    alloc: Global,
+    session: &mut Session<'_>,
+    number: usize,
+    place: Option<Break>,
+) -> Result<(), AllocError>
+    ensures { OnOk result (session.new ≡ spec.freed session.old number place) }
+{
+    if place.is_some() {
+        return Ok(());
+    }
+    let _is_done = ask(alloc, session, Command::Unbreak(number))?;
+    Ok(())
+}
+
+/// The same of all places.
+fn free_places(
+    alloc: Global,
+    session: &mut Session<'_>,
+    places: &[Option<Break>],
+) -> Result<(), AllocError>
+    ensures { OnOk result (session.new ≡ spec.all_freed session.old 0 places.now) }
+{
+    for (number, place) in places.iter().enumerate() {
+        free_place(alloc, session, number, *place)?;
+    }
+    Ok(())
+}
+
+/// Takes steps one after another, as far as they fit, and answers how many were taken.
+fn take_again(alloc: Global, session: &mut Session<'_>, steps: &[Step]) -> Result<usize, AllocError>
+    ensures count { IfOk result (λ n. n ≡ spec.fitting session.old steps.now) }
+    ensures session { OnOk result (session.new ≡ spec.retaken session.old steps.now) }
+{
+    for (taken, step) in steps.iter().enumerate() {
+        if !ask(alloc, session, Command::Step(*step))? {
+            return Ok(taken);
+        }
+    }
+    Ok(steps.len())
+}
+
+/// Adds how many steps were taken again.
+fn push_head(out: &mut String, taken: usize) -> Result<(), AllocError>
+    ensures { OnOk result (string_bytes out.new ≡ string_bytes out.old ++ spec.head_words taken) }
+{
+    write!(out, "{taken} of ")
+}
+
+/// Adds of how many.
+fn push_taken(out: &mut String, all: usize) -> Result<(), AllocError>
+    ensures { OnOk result (string_bytes out.new ≡ string_bytes out.old ++ spec.taken_words all) }
+{
+    push_count(out, all)?;
+    out.push_str(" taken again\n")
+}
+
+/// Adds both.
+fn push_again(out: &mut String, taken: usize, all: usize) -> Result<(), AllocError>
+    ensures { OnOk result (string_bytes out.new ≡ string_bytes out.old ++ spec.again_line taken all) }
+{
+    push_head(out, taken)?;
+    push_taken(out, all)
+}
+
+/// Where a session stands, with the places of marks of its script.
+#[tactic(auto, using(crate::proofs::SaidLemmas::standing))]
+fn standing_said(alloc: Global, session: &Session<'_>, script: &[u8]) -> Result<Vec<u8>, AllocError>
+    ensures { IfOk result (λ t. t.items ≡ spec.standing_said script.now session.now) }
+{
+    let mut told = String::new(alloc);
+    let debugger = session.debugger();
+    debugger.state_is_reached();
+    let decided = decide(alloc, debugger.core())?;
+    push_standing(alloc, debugger, script, &mut told, decided)?;
+    marked_bytes(alloc, script, &told)
+}
+
+/// How many steps were taken again, of how many.
+#[tactic(auto, using(crate::proofs::AgainLemmas::telling))]
+fn again_line(alloc: Global, taken: usize, all: usize) -> Result<String, AllocError>
+    ensures { IfOk result (λ t. string_bytes t ≡ spec.again_line taken all) }
+{
+    let mut told = String::new(alloc);
+    push_again(&mut told, taken, all)?;
+    Ok(told)
+}
+
+/// What is told of a session that began anew.
+#[tactic(auto, using(crate::proofs::AgainLemmas::telling))]
+fn again_text(
+    alloc: Global,
+    session: &Session<'_>,
+    screen: Screen<'_>,
+    taken: usize,
+    kept: &Kept,
+) -> Result<Vec<u8>, AllocError>
+    ensures { IfOk result (λ t. t.items ≡ spec.again_said screen.entry.look screen.entry.script.now session.now taken (length kept.now.steps.items) kept.now.lost.items) }
+{
+    let line = again_line(alloc, taken, kept.steps.len())?;
+    let standing = standing_said(alloc, session, screen.script)?;
+    let mut told = Vec::new(alloc);
+    told.extend_from_slice(line.as_bytes())?;
+    told.extend_from_slice(&kept.lost)?;
+    told.extend_from_slice(&standing)?;
+    said_bytes(alloc, session, screen.look, &told)
+}
+
+/// Has a session at the start of a script be where the one was that is kept: sets its breakpoints again, and takes its steps again as far as
+/// they fit. Answers how many.
+fn go_there(alloc: Global, session: &mut Session<'_>, kept: &Kept) -> Result<usize, AllocError>
+    ensures count { IfOk result (λ n. n ≡ spec.fitting (spec.with_breaks session.old kept.now.breaks.items) kept.now.steps.items) }
+    ensures session { OnOk result (session.new ≡ spec.retaken (spec.with_breaks session.old kept.now.breaks.items) kept.now.steps.items) }
+{
+    fill(alloc, session, &kept.breaks)?;
+    free_places(alloc, session, &kept.breaks)?;
+    take_again(alloc, session, &kept.steps)
+}
+
+/// What a session says that began anew, and where it stands, given its console.
+fn said_again(
+    alloc: Global,
+    session: &mut Session<'_>,
+    screen: Screen<'_>,
+    kept: &Kept,
+) -> Result<Vec<u8>, AllocError>
+    ensures said { IfOk result (λ t. t.items ≡ spec.told_again screen.entry.look screen.entry.script.now session.old kept.now.breaks.items kept.now.steps.items kept.now.lost.items) }
+    ensures session { OnOk result (session.new ≡ spec.gone_again session.old kept.now.breaks.items kept.now.steps.items) }
+{
+    let taken = go_there(alloc, session, kept)?;
+    again_text(alloc, session, screen, taken, kept)
+}
+
+/// A console at the start of the script that was read again, which has gone where the one was that is kept: its breakpoints are set again, and
+/// its steps are taken again one after another, up to the first that isn't enabled. It says how many, which breakpoints are not set,
+/// and where it stands. An `Err` is want of memory.
+pub fn reopen<'c, 't>(
+    alloc: Global,
+    subject: Subject<'c>,
+    screen: Screen<'t>,
+    kept: &Kept,
+) -> Result<Opened<'c, 't>, AllocError>
+    ensures desk { IfOk result (λ o. o.desk ≡ record { session = spec.gone_again (opened subject.entry.code.now.program subject.entry.mode) kept.now.breaks.items kept.now.steps.items; script = screen.entry.script.now; last = None; asked = []; named = []; look = screen.entry.look }) }
+    ensures said { IfOk result (λ o. o.said.items ≡ spec.told_again screen.entry.look screen.entry.script.now (opened subject.entry.code.now.program subject.entry.mode) kept.now.breaks.items kept.now.steps.items kept.now.lost.items) }
+{
+    let mut session = Session::start(alloc, subject.code, subject.mode)?;
+    match said_again(alloc, &mut session, screen, kept) {
+        Ok(said) => {
+            let desk = ConsoleDesk::new(alloc, session, screen);
+            Ok(Opened { desk, said })
+        }
+        Err(error) => {
+            drop(session);
+            Err(error)
+        }
+    }
+}
+
+/// Why a script isn't read again.
+#[derive(Clone, Copy)]
+pub enum Unread {
+    /// It has a fault, in this line, from 1.
+    Script(ReadFault, usize),
+    /// Its file can't be opened or read.
+    File,
+    /// Memory was refused.
+    Memory,
+}
+
+/// Adds a fault, and its line.
+fn push_fault_words(out: &mut String, fault: ReadFault, line: usize) -> Result<(), AllocError>
+    ensures { OnOk result (string_bytes out.new ≡ string_bytes out.old ++ spec.fault_words fault line) }
+{
+    write!(out, "{fault} line {line}\n")
+}
+
+/// Adds that a script has a fault.
+fn push_script_fault(out: &mut String, fault: ReadFault, line: usize) -> Result<(), AllocError>
+    ensures { OnOk result (string_bytes out.new ≡ string_bytes out.old ++ spec.script_fault_line fault line) }
+{
+    out.push_str("refused: the script has a fault, ")?;
+    push_fault_words(out, fault, line)
+}
+
+/// Adds that a file can't be read.
+fn push_no_file(out: &mut String) -> Result<(), AllocError>
+    ensures { OnOk result (string_bytes out.new ≡ string_bytes out.old ++ spec.no_file_line) }
+{
+    out.push_str("refused: the file can't be read\n")
+}
+
+/// Adds why a script isn't read again.
+fn push_unread(out: &mut String, why: Unread) -> Result<(), AllocError>
+    ensures { OnOk result (string_bytes out.new ≡ string_bytes out.old ++ spec.unread_line why) }
+{
+    match why {
+        Unread::Script(fault, line) => push_script_fault(out, fault, line),
+        Unread::File => push_no_file(out),
+        Unread::Memory => out.push_str("refused: memory\n"),
+    }
+}
+
+/// What a console says if its script isn't read again: one line. Nothing has changed. An `Err` is want of memory.
+#[tactic(auto, using(crate::proofs::SaidLemmas::saying))]
+pub fn refused_again(
+    alloc: Global,
+    desk: &ConsoleDesk<'_, '_>,
+    why: Unread,
+) -> Result<Vec<u8>, AllocError>
+    ensures { IfOk result (λ t. t.items ≡ says.said desk.now.look desk.now.session (spec.unread_line why)) }
+{
+    let mut told = String::new(alloc);
+    push_unread(&mut told, why)?;
+    said(alloc, desk.session(), desk.screen().look, &told)
+}
