@@ -10,7 +10,7 @@ use Rattle.clap.specs.Words.{Text, Row, Rule}
 use Rattle.clap.proofs.WalkLemmas.{both}
 use Rattle.mpd_options.specs.Asked.{AreInRange, IsInRange, IsTaskInRange, Said, asked_by, is_there, number_or_none, options_by, or_default, said_of, task_by, text_of, Asked, found, said_named, text_in}
 use Rattle.mpd_options.specs.Numbers.{most_usize, number_in}
-use Rattle.mpd_options.specs.Table.{Item, default_of, fits, is_missed, is_nothing, is_same_as, item_named, item_of, items_of, most_clients, most_fuel, most_leaf, most_modes, most_paged, most_piece, most_port, most_ranks, most_runs, most_sample, most_seed, most_split, most_states, most_visited, most_workers, least_width, most_width, usual_runs, usual_split, Unsaid, holds, is_required, value_unsaid}
+use Rattle.mpd_options.specs.Table.{Item, default_of, fits, is_missed, is_nothing, is_same_as, item_named, item_of, items_of, most_clients, most_fuel, most_leaf, most_modes, most_paged, most_piece, most_port, most_ranks, most_runs, most_sample, most_seed, most_split, most_states, most_visited, most_workers, least_height, least_width, most_height, most_width, usual_runs, usual_split, Unsaid, holds, is_required, value_unsaid}
 use Rattle.mpd_options.specs.declared.table.Name.TheVariants as the
 use Rattle.mpd_options.specs.declared.table.Tool.{Tool}
 use Rattle.mpd_options.specs.declared.table.Tool.TheVariants as tool
@@ -140,7 +140,10 @@ task_range tool.Serve said h all =
     let port = needed 1 most_port most_port (text_of tool.Serve said the.Port) (omega arith) (no_other (said_of (item_of the.Port) said) ∙ is_said tool.Serve said (item_of the.Port) refl all) (text_fits tool.Serve said (item_of the.Port) refl h) in
     let clients = needed 1 most_clients most_usize (text_of tool.Serve said the.Clients) (omega arith) (no_other (said_of (item_of the.Clients) said) ∙ is_said tool.Serve said (item_of the.Clients) refl all) (text_fits tool.Serve said (item_of the.Clients) refl h) in
     (port.0, port.1, clients.0, clients.1)
-task_range tool.Debug said h all = needed least_width most_width most_usize (text_of tool.Debug said the.Width) (omega arith) (or_same (said_of (item_of the.Width) said) _) (text_fits tool.Debug said (item_of the.Width) refl h)
+task_range tool.Debug said h all =
+    let width = needed least_width most_width most_usize (text_of tool.Debug said the.Width) (omega arith) (or_same (said_of (item_of the.Width) said) _) (text_fits tool.Debug said (item_of the.Width) refl h) in
+    let height = needed least_height most_height most_usize (text_of tool.Debug said the.Height) (omega arith) (or_same (said_of (item_of the.Height) said) _) (text_fits tool.Debug said (item_of the.Height) refl h) in
+    (width.0, width.1, height.0, height.1)
 task_range tool.Check said h all = options_range said h
 task_range tool.Verify said h all = at_most 0 most_leaf _ (given 0 most_leaf most_usize (text_of tool.Verify said the.Leaf) (text_fits tool.Verify said (item_of the.Leaf) refl h))
 task_range tool.Words said h all = needed 1 most_fuel most_usize (text_of tool.Words said the.Fuel) (omega arith) (or_same (said_of (item_of the.Fuel) said) _) (text_fits tool.Words said (item_of the.Fuel) refl h)

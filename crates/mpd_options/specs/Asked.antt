@@ -7,7 +7,7 @@ use Rattle.std.specs.Str.{bytes_eq, chars}
 use Rattle.clap.specs.Lexer.{long_of, short_of}
 use Rattle.clap.specs.Words.{Row, first_of}
 use Rattle.mpd_options.specs.Numbers.{most_usize, number_in}
-use Rattle.mpd_options.specs.Table.{Item, default_of, files_of, fits, is_required, item_named, item_of, items_of, most_clients, most_fuel, most_leaf, most_modes, most_paged, most_piece, most_port, most_ranks, most_runs, most_sample, most_seed, most_split, most_states, most_visited, most_workers, least_width, most_width, option_among, tool_named, usual_runs, usual_split}
+use Rattle.mpd_options.specs.Table.{Item, default_of, files_of, fits, is_required, item_named, item_of, items_of, most_clients, most_fuel, most_leaf, most_modes, most_paged, most_piece, most_port, most_ranks, most_runs, most_sample, most_seed, most_split, most_states, most_visited, most_workers, least_width, most_width, least_height, most_height, option_among, tool_named, usual_runs, usual_split}
 use Rattle.mpd_options.specs.declared.table.Name.{Name}
 use Rattle.mpd_options.specs.declared.table.Name.TheVariants as the
 use Rattle.mpd_options.specs.declared.table.Tool.{Tool}
@@ -15,26 +15,27 @@ use Rattle.mpd_options.specs.declared.table.Tool.TheVariants as tool
 use Rattle.mpd_options.specs.declared.options.CheckOptions.{CheckOptions}
 use Rattle.mpd_options.specs.declared.options.CommandLine.{CommandLine}
 use Rattle.mpd_options.specs.declared.options.Options.{Options}
-use Rattle.mpd_options.specs.declared.options.Options.TheVariants.{Plain, Diagnose, Trace, Debug, Run, Serve, Check, Verify, Words, Translate, Picture, Page}
+use Rattle.mpd_options.specs.declared.options.Options.TheVariants.{Plain, Diagnose, Trace, Debug, Dap, Run, Serve, Check, Verify, Words, Translate, Picture, Page}
 
--- what is asked for: a script and its trace on standard input, a diagnosis of a file, the trace of one, a console on one, with the choices of a run or
+-- what is asked for: a script and its trace on standard input, a diagnosis of a file, the trace of one, a console on one, and an editor's debugger of one, each with the choices of a run or
 -- none and a witness or none, answers to requests on one, of one or of several clients, a look for deadlocks in one, a check of a witness, the trace words of a run,
 -- a script in C, a picture of a run, by its choices, a witness, or trace words, each given or not, or a page of runs, by these or by how many; with the words of files, mode and
 -- choices, up to how many slots modes are diagnosed, whether messages left over count, the word of several numbers of ranks, the port, how many clients, how deadlocks are looked for, the number of a leaf, the fuel, how many states
 -- searches come to,
--- whether choices are those of a report of `--ends` or `--sample`, whether how runs end is covered, whether lines that are read are shown, and how many bytes a line of an answer has
+-- whether choices are those of a report of `--ends` or `--sample`, whether how runs end is covered, whether lines that are read are shown, how many bytes a line of an answer has, whether the screen is drawn anew, and how many lines it has
 pub data Task : Type 0 where
   plain : Task
   diagnose : List ℕ → Option (List ℕ) → Option ℕ → Bool → Option (List ℕ) → Task
   trace : List ℕ → List ℕ → Bool → Task
-  debug : List ℕ → List ℕ → Option (List ℕ) → Option (List ℕ) → Bool → Bool → ℕ → Task
+  debug : List ℕ → List ℕ → Option (List ℕ) → Option (List ℕ) → Bool → Bool → ℕ → Bool → ℕ → Task
+  dap : List ℕ → List ℕ → Option (List ℕ) → Option (List ℕ) → Bool → Task
   run : List ℕ → List ℕ → Task
   serve : List ℕ → List ℕ → ℕ → ℕ → Task
   check : List ℕ → List ℕ → CheckOptions → Task
   verify : List ℕ → List ℕ → List ℕ → Option ℕ → Task
   tell : List ℕ → List ℕ → List ℕ → ℕ → Bool → Task
   translate : List ℕ → Task
-  paint : List ℕ → List ℕ → Option (List ℕ) → Option (List ℕ) → Option (List ℕ) → ℕ → Bool → Bool → Task
+  paint : List ℕ → List ℕ → Option (List ℕ) → Option (List ℕ) → Option (List ℕ) → ℕ → Bool → Bool → Bool → Task
   page : List ℕ → List ℕ → Option (List ℕ) → Option (List ℕ) → Option (List ℕ) → Option ℕ → ℕ → ℕ → Bool → Bool → Task
 
 -- a task, and for how many ranks its script is meant, where that is said
@@ -50,14 +51,15 @@ abbrev pub task_of : Options → Task
 task_of Plain = plain
 task_of (Diagnose file mode modes strict ranks) = diagnose file.now (given_word mode) modes strict (given_word ranks)
 task_of (Trace file mode echo) = trace file.now mode.now echo
-task_of (Debug file mode choices witness ends echo width) = debug file.now mode.now (given_word choices) (given_word witness) ends echo width
+task_of (Debug file mode choices witness ends echo width view height) = debug file.now mode.now (given_word choices) (given_word witness) ends echo width view height
+task_of (Dap file mode choices witness ends) = dap file.now mode.now (given_word choices) (given_word witness) ends
 task_of (Run file mode) = run file.now mode.now
 task_of (Serve file mode port clients) = serve file.now mode.now port clients
 task_of (Check file mode options) = check file.now mode.now options
 task_of (Verify file witness mode leaf) = verify file.now witness.now mode.now leaf
 task_of (Words file choices mode fuel ends) = tell file.now choices.now mode.now fuel ends
 task_of (Translate file) = translate file.now
-task_of (Picture file mode choices witness words fuel ends bare) = paint file.now mode.now (given_word choices) (given_word witness) (given_word words) fuel ends bare
+task_of (Picture file mode choices witness words fuel ends bare large) = paint file.now mode.now (given_word choices) (given_word witness) (given_word words) fuel ends bare large
 task_of (Page p) = page p.file.now p.mode.now (given_word p.choices) (given_word p.witness) (given_word p.words) p.runs p.fuel p.states p.ends p.hide
 
 -- what no words ask for
@@ -80,12 +82,12 @@ AreInRange o =
 -- each number that is asked for lies in its range
 abbrev pub IsTaskInRange : Task → Type 0
 IsTaskInRange (diagnose file mode modes strict ranks) = IfSome modes (λ n. n ≤ most_modes)
-IsTaskInRange (debug file mode choices witness ends echo width) = (least_width ≤ width) × (width ≤ most_width)
+IsTaskInRange (debug file mode choices witness ends echo width view height) = (least_width ≤ width) × (width ≤ most_width) × (least_height ≤ height) × (height ≤ most_height)
 IsTaskInRange (serve file mode port clients) = (1 ≤ port) × (port ≤ most_port) × (1 ≤ clients) × (clients ≤ most_clients)
 IsTaskInRange (check file mode options) = AreInRange options
 IsTaskInRange (verify file witness mode leaf) = IfSome leaf (λ n. n ≤ most_leaf)
 IsTaskInRange (tell file choices mode fuel ends) = (1 ≤ fuel) × (fuel ≤ most_fuel)
-IsTaskInRange (paint file mode choices witness words fuel ends bare) = (1 ≤ fuel) × (fuel ≤ most_fuel)
+IsTaskInRange (paint file mode choices witness words fuel ends bare large) = (1 ≤ fuel) × (fuel ≤ most_fuel)
 IsTaskInRange (page file mode choices witness words runs fuel states ends hide) = IfSome runs (λ n. (1 ≤ n) × (n ≤ most_paged)) × (1 ≤ fuel) × (fuel ≤ most_fuel) × (1 ≤ states) × (states ≤ most_visited)
 IsTaskInRange _ = ⊤
 
@@ -96,7 +98,7 @@ IsInRange x = IsTaskInRange x.task × IfSome x.ranks (λ n. (1 ≤ n) × (n ≤ 
 abbrev pub IsLineInRange : CommandLine → Type 0
 IsLineInRange line = IsInRange (asked line)
 
--- what a word behind a command is: `--`, `--NAME` or `--NAME=V` of an option, another option, or none
+-- what a word after a command is: `--`, `--NAME` or `--NAME=V` of an option, another option, or none
 pub data Word : Type 0 where
   dashes : Word
   named : Item → Option (List ℕ) → Word
@@ -126,7 +128,7 @@ long_or_short t (Some p) letters = long_option t p
 abbrev pub word_of : Tool → List ℕ → Word
 word_of t word = if bytes_eq word (codes "--") then dashes else long_or_short t (long_of word) (short_of word)
 
--- where a word stands: among options, behind one that wants its value, or behind `--`
+-- where a word stands: among options, after one that wants its value, or after `--`
 pub data Place : Type 0 where
   among_options : Place
   behind_option : Item → Place
@@ -230,14 +232,15 @@ options_by text = record {
 
 abbrev pub task_by : Tool → (Name → Option (List ℕ)) → Task
 task_by tool.Trace text = trace (word_by (text the.File)) (word_by (text the.Mode)) (is_on (text the.Echo))
-task_by tool.Debug text = debug (word_by (text the.File)) (word_by (text the.Mode)) (text the.LaidChoices) (text the.LaidWitness) (is_on (text the.ChosenEnds)) (is_on (text the.Echo)) (number_or_none (number_by (text the.Width)))
+task_by tool.Debug text = debug (word_by (text the.File)) (word_by (text the.Mode)) (text the.LaidChoices) (text the.LaidWitness) (is_on (text the.ChosenEnds)) (is_on (text the.Echo)) (number_or_none (number_by (text the.Width))) (is_on (text the.View)) (number_or_none (number_by (text the.Height)))
+task_by tool.Dap text = dap (word_by (text the.File)) (word_by (text the.Mode)) (text the.LaidChoices) (text the.LaidWitness) (is_on (text the.ChosenEnds))
 task_by tool.Run text = run (word_by (text the.File)) (word_by (text the.Mode))
 task_by tool.Serve text = serve (word_by (text the.File)) (word_by (text the.Mode)) (number_or_none (port_by (text the.Port))) (number_or_none (number_by (text the.Clients)))
 task_by tool.Check text = check (word_by (text the.File)) (word_by (text the.Mode)) (options_by text)
 task_by tool.Verify text = verify (word_by (text the.File)) (word_by (text the.WitnessFile)) (word_by (text the.Mode)) (number_by (text the.Leaf))
 task_by tool.Words text = tell (word_by (text the.File)) (word_by (text the.NeededChoices)) (word_by (text the.Mode)) (number_or_none (number_by (text the.Fuel))) (is_on (text the.ChosenEnds))
 task_by tool.Translate text = translate (word_by (text the.File))
-task_by tool.Picture text = paint (word_by (text the.File)) (word_by (text the.Mode)) (text the.DrawnChoices) (text the.DrawnWitness) (text the.DrawnWords) (number_or_none (number_by (text the.Fuel))) (is_on (text the.ChosenEnds)) (is_on (text the.PlainDrawing))
+task_by tool.Picture text = paint (word_by (text the.File)) (word_by (text the.Mode)) (text the.DrawnChoices) (text the.DrawnWitness) (text the.DrawnWords) (number_or_none (number_by (text the.Fuel))) (is_on (text the.ChosenEnds)) (is_on (text the.PlainDrawing)) (is_on (text the.LargeDrawing))
 task_by tool.Page text = page (word_by (text the.File)) (word_by (text the.Mode)) (text the.PagedChoices) (text the.PagedWitness) (text the.PagedWords) (number_by (text the.PagedRuns)) (number_or_none (number_by (text the.Fuel))) (number_or_none (number_by (text the.PagedStates))) (is_on (text the.PagedEnds)) (is_on (text the.Hide))
 task_by tool.Diagnose text = diagnose (word_by (text the.File)) (text the.GivenMode) (number_by (text the.Modes)) (is_on (text the.Strict)) (text the.RankSpan)
 
@@ -264,8 +267,8 @@ at_end t (behind_option item) said = None
 at_end t among_options said = found t said
 at_end t behind_dashes said = found t said
 
--- what the words behind a command ask for: the words of its files, which are no options, in their order, and each option at
--- most once, and once where it must be there, anywhere; behind `--` no word is an option
+-- what the words after a command ask for: the words of its files, which are no options, in their order, and each option at
+-- most once, and once where it must be there, anywhere; after `--` no word is an option
 abbrev pub wanted : Tool → List (List ℕ) → Place → List Item → Said → Option Asked
 wanted t [] place files said = at_end t place said
 wanted t (word ∷ words) place files said = with_word place (word_of t word) word files said (wanted t words)

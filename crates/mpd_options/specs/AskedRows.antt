@@ -8,31 +8,31 @@ use Rattle.mpd_options.specs.declared.options.CheckOptions.{CheckOptions}
 abbrev Row : Type 0
 Row = List (List ℕ) × Option Task
 
--- words behind `trace`, and the file and the mode that they name
+-- words after `trace`, and the file and the mode that they name
 abbrev names : List (List ℕ) → List ℕ → List ℕ → Row
 names words file mode = (codes "trace" ∷ words, Some (trace file mode false))
 
--- words behind `debug`, and the file, the mode and the witness that they name, without choices
+-- words after `debug`, and the file, the mode and the witness that they name, without choices
 abbrev debugs : List (List ℕ) → List ℕ → List ℕ → Option (List ℕ) → Row
-debugs words file mode witness = (codes "debug" ∷ words, Some (debug file mode None witness false false 80))
+debugs words file mode witness = (codes "debug" ∷ words, Some (debug file mode None witness false false 80 false 24))
 
 -- and with choices, and with `--ends` or without it, of the file `a`
 abbrev debugs_run : List (List ℕ) → List ℕ → Option (List ℕ) → Option (List ℕ) → Bool → Row
-debugs_run words mode choices witness ends = (codes "debug" ∷ words, Some (debug (codes "a") mode choices witness ends false 80))
+debugs_run words mode choices witness ends = (codes "debug" ∷ words, Some (debug (codes "a") mode choices witness ends false 80 false 24))
 
--- words behind `debug a` that make them ask for nothing
+-- words after `debug a` that make them ask for nothing
 abbrev strays : List (List ℕ) → Row
 strays words = (codes "debug" ∷ codes "a" ∷ words, None)
 
--- words behind `run`, and the file and the mode that they name
+-- words after `run`, and the file and the mode that they name
 abbrev runs : List (List ℕ) → List ℕ → List ℕ → Row
 runs words file mode = (codes "run" ∷ words, Some (run file mode))
 
--- words behind `serve`, and the mode, the port and how many clients they ask for, of the file `a`
+-- words after `serve`, and the mode, the port and how many clients they ask for, of the file `a`
 abbrev serves : List (List ℕ) → List ℕ → ℕ → ℕ → Row
 serves words mode port clients = (codes "serve" ∷ words, Some (serve (codes "a") mode port clients))
 
--- words behind `serve a` that make them ask for nothing
+-- words after `serve a` that make them ask for nothing
 abbrev wastes : List (List ℕ) → Row
 wastes words = (codes "serve" ∷ codes "a" ∷ words, None)
 
@@ -61,27 +61,27 @@ by_default =
       count_pieces = false;
     }
 
--- words behind `check`, and what they ask for of the file `a`, with how many runs they name
+-- words after `check`, and what they ask for of the file `a`, with how many runs they name
 abbrev asks : List (List ℕ) → List ℕ → Option ℕ → ℕ → Bool → Row
 asks words mode runs fuel witness = (codes "check" ∷ words, Some (check (codes "a") mode (record by_default { runs = unwrap_or runs 1000; runs_given = is_some runs; fuel = fuel; witness = witness })))
 
--- words behind `check a` that make them ask for nothing
+-- words after `check a` that make them ask for nothing
 abbrev spoils : List (List ℕ) → Row
 spoils words = (codes "check" ∷ codes "a" ∷ words, None)
 
--- words behind `verify`, and the files and the mode that they name
+-- words after `verify`, and the files and the mode that they name
 abbrev verifies : List (List ℕ) → List ℕ → List ℕ → List ℕ → Row
 verifies words file witness mode = (codes "verify" ∷ words, Some (verify file witness mode None))
 
--- words behind `verify a b`, and the leaf that they name
+-- words after `verify a b`, and the leaf that they name
 abbrev picks : List (List ℕ) → ℕ → Row
 picks words leaf = (codes "verify" ∷ codes "a" ∷ codes "b" ∷ words, Some (verify (codes "a") (codes "b") (codes "rendezvous") (Some leaf)))
 
--- words behind `verify a b` that make them ask for nothing
+-- words after `verify a b` that make them ask for nothing
 abbrev undoes : List (List ℕ) → Row
 undoes words = (codes "verify" ∷ codes "a" ∷ codes "b" ∷ words, None)
 
--- words behind `words`, and the choices, the mode and the fuel that they ask for, of the file `a`, without `--ends`
+-- words after `words`, and the choices, the mode and the fuel that they ask for, of the file `a`, without `--ends`
 abbrev tells : List (List ℕ) → List ℕ → List ℕ → ℕ → Row
 tells words choices mode fuel = (codes "words" ∷ words, Some (tell (codes "a") choices mode fuel false))
 
@@ -89,7 +89,7 @@ tells words choices mode fuel = (codes "words" ∷ words, Some (tell (codes "a")
 abbrev tells_ends : List (List ℕ) → List ℕ → List ℕ → ℕ → Row
 tells_ends words choices mode fuel = (codes "words" ∷ words, Some (tell (codes "a") choices mode fuel true))
 
--- words behind `words a` that make them ask for nothing
+-- words after `words a` that make them ask for nothing
 abbrev loses : List (List ℕ) → Row
 loses words = (codes "words" ∷ codes "a" ∷ words, None)
 

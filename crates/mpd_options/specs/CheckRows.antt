@@ -1,4 +1,4 @@
--- Worked rows of what the words behind `check` ask for, of the options that try several modes, that cut it into pieces, that choose which runs are listed and how they are
+-- Worked rows of what the words after `check` ask for, of the options that try several modes, that cut it into pieces, that choose which runs are listed and how they are
 -- told, and that end it, and of their faults.
 use Rattle.std.specs.Prelude.{◌≡◌, ℕ, true, false, List, [], ◌∷◌, map, Option, Some, None, codes, refl}
 use Rattle.std.specs.Char.{encode_utf8}
@@ -41,11 +41,11 @@ by_default =
       count_pieces = false;
     }
 
--- words behind `check a`, and how they ask for it to be looked for
+-- words after `check a`, and how they ask for it to be looked for
 abbrev seeks : List (List ℕ) → CheckOptions → Row
 seeks words options = (codes "check" ∷ codes "a" ∷ words, Some (check (codes "a") (codes "rendezvous") options))
 
--- words behind `check a` that make them ask for nothing
+-- words after `check a` that make them ask for nothing
 abbrev spoils : List (List ℕ) → Row
 spoils words = (codes "check" ∷ codes "a" ∷ words, None)
 

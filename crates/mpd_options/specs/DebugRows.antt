@@ -1,4 +1,4 @@
--- What `--echo` and `--width` after `trace` and `debug` ask for, and faults of such words, worked by hand.
+-- What `--echo`, `--width`, `--view` and `--height` after `trace` and `debug` ask for, and faults of such words, worked by hand.
 use Rattle.std.specs.Prelude.{◌≡◌, ℕ, Bool, true, false, List, [], ◌∷◌, map, Option, Some, None, codes, refl}
 use Rattle.std.specs.Char.{encode_utf8}
 use Rattle.std.specs.Str.{chars}
@@ -20,7 +20,11 @@ traces words mode echo = (codes "trace" ∷ words, Some (trace (codes "a") mode 
 
 -- words after `debug`, and the choices, whether lines are shown, and the width that they ask for, of the file `a` in `rendezvous`
 abbrev debugs : List (List ℕ) → Option (List ℕ) → Bool → ℕ → Row
-debugs words choices echo width = (codes "debug" ∷ words, Some (debug (codes "a") (codes "rendezvous") choices None false echo width))
+debugs words choices echo width = (codes "debug" ∷ words, Some (debug (codes "a") (codes "rendezvous") choices None false echo width false 24))
+
+-- words after `debug`, and the width, whether there is a view, and the height that they ask for, of the same
+abbrev views : List (List ℕ) → ℕ → Bool → ℕ → Row
+views words width view height = (codes "debug" ∷ words, Some (debug (codes "a") (codes "rendezvous") None None false false width view height))
 
 -- words that ask for nothing
 abbrev nothing : List (List ℕ) → Row
@@ -38,12 +42,22 @@ rows =
     ∷ debugs (codes "a" ∷ codes "--width=0132" ∷ codes "--echo" ∷ []) None true 132
     ∷ debugs (codes "--echo" ∷ codes "--choices" ∷ codes "0" ∷ codes "--width" ∷ codes "81" ∷ codes "a" ∷ []) (Some (codes "0")) true 81
     ∷ debugs (codes "--choices" ∷ codes "81" ∷ codes "a" ∷ []) (Some (codes "81")) false 80
+    ∷ views (codes "a" ∷ codes "--view" ∷ []) 80 true 24
+    ∷ views (codes "--height" ∷ codes "10" ∷ codes "a" ∷ []) 80 false 10
+    ∷ views (codes "--view" ∷ codes "--height=1000" ∷ codes "--width=132" ∷ codes "a" ∷ []) 132 true 1000
     ∷ nothing (codes "trace" ∷ codes "--echo" ∷ [])
     ∷ nothing (codes "trace" ∷ codes "a" ∷ codes "--echo" ∷ codes "--echo" ∷ [])
     ∷ nothing (codes "trace" ∷ codes "a" ∷ codes "--echo=true" ∷ [])
     ∷ nothing (codes "trace" ∷ codes "a" ∷ codes "--width" ∷ codes "80" ∷ [])
     ∷ nothing (codes "run" ∷ codes "a" ∷ codes "--echo" ∷ [])
     ∷ nothing (codes "run" ∷ codes "a" ∷ codes "--width=80" ∷ [])
+    ∷ nothing (codes "trace" ∷ codes "a" ∷ codes "--view" ∷ [])
+    ∷ nothing (codes "dap" ∷ codes "a" ∷ codes "--height=24" ∷ [])
+    ∷ nothing (codes "debug" ∷ codes "--view" ∷ [])
+    ∷ nothing (codes "debug" ∷ codes "a" ∷ codes "--view=true" ∷ [])
+    ∷ nothing (codes "debug" ∷ codes "a" ∷ codes "--view" ∷ codes "--view" ∷ [])
+    ∷ nothing (codes "debug" ∷ codes "a" ∷ codes "--height" ∷ codes "9" ∷ [])
+    ∷ nothing (codes "debug" ∷ codes "a" ∷ codes "--height=1001" ∷ [])
     ∷ nothing (codes "debug" ∷ codes "--width" ∷ codes "80" ∷ [])
     ∷ nothing (codes "debug" ∷ codes "a" ∷ codes "--width" ∷ [])
     ∷ nothing (codes "debug" ∷ codes "a" ∷ codes "--width" ∷ codes "19" ∷ [])
@@ -69,7 +83,11 @@ abbrev fault_rows : List FaultRow
 fault_rows =
     wrong kind.UnknownArgument (codes "run" ∷ codes "a" ∷ codes "--echo" ∷ [])
     ∷ wrong kind.UnknownArgument (codes "trace" ∷ codes "a" ∷ codes "--width=80" ∷ [])
+    ∷ wrong kind.UnknownArgument (codes "trace" ∷ codes "a" ∷ codes "--view" ∷ [])
     ∷ wrong kind.MissingRequiredArgument (codes "debug" ∷ codes "--echo" ∷ [])
+    ∷ wrong kind.TooManyValues (codes "debug" ∷ codes "a" ∷ codes "--view=true" ∷ [])
+    ∷ wrong kind.ValueValidation (codes "debug" ∷ codes "a" ∷ codes "--height=9" ∷ [])
+    ∷ wrong kind.ValueValidation (codes "debug" ∷ codes "a" ∷ codes "--height" ∷ codes "1001" ∷ [])
     ∷ wrong kind.InvalidValue (codes "debug" ∷ codes "a" ∷ codes "--width" ∷ [])
     ∷ wrong kind.ValueValidation (codes "debug" ∷ codes "a" ∷ codes "--width" ∷ codes "19" ∷ [])
     ∷ wrong kind.ValueValidation (codes "debug" ∷ codes "a" ∷ codes "--width=1001" ∷ [])

@@ -1,4 +1,4 @@
--- Worked rows of what the words behind `diagnose` ask for, and of their faults.
+-- Worked rows of what the words after `diagnose` ask for, and of their faults.
 use Rattle.std.specs.Prelude.{◌≡◌, true, false, ℕ, List, [], ◌∷◌, map, Option, Some, None, codes, refl}
 use Rattle.std.specs.Char.{encode_utf8}
 use Rattle.std.specs.Str.{chars}
@@ -14,7 +14,7 @@ use Rattle.mpd_options.specs.Program.{Lies, mpdbg_app, only_deadlock}
 abbrev Row : Type 0
 Row = List (List ℕ) × Option Task
 
--- words behind `diagnose`, and the file and the mode that they name, without `--strict`
+-- words after `diagnose`, and the file and the mode that they name, without `--strict`
 abbrev says : List (List ℕ) → List ℕ → Option (List ℕ) → Row
 says words file mode = (codes "diagnose" ∷ words, Some (diagnose file mode None false None))
 
@@ -22,11 +22,11 @@ says words file mode = (codes "diagnose" ∷ words, Some (diagnose file mode Non
 abbrev says_strictly : List (List ℕ) → List ℕ → Option (List ℕ) → Row
 says_strictly words file mode = (codes "diagnose" ∷ words, Some (diagnose file mode None true None))
 
--- words behind `diagnose a`, and up to how many slots they ask for modes
+-- words after `diagnose a`, and up to how many slots they ask for modes
 abbrev says_modes : List (List ℕ) → ℕ → Row
 says_modes words most = (codes "diagnose" ∷ codes "a" ∷ words, Some (diagnose (codes "a") None (Some most) false None))
 
--- words behind `diagnose a` that make them ask for nothing
+-- words after `diagnose a` that make them ask for nothing
 abbrev errs : List (List ℕ) → Row
 errs words = (codes "diagnose" ∷ codes "a" ∷ words, None)
 
@@ -126,7 +126,7 @@ FaultRow = List (List ℕ) × Kinds
 abbrev help : List (List ℕ) → FaultRow
 help words = (words, kind.DisplayHelp ∷ [])
 
--- behind the word `help` the function of `clap` doesn't say whether there is help on what follows
+-- after the word `help` the function of `clap` doesn't say whether there is help on what follows
 abbrev help_on : List (List ℕ) → FaultRow
 help_on words = (words, kind.DisplayHelp ∷ kind.InvalidSubcommand ∷ [])
 

@@ -21,7 +21,7 @@ help words = (words, kind.DisplayHelp ∷ [], 0 ∷ [])
 abbrev version : List (List ℕ) → Row
 version words = (words, kind.DisplayVersion ∷ [], 0 ∷ [])
 
--- behind the word `help` the function of `clap` doesn't say whether there is help on what follows
+-- after the word `help` the function of `clap` doesn't say whether there is help on what follows
 abbrev help_on : List (List ℕ) → Row
 help_on words = (words, kind.DisplayHelp ∷ kind.InvalidSubcommand ∷ [], 0 ∷ 2 ∷ [])
 

@@ -4,6 +4,7 @@ pub mod CheckRows
 pub mod ClashRows
 pub mod Clashes
 pub mod DebugRows
+pub mod DapRows
 pub mod DiagnoseRows
 pub mod FaultRows
 pub mod Help

@@ -1,4 +1,4 @@
--- Worked rows of what the words behind `c` and `picture` ask for, and of their faults.
+-- Worked rows of what the words after `c` and `picture` ask for, and of their faults.
 use Rattle.std.specs.Prelude.{◌≡◌, ℕ, true, false, List, [], ◌∷◌, map, Option, Some, None, codes, refl}
 use Rattle.std.specs.Char.{encode_utf8}
 use Rattle.std.specs.Str.{chars}
@@ -14,19 +14,19 @@ use Rattle.mpd_options.specs.Program.{Lies, mpdbg_app, only_deadlock}
 abbrev Row : Type 0
 Row = List (List ℕ) × Option Task
 
--- words behind `c`, and the file that they name
+-- words after `c`, and the file that they name
 abbrev writes : List (List ℕ) → List ℕ → Row
 writes words file = (codes "c" ∷ words, Some (translate file))
 
--- words behind `picture`, and the mode, the choices, the witness, the trace words and the fuel that they ask for, of the file `a`, without `--ends`
+-- words after `picture`, and the mode, the choices, the witness, the trace words and the fuel that they ask for, of the file `a`, without `--ends`
 abbrev draws : List (List ℕ) → List ℕ → Option (List ℕ) → Option (List ℕ) → Option (List ℕ) → ℕ → Row
-draws words mode choices witness trace_words fuel = (codes "picture" ∷ words, Some (paint (codes "a") mode choices witness trace_words fuel false false))
+draws words mode choices witness trace_words fuel = (codes "picture" ∷ words, Some (paint (codes "a") mode choices witness trace_words fuel false false false))
 
 -- and with it
 abbrev draws_ends : List (List ℕ) → List ℕ → Option (List ℕ) → Option (List ℕ) → Option (List ℕ) → ℕ → Row
-draws_ends words mode choices witness trace_words fuel = (codes "picture" ∷ words, Some (paint (codes "a") mode choices witness trace_words fuel true false))
+draws_ends words mode choices witness trace_words fuel = (codes "picture" ∷ words, Some (paint (codes "a") mode choices witness trace_words fuel true false false))
 
--- words behind `picture a` that make them ask for nothing
+-- words after `picture a` that make them ask for nothing
 abbrev smears : List (List ℕ) → Row
 smears words = (codes "picture" ∷ codes "a" ∷ words, None)
 
@@ -88,8 +88,8 @@ rows =
     ∷ draws (codes "--choices" ∷ codes "1" ∷ codes "--witness" ∷ codes "2" ∷ codes "--words" ∷ codes "3" ∷ codes "--fuel" ∷ codes "4" ∷ codes "--mode" ∷ codes "5" ∷ codes "--" ∷ codes "a" ∷ []) (codes "5") (Some (codes "1")) (Some (codes "2")) (Some (codes "3")) 4
     ∷ draws (codes "--words=1" ∷ codes "--witness=2" ∷ codes "a" ∷ codes "--choices=3" ∷ []) (codes "rendezvous") (Some (codes "3")) (Some (codes "2")) (Some (codes "1")) 100000
     ∷ draws (codes "a" ∷ codes "--words" ∷ codes "w" ∷ codes "--" ∷ []) (codes "rendezvous") None None (Some (codes "w")) 100000
-    ∷ (codes "picture" ∷ codes "--words" ∷ codes "picture" ∷ codes "picture" ∷ [], Some (paint (codes "picture") (codes "rendezvous") None None (Some (codes "picture")) 100000 false false))
-    ∷ (codes "picture" ∷ codes "--" ∷ codes "--words" ∷ [], Some (paint (codes "--words") (codes "rendezvous") None None None 100000 false false))
+    ∷ (codes "picture" ∷ codes "--words" ∷ codes "picture" ∷ codes "picture" ∷ [], Some (paint (codes "picture") (codes "rendezvous") None None (Some (codes "picture")) 100000 false false false))
+    ∷ (codes "picture" ∷ codes "--" ∷ codes "--words" ∷ [], Some (paint (codes "--words") (codes "rendezvous") None None None 100000 false false false))
     ∷ draws_ends (codes "a" ∷ codes "--choices" ∷ codes "0 1" ∷ codes "--ends" ∷ []) (codes "rendezvous") (Some (codes "0 1")) None None 100000
     ∷ draws_ends (codes "--ends" ∷ codes "--choices=" ∷ codes "a" ∷ []) (codes "rendezvous") (Some []) None None 100000
     ∷ draws_ends (codes "a" ∷ codes "--ends" ∷ []) (codes "rendezvous") None None None 100000
@@ -98,10 +98,12 @@ rows =
     ∷ draws_ends (codes "a" ∷ codes "--ends" ∷ codes "--words=w" ∷ []) (codes "rendezvous") None None (Some (codes "w")) 100000
     ∷ draws_ends (codes "--choices" ∷ codes "1" ∷ codes "--witness" ∷ codes "2" ∷ codes "--ends" ∷ codes "--words" ∷ codes "3" ∷ codes "--fuel" ∷ codes "4" ∷ codes "--mode" ∷ codes "5" ∷ codes "--" ∷ codes "a" ∷ []) (codes "5") (Some (codes "1")) (Some (codes "2")) (Some (codes "3")) 4
     ∷ draws (codes "a" ∷ codes "--choices=--ends" ∷ []) (codes "rendezvous") (Some (codes "--ends")) None None 100000
-    ∷ (codes "picture" ∷ codes "a" ∷ codes "--plain" ∷ [], Some (paint (codes "a") (codes "rendezvous") None None None 100000 false true))
-    ∷ (codes "picture" ∷ codes "--plain" ∷ codes "a" ∷ codes "--ends" ∷ [], Some (paint (codes "a") (codes "rendezvous") None None None 100000 true true))
-    ∷ (codes "picture" ∷ codes "--" ∷ codes "--ends" ∷ [], Some (paint (codes "--ends") (codes "rendezvous") None None None 100000 false false))
-    ∷ (codes "picture" ∷ codes "--ends" ∷ codes "--" ∷ codes "--ends" ∷ [], Some (paint (codes "--ends") (codes "rendezvous") None None None 100000 true false))
+    ∷ (codes "picture" ∷ codes "a" ∷ codes "--plain" ∷ [], Some (paint (codes "a") (codes "rendezvous") None None None 100000 false true false))
+    ∷ (codes "picture" ∷ codes "--plain" ∷ codes "a" ∷ codes "--ends" ∷ [], Some (paint (codes "a") (codes "rendezvous") None None None 100000 true true false))
+    ∷ (codes "picture" ∷ codes "a" ∷ codes "--large" ∷ [], Some (paint (codes "a") (codes "rendezvous") None None None 100000 false false true))
+    ∷ (codes "picture" ∷ codes "--large" ∷ codes "--plain" ∷ codes "a" ∷ [], Some (paint (codes "a") (codes "rendezvous") None None None 100000 false true true))
+    ∷ (codes "picture" ∷ codes "--" ∷ codes "--ends" ∷ [], Some (paint (codes "--ends") (codes "rendezvous") None None None 100000 false false false))
+    ∷ (codes "picture" ∷ codes "--ends" ∷ codes "--" ∷ codes "--ends" ∷ [], Some (paint (codes "--ends") (codes "rendezvous") None None None 100000 true false false))
     ∷ smears (codes "b" ∷ [])
     ∷ smears (codes "--" ∷ codes "b" ∷ [])
     ∷ smears (codes "--choices" ∷ [])
@@ -191,7 +193,7 @@ FaultRow = List (List ℕ) × Kinds
 abbrev help : List (List ℕ) → FaultRow
 help words = (words, kind.DisplayHelp ∷ [])
 
--- behind the word `help` the function of `clap` doesn't say whether there is help on what follows
+-- after the word `help` the function of `clap` doesn't say whether there is help on what follows
 abbrev help_on : List (List ℕ) → FaultRow
 help_on words = (words, kind.DisplayHelp ∷ kind.InvalidSubcommand ∷ [])
 

@@ -30,14 +30,14 @@ abbrev rows : List Row
 rows =
     for (codes "trace" ∷ codes "a" ∷ codes "--ranks" ∷ codes "4" ∷ []) (trace (codes "a") (codes "rendezvous") false) 4
     ∷ for (codes "trace" ∷ codes "--ranks=16" ∷ codes "a" ∷ codes "--mode" ∷ codes "b" ∷ []) (trace (codes "a") (codes "b") false) 16
-    ∷ for (codes "debug" ∷ codes "a" ∷ codes "--ranks" ∷ codes "1" ∷ codes "--choices" ∷ codes "2" ∷ []) (debug (codes "a") (codes "rendezvous") (Some (codes "2")) None false false 80) 1
+    ∷ for (codes "debug" ∷ codes "a" ∷ codes "--ranks" ∷ codes "1" ∷ codes "--choices" ∷ codes "2" ∷ []) (debug (codes "a") (codes "rendezvous") (Some (codes "2")) None false false 80 false 24) 1
     ∷ for (codes "run" ∷ codes "a" ∷ codes "--ranks=007" ∷ []) (run (codes "a") (codes "rendezvous")) 7
     ∷ for (codes "serve" ∷ codes "a" ∷ codes "--port" ∷ codes "4" ∷ codes "--ranks" ∷ codes "5" ∷ codes "--clients" ∷ codes "6" ∷ []) (serve (codes "a") (codes "rendezvous") 4 6) 5
     ∷ for (codes "verify" ∷ codes "a" ∷ codes "b" ∷ codes "--leaf" ∷ codes "3" ∷ codes "--ranks" ∷ codes "+9" ∷ []) (verify (codes "a") (codes "b") (codes "rendezvous") (Some 3)) 9
     ∷ for (codes "words" ∷ codes "a" ∷ codes "--choices" ∷ codes "0" ∷ codes "--ranks" ∷ codes "2" ∷ codes "--ends" ∷ []) (tell (codes "a") (codes "0") (codes "rendezvous") 100000 true) 2
     ∷ for (codes "c" ∷ codes "a" ∷ codes "--ranks" ∷ codes "12" ∷ []) (translate (codes "a")) 12
     ∷ for (codes "c" ∷ codes "--ranks" ∷ codes "12" ∷ codes "--" ∷ codes "--ranks" ∷ []) (translate (codes "--ranks")) 12
-    ∷ for (codes "picture" ∷ codes "--ranks" ∷ codes "3" ∷ codes "a" ∷ codes "--fuel" ∷ codes "4" ∷ []) (paint (codes "a") (codes "rendezvous") None None None 4 false false) 3
+    ∷ for (codes "picture" ∷ codes "--ranks" ∷ codes "3" ∷ codes "a" ∷ codes "--fuel" ∷ codes "4" ∷ []) (paint (codes "a") (codes "rendezvous") None None None 4 false false false) 3
     ∷ says (codes "--ranks" ∷ codes "4" ∷ []) (Some (codes "4")) false
     ∷ says (codes "--ranks=2-5" ∷ codes "--strict" ∷ []) (Some (codes "2-5")) true
     ∷ says (codes "--ranks" ∷ codes "" ∷ []) (Some []) false

@@ -111,6 +111,13 @@ least_width = 20
 abbrev pub most_width : ℕ
 most_width = 1000
 
+-- how many lines a view has
+abbrev pub least_height : ℕ
+least_height = 10
+
+abbrev pub most_height : ℕ
+most_height = 1000
+
 -- how many runs of each piece are tried where that isn't said
 abbrev pub usual_runs : ℕ
 usual_runs = 1000
@@ -169,20 +176,24 @@ item_of the.PagedStates = named (codes "states") (FromTo 1 most_visited) (is_sam
 item_of the.PagedEnds = a_flag (codes "ends")
 item_of the.Hide = a_flag (codes "hide")
 item_of the.PlainDrawing = a_flag (codes "plain")
+item_of the.LargeDrawing = a_flag (codes "large")
 item_of the.Echo = a_flag (codes "echo")
 item_of the.Width = named (codes "width") (FromTo least_width most_width) (is_same_as (codes "80"))
+item_of the.View = a_flag (codes "view")
+item_of the.Height = named (codes "height") (FromTo least_height most_height) (is_same_as (codes "24"))
 item_of the.Strict = a_flag (codes "strict")
 
 -- ---- the commands
 
 abbrev pub tools : List Tool
-tools = tool.Diagnose ∷ tool.Trace ∷ tool.Debug ∷ tool.Run ∷ tool.Serve ∷ tool.Check ∷ tool.Verify ∷ tool.Words ∷ tool.Translate ∷ tool.Picture ∷ tool.Page ∷ []
+tools = tool.Diagnose ∷ tool.Trace ∷ tool.Debug ∷ tool.Dap ∷ tool.Run ∷ tool.Serve ∷ tool.Check ∷ tool.Verify ∷ tool.Words ∷ tool.Translate ∷ tool.Picture ∷ tool.Page ∷ []
 
 -- the word of each
 abbrev pub called : Tool → List ℕ
 called tool.Diagnose = codes "diagnose"
 called tool.Trace = codes "trace"
 called tool.Debug = codes "debug"
+called tool.Dap = codes "dap"
 called tool.Run = codes "run"
 called tool.Serve = codes "serve"
 called tool.Check = codes "check"
@@ -196,7 +207,8 @@ called tool.Page = codes "page"
 abbrev pub names_of : Tool → List Name
 names_of tool.Diagnose = the.File ∷ the.RankSpan ∷ the.GivenMode ∷ the.Modes ∷ the.Strict ∷ []
 names_of tool.Trace = the.File ∷ the.Ranks ∷ the.Mode ∷ the.Echo ∷ []
-names_of tool.Debug = the.File ∷ the.Ranks ∷ the.Mode ∷ the.LaidChoices ∷ the.LaidWitness ∷ the.ChosenEnds ∷ the.Echo ∷ the.Width ∷ []
+names_of tool.Debug = the.File ∷ the.Ranks ∷ the.Mode ∷ the.LaidChoices ∷ the.LaidWitness ∷ the.ChosenEnds ∷ the.Echo ∷ the.Width ∷ the.View ∷ the.Height ∷ []
+names_of tool.Dap = the.File ∷ the.Ranks ∷ the.Mode ∷ the.LaidChoices ∷ the.LaidWitness ∷ the.ChosenEnds ∷ []
 names_of tool.Run = the.File ∷ the.Ranks ∷ the.Mode ∷ []
 names_of tool.Serve = the.File ∷ the.Ranks ∷ the.Mode ∷ the.Port ∷ the.Clients ∷ []
 names_of tool.Check =
@@ -204,7 +216,7 @@ names_of tool.Check =
 names_of tool.Verify = the.File ∷ the.Ranks ∷ the.Mode ∷ the.WitnessFile ∷ the.Leaf ∷ []
 names_of tool.Words = the.File ∷ the.Ranks ∷ the.Mode ∷ the.NeededChoices ∷ the.Fuel ∷ the.ChosenEnds ∷ []
 names_of tool.Translate = the.File ∷ the.Ranks ∷ []
-names_of tool.Picture = the.File ∷ the.Ranks ∷ the.Mode ∷ the.DrawnChoices ∷ the.DrawnWitness ∷ the.DrawnWords ∷ the.Fuel ∷ the.ChosenEnds ∷ the.PlainDrawing ∷ []
+names_of tool.Picture = the.File ∷ the.Ranks ∷ the.Mode ∷ the.DrawnChoices ∷ the.DrawnWitness ∷ the.DrawnWords ∷ the.Fuel ∷ the.ChosenEnds ∷ the.PlainDrawing ∷ the.LargeDrawing ∷ []
 names_of tool.Page = the.File ∷ the.Ranks ∷ the.Mode ∷ the.PagedChoices ∷ the.PagedWitness ∷ the.PagedWords ∷ the.PagedRuns ∷ the.Fuel ∷ the.PagedStates ∷ the.PagedEnds ∷ the.Hide ∷ []
 
 abbrev pub items_of : Tool → List Item

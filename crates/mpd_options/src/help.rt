@@ -43,6 +43,16 @@ const DEBUG_EXAMPLE: &str = "Words stand on standard input, one line each; help 
 Example:
   echo run | ./mpdbg debug examples/race.mpd";
 
+const DAP_ABOUT: &str = "Debug the script of a file in an editor, by the Debug Adapter Protocol";
+
+const DAP_EXAMPLE: &str =
+    "An editor starts it, as docs/EDITORS.md tells. Messages stand on standard input, each in a frame with
+its length, and are answered by frames on standard output. --choices and --witness lay the steps of a
+run ahead, as in `mpdbg debug`.
+
+Example:
+  ./mpdbg dap examples/race.mpd --mode buffered";
+
 const RUN_ABOUT: &str = "Answer JSON requests on the script of a file";
 
 const RUN_EXAMPLE: &str =
@@ -51,6 +61,7 @@ const RUN_EXAMPLE: &str =
   back, redo, goto, run-back         go back, and forward again
   state, enabled, vars, calls, why   look at where it stands
   break, unbreak, breaks, explore    set breakpoints, list the runs from here
+  hit                                tell which breakpoint the last step hits
   script, where, all, decision       tell names, lines, and what comes next
   steps, lines, explain              list steps, lines of calls, and why it ended so
 
@@ -123,6 +134,7 @@ pub(crate) fn about<'a>(tool: Tool) -> &'a str {
         Tool::Diagnose => DIAGNOSE_ABOUT,
         Tool::Trace => TRACE_ABOUT,
         Tool::Debug => DEBUG_ABOUT,
+        Tool::Dap => DAP_ABOUT,
         Tool::Run => RUN_ABOUT,
         Tool::Serve => SERVE_ABOUT,
         Tool::Check => CHECK_ABOUT,
@@ -143,6 +155,7 @@ pub(crate) fn example<'a>(tool: Tool) -> &'a str
         Tool::Diagnose => DIAGNOSE_EXAMPLE,
         Tool::Trace => TRACE_EXAMPLE,
         Tool::Debug => DEBUG_EXAMPLE,
+        Tool::Dap => DAP_EXAMPLE,
         Tool::Run => RUN_EXAMPLE,
         Tool::Serve => SERVE_EXAMPLE,
         Tool::Check => CHECK_EXAMPLE,

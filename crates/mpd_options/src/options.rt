@@ -140,6 +140,24 @@ pub enum Options<'a> {
         /// How many bytes a line of an answer has before it wraps, 20 to 1,000; 80 if that isn't
         /// said.
         width: usize,
+        /// Whether the screen is drawn anew after each word.
+        view: bool,
+        /// How many lines that screen has, 10 to 1,000; 24 if that isn't said.
+        height: usize,
+    },
+    /// Debug the script of a file in an editor, by messages on standard input.
+    Dap {
+        /// The file's word.
+        file: &'a str,
+        /// The word of the mode, unchecked; `rendezvous` if none is given.
+        mode: &'a str,
+        /// The word of the choices of a run whose steps are laid ahead, unchecked; optional.
+        choices: Option<&'a str>,
+        /// The file of a witness or a report, whose steps to a deadlock or trap are laid ahead;
+        /// optional.
+        witness: Option<&'a str>,
+        /// Whether the choices are those of a report of `--ends` or `--sample`.
+        ends: bool,
     },
     /// Answer requests on the script of a file, which stand on standard input.
     Run {
@@ -216,6 +234,8 @@ pub enum Options<'a> {
         ends: bool,
         /// Whether the drawing has neither the list of calls nor the legend.
         plain: bool,
+        /// Whether it has neither, and is larger.
+        large: bool,
     },
     /// Show runs of the script of a file as a page for a browser.
     Page(PageOptions<'a>),
@@ -394,6 +414,8 @@ fn debug_in<'a>(debug: &ArgMatches<'a>) -> Options<'a>
     let ends = is_on(debug, Name::ChosenEnds);
     let echo = is_on(debug, Name::Echo);
     let width = number(debug, Name::Width);
+    let view = is_on(debug, Name::View);
+    let height = number(debug, Name::Height);
     Options::Debug {
         file,
         mode,
@@ -402,6 +424,26 @@ fn debug_in<'a>(debug: &ArgMatches<'a>) -> Options<'a>
         ends,
         echo,
         width,
+        view,
+        height,
+    }
+}
+
+/// What the words after `dap` ask for.
+fn dap_in<'a>(dap: &ArgMatches<'a>) -> Options<'a>
+    ensures { task_of result ≡ task_by Tool.Dap (text_in (rows_of (found_of dap.now))) }
+{
+    let file = word(dap, Name::File);
+    let mode = word(dap, Name::Mode);
+    let choices_word = text(dap, Name::LaidChoices);
+    let witness_file = text(dap, Name::LaidWitness);
+    let ends = is_on(dap, Name::ChosenEnds);
+    Options::Dap {
+        file,
+        mode,
+        choices: choices_word,
+        witness: witness_file,
+        ends,
     }
 }
 
@@ -571,6 +613,7 @@ fn picture_in<'a>(picture: &ArgMatches<'a>) -> Options<'a>
     let fuel = number(picture, Name::Fuel);
     let ends = is_on(picture, Name::ChosenEnds);
     let plain = is_on(picture, Name::PlainDrawing);
+    let large = is_on(picture, Name::LargeDrawing);
     Options::Picture {
         file,
         mode,
@@ -580,6 +623,7 @@ fn picture_in<'a>(picture: &ArgMatches<'a>) -> Options<'a>
         fuel,
         ends,
         plain,
+        large,
     }
 }
 
@@ -619,6 +663,7 @@ fn options_in<'a>(tool: Tool, matches: &ArgMatches<'a>) -> Options<'a>
         Tool::Diagnose => diagnose_in(matches),
         Tool::Trace => trace_in(matches),
         Tool::Debug => debug_in(matches),
+        Tool::Dap => dap_in(matches),
         Tool::Run => run_in(matches),
         Tool::Serve => serve_in(matches),
         Tool::Check => check_in(matches),

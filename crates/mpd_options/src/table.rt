@@ -37,6 +37,10 @@ const LEAST_WIDTH: u64 = 20;
 
 const MOST_WIDTH: u64 = 1_000;
 
+const LEAST_HEIGHT: u64 = 10;
+
+const MOST_HEIGHT: u64 = 1_000;
+
 /// A command.
 #[derive(Clone, Copy)]
 pub enum Tool {
@@ -46,6 +50,8 @@ pub enum Tool {
     Trace,
     /// `mpdbg debug`.
     Debug,
+    /// `mpdbg dap`.
+    Dap,
     /// `mpdbg run`.
     Run,
     /// `mpdbg serve`.
@@ -108,9 +114,12 @@ pub(crate) enum Name {
     PagedEnds,
     Hide,
     PlainDrawing,
+    LargeDrawing,
     Strict,
     Echo,
     Width,
+    View,
+    Height,
 }
 
 /// The values that an option takes.
@@ -454,6 +463,7 @@ impl Name {
             ),
             Name::Hide => flag("hide", "Cover how runs end until the key h is pressed"),
             Name::PlainDrawing => flag("plain", "Leave out the list of calls and the legend"),
+            Name::LargeDrawing => flag("large", "Leave them out, and draw larger, for a slide"),
             Name::Strict => flag(
                 "strict",
                 "End with status 1 also where calls can be left over",
@@ -466,15 +476,27 @@ impl Name {
                 Unsaid::SameAs("80"),
                 "How many bytes a line of an answer has before it wraps, 20 to 1000",
             ),
+            Name::View => flag(
+                "view",
+                "Draw the screen anew after each word: the script, the ranks and the last answer",
+            ),
+            Name::Height => option(
+                "height",
+                "N",
+                Values::FromTo(LEAST_HEIGHT, MOST_HEIGHT),
+                Unsaid::SameAs("24"),
+                "How many lines the screen of --view has, 10 to 1000",
+            ),
         }
     }
 }
 
 /// The commands, as help lists them.
-pub(crate) const TOOLS: [Tool; 11] = [
+pub(crate) const TOOLS: [Tool; 12] = [
     Tool::Diagnose,
     Tool::Trace,
     Tool::Debug,
+    Tool::Dap,
     Tool::Run,
     Tool::Serve,
     Tool::Check,
@@ -494,6 +516,7 @@ impl Tool {
             Tool::Diagnose => "diagnose",
             Tool::Trace => "trace",
             Tool::Debug => "debug",
+            Tool::Dap => "dap",
             Tool::Run => "run",
             Tool::Serve => "serve",
             Tool::Check => "check",
@@ -528,6 +551,16 @@ impl Tool {
                 Name::ChosenEnds,
                 Name::Echo,
                 Name::Width,
+                Name::View,
+                Name::Height,
+            ],
+            Tool::Dap => &[
+                Name::File,
+                Name::Ranks,
+                Name::Mode,
+                Name::LaidChoices,
+                Name::LaidWitness,
+                Name::ChosenEnds,
             ],
             Tool::Serve => &[
                 Name::File,
@@ -597,6 +630,7 @@ impl Tool {
                 Name::Fuel,
                 Name::ChosenEnds,
                 Name::PlainDrawing,
+                Name::LargeDrawing,
             ],
         }
     }

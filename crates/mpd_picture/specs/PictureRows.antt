@@ -10,7 +10,7 @@ use Rattle.mpd_picture.specs.declared.drawing.Look.TheVariants as look
 use Rattle.mpd_picture.specs.Glyphs.{glyph}
 use Rattle.mpd_picture.specs.Marks.{rows_of, marks_of}
 use Rattle.mpd_picture.specs.Svg.{lane_x, row_y, posted_depth, short_by, several_text, want_depth}
-use Rattle.mpd_picture.specs.Pictures.{width_by, height_by}
+use Rattle.mpd_picture.specs.Pictures.{width_by, height_by, drawn}
 
 -- ---- rows
 
@@ -65,6 +65,10 @@ row_widths = refl
 -- of 3 rows: with the legend below them, with a list of 40 that is lower, and plain; and lower of 16 ranks
 pub row_ends : height_by look.Full 2 3 5 ∷ height_by look.Full 6 3 40 ∷ height_by look.Plain 6 3 40 ∷ height_by look.Full 16 3 5 ∷ height_by look.Plain 16 3 40 ∷ [] ≡ 462 ∷ 704 ∷ 322 ∷ 542 ∷ 402 ∷ []
 row_ends = refl
+
+-- of 4 ranks a large drawing is at most 1,280 wide
+pub row_drawn : map (λ l. drawn l (width_by l (start_board 4 Buffered))) (look.Full ∷ look.Plain ∷ look.Large ∷ []) ∷ map (λ l. drawn l (height_by l 4 6 0)) (look.Plain ∷ look.Large ∷ []) ∷ [] ≡ (1332 ∷ 772 ∷ 1235 ∷ []) ∷ (430 ∷ 688 ∷ []) ∷ []
+row_drawn = refl
 
 -- ---- words
 

@@ -1,5 +1,5 @@
 -- A picture of a run, as SVG and as text (docs/PICTURES.md).
-use Rattle.std.specs.Prelude.{ℕ, ◌+◌, max, nat_le, Bool, if◌then◌else◌, List, ◌++◌, length, Option, Some, None, codes}
+use Rattle.std.specs.Prelude.{ℕ, ◌+◌, ◌*◌, ◌/◌, [], max, nat_le, Bool, if◌then◌else◌, List, ◌++◌, length, Option, Some, None, codes}
 use Rattle.std.specs.Fmt.{decimal}
 use Rattle.std.specs.List.{flat_map}
 use Rattle.mpd_model.specs.declared.outcome.Outcome.{Outcome}
@@ -11,7 +11,7 @@ use Rattle.mpd_model.specs.texts.Texts.{line, outcome_text}
 use Rattle.mpd_model.specs.runs.Trail.{Trail, done_steps}
 use Rattle.mpd_picture.specs.declared.glyph.Glyph.{Glyph}
 use Rattle.mpd_picture.specs.declared.shape.Shape.{Shape}
-use Rattle.mpd_picture.specs.declared.style.TheConstants.{OPENED, STYLE, LEGEND}
+use Rattle.mpd_picture.specs.declared.style.TheConstants.{OPENED, STYLE, LARGE_STYLE, LEGEND}
 use Rattle.mpd_picture.specs.declared.drawing.TheConstants.{GLYPHS_MAX}
 use Rattle.mpd_picture.specs.declared.drawing.Look.{Look}
 use Rattle.mpd_picture.specs.declared.drawing.Look.TheVariants as look
@@ -57,9 +57,25 @@ style_text = STYLE.now
 unfoldable pub legend_text : List ℕ
 legend_text = LEGEND.now
 
--- how a drawing of that size begins
-unfoldable pub head_elements : ℕ → ℕ → List ℕ → List ℕ
-head_elements width height title = opened_text ++ size_attributes width height ++ box_attribute width height ++ title_element title ++ style_text ++ paper_element width height ++ text_element (codes "head") 12 24 title
+-- a large drawing is drawn 8/5 as large as its box
+abbrev pub drawn : Look → ℕ → ℕ
+drawn look.Full n = n
+drawn look.Plain n = n
+drawn look.Large n = n * 8 / 5
+
+abbrev pub drawn_size : Look → ℕ → ℕ → List ℕ
+drawn_size l width height = size_attributes (drawn l width) (drawn l height)
+
+-- and has larger texts
+abbrev pub large_style : Look → List ℕ
+large_style look.Full = []
+large_style look.Plain = []
+large_style look.Large = LARGE_STYLE.now
+
+-- how a drawing with a box of that size begins
+unfoldable pub head_elements : Look → ℕ → ℕ → List ℕ → List ℕ
+head_elements l width height title =
+    opened_text ++ drawn_size l width height ++ box_attribute width height ++ title_element title ++ style_text ++ large_style l ++ paper_element width height ++ text_element (codes "head") 12 24 title
 
 -- Below the rows of n ranks stands the legend, and beside both the list of what is told.
 abbrev pub height_of : ℕ → ℕ → ℕ → ℕ
@@ -71,14 +87,16 @@ legend_elements y = codes "<g transform=\"translate(12 " ++ decimal y ++ codes "
 unfoldable pub ended_text : List ℕ
 ended_text = codes "</svg>\n"
 
--- A plain drawing has neither list nor legend, nor room for them.
+-- A plain drawing has neither list nor legend, nor room for them, and so has a large one.
 abbrev pub width_by : Look → Board → ℕ
 width_by look.Full b = column_x b + 560
 width_by look.Plain b = column_x b
+width_by look.Large b = column_x b
 
 abbrev pub height_by : Look → ℕ → ℕ → ℕ → ℕ
 height_by look.Full n rows places = height_of n rows places
 height_by look.Plain n rows places = row_y rows + 134 + tracks_height n
+height_by look.Large n rows places = row_y rows + 134 + tracks_height n
 
 unfoldable pub list_and_legend : Program → Board → ℕ → List Shape → List ℕ
 list_and_legend s b rows shapes = flat_map (listed_elements s b) shapes ++ legend_elements (row_y rows + 140 + tracks_height (length b.calls))
@@ -86,10 +104,11 @@ list_and_legend s b rows shapes = flat_map (listed_elements s b) shapes ++ legen
 abbrev pub tail_by : Look → Program → Board → ℕ → List Shape → List ℕ
 tail_by look.Full s b rows shapes = list_and_legend s b rows shapes
 tail_by look.Plain s b rows shapes = ended_text
+tail_by look.Large s b rows shapes = ended_text
 
 unfoldable pub svg_by : Look → Program → World → ℕ → ℕ → ℕ → List Shape → List ℕ
 svg_by l s w rows places depth shapes =
-    head_elements (width_by l w.board) (height_by l (length w.board.calls) rows places) (title_of w.board depth (outcome w)) ++ flat_map (shape_elements s w) shapes ++ tail_by l s w.board rows shapes
+    head_elements l (width_by l w.board) (height_by l (length w.board.calls) rows places) (title_of w.board depth (outcome w)) ++ flat_map (shape_elements s w) shapes ++ tail_by l s w.board rows shapes
 
 abbrev pub svg_of : Look → Program → World → ℕ → List Glyph → List ℕ
 svg_of l s w depth glyphs = svg_by l s w (rows_of (marks_of glyphs)) (places_of glyphs) depth (shapes_of w (marks_of glyphs))

@@ -15,7 +15,7 @@ use crate::places::{column_x, row_y, told_y, tracks_height};
 use crate::rows::push_rows;
 use crate::shape::Shape;
 use crate::shapes::{places_of, shapes_of};
-use crate::style::{LEGEND, OPENED, STYLE};
+use crate::style::{LARGE_STYLE, LEGEND, OPENED, STYLE};
 use crate::svg::push_shapes;
 use crate::told::push_list;
 use mpd_core::{Core, Debugger};
@@ -33,6 +33,8 @@ pub enum Look {
     Full,
     /// Neither.
     Plain,
+    /// Neither, and larger, with larger texts.
+    Large,
 }
 
 /// Why a run isn't drawn.
@@ -168,45 +170,92 @@ fn push_legend_text(out: &mut String) -> Result<(), AllocError>
     out.push_str(LEGEND)
 }
 
-/// Adds how a drawing of this size begins.
+/// How long this length of the box is drawn, in pixels.
+fn drawn(look: Look, length: usize) -> usize
+    requires { length ≤ 50000000 }
+    ensures { result ≡ spec.drawn look length }
+{
+    match look {
+        Look::Full | Look::Plain => length,
+        Look::Large => length * 8 / 5,
+    }
+}
+
+/// Adds how large a drawing is, by the size of its box.
+fn push_drawn_size(
+    out: &mut String,
+    look: Look,
+    width: usize,
+    height: usize,
+) -> Result<(), AllocError>
+    requires width { width ≤ 50000000 }
+    requires height { height ≤ 50000000 }
+    ensures { OnOk result (string_bytes out.new ≡ string_bytes out.old ++ spec.drawn_size look width height) }
+{
+    push_size(out, drawn(look, width), drawn(look, height))
+}
+
+/// Adds how texts look, if they are large.
+fn push_large_style(out: &mut String, look: Look) -> Result<(), AllocError>
+    ensures { OnOk result (string_bytes out.new ≡ string_bytes out.old ++ spec.large_style look) }
+{
+    match look {
+        Look::Full | Look::Plain => Ok(()),
+        Look::Large => out.push_str(LARGE_STYLE),
+    }
+}
+
+/// Adds how a drawing with a box of this size begins.
 #[tactic(auto, unfolding(crate::specs::Pictures::head_elements))]
-fn push_head(out: &mut String, width: usize, height: usize, title: &str) -> Result<(), AllocError>
-    ensures { OnOk result (string_bytes out.new ≡ string_bytes out.old ++ spec.head_elements width height title.now) }
+fn push_head(
+    out: &mut String,
+    look: Look,
+    width: usize,
+    height: usize,
+    title: &str,
+) -> Result<(), AllocError>
+    requires width { width ≤ 50000000 }
+    requires height { height ≤ 50000000 }
+    ensures { OnOk result (string_bytes out.new ≡ string_bytes out.old ++ spec.head_elements look width height title.now) }
 {
     push_opened_text(out)?;
-    push_size(out, width, height)?;
+    push_drawn_size(out, look, width, height)?;
     push_box(out, width, height)?;
     push_title(out, title)?;
     push_style(out)?;
+    push_large_style(out, look)?;
     push_paper(out, width, height)?;
     push_text(out, "head", 12, 24, title)
 }
 
-/// How high a drawing is, in pixels, by its ranks, its rows, and the places in the list of what is
-/// told.
+/// How high the box of a whole drawing is, by its ranks, its rows, and the places in the list of
+/// what is told.
 fn height_of(count: usize, rows: usize, places: usize) -> usize
-    ensures { result ≡ spec.height_of count rows places }
+    ensures value { result ≡ spec.height_of count rows places }
+    ensures small { result ≤ 50000000 }
 {
     (row_y(rows) + 274 + tracks_height(count)).max(told_y(places) + 12)
 }
 
-/// How wide a drawing is, in pixels.
+/// How wide the box of a drawing is.
 fn width_by(core: &Core<'_>, look: Look) -> usize
-    ensures { result ≡ spec.width_by look core.now.world.board }
+    ensures value { result ≡ spec.width_by look core.now.world.board }
+    ensures small { result ≤ 50000000 }
 {
     match look {
         Look::Full => column_x(core) + 560,
-        Look::Plain => column_x(core),
+        Look::Plain | Look::Large => column_x(core),
     }
 }
 
-/// How high a drawing is, in pixels.
+/// How high the box of a drawing is.
 fn height_by(look: Look, count: usize, rows: usize, places: usize) -> usize
-    ensures { result ≡ spec.height_by look count rows places }
+    ensures value { result ≡ spec.height_by look count rows places }
+    ensures small { result ≤ 50000000 }
 {
     match look {
         Look::Full => height_of(count, rows, places),
-        Look::Plain => row_y(rows) + 134 + tracks_height(count),
+        Look::Plain | Look::Large => row_y(rows) + 134 + tracks_height(count),
     }
 }
 
@@ -255,7 +304,7 @@ fn push_tail(
 {
     match look {
         Look::Full => push_list_and_legend(alloc, core, out, rows, shapes),
-        Look::Plain => push_ended(out),
+        Look::Plain | Look::Large => push_ended(out),
     }
 }
 
@@ -276,7 +325,7 @@ fn svg_of(
     let rows = marks.rows();
     let height = height_by(look, core.rank_count(), rows, places_of(glyphs));
     let mut out = String::new(alloc);
-    push_head(&mut out, width_by(core, look), height, &title)?;
+    push_head(&mut out, look, width_by(core, look), height, &title)?;
     push_shapes(alloc, core, &mut out, &shapes)?;
     push_tail(alloc, core, &mut out, look, rows, &shapes)?;
     Ok(out)

@@ -36,6 +36,13 @@ pub const STYLE: &str = "<style type=\"text/css\">\n\
 <marker id=\"mpd-wanted\" viewBox=\"0 0 10 10\" refX=\"10\" refY=\"5\" markerWidth=\"9\" markerHeight=\"9\" markerUnits=\"userSpaceOnUse\" orient=\"auto\">\
 <path d=\"M0 1L10 5L0 9z\" fill=\"#c00\"/></marker></defs>\n";
 
+/// How texts look in a large drawing.
+pub const LARGE_STYLE: &str = "<style type=\"text/css\">\n\
+.mpd{font-family:sans-serif;font-size:15px}\n\
+.mpd-head{font-size:17px}\n\
+.mpd-number{font-size:17px}\n\
+</style>\n";
+
 /// What the shapes are, and how a drawing ends.
 pub const LEGEND: &str =
     "<path class=\"mpd-send\" d=\"M20 0m-5 0a5 5 0 1 0 10 0a5 5 0 1 0 -10 0z\"/><text x=\"40\" y=\"4\">a send</text>\n\
