@@ -1,0 +1,8 @@
+pub mod SheetLemmas
+pub mod SeenLemmas
+pub mod RankLemmas
+pub mod ShelfLemmas
+pub mod DeskLemmas
+pub mod MarkLemmas
+pub mod LawLemmas
+pub mod StayLemmas

@@ -1,0 +1,11 @@
+pub mod Halts
+pub mod Moves
+pub mod Numbers
+pub mod Seen
+pub mod Shelves
+pub mod Looks
+pub mod Tasks
+pub mod Answers
+pub mod Marks
+pub mod Says
+pub mod Laws

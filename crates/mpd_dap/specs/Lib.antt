@@ -1,0 +1,11 @@
+pub mod Wants
+pub mod Shown
+pub mod Names
+pub mod Commands
+pub mod Fields
+pub mod Asks
+pub mod Messages
+pub mod Bodies
+pub mod Told
+pub mod MessageRows
+pub mod ToldRows
