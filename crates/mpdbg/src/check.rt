@@ -29,6 +29,13 @@ const STATES_MAX: usize = 16_000_000;
 /// How many states are come to at most, kept or not.
 const VISITED_MAX: usize = 20_000_000;
 
+/// A script that is checked: its code in a mode, and its text, whose marks name places of a program.
+#[derive(Clone, Copy)]
+struct CheckedScript<'s> {
+    subject: Subject<'s>,
+    text: &'s [u8],
+}
+
 /// What is looked at.
 #[derive(Clone, Copy)]
 enum Part {
@@ -124,12 +131,13 @@ fn state_limits_of(options: CheckOptions, witnesses: bool) -> StateLimits
 }
 
 /// How the ways to end are looked for.
-fn outcomes_plan_of(options: CheckOptions) -> OutcomesPlan
+fn outcomes_plan_of(options: CheckOptions, text: &[u8]) -> OutcomesPlan<'_>
     ensures { result.limits.fuel ≡ options.fuel }
 {
     OutcomesPlan {
         limits: state_limits_of(options, options.witness),
         explain: options.explain,
+        script: text,
     }
 }
 
@@ -167,7 +175,7 @@ pub(crate) fn fit_together<'a>(options: CheckOptions) -> Result<(), Fault<'a>> {
 /// Explores all pieces, and has the report written as it is asked for.
 fn check_told<R: Clock + Eprint + Threads + Sync + AllocGlobal, W: Sink>(
     rt: &R,
-    subject: Subject<'_>,
+    script: CheckedScript<'_>,
     options: CheckOptions,
     sink: &mut W,
     progress: &Progress<'_, R>,
@@ -176,13 +184,20 @@ fn check_told<R: Clock + Eprint + Threads + Sync + AllocGlobal, W: Sink>(
 {
     let crew = crew_of(rt, options);
     if !options.explain && !options.group {
-        return check(crew, rt.alloc(), subject, plan_of(options), sink, progress);
+        return check(
+            crew,
+            rt.alloc(),
+            script.subject,
+            plan_of(options),
+            sink,
+            progress,
+        );
     }
     check_listing(
         crew,
         rt.alloc(),
-        subject,
-        wanted_of(options),
+        script.subject,
+        wanted_of(options, script.text),
         sink,
         progress,
     )
@@ -197,27 +212,28 @@ fn crew_of<'r, R>(rt: &'r R, options: CheckOptions) -> Crew<'r, R> {
 }
 
 /// What a report has beside its leaves.
-fn telling_of(options: CheckOptions) -> Telling {
+fn telling_of(options: CheckOptions, text: &[u8]) -> Telling<'_> {
     Telling {
         explain: options.explain,
         group: options.group,
+        script: text,
     }
 }
 
 /// What is wanted of a report.
-fn wanted_of(options: CheckOptions) -> Wanted
+fn wanted_of(options: CheckOptions, text: &[u8]) -> Wanted<'_>
     ensures { result.plan.limits.fuel ≡ options.fuel }
 {
     Wanted {
         plan: plan_of(options),
-        telling: telling_of(options),
+        telling: telling_of(options, text),
     }
 }
 
 /// Draws runs, and tells at a terminal how many there are so far and what came of it.
 fn check_drawn<R: Clock + Eprint + AllocGlobal, W: Sink>(
     rt: &R,
-    subject: Subject<'_>,
+    script: CheckedScript<'_>,
     options: CheckOptions,
     runs: usize,
     sink: &mut W,
@@ -231,9 +247,9 @@ fn check_drawn<R: Clock + Eprint + AllocGlobal, W: Sink>(
     };
     let drawn = check_sample(
         rt.alloc(),
-        subject,
+        script.subject,
         sample_plan_of(options, runs),
-        telling_of(options),
+        telling_of(options, script.text),
         sink,
         &mut watch,
     );
@@ -242,7 +258,7 @@ fn check_drawn<R: Clock + Eprint + AllocGlobal, W: Sink>(
         Err(fault) => return Err(CheckFault::Engine(fault)),
     };
     if is_terminal {
-        let _unwritten = say_tally(rt, subject, tally, made_by(options));
+        let _unwritten = say_tally(rt, script.subject, tally, made_by(options));
     }
     Ok(tally)
 }
@@ -250,19 +266,30 @@ fn check_drawn<R: Clock + Eprint + AllocGlobal, W: Sink>(
 /// Looks for the ways to end, and tells at a terminal what came of it and how many states were come to.
 fn check_ways<R: Eprint + AllocGlobal, W: Sink>(
     rt: &R,
-    subject: Subject<'_>,
+    script: CheckedScript<'_>,
     options: CheckOptions,
     sink: &mut W,
     is_terminal: bool,
 ) -> Result<Tally, CheckFault>
     requires { options.fuel ≤ STEPS_MAX }
 {
-    let found = match check_outcomes(rt.alloc(), subject, outcomes_plan_of(options), sink) {
+    let found = match check_outcomes(
+        rt.alloc(),
+        script.subject,
+        outcomes_plan_of(options, script.text),
+        sink,
+    ) {
         Ok(found) => found,
         Err(fault) => return Err(CheckFault::Engine(fault)),
     };
     if is_terminal {
-        let _unwritten = say_counts(rt, subject, found.tally, found.counts, made_by(options));
+        let _unwritten = say_counts(
+            rt,
+            script.subject,
+            found.tally,
+            found.counts,
+            made_by(options),
+        );
         let _unwritten = say_states(rt, found.states);
     }
     Ok(found.tally)
@@ -271,7 +298,7 @@ fn check_ways<R: Eprint + AllocGlobal, W: Sink>(
 /// Explores all pieces, and tells at a terminal how far that is and what came of it.
 fn check_all<R: Clock + Eprint + Threads + Sync + AllocGlobal, W: Sink>(
     rt: &R,
-    subject: Subject<'_>,
+    script: CheckedScript<'_>,
     options: CheckOptions,
     sink: &mut W,
     is_terminal: bool,
@@ -279,9 +306,9 @@ fn check_all<R: Clock + Eprint + Threads + Sync + AllocGlobal, W: Sink>(
     requires { options.fuel ≤ STEPS_MAX }
 {
     let progress = Progress::new(rt, is_terminal);
-    let tally = check_told(rt, subject, options, sink, &progress)?;
+    let tally = check_told(rt, script, options, sink, &progress)?;
     if is_terminal {
-        let _unwritten = say_tally(rt, subject, tally, made_by(options));
+        let _unwritten = say_tally(rt, script.subject, tally, made_by(options));
     }
     Ok(tally)
 }
@@ -289,7 +316,7 @@ fn check_all<R: Clock + Eprint + Threads + Sync + AllocGlobal, W: Sink>(
 /// Explores one piece, and tells at a terminal how far that is, and what of it wasn't tried. That all of it was says nothing of others.
 fn check_one<R: Clock + Eprint + AllocGlobal, W: Sink>(
     rt: &R,
-    subject: Subject<'_>,
+    script: CheckedScript<'_>,
     options: CheckOptions,
     number: usize,
     sink: &mut W,
@@ -301,10 +328,10 @@ fn check_one<R: Clock + Eprint + AllocGlobal, W: Sink>(
     let mut watch = OfPiece {
         progress: &progress,
     };
-    let wanted = wanted_of(options);
-    let tally = check_piece(rt.alloc(), subject, wanted, number, sink, &mut watch)?;
+    let wanted = wanted_of(options, script.text);
+    let tally = check_piece(rt.alloc(), script.subject, wanted, number, sink, &mut watch)?;
     if is_terminal {
-        let _unwritten = say_part(rt, subject, tally, made_by(options));
+        let _unwritten = say_part(rt, script.subject, tally, made_by(options));
     }
     Ok(tally)
 }
@@ -389,7 +416,7 @@ fn fault_of<'a>(fault: CheckFault) -> Fault<'a> {
 /// Looks for deadlocks and traps in a script.
 fn verdict_of<R: Clock + Eprint + Threads + Sync + AllocGlobal, W: Sink>(
     rt: &R,
-    subject: Subject<'_>,
+    script: CheckedScript<'_>,
     options: CheckOptions,
     sink: &mut W,
     is_terminal: bool,
@@ -401,32 +428,34 @@ fn verdict_of<R: Clock + Eprint + Threads + Sync + AllocGlobal, W: Sink>(
     }
     let tally = match part_of(options) {
         Part::Modes(most) => {
-            let tried = check_modes(rt, subject.code, most, options, sink, is_terminal)?;
+            let tried = check_modes(rt, script.subject.code, most, options, sink, is_terminal)?;
             return Ok(tried.verdict(options.complete));
         }
-        Part::Sample(runs) => check_drawn(rt, subject, options, runs, sink, is_terminal)?,
-        Part::Outcomes => check_ways(rt, subject, options, sink, is_terminal)?,
-        Part::Whole => check_all(rt, subject, options, sink, is_terminal)?,
-        Part::Piece(number) => check_one(rt, subject, options, number, sink, is_terminal)?,
+        Part::Sample(runs) => check_drawn(rt, script, options, runs, sink, is_terminal)?,
+        Part::Outcomes => check_ways(rt, script, options, sink, is_terminal)?,
+        Part::Whole => check_all(rt, script, options, sink, is_terminal)?,
+        Part::Piece(number) => check_one(rt, script, options, number, sink, is_terminal)?,
         Part::Count => {
-            count_pieces(rt.alloc(), subject, plan_of(options), sink)?;
+            count_pieces(rt.alloc(), script.subject, plan_of(options), sink)?;
             return Ok(Verdict::Good);
         }
     };
-    Ok(tally.verdict(options.complete, subject, is_wide(options)))
+    Ok(tally.verdict(options.complete, script.subject, is_wide(options)))
 }
 
-/// Looks for deadlocks and traps in a script. The number of workers is tested first.
+/// Looks for deadlocks and traps in a script, given its text too. The number of workers is tested first.
 pub(crate) fn check_script<'a, R: Clock + Eprint + Threads + Sync + AllocGlobal, W: Sink>(
     rt: &R,
     subject: Subject<'_>,
+    text: &[u8],
     options: CheckOptions,
     sink: &mut W,
     is_terminal: bool,
 ) -> Result<Verdict, Fault<'a>>
     requires { options.fuel ≤ STEPS_MAX }
 {
-    match verdict_of(rt, subject, options, sink, is_terminal) {
+    let script = CheckedScript { subject, text };
+    match verdict_of(rt, script, options, sink, is_terminal) {
         Ok(verdict) => Ok(verdict),
         Err(fault) => Err(fault_of(fault)),
     }

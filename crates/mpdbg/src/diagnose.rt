@@ -23,8 +23,17 @@ const VISITED_MAX: usize = 4_000_000;
 /// How many runs are drawn, where there are more than that search comes to.
 const DRAWN: usize = 4_096;
 
-/// How the script of a file is diagnosed, with how many ranks where that is asked for: by limits that nobody has to know.
-fn plan_of(file: &str, ranks: Option<usize>) -> DiagnosisPlan<'_>
+/// A script as a diagnosis tells of it: its text, whose marks stand beside lines, the name of its file, and how many ranks it has, if
+/// that is asked for.
+#[derive(Clone, Copy)]
+pub(crate) struct ToldScript<'s> {
+    pub(crate) text: &'s [u8],
+    pub(crate) file: &'s str,
+    pub(crate) ranks: Option<usize>,
+}
+
+/// How a script is diagnosed: by limits that nobody has to know.
+fn plan_of(script: ToldScript<'_>) -> DiagnosisPlan<'_>
     ensures { result.limits.fuel ≡ FUEL }
 {
     DiagnosisPlan {
@@ -37,8 +46,9 @@ fn plan_of(file: &str, ranks: Option<usize>) -> DiagnosisPlan<'_>
         },
         blamed: STATES_VISITED,
         drawn: DRAWN,
-        file,
-        ranks,
+        script: script.text,
+        file: script.file,
+        ranks: script.ranks,
     }
 }
 
@@ -47,12 +57,11 @@ fn plan_of(file: &str, ranks: Option<usize>) -> DiagnosisPlan<'_>
 pub(crate) fn diagnose_script<'a, W: Sink>(
     alloc: Global,
     subject: Subject<'_>,
-    file: &str,
-    ranks: Option<usize>,
+    script: ToldScript<'_>,
     strict: bool,
     sink: &mut W,
 ) -> Result<Verdict, Fault<'a>> {
-    let told = diagnose(alloc, subject, plan_of(file, ranks))?;
+    let told = diagnose(alloc, subject, plan_of(script))?;
     write_told(sink, &told.text)?;
     Ok(verdict_of(&told, strict))
 }
@@ -72,6 +81,7 @@ pub(crate) fn said_of<'a>(
         limits,
         blamed: 0,
         drawn: 0,
+        script: &[],
         file,
         ranks,
     };
@@ -113,7 +123,12 @@ fn diagnose_number<'a, W: Sink>(
         code: &code,
         mode: script.mode,
     };
-    let told = diagnose(alloc, subject, plan_of(script.file, Some(ranks)))?;
+    let named = ToldScript {
+        text: script.text,
+        file: script.file,
+        ranks: Some(ranks),
+    };
+    let told = diagnose(alloc, subject, plan_of(named))?;
     let line = ranks_line(alloc, ranks, script.mode, &told)?;
     write_told(sink, &line)?;
     Ok(verdict_of(&told, script.strict))
@@ -169,16 +184,16 @@ pub(crate) fn diagnose_modes<'a, W: Sink>(
     sink: &mut W,
 ) -> Result<Verdict, Fault<'a>> {
     let modes = modes_up_to(alloc, most)?;
+    let named = ToldScript {
+        text: &[],
+        file: script.file,
+        ranks: script.ranks,
+    };
     let mut verdicts = Vec::new(alloc);
     let mut left = Vec::new(alloc);
     for mode in &modes {
         let subject = Subject { code, mode: *mode };
-        let told = diagnose_mode(
-            alloc,
-            subject,
-            plan_of(script.file, script.ranks),
-            script.strict,
-        )?;
+        let told = diagnose_mode(alloc, subject, plan_of(named), script.strict)?;
         write_told(sink, &told.line)?;
         add(&mut verdicts, told.verdict)?;
         add_flag(&mut left, told.leaves)?;

@@ -1,7 +1,9 @@
 //! Why the program ends before its input does, and what a person is told of it (docs/FORMATS.md, "Faults and statuses").
 
+use crate::shown::{say_lines_shown, say_shown};
 use mpd_check::PoolFault;
 use mpd_explore::WitnessFault;
+use mpd_frames::StreamFault;
 use mpd_lines::EngineFault;
 use mpd_model::{FaultCode, RANKS_MAX, ReadFault, SLOTS_MAX};
 use mpd_options::UsageFault;
@@ -15,7 +17,7 @@ use std::io::{Error, ErrorKind};
 /// The status where a word that `clap` lets through or the file of a witness is none.
 const WRONG: u8 = 2;
 
-/// The status where a port can't be listened on, or where clients' receipts don't agree with their history.
+/// The status where a port can't be listened on, clients' receipts don't agree with their history, or frames have ended.
 const FAILED: u8 = 3;
 
 /// Why the program ends before its input does.
@@ -63,6 +65,8 @@ pub(crate) enum Fault<'a> {
     LongPage,
     /// A script, standard input or output, or memory.
     Plain(PlainFault),
+    /// What an editor has sent is no frame, or was broken off, or memory for it was refused.
+    Stream(StreamFault),
     /// A port can't be listened on, or no client accepted.
     Listener(Error),
     /// The receipts of clients don't agree with their history: 57 or 58 (docs/DEFINITIONS.md, "Sessions").
@@ -147,8 +151,10 @@ fn say_why<R: Eprint>(rt: &R, error: Option<Error>) -> io::Result<()> {
 }
 
 /// Says why a file can't be opened or read.
-fn say_file<R: Eprint>(rt: &R, file: &str, error: Option<Error>) -> io::Result<()> {
-    eprint!(rt; "  '{file}': ")?;
+pub(crate) fn say_file<R: Eprint>(rt: &R, file: &str, error: Option<Error>) -> io::Result<()> {
+    eprint!(rt; "  '")?;
+    say_shown(rt, file)?;
+    eprint!(rt; "': ")?;
     say_why(rt, error)
 }
 
@@ -159,7 +165,11 @@ fn say_stream<R: Eprint>(rt: &R, stream: &str, error: Option<Error>) -> io::Resu
 }
 
 /// Shows the line of a script that is refused, what could stand at its place if the grammar allows little, and what is mostly meant.
-fn say_refused<R: Eprint + AllocGlobal>(rt: &R, fault: ReadFault, text: &[u8]) -> io::Result<()> {
+pub(crate) fn say_refused<R: Eprint + AllocGlobal>(
+    rt: &R,
+    fault: ReadFault,
+    text: &[u8],
+) -> io::Result<()> {
     if let Ok(lines) = excerpt(rt.alloc(), text, fault.place) {
         eprint!(rt; "{lines}")?;
     }
@@ -192,10 +202,26 @@ fn say_plain<R: Eprint + AllocGlobal>(
     }
 }
 
+/// Says what is wrong with the words of the command line. Words stand in it as they were given; a terminal shows them without control
+/// characters.
+fn say_usage<R: Eprint + AllocGlobal>(
+    rt: &R,
+    fault: &UsageFault,
+    is_terminal: bool,
+) -> io::Result<()> {
+    if !is_terminal {
+        return eprint!(rt; "{fault}");
+    }
+    match format!(in rt.alloc(); "{fault}") {
+        Ok(text) => say_lines_shown(rt, &text),
+        Err(_) => eprintln!(rt; "mpdbg: memory"),
+    }
+}
+
 /// Says a fault of usage: help goes to standard output, all else to standard error. Answers the status.
 fn tell_usage<R: Print + Eprint + AllocGlobal>(rt: &R, fault: UsageFault, notes: &Notes<'_>) -> u8 {
     if !fault.is_answer() {
-        let _unwritten = eprint!(rt; "{fault}");
+        let _unwritten = say_usage(rt, &fault, notes.is_terminal);
         return fault.status();
     }
     match print!(rt; "{fault}") {
@@ -240,12 +266,20 @@ fn tell_listener<R: Eprint>(rt: &R, error: Error, is_terminal: bool) -> u8 {
     FAILED
 }
 
+/// Begins a line that says of a word that it isn't what is wanted.
+fn say_word<R: Eprint>(rt: &R, word: &str) -> io::Result<()> {
+    eprint!(rt; "  '")?;
+    say_shown(rt, word)?;
+    eprint!(rt; "' ")
+}
+
 /// Says that a word is no mode. Answers the status.
 fn tell_mode<R: Eprint>(rt: &R, word: &str, is_terminal: bool) -> u8 {
     let _unwritten = eprintln!(rt; "mpdbg: bad mode");
     if is_terminal {
+        let _unwritten = say_word(rt, word);
         let _unwritten = eprintln!(rt;
-            "  '{word}' is none; the modes are rendezvous, buffered, and slots:K with K from 0 to {SLOTS_MAX}"
+            "is none; the modes are rendezvous, buffered, and slots:K with K from 0 to {SLOTS_MAX}"
         );
     }
     WRONG
@@ -255,8 +289,9 @@ fn tell_mode<R: Eprint>(rt: &R, word: &str, is_terminal: bool) -> u8 {
 fn tell_ranks<R: Eprint>(rt: &R, word: &str, is_terminal: bool) -> u8 {
     let _unwritten = eprintln!(rt; "mpdbg: bad ranks");
     if is_terminal {
+        let _unwritten = say_word(rt, word);
         let _unwritten = eprintln!(rt;
-            "  '{word}' is none; there are 1 to {RANKS_MAX} ranks (--ranks N), or each number from N to M (--ranks N-M)"
+            "is none; there are 1 to {RANKS_MAX} ranks (--ranks N), or each number from N to M (--ranks N-M)"
         );
     }
     WRONG
@@ -289,8 +324,9 @@ fn tell_refused_witness<R: Eprint>(rt: &R, fault: WitnessFault) -> u8 {
 fn tell_choices<R: Eprint>(rt: &R, word: &str, is_terminal: bool) -> u8 {
     let _unwritten = eprintln!(rt; "mpdbg: bad choices");
     if is_terminal {
+        let _unwritten = say_word(rt, word);
         let _unwritten = eprintln!(rt;
-            "  '{word}' isn't numbers with spaces between, as a leaf of check has them in its brackets"
+            "isn't numbers with spaces between, as a leaf of check has them in its brackets"
         );
     }
     WRONG
@@ -385,6 +421,10 @@ pub(crate) fn tell<R: Print + Eprint + AllocGlobal>(
         }
         Fault::LongPage => tell_long_page(rt, notes.is_terminal),
         Fault::Plain(fault) => tell_plain(rt, fault, notes),
+        Fault::Stream(fault) => {
+            let _unwritten = eprintln!(rt; "mpdbg: {fault}");
+            FAILED
+        }
         Fault::Listener(error) => tell_listener(rt, error, notes.is_terminal),
         Fault::Settle(number) => {
             let _unwritten = eprintln!(rt; "mpdbg: settle {number}");
