@@ -77,7 +77,7 @@ LOOKING = Habits(shares(3, next=12, run=12, restart=1, watch=1, help=6, why=16, 
                         check=6), (30, 45))
 ENDING = Habits(shares(1, restart=0, watch=0, info=0, next=14, run=22, back=4, undo_choice=9, redo=10, deadlock=8, trap=6, follow=8, check=8, why=6,
                        history=3, goto=4, blame=10), (25, 40))
-FILLING = Habits(shares(0, until=0, finish=0, **{'break': 60}, delete=3, breaks=1, run=2, run_back=2), (90, 110), spoiled=0.01)
+FILLING = Habits(shares(0, until=0, finish=0, reload=2, **{'break': 60}, delete=3, breaks=1, run=2, run_back=2), (90, 110), spoiled=0.01)
 SPOILED = Habits(shares(3, next=8, run=4), (40, 60), spoiled=0.6, empty=0.15)
 HITTING = Habits(shares(1, next=10, run=20, back=4, undo_choice=9, redo=6, goto=4, local=6, restart=0, info=0, **{'break': 14}, watch=2, delete=4),
                  (30, 50), hitting=0.9)
@@ -194,6 +194,8 @@ class Talk:
         return ['run', *([] if most is None else [most])]
 
     def until(self):
+        if self.chance(0.5):
+            return ['until', 'rank', self.rank()]
         return ['until', self.edge(0, *(self.random.randint(1, self.source_lines) for _ in range(5)))]
 
     def finish(self):
@@ -201,6 +203,8 @@ class Talk:
         return ['finish', *self.maybe(lambda: self.random.choice(blocked) if blocked and self.chance(0.8) else self.rank(), 0.7)]
 
     def back(self):
+        if self.chance(0.3):
+            return ['back', 'rank', self.rank()]
         return ['back', *self.maybe(lambda: self.edge(1, 2, self.walked.depth, self.random.randint(0, self.walked.depth)), 0.5)]
 
     def goto(self):
@@ -398,13 +402,17 @@ class Talk:
     def info(self):
         return ['info', self.random.choice(['breakpoints', 'breakpoints', 'ranks'])]
 
+    def source(self):
+        """A file that can't be read: of others there are worked dialogues."""
+        return ['source', self.random.choice(['no_file', '.', './no/file', '\xff', 'a\x1b[31mb', 'none\x00'])]
+
     def parts(self, word):
         """A word with what follows it."""
         if word in ('list', 'vars', 'calls'):
             return self.of_rank(word)
         drawing = {'break': self.break_, **{name: getattr(self, name) for name in (
             'next', 'run', 'until', 'finish', 'back', 'goto', 'redo', 'local', 'watch', 'delete', 'info', 'print', 'why', 'history', 'check', 'follow',
-            'help')}}.get(word)
+            'help', 'source')}}.get(word)
         return [word] if drawing is None else drawing()
 
     # ---- lines

@@ -38,15 +38,15 @@ class Habits(NamedTuple):
 
 def commands(**shares):
     """A share for each command, 2 where none is named."""
-    names = ('step', 'next', 'run', 'run_on', 'back', 'redo', 'goto', 'run_back', 'enabled', 'state', 'vars', 'calls', 'why', 'set', 'unset', 'breaks', 'explore',
+    names = ('step', 'next', 'run', 'run_on', 'back', 'redo', 'goto', 'run_back', 'enabled', 'state', 'vars', 'calls', 'why', 'set', 'unset', 'breaks', 'hit', 'explore',
              'look', 'list_steps', 'call_lines')
     return {name: shares.get(name, 2) for name in names}
 
 
 USUAL = Habits(commands(step=14, next=8, run=6, run_on=3, back=4, redo=4, run_back=3, set=4, state=4), (20, 40, 60, 90))
 FORWARD = Habits(commands(step=20, next=20, run=6, explore=3), (30, 60, 120), any_step=0.03)
-ALONG = Habits(commands(step=12, next=6, run=6, back=12, redo=12, goto=6, run_back=4, set=3), (40, 80, 120))
-MARKING = Habits(commands(step=6, next=6, run=10, run_on=10, run_back=12, set=12, unset=5, breaks=4, back=4, goto=4, redo=4), (40, 80, 120))
+ALONG = Habits(commands(step=12, next=6, run=6, back=12, redo=12, goto=6, run_back=4, set=3, hit=4), (40, 80, 120))
+MARKING = Habits(commands(step=6, next=6, run=10, run_on=10, run_back=12, set=12, unset=5, breaks=4, hit=10, back=4, goto=4, redo=4), (40, 80, 120))
 ASKING = Habits(commands(step=10, next=8, run=8, vars=8, calls=8, why=16, state=8, enabled=8, explore=10, look=16, list_steps=6, call_lines=6), (30, 60))
 FILLING = Habits(commands(set=120, unset=6, run=6, run_back=4), (110, 140))
 SPOILED = Habits(commands(step=10, next=6, run=6, set=6, goto=3, vars=3), (60, 120), at=0.3, spoiled=0.75)
@@ -203,6 +203,9 @@ class Talk:
 
     def breaks(self):
         return {'cmd': 'breaks'}
+
+    def hit(self):
+        return {'cmd': 'hit'}
 
     def explore(self):
         left = debugger.MOST_STEPS - self.walked.depth

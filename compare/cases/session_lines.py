@@ -30,7 +30,7 @@ OTHER_VALUES = ('null', 'true', 'false', '[]', '{}', '[0]', '{"cmd":"state"}', '
 OTHER_TEXTS = ('null', 'true', '0', '[]', '{}', '["state"]', '""', '1.5')
 NO_COMMANDS = ('State', 'STATE', 'states', 'stat', ' state', 'state ', 'run_back', 'runback', 'Run-Back', 'show', 'undo', 'continue', 'quit', 'exit',
                'help', 'check', 'trace', 'wakeany', 'goto 0', 'cmd', '', '\x00', 'st\u00e4te', '\U0001f600', 'state\n', 'enabled\x00', 'unbreaks',
-               'breakpoint', 'walk', 'at', 'Next', 'back ', 'vars\t', 'call', 'explores', 'run_on', 'runon', 'run on', 'Run-On', 'run-', 'run-ons')
+               'breakpoint', 'hits', 'walk', 'at', 'Next', 'back ', 'vars\t', 'call', 'explores', 'run_on', 'runon', 'run on', 'Run-On', 'run-', 'run-ons')
 UNKNOWN_FIELDS = ('x', '', 'At', 'CMD', 'at ', ' cmd', 'id', 'count', 'max', 'depth', 'rank', 'line', 'choice', 'kind', 'cell', 'step', 'split',
                   'version', 'ok', 'cm\u0501', '\U0001f600', '$serde_json::private::Number', '$serde_json::private::RawValue', '__proto__')
 OTHERS_FIELDS = ('line', 'line', 'rank', 'cell', 'handle', 'choice', 'choice', 'max', 'count', 'depth', 'kind', 'break', 'runs', 'fuel', 'call', 'step')

@@ -10,6 +10,7 @@ from faults.console_faults_of_blame import blame_faults
 from faults.console_faults_of_hits import hit_faults
 from faults.console_faults_of_lines import line_faults
 from faults.console_faults_of_looks import look_faults
+from faults.console_faults_of_reloads import reload_faults
 from faults.console_faults_of_runs import run_faults
 from faults.console_faults_of_ways import way_faults
 from faults.console_faults_of_words import word_faults
@@ -793,5 +794,5 @@ def shown_faults():
 
 def breakages():
     """All faults."""
-    return [*shown_faults(), *line_of_words_faults(), *where_faults(), *move_faults(), *break_faults(), *look_faults(), *run_faults(), *way_faults(),
+    return [*shown_faults(), *line_of_words_faults(), *where_faults(), *move_faults(), *break_faults(), *look_faults(), *run_faults(), *reload_faults(), *way_faults(),
             *hit_faults(), *witness_faults(), *line_faults(), *word_faults(), *blame_faults()]

@@ -5,7 +5,7 @@ import re
 from inspect import isfunction
 
 from faults.policy_faults import Breakage
-from model import console, console_lines, debugger, explaining
+from model import console, console_lines, debugger, explaining, marks
 from model.debugger import call_line, find_call, last_call
 from model.worlds import CallId
 
@@ -707,6 +707,18 @@ def why_faults():
             'always': lambda world, call_id: debugger.find_call(world, call_id) is not None})]
 
 
+def mark_faults():
+    sound = marks.places_of
+    return [
+        Breakage('places_of: of the line before', marks, 'places_of', lambda text: {number - 1: place for number, place in sound(text).items()}),
+        Breakage('places_of: none', marks, 'places_of', lambda text: {}),
+        Breakage('MARK: a blank before the sign', marks, 'MARK', re.compile(rb' ?' + marks.MARK.pattern, re.DOTALL)),
+        Breakage('NAMED: the first digit', marks, 'NAMED', re.compile('(?<![A-Za-z0-9_])(?:line ([0-9])|lines ([0-9 ,]+))')),
+        Breakage('depth_of: never in parentheses', marks, 'depth_of', lambda text: 0),
+        Breakage('SOURCE: lines of the script too', marks, 'SOURCE', re.compile('(?!)')),
+        Breakage('marked: the first line alone', marks, 'named_lines', lambda line, named=marks.named_lines: list(named(line))[:1])]
+
+
 def line_faults():
     return [*fold_faults(), *step_faults(), *list_faults(), *short_faults(), *lost_faults(), *variable_faults(), *queue_faults(), *going_faults(),
-            *absence_faults(), *why_faults()]
+            *absence_faults(), *why_faults(), *mark_faults()]

@@ -1,13 +1,14 @@
-"""Faults of what the console's model tells of the way, of steps that are ahead, of lines without a statement, and of numbers that are refused
+"""Faults of what the console's model tells of the way, of where it goes for a rank, of steps that are ahead, of lines without a statement, and of numbers that are refused
 (console_faults.py)."""
 
 from inspect import isfunction
 
 from faults.policy_faults import Breakage
-from model import console, console_lines, policy, session
+from model import console, console_lines, debugger, policy, session
 from model.console import Console
 from model.console_words import ALL
 from model.language import Branch, While
+from model.worlds import Step
 
 SOUND = {name: value for name, value in vars(Console).items() if isfunction(value)}
 # Refusals that are told as others.
@@ -122,6 +123,77 @@ def to_any_line(self, line):
     if not 1 <= line <= session.HIGHEST_LINE:
         return SOUND['until'](self, line)
     return self.up_to(lambda world, step: policy.is_hit(policy.LineBreak(line), world, step), f'stopped: a rank is at line {line}')
+
+
+def onward(test, why='stopped: rank {} has gone on'):
+    """What goes on to another step of a rank, by the rank, the world and the step."""
+    def until_rank(self, number):
+        self.rank(number)
+        return self.up_to(lambda world, step: test(number, world, step), why.format(number))
+    return until_rank
+
+
+def is_own(number, step):
+    """Whether a step is one of a rank's own."""
+    return step.kind in ('local', 'wake', 'wakeany') and step.first == number
+
+
+def hits_rank(number, world, step):
+    return policy.is_hit(policy.RankBreak(number), world, step)
+
+
+def to_statement(number, world, step):
+    """Whether the rank has a statement to run behind a step that is its own, or a release."""
+    return hits_rank(number, world, step) and bool(debugger.next_world(debugger.next_world(world, step), Step('local', number)))
+
+
+def backward(test, more=0, which=-1):
+    """What goes back to another step of a rank, or so many steps behind it."""
+    def back_rank(self, number):
+        self.rank(number)
+        places = [place for place, step in enumerate(self.debugger.steps[:self.debugger.depth]) if test(number, step)]
+        return self.goto(places[which] + more if places else 0)
+    return back_rank
+
+
+def is_local(number, step):
+    return step.kind == 'local' and step.first == number
+
+
+def to_where_it_came(self, number):
+    """What goes back to behind the last step but one by which the rank went on."""
+    self.rank(number)
+    worlds, steps = self.debugger.worlds, self.debugger.steps
+    return self.goto(max([0, *(place + 1 for place in range(self.debugger.depth - 1) if hits_rank(number, worlds[place], steps[place]))]))
+
+
+def refused_at_start(self, number):
+    """What refuses to go back where the rank has taken no step."""
+    taken = self.debugger.steps[:self.debugger.depth]
+    return SOUND['back_rank'](self, number) if any(is_local(number, step) for step in taken) else [console.REFUSALS[session.AT_START]]
+
+
+def onward_faults():
+    return [
+        *named('until_rank', {
+            'to a step that blocks it, too': onward(lambda number, world, step: is_own(number, step) or step.kind == 'release'),
+            'past a release': onward(lambda number, world, step: is_own(number, step) and hits_rank(number, world, step)),
+            'to its match': onward(lambda number, world, step: step.kind == 'match' and number in (step.first.rank, step.second.rank) or hits_rank(number, world, step)),
+            'to a local step alone': onward(lambda number, world, step: is_local(number, step) and hits_rank(number, world, step)),
+            'past its last statement': onward(to_statement),
+            'of any rank': onward(lambda number, world, step: any(hits_rank(rank, world, step) for rank in range(len(world.ranks)))),
+            'told as a call': onward(hits_rank, 'stopped: that call is over'),
+            'told without its rank': onward(hits_rank, 'stopped: the rank has gone on'),
+            'a rank that is not there runs on': lambda self, number: SOUND['until_rank'](self, number) if number < len(self.world.ranks) else self.run()}),
+        *named('back_rank', {
+            'behind that step': backward(is_local, 1),
+            'to any step of its own': backward(is_own),
+            'to a release, too': backward(lambda number, step: is_own(number, step) or step.kind == 'release'),
+            'to a local step of any rank': backward(lambda number, step: step.kind == 'local'),
+            'to the first local step': backward(is_local, which=0),
+            'to where it came before': to_where_it_came,
+            'refused at the start': refused_at_start,
+            'a rank that is not there goes back': lambda self, number: SOUND['back_rank'](self, number) if number < len(self.world.ranks) else self.goto(0)})]
 
 
 def way_line_faults():
@@ -328,4 +400,4 @@ def refusal_faults():
 
 
 def way_faults():
-    return [*way_line_faults(), *ahead_faults(), *statement_faults(), *refusal_faults()]
+    return [*way_line_faults(), *onward_faults(), *ahead_faults(), *statement_faults(), *refusal_faults()]

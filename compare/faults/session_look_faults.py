@@ -1,7 +1,8 @@
 """Faults that are put into what the model's sessions tell of the script, of all ranks and of steps; compare/runs/sessions.py must notice each."""
 
-from faults.session_faults import command, first_rank, moved_by_questions, rank_beyond, telling, without_field
-from model import console_lines, explaining, session
+from faults.policy_faults import Breakage
+from faults.session_faults import SOUND, command, first_rank, forgetting, moved_by_questions, raised_for, rank_beyond, telling, without_field
+from model import console_lines, explaining, policy, session
 from model.debugger import enabled_steps, outcome
 from model.session import MOST_COUNT, Refused, must_be
 
@@ -138,6 +139,61 @@ def first_holding(self, found):
     return {**found, 'held': found['held'][:1] * len(found['held'])}
 
 
+def highest_hit(self, found):
+    """The highest number that the last step hits."""
+    walked, depth = self.debugger, self.debugger.depth
+    hits = [number for number, stop in enumerate(self.breaks.places) if depth and stop is not None and policy.is_hit(stop, walked.worlds[depth - 1], walked.steps[depth - 1])]
+    return {'break': hits[-1]} if hits else found
+
+
+def next_hit(self, found):
+    """What the step that lies ahead hits, where one does."""
+    ahead = self.debugger.steps[self.debugger.depth:]
+    number = self.breaks.lowest_hit(self.world, ahead[0]) if ahead else None
+    return found if number is None else {'break': number}
+
+
+def back_by_a_step(self, found):
+    """What leaves the last step undone."""
+    if self.debugger.depth:
+        self.debugger.back()
+    return found
+
+
+def refused_at_the_start(sound):
+    def answer(self):
+        must_be(self.debugger.depth > 0, session.AT_START)
+        return sound(self)
+    return answer
+
+
+def noting_stops(sound):
+    """What keeps the number of the breakpoint at which a run has stopped."""
+    def answer(self, **fields):
+        found = sound(self, **fields)
+        self.stopped_at = {key: number for key, number in found.items() if key == 'break'}
+        return found
+    return answer
+
+
+def last_stop(self):
+    """What tells where the last run has stopped, whatever step is the last."""
+    return getattr(self, 'stopped_at', {})
+
+
+def hit_faults():
+    """Those of the look at the last step."""
+    runs = {name: noting_stops(SOUND.answers[name]) for name in ('run', 'run-on', 'run-back')}
+    return [
+        command('no breakpoint of the last step', 'hit', without_field('break')), command('the highest breakpoint of the last step', 'hit', told(highest_hit)),
+        command('null for no breakpoint of the last step', 'hit', told(lambda self, found: {'break': None, **found})),
+        command('the breakpoint of the step ahead', 'hit', told(next_hit)), command('a look that takes the last step back', 'hit', told(back_by_a_step)),
+        command('a look at the last step that drops those ahead', 'hit', forgetting),
+        command('no look at the last step at the start', 'hit', refused_at_the_start),
+        Breakage('the breakpoint of the last run', session, 'ANSWERS', {**SOUND.answers, **runs, 'hit': last_stop}),
+        Breakage('the version raised for `hit`', session.Session, 'answer', raised_for('hit'))]
+
+
 def breakages():
     whole = [command(f'{name} that is left at the first candidate', name, moved_by_questions) for name in ('decision', 'all', 'explain', 'script')]
     lists = [
@@ -167,4 +223,4 @@ def breakages():
     ends = [
         command('no explanation elsewhere', 'explain', refused_elsewhere), command('lost requests untold', 'explain', listed('told', lost_untold)),
         command('explanations without blanks', 'explain', listed('told', bare)), command('the first line of an explanation alone', 'explain', listed('told', first_line_alone))]
-    return whole + lists + ranks + steps + calls + ends
+    return whole + lists + ranks + steps + calls + ends + hit_faults()

@@ -8,10 +8,10 @@ has rows of it, and compare/runs/consoles.py compares a program with it.
 import re
 import sys
 from collections import Counter
-from itertools import islice
+from itertools import islice, repeat
 from typing import NamedTuple
 
-from model import console_lines, console_values, console_words, debugger, deciding, explaining, explorer, picture_model, policy, session, states
+from model import console_lines, console_values, console_words, debugger, deciding, explaining, explorer, marks, picture_model, policy, session, states
 from model.console_lines import plural, step_words
 from model.console_words import Asked, NotAsked, read_line, shown, to_repeat
 from model.debugger import (BAD_FILE, BAD_MODE, LONGEST_LINE, RENDEZVOUS, Result, enabled_steps, file_content, find_call, lines_of, number_of,
@@ -36,6 +36,11 @@ NO_INDEX = 'refused: there is no such index'
 NEEDS_INDEX = 'refused: an array needs an index here'
 NO_VALUE = 'refused: a request has no value to compare'
 NO_WAIT = 'no rank waits for a call'
+NO_SCRIPT = "refused: the file can't be read"
+NESTED = "refused: source can't stand in a file of words"
+# What is wrong with a file of words, of which NAME is the name; and how many bytes it may have.
+NO_WORDS, LONG_WORDS = "refused: the file 'NAME' can't be read", "refused: the file 'NAME' has more than 1048576 bytes"
+MOST_WORDS = 1048576
 # What is wrong with a number, where a session says no more than that it is none: of steps, of runs, of a line, of a rank, and of a call.
 BAD_STEPS, BAD_RUNS, BAD_LINE, NO_RANK, NO_CALL = 'steps', 'runs', 'line', 'rank', 'call'
 REFUSALS = {
@@ -48,7 +53,7 @@ REFUSALS = {
 # Why a run stopped, where it isn't told by where it stands.
 STOPS = {MAX: 'stopped: as many steps as were asked for', FULL: 'stopped: no more than 1000000 steps are kept', START: 'at the start'}
 # The same of a run from a choice where steps are undone.
-BEHIND_CHOICE = 'stopped: behind the choice'
+BEHIND_CHOICE = 'stopped: after the choice'
 LISTED, TRIED, MOST_FUEL = 10, 1000, 100000
 # How many states are come to where each is looked at once, at most.
 MOST_STATES = 1000000
@@ -66,6 +71,8 @@ LONG_WITNESS = Result(b'', b'mpdbg: witness of more than 1000000 steps\n', 2)
 NOT_TOGETHER = Result(b'', b"mpdbg: --choices and --witness can't stand together\n", 2)
 # Words whose answers have lines of any length.
 UNFOLDED = frozenset(['list', 'show', 'words', 'picture'])
+# Words that have a file read.
+READS_FILES = 'reload', 'source'
 # In the place of the text of a witness: its file can't be read.
 NO_FILE = 'no file'
 
@@ -120,6 +127,14 @@ def run_line(at, number, leaf):
 def places_of(at, leaf):
     """Where a run from somewhere has ended."""
     return '' if leaf.outcome in ('done', CUT) else console_lines.end_places(console_lines.went_on(at, leaf.steps), leaf.outcome)
+
+
+def words_in(name):
+    """What a file of words has; None where it can't be read, as none can whose name is no text."""
+    try:
+        return file_content(name.decode())
+    except ValueError:
+        return None
 
 
 def text_of(lines):
@@ -178,6 +193,12 @@ class Console:
     """A session that is asked by words, what is told before the first of them, where a run lies ahead, and what an empty line does."""
 
     def __init__(self, text, mode=RENDEZVOUS, ahead=None):
+        # What the file of the script has each time that it is read again, None where it can't be read; as long as nobody writes it the same.
+        self.files = repeat(text)
+        # What gives what a file of words has, by its name, None where it can't be read; the lines of one that are still to be answered.
+        self.open_words, self.inserted, self.is_in_file = words_in, [], False
+        # Whether it is asked by what reads files: others have no answer to the words that name one.
+        self.reads_files = True
         self.text, self.mode, self.look = text, mode, USUAL
         self.script = read_script(text)
         self.session = Session(self.script, mode)
@@ -187,7 +208,7 @@ class Console:
     @property
     def first(self):
         """What is told before any line is read."""
-        return text_of(console_lines.all_folded(self.first_lines, self.look.width))
+        return text_of(self.laid_out(self.first_lines))
 
     @property
     def debugger(self):
@@ -245,9 +266,16 @@ class Console:
             return console_lines.folded(not_asked.told, self.look.width)
         if asked is None:
             return []
+        if asked.word in READS_FILES:
+            told = getattr(self, asked.word)(*asked.given) if self.reads_files else []
+            return console_lines.all_folded(told, self.look.width)
         self.last = to_repeat(asked)
         told = self.told(asked)
-        return told if asked.word in UNFOLDED else console_lines.all_folded(told, self.look.width)
+        return told if asked.word in UNFOLDED else self.laid_out(told)
+
+    def laid_out(self, told):
+        """Told lines with the places of marks, in as many as they take."""
+        return console_lines.all_folded(marks.all_marked(self.text, told), self.look.width)
 
     def asked(self, line):
         """What a line asks for: an empty one the word that was asked last, and a comment nothing."""
@@ -301,7 +329,80 @@ class Console:
         """Does what is asked; the lines of the answer."""
         if asked.word in console_words.STEPS:
             return self.take(Step(asked.word, *asked.given))
+        if asked.word in OF_RANK and asked.given[:1] == ('rank',):
+            return getattr(self, OF_RANK[asked.word])(*asked.given[1:])
         return getattr(self, METHODS.get(asked.word, asked.word))(*asked.given)
+
+    # ---- the script once more
+
+    def reload(self):
+        """Reads the script again: its breakpoints are set again, and its steps taken again as far as they fit. A script that is refused changes
+        nothing."""
+        text = next(self.files)
+        if text is None:
+            return [NO_SCRIPT]
+        try:
+            return self.begin_again(Console(text, self.mode))
+        except Fault as fault:
+            line = 1 + text.count(b'\n', 0, fault.place)
+            return [f'refused: the script has a fault, {debugger.FAULT_NAMES[fault.number]} at {fault.place} line {line}']
+
+    def begin_again(self, other):
+        """Goes on as another console, at its start, with the breakpoints and the steps of this one."""
+        lines = marks.all_marked(self.text, self.breaks_of(other))
+        steps = self.debugger.steps[:self.debugger.depth]
+        taken = other.taken_again(steps)
+        self.text, self.script, self.session, self.last = other.text, other.script, other.session, None
+        return [f'{taken} of {plural(len(steps), "step")} taken again', *lines, *marks.all_marked(self.text, self.where())]
+
+    def breaks_of(self, other):
+        """Sets the breakpoints in another console as they are here, each under its number; what is told of those that can't be."""
+        places, lines = other.session.breaks.places, []
+        for number, stop in enumerate(self.session.breaks.places):
+            if stop is not None:
+                places[number] = other.break_by(f'break {self.break_text(stop)}'.encode())
+                lines += [f'not set again: {self.break_line(number)}'] * (places[number] is None)
+        return lines
+
+    def break_by(self, line):
+        """The breakpoint that a line sets; None where it sets none. No other is set then."""
+        places = self.session.breaks.places
+        self.session.breaks.places = [None] * len(places)
+        try:
+            self.set_break(*self.understood(read_line(line)).given)
+            return self.session.breaks.get(0)
+        except (NotAsked, Refused):
+            return None
+        finally:
+            self.session.breaks.places = places
+
+    def taken_again(self, steps):
+        """How many of some steps can be taken, one after another; they are taken."""
+        for count, step in enumerate(steps):
+            try:
+                self.session.take(step)
+            except Refused:
+                return count
+        return len(steps)
+
+    # ---- the words of a file
+
+    def source(self, name):
+        """Has the lines of a file answered next."""
+        if self.is_in_file:
+            return [NESTED]
+        words = self.open_words(name)
+        if words is None or len(words) > MOST_WORDS:
+            return [(NO_WORDS if words is None else LONG_WORDS).replace('NAME', console_words.shown(name))]
+        self.inserted = lines_of(words)
+        return []
+
+    def to_answer(self, line):
+        """A line, and after it those of the file that it names; each is to be answered before the next is asked for."""
+        yield line
+        lines, self.inserted, self.is_in_file = self.inserted, [], True
+        yield from lines
+        self.is_in_file = False
 
     # ---- where it stands
 
@@ -381,6 +482,12 @@ class Console:
         stop = policy.LineBreak(line)
         return self.up_to(lambda world, step: policy.is_hit(stop, world, step), f'stopped: a rank is at line {line}')
 
+    def until_rank(self, number):
+        """Goes on as `run` does, to where a rank has gone on at most, as a breakpoint of it would stop it."""
+        self.rank(number)
+        stop = RankBreak(number)
+        return self.up_to(lambda world, step: policy.is_hit(stop, world, step), f'stopped: rank {number} has gone on')
+
     def finish(self, number=None):
         """Goes on as `run` does, to where a rank goes on at most that waits: the one of a number, or that of the last step."""
         number = self.last_rank() if number is None else number
@@ -441,6 +548,12 @@ class Console:
         must_be(1 <= count <= session.MOST_COUNT, BAD_STEPS)
         self.session.back(count)
         return self.depth_lines()
+
+    def back_rank(self, number):
+        """Goes back to before the last local step of a rank; to the start where it has taken none."""
+        self.rank(number)
+        places = [place for place, step in enumerate(self.debugger.steps[:self.debugger.depth]) if step.kind == 'local' and step.first == number]
+        return self.goto(places[-1] if places else 0)
 
     def run_back(self):
         return self.stopped(policy.run_back(self.debugger, self.session.breaks), ' back')
@@ -738,6 +851,7 @@ class Console:
 # How many lines stand before what happened on the way, where it isn't one: what decided is told before what `goto` tells.
 LINES_FIRST = {'blame': 3}
 # What answers a word whose name is another than the word.
+OF_RANK = {'until': 'until_rank', 'back': 'back_rank'}
 METHODS = {'break': 'set_break', 'vars': 'variables', 'run-back': 'run_back', 'undo-choice': 'undo_choice'}
 
 
@@ -750,7 +864,7 @@ def answers(console, data):
     """The answers to an input, up to `quit` or to its end; where lines are shown, each after its prompt and that line, and a line feed at the
     end of an input without `quit`."""
     told, shows = [], console.look.is_echoing
-    for line in lines_of(data):
+    for line in (part for line in lines_of(data) for part in console.to_answer(line)):
         if shows:
             told += [console.prompt().encode(), echoed(line)]
         told.append(console.answer(line).encode())
@@ -835,7 +949,8 @@ def talk(console):
             print()
             break
         for part in lines_of(line):
-            print(console.answer(part), end='', flush=True)
+            for number, each in enumerate(console.to_answer(part)):
+                print(console.prompt() if number else '', console.answer(each), sep='', end='', flush=True)
 
 
 def witness_text(path):

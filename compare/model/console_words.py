@@ -40,13 +40,17 @@ TABLE = (
         'takes the step that comes next; at a choice the one that lies ahead, or it lists the candidates, of which next N takes one, from 1 '
         '(reports count them from 0, in [..]); elsewhere next N is run N'),
     Row(('run [N]',), ('r', 'continue', 'c'), 'goes on to a breakpoint, a choice or an end; or so many steps at most'),
-    Row(('until LINE',), (), 'goes on until a rank comes to that line; as run does to a breakpoint there'),
+    Row(('until LINE', 'until rank P'), (), 'goes on until a rank comes to that line; as run does to a breakpoint there; or until rank P has gone on'),
     Row(('finish [P]',), (), "goes on until a rank's call is over; the one that rank P waits in, or the rank of the last step"),
-    Row(('back [N]',), ('bk', 'undo', 'rs', 'reverse-step', 'reverse-next'), 'takes a step back, or so many'),
+    Row(('back [N]', 'back rank P'), ('bk', 'undo', 'rs', 'reverse-step', 'reverse-next'),
+        'takes a step back, or so many; or goes back to before the last local step of rank P'),
     Row(('run-back',), ('rc', 'reverse-continue'), 'goes back to a breakpoint, or to the start'),
     Row(('undo-choice',), ('u',), 'goes back to the last choice; another candidate can be taken there'),
     Row(('goto N',), ('g',), 'goes to where so many steps are taken; back, or along the steps ahead'),
     Row(('restart',), (), 'goes back to the start; redo all goes along the same steps again'),
+    Row(('reload',), (),
+        'reads the file of the script again; breakpoints stay, and the steps that were taken are taken again, as far as they fit'),
+    Row(('source FILE',), (), 'answers the words of a file; each of its lines is answered as if it was typed, and none of them is a source'),
     Row(('redo [N]', 'redo all'), (), 'takes the first step ahead, or so many; as far as there are, or all'),
     Row(('local P', 'match S R', 'wake P', 'wakeany P I', 'release'), (),
         'takes this step; P is a rank, S and R are a send and a receive as 1.0, and I is the number of a request of a waitany, from 0'),
@@ -94,17 +98,20 @@ def any_word(word):
 NAME = any_word
 NUMBER, CALL, STEPS = number_of, call_id_of, ('local', 'match', 'wake', 'wakeany', 'release')
 MAYBE_NUMBER = (), (NUMBER,)
+# A rank, behind words that may name one or something else.
+OF_RANK = literal('rank'), NUMBER
 # All steps that are ahead.
 ALL = 'all'
 # What help tells of beside words.
 HELP_ON = b'all', b'choice'
 # What may follow each word: lists of what reads the words behind it, one of which must fit.
 FOLLOWING = {
-    'next': MAYBE_NUMBER, 'run': MAYBE_NUMBER, 'until': ((NUMBER,),), 'finish': MAYBE_NUMBER, 'back': MAYBE_NUMBER, 'run-back': ((),), 'undo-choice': ((),), 'goto': ((NUMBER,),),
-    'restart': ((),), 'redo': (*MAYBE_NUMBER, (literal(ALL),)),
+    'next': MAYBE_NUMBER, 'run': MAYBE_NUMBER, 'until': ((NUMBER,), OF_RANK), 'finish': MAYBE_NUMBER, 'back': (*MAYBE_NUMBER, OF_RANK), 'run-back': ((),),
+    'undo-choice': ((),), 'goto': ((NUMBER,),),
+    'restart': ((),), 'reload': ((),), 'source': ((any_word,),), 'redo': (*MAYBE_NUMBER, (literal(ALL),)),
     'local': ((NUMBER,),), 'match': ((CALL, CALL),), 'wake': ((NUMBER,),), 'wakeany': ((NUMBER, NUMBER),), 'release': ((),),
     # A breakpoint of a line and of a match is read as a whole (break_given).
-    'break': ((literal('rank'), NUMBER), (literal('change'), NUMBER, NAME)),
+    'break': (OF_RANK, (literal('change'), NUMBER, NAME)),
     'watch': ((NAME, NUMBER),), 'delete': ((NUMBER,),), 'breaks': ((),), 'info': ((literal('breakpoints'),), (literal('ranks'),)),
     'list': MAYBE_NUMBER, 'print': ((NAME,), (NAME, NUMBER)), 'vars': MAYBE_NUMBER, 'ranks': ((),), 'calls': MAYBE_NUMBER,
     'queues': ((),), 'why': ((), (NUMBER,), (CALL,)), 'history': MAYBE_NUMBER, 'picture': ((),), 'check': MAYBE_NUMBER,

@@ -12,7 +12,7 @@ import math
 import re
 from typing import NamedTuple, Optional
 
-from model import explaining, explorer, outcomes, sampler, states
+from model import explaining, explorer, marks, outcomes, sampler, states
 from model.console_lines import all_folded
 from model.debugger import BAD_FILE, BAD_MODE, RENDEZVOUS, Debugger, Result, blocked_calls, last_call, refusal
 from model.explorer import NOT_WHOLE
@@ -370,7 +370,7 @@ def bug_lines(asked, ends, found, picture):
     """What is written of ends that are told together, behind an empty line."""
     leaf = explained_of(ends).leaf
     explained = outcomes.explained(asked, leaf)
-    return ['', *all_folded([heading(ends, found), *explained, *hints(explained)]), *commands(asked, leaf, picture)]
+    return ['', *all_folded(marks.all_marked(asked.script, [heading(ends, found), *explained, *hints(explained)])), *commands(asked, leaf, picture)]
 
 
 def hints(explained):

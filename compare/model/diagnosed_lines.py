@@ -34,15 +34,17 @@ AT_RANDOM = 'drawn at random: '
 DRAWN = tuple((name, re.compile(f'{AT_RANDOM}{line}')) for name, line in (
     ('hang', f'{COUNT} of {RUNS} hang'), ('trap', f'{COUNT} of {RUNS} trap'), ('none drawn', f'none of {RUNS} hangs or traps'),
     ('left', f'{COUNT} of {RUNS} end with calls left over')))
-HEADING = re.compile(f'(deadlock at|trap at|left over from|cut at) (lines?) ([0-9]+(?:, [0-9]+)*): {COUNT} of {RUNS}(, one of them:)?')
+# A line, and the place of its mark if it has one (docs/FROM_A_RUN.md, "Marks").
+PLACED = r'[0-9]+(?: \([!-~]{1,80}\))?'
+HEADING = re.compile(f'(deadlock at|trap at|left over from|cut at) (lines?) ({PLACED}(?:, {PLACED})*): {COUNT} of {RUNS}(, one of them:)?')
 KINDS = {'deadlock at': 'hang', 'trap at': 'trap', 'left over from': 'left', 'cut at': 'cut'}
 WERE_CUT = re.compile('.*: ([0-9]+) of .* (was|were) cut after [0-9]+ steps')
 # What tells the step that decided, and what must follow it.
 DECIDED_AT, HINT = re.compile('  decided at depth [0-9]+: .'), '  at the prompt of `debug`, `blame` goes to this step and `redo all` to the end'
 CHOICES = re.compile('(?:[0-9]+(?: [0-9]+)*)?')
 # Where the script stands, in the lines of an explanation.
-PLACES = {'hang': re.compile('  rank [0-9]+ waits at line ([0-9]+), '), 'trap': re.compile('  rank [0-9]+, line ([0-9]+): trap '),
-          'left': re.compile('  left over: line ([0-9]+), ')}
+PLACES = {'hang': re.compile(f'  rank [0-9]+ waits at line ({PLACED}), '), 'trap': re.compile(f'  rank [0-9]+, line ({PLACED}): trap '),
+          'left': re.compile(f'  left over: line ({PLACED}), ')}
 
 
 class Named(NamedTuple):
@@ -214,12 +216,17 @@ def choices_in(line, named, front, behind):
     return choices_of(told)
 
 
+def number_of(placed):
+    """The number of a line, without the place of its mark."""
+    return int(placed.partition(' ')[0])
+
+
 def bug_in(lines, named, runs, picture):
     """A bug, by its lines, and the file of its picture."""
     told = HEADING.fullmatch(lines[0])
     must_be(told is not None and len(lines) > 1 + (told[1] != 'cut at'), f'ends are told by {lines[:4]}')
     must_be((told[4] == '1') == (told[7] is None), f'{told[0]!r} of one run or several')
-    kind, places = KINDS[told[1]], tuple(map(int, told[3].split(', ')))
+    kind, places = KINDS[told[1]], tuple(map(number_of, told[3].split(', ')))
     must_be(places == tuple(sorted(set(places))) and (told[2] == 'line') == (len(places) == 1), f'{told[2]} {places}')
     must_be(runs_in(told[5], told[6]) == runs, f'{told[0]} of {runs} runs')
     first = next((place for place, line in enumerate(lines) if line.startswith(COMMAND)), len(lines))
@@ -241,7 +248,7 @@ def bug_in(lines, named, runs, picture):
     if kind != 'left':
         *explained, decided = explained
         must_be(decided.startswith('  decided '), f'what decided is {decided!r}')
-    stands = {int(place[1]) for line in explained if (place := PLACES[kind].match(line))}
+    stands = {number_of(place[1]) for line in explained if (place := PLACES[kind].match(line))}
     must_be(stands == set(places), f'it stands at {sorted(stands)}, and not {places}')
     return Bug(kind, places, count_of(told[4]), tuple(explained), decided, choices[0], len(choices) == 2)
 

@@ -10,7 +10,7 @@ import argparse
 from itertools import islice
 from typing import NamedTuple, Optional
 
-from model import explaining, walks, wide
+from model import explaining, marks, walks, wide
 from model.debugger import (BAD_FILE, BAD_MODE, BUFFERED, RENDEZVOUS, Debugger, Result, blocked_calls, call_id_of, enabled_steps, first_world,
                             next_world, outcome, refusal, step_text)
 from model.language import Branch, Fault, WaitAny, While, read_script
@@ -316,9 +316,15 @@ def check(text, asked):
     if text is None:
         return BAD_FILE
     try:
-        return checked(read_script(text), asked)
+        found = checked(read_script(text), asked)
     except Fault as fault:
         return refusal(text, fault)
+    return with_places(text, found) if asked.explain else found
+
+
+def with_places(text, found):
+    """A result with the places of marks beside lines of the script."""
+    return found._replace(output=''.join(f'{line}\n' for line in marks.all_marked(text, found.output.decode().splitlines())).encode())
 
 
 def answer(text, asked):

@@ -9,7 +9,7 @@ compare/rows/worked_outcomes.py and compare/rows/worked_decided.py have rows of 
 import argparse
 from typing import NamedTuple, Optional
 
-from model import deciding, explaining, explorer, states
+from model import deciding, explaining, explorer, marks, states
 from model.debugger import BAD_FILE, BAD_MODE, BUFFERED, RENDEZVOUS, Result, refusal
 from model.explorer import MOST_FUEL, MOST_MODES, NOT_WHOLE, USUAL, leaf_lines, number_between, refused
 from model.files import held
@@ -101,7 +101,7 @@ def explained(asked, leaf):
 def first_of(asked, way):
     """The leaf of the first run of a way, with what explains it where that is asked for."""
     leaf = run_by(asked.begun(), way.first, ends=True)
-    return leaf._replace(explained=explained(asked, leaf)) if asked.explain else leaf
+    return leaf._replace(explained=tuple(marks.all_marked(asked.script, explained(asked, leaf)))) if asked.explain else leaf
 
 
 def way_lines(asked, number, outcome, way):

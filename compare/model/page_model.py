@@ -6,7 +6,7 @@ It was written from that page, over the debugger and the explanations of the mod
 import re
 from typing import NamedTuple
 
-from model import deciding, explaining, order
+from model import deciding, explaining, marks, order
 from model.console_lines import has_ended, lost_lines, requests, source_lines
 from model.debugger import MOST_STEPS, buffer_text, enabled_steps, find_call, first_world, is_at_barrier, is_done, last_call, next_world, outcome, step_text
 from model.diagnosed import Counting, mode_of
@@ -188,6 +188,12 @@ def end_of(tree, node, steps, most):
     return {'node': node, 'outcome': str(ended), 'told': told, 'lost': lost, 'decided': decided}
 
 
+def with_places(text, end):
+    """What is told where a run ends, with the places of marks beside lines of the script."""
+    decided = end['decided'] and [end['decided'][0], *marks.all_marked(text, end['decided'][1:])]
+    return {**end, 'told': marks.all_marked(text, end['told']), 'lost': marks.all_marked(text, end['lost']), 'decided': decided}
+
+
 # ---- the text
 
 ESCAPED = re.compile(rb'[\x00-\x1f"\\<]')
@@ -244,7 +250,7 @@ def share(asked):
 def data_of(asked):
     """The data of a page."""
     tree = Tree(asked.script, asked.mode, asked.walk)
-    ends = [end_of(tree, tree.follow(steps), steps, share(asked)) for steps in asked.runs]
+    ends = [with_places(asked.text, end_of(tree, tree.follow(steps), steps, share(asked))) for steps in asked.runs]
     return {'format': FORMAT, 'name': asked.name, 'mode': mode_of(asked), 'ranks': asked.script.ranks, 'walk': asked.walk, 'hide': asked.hide,
             'note': asked.note, 'said': list(asked.said), 'script': source_lines(asked.text),
             'vars': declared(asked.script, 'var'), 'handles': declared(asked.script, 'req'), 'nodes': tree.nodes, 'ends': ends, 'more': asked.more}

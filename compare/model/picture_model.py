@@ -162,6 +162,12 @@ def word_of(call):
 
 # ---- the drawing: what is the same in each
 
+LARGE_STYLE = '''<style type="text/css">
+.mpd{font-family:sans-serif;font-size:15px}
+.mpd-head{font-size:17px}
+.mpd-number{font-size:17px}
+</style>
+'''
 STYLE = '''<style type="text/css">
 .mpd{font-family:monospace;font-size:11px;fill:#000}
 .mpd-head{font-size:13px;font-weight:bold}
@@ -424,17 +430,17 @@ class Drawing(Picture):
             return f'rank {call.other}', call.other
         return 'any rank' if call.kind == 'recv' else 'a request', None
 
-    def svg(self, is_plain):
-        """The whole, as text."""
+    def svg(self, look):
+        """The whole, as text, of this look: '' with list and legend, or 'plain' or 'large' without them."""
         low = row_y(self.rows) + tracks_height(len(self.ranks))
         width, height, title = self.column + 560, max(low + 274, told_y(self.places) + 12), title_of(self)
-        if is_plain:
+        if look:
             width, height = self.column, low + 134
-        size = f'width="{width}" height="{height}"'
+        size, drawn = (f'width="{it * width // 5}" height="{it * height // 5}"' for it in (5, 8 if look == 'large' else 5))
         shapes = [*map(self.lane, self.ranks), *map(self.glyph, self.glyphs),
                   *starmap(self.candidate, enumerate(candidates_of(self.world), 1)), *map(self.end, self.ranks)]
-        return (f'<svg xmlns="http://www.w3.org/2000/svg" class="mpd" version="1.1" {size} viewBox="0 0 {width} {height}">\n<title>{title}</title>\n{STYLE}'
-                f'<rect class="mpd-paper" {size}/>\n{text("head", 12, 24, title)}{"".join(shapes)}{self.plain_end() if is_plain else self.full_end()}')
+        return (f'<svg xmlns="http://www.w3.org/2000/svg" class="mpd" version="1.1" {drawn} viewBox="0 0 {width} {height}">\n<title>{title}</title>\n{STYLE}{LARGE_STYLE if look == "large" else ""}'
+                f'<rect class="mpd-paper" {size}/>\n{text("head", 12, 24, title)}{"".join(shapes)}{self.plain_end() if look else self.full_end()}')
 
     def plain_end(self):
         return '</svg>\n'
@@ -515,10 +521,10 @@ def sign_of_pair(sender, receiver, rank):
     return '--' if min(sender, receiver) < rank < max(sender, receiver) else '| '
 
 
-def svg_of(walked, is_plain=False):
+def svg_of(walked, look=''):
     """The drawing of a walk; None where it shows too much."""
     drawing = Drawing(walked)
-    return None if drawing.is_too_long else drawing.svg(is_plain)
+    return None if drawing.is_too_long else drawing.svg(look)
 
 
 def text_of(walked):

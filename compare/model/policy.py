@@ -245,6 +245,12 @@ def follow(walked, breaks, most, decide):
             return Stop(made, BREAK, number)
 
 
+def last_hit(walked, breaks):
+    """The lowest number of a breakpoint that the last step hits, or None, also where no step is taken."""
+    depth = walked.depth
+    return breaks.lowest_hit(walked.worlds[depth - 1], walked.steps[depth - 1]) if depth else None
+
+
 def run_back(walked, breaks):
     """Takes steps back up to the last one that hits a breakpoint, which it takes back too, or to the start."""
     made = 0

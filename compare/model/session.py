@@ -89,7 +89,7 @@ NUMBER, STEP, TEXT = number_in, step_in, text_in
 FIELDS = {
     'step': {'step': STEP}, 'next': {}, 'run': {'max': NUMBER}, 'run-on': {'max': NUMBER}, 'back': {'count': NUMBER},
     'redo': {'count': NUMBER}, 'goto': {'depth': NUMBER}, 'run-back': {}, 'enabled': {}, 'state': {}, 'vars': {'rank': NUMBER}, 'calls': {'rank': NUMBER},
-    'why': {'rank': NUMBER, 'call': NUMBER}, 'break': {'kind': TEXT}, 'unbreak': {'break': NUMBER}, 'breaks': {},
+    'why': {'rank': NUMBER, 'call': NUMBER}, 'break': {'kind': TEXT}, 'unbreak': {'break': NUMBER}, 'breaks': {}, 'hit': {},
     'explore': {'runs': NUMBER, 'fuel': NUMBER}, 'script': {}, 'where': {}, 'all': {}, 'decision': {}, 'steps': {'from': NUMBER, 'count': NUMBER},
     'lines': {'rank': NUMBER}, 'explain': {}}
 MAY_HAVE = {'next': {'choice': NUMBER}}
@@ -350,6 +350,11 @@ class Session:
     def list_breaks(self):
         return {'breaks': [break_text(number, stop) for number, stop in enumerate(self.breaks.places) if stop is not None]}
 
+    def last_hit(self):
+        """The breakpoint of the lowest number that the last step hits; nothing where it hits none, or none is taken."""
+        number = policy.last_hit(self.debugger, self.breaks)
+        return {} if number is None else {'break': number}
+
     def explore(self, runs, fuel):
         must_be(1 <= runs <= explorer.MOST_RUNS and 1 <= fuel <= debugger.MOST_STEPS - self.debugger.depth, BAD_NUMBER)
         found = explorer.explored(self.debugger, runs, fuel)
@@ -406,7 +411,7 @@ ANSWERS = {
     'step': Session.step, 'next': Session.next, 'run': Session.run, 'run-on': Session.run_on, 'back': Session.back, 'redo': Session.redo, 'goto': Session.goto,
     'run-back': Session.run_back, 'enabled': Session.enabled, 'state': Session.state, 'vars': Session.variables,
     'calls': Session.calls, 'why': Session.why, 'break': Session.set_break, 'unbreak': Session.unset_break,
-    'breaks': Session.list_breaks, 'explore': Session.explore, 'script': Session.tell_script, 'where': Session.where_all, 'all': Session.all,
+    'breaks': Session.list_breaks, 'hit': Session.last_hit, 'explore': Session.explore, 'script': Session.tell_script, 'where': Session.where_all, 'all': Session.all,
     'decision': Session.decide, 'steps': Session.list_steps, 'lines': Session.lines, 'explain': Session.explain}
 CHANGING = frozenset(['step', 'next', 'run', 'run-on', 'back', 'redo', 'goto', 'run-back', 'break', 'unbreak'])
 

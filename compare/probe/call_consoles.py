@@ -17,19 +17,19 @@ from rows import console_memory
 BOTH_SENT = ('local 0', 'wake 0', 'local 0', 'local 1', 'wake 1', 'local 1')
 NOT_STUCK = TWO_LINES.replace(', wake 2\n', '\n')
 # Calls that answer words one by one.
-TALKS = ('run_console', 'run_console, UntilQuit')
+TALKS = ('run_console', 'run_console, UntilWish')
 TO_CHOICE = ('run',)
 TO_HANG = ('run', 'next 2', 'run')
 # Words, each behind the words that lead to where it is said.
 WORDS = (
-    (RACE, (), ('next', 'next 3', 'run', 'run 3', 'until 7', 'until 2', 'until 0', 'finish', 'finish 0', 'follow 2', 'follow 9', 'trap', 'undo-choice', 'why', 'local 1', 'local 9', 'break 2', 'break match 2',
+    (RACE, (), ('next', 'next 3', 'run', 'run 3', 'until 7', 'until 2', 'until 0', 'until rank 0', 'until rank 9', 'back rank 0', 'back rank 9', 'finish', 'finish 0', 'follow 2', 'follow 9', 'trap', 'undo-choice', 'why', 'local 1', 'local 9', 'break 2', 'break match 2',
                 'break change 0 x', 'watch x 0', 'deadlock', 'check', 'help', 'help all', 'help choice', 'help next', 'list', 'list 0', 'ranks',
                 'vars', 'print x', 'print x + 1', 'print x / rank 1', 'print x +', 'print x + 1 9', 'enabled', 'calls', 'queues', 'info breakpoints', 'restart',
                 'history', 'breaks', 'show', 'brake', 'print z', 'next x',
                 'break change 0 z', 'goto 1', 'back', 'redo', 'redo all', 'run-back', 'delete 0', 'why 0', 'words')),
     (RACE, TO_CHOICE, ('next', 'next 2', 'next 9', 'run', 'until 7', 'finish 0', 'match 2.0 0.0', 'check', 'deadlock', 'why 0', 'why 1.0', 'ranks', 'list', 'list 0', 'calls',
                        'calls 0', 'queues', 'enabled', 'history', 'history 2', 'words', 'show', 'run-back', 'back 2', 'goto 1', 'why', 'follow 1')),
-    (RACE, (*TO_HANG, 'goto 7'), ('finish 0', 'finish', 'until 9', 'match 2.0 0.0', 'redo', 'redo 2', 'redo all', 'run', 'deadlock', 'next', 'wake 2', 'break 2', 'break 9')),
+    (RACE, (*TO_HANG, 'goto 7'), ('finish 0', 'finish', 'until 9', 'until rank 0', 'back rank 0', 'match 2.0 0.0', 'redo', 'redo 2', 'redo all', 'run', 'deadlock', 'next', 'wake 2', 'break 2', 'break 9')),
     (RACE, ('break 2', 'break change 0 x', *TO_CHOICE), ('breaks', 'delete 1', 'delete 7', 'run-back', 'next 1\nrun')),
     (RACE, TO_HANG, ('next', 'run', 'undo-choice', 'trap', 'follow 1', 'why', 'why 0', 'why 1', 'check', 'deadlock', 'back', 'enabled', 'list 2')),
     (TRAPS, (), ('run', 'trap', 'deadlock')), (TRAPS, TO_CHOICE, ('next', 'ranks', 'list', 'list 0')),
@@ -56,8 +56,8 @@ def consoles():
     yield Row('run_console', BOTH_SEND, (), 'run\nvars\nhistory\nshow\n', mode=BUFFERED)
     # an empty line does the last word again; a comment, and a line that is too long, are nothing to it
     yield Row('run_console', MESSAGE, ('next',), '\n# so\n\nshow\n')
-    yield Row('run_console, UntilQuit', MESSAGE, (), 'next\n q \nnext\n')
-    yield Row('run_console, UntilQuit', RACE, CHOICE, 'deadlock\nshow\nranks\nquit')
+    yield Row('run_console, UntilWish', MESSAGE, (), 'next\n q \nnext\n')
+    yield Row('run_console, UntilWish', RACE, CHOICE, 'deadlock\nshow\nranks\nquit')
 
 
 def looks_behind(word):
@@ -114,7 +114,7 @@ def talked(row):
     return no_state('ended\n', console.answers(talked_to(row), row.argument.encode()).decode())
 
 
-CONSOLES = {'mpd_console::open': opened, 'open_with': opened_with, 'open_along': opened_along, 'ConsoleDesk::new': made, 'run_console': talked, 'run_console, UntilQuit': talked}
+CONSOLES = {'mpd_console::open': opened, 'open_with': opened_with, 'open_along': opened_along, 'ConsoleDesk::new': made, 'run_console': talked, 'run_console, UntilWish': talked}
 
 
 def problem(row, said, refused):

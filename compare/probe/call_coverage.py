@@ -14,6 +14,7 @@ LEFT_OUT = {
     'mpd_model': {
         'lines_lose_nothing': 'a law', 'ids': 'called by verify and witness_of', 'comparison_of': 'takes no memory',
         **dict.fromkeys(('push_compared', 'push_meant'), 'called by push_break and the request breaks')},
+    'mpd_marks': {'mark_of': 'takes no memory', 'push_marked': 'called by diagnose, make_page and the words of the console', 'unmarked_texts_stay': 'a law'},
     'mpd_queue': {'disjoint': 'a law'},
     'mpd_rank': {'anew': 'of a record, called by a step that is taken again'},
     'mpd_core': dict.fromkeys(('all_ranks_are_there', 'state_is_reached'), 'a law'),
@@ -28,6 +29,15 @@ LEFT_OUT = {
     'mpd_frames': {
         'run_in': 'called by direct/frame_rows.rattle', 'push_frame': 'called by its desk',
         **dict.fromkeys(('frames_are_read_again', 'frames_are_the_same_in_all_pieces', 'frames_can_be_read_in_one_way'), 'a law')},
+    'mpd_dap': {
+        'a_response_has_its_request': 'a law', 'push_memory': 'takes no memory',
+        **dict.fromkeys(('all_continued', 'capabilities', 'ended_frame', 'exception', 'message_of', 'push_event', 'push_refusal', 'push_response', 'scopes',
+                         'standing_frame', 'stopped', 'targets'), 'called by direct/message_rows.rattle')},
+    'mpd_adapter': {
+        **dict.fromkeys(('looks_change_nothing', 'moves_tell_where_they_stop', 'one_response_comes_first', 'other_bodies_are_passed_over',
+                         'other_breakpoints_stay'), 'a law'),
+        **dict.fromkeys(('rank_of_thread', 'thread_of', 'shelf_of', 'reason'), 'takes no memory'), 'word_for': 'called by its desk'},
+    'mpd_view': dict.fromkeys(('run_view', 'take_named'), 'called by the program with --view'),
     'mpd_trace': {
         'finish': 'called by plain', 'push_found': 'called by allowed', 'trace_echoing': 'called by the program with --echo',
         **dict.fromkeys(('with_ranks', 'span_of', 'word_at'), 'takes no memory'),
@@ -46,7 +56,7 @@ LEFT_OUT = {
         **dict.fromkeys(('enough_fuel_is_enough', 'same_futures_go_on_alike', 'same_futures_have_one_walk'), 'a law')},
     'mpd_runs': {
         'a_run_or_a_bad_choice': 'a law', 'counts_told': 'called by check_outcomes', **dict.fromkeys(('is_count', 'sees_all'), 'takes no memory'),
-        **dict.fromkeys(('seek', 'numbered_run', 'last_choice', 'name', 'push_runs', 'push_none', 'push_ahead', 'push_count', 'push_no_run',
+        **dict.fromkeys(('seek', 'numbered_run', 'last_choice', 'last_stop', 'name', 'push_runs', 'push_none', 'push_ahead', 'push_count', 'push_no_run',
                          'push_no_choice'), BY_WORDS)},
     'mpd_explain': {
         'text_at': 'called by check_outcomes', **dict.fromkeys(('firsts', 'explanation_at'), 'called by print_grouped'),
@@ -61,10 +71,11 @@ LEFT_OUT = {
     'mpd_picture': {'arrows_are_pairs': 'a law'},
     'mpd_page': dict.fromkeys(('states_are_shown', 'texts_tell_changes', 'parents_come_first', 'data_has_no_markup'), 'a law'),
     'mpd_script': {'read_expression': BY_WORDS}, 'mpd_print': {'push_expr': BY_WORDS},
-    'mpd_vocabulary': {'behind_word': 'takes no memory', **dict.fromkeys(('line_of', 'push_fault', 'push_help', 'push_no_name', 'push_quoted'), BY_WORDS)},
+    'mpd_vocabulary': {'behind_word': 'takes no memory', 'word_at': 'takes no memory', **dict.fromkeys(('line_of', 'push_fault', 'push_help', 'push_no_name', 'push_quoted'), BY_WORDS)},
     'mpd_console': {
-        'has_quit': 'called by the program behind a console',
-        **dict.fromkeys(('doing_of', 'goto_command', 'known_for', 'lead_of', 'push_break_line', 'push_reply'), BY_WORDS)},
+        **dict.fromkeys(('wish', 'go_on', 'is_in_file', 'insert'), 'takes no memory'),
+        **dict.fromkeys(('keep', 'reopen', 'refused_again', 'take_named', 'ended_words', 'source_taken', 'source_refused'), BY_WORDS),
+        **dict.fromkeys(('doing_of', 'finish_rank', 'goto_command', 'known_for', 'lead_of', 'push_break_line', 'push_reply'), BY_WORDS)},
     'mpd_names': {
         'push_read': 'called by explain', **dict.fromkeys(('is_blocked', 'can_wake', 'end_name'), 'takes no memory'),
         **dict.fromkeys(('find_named', 'issue_line', 'rank_line', 'push_issuer', 'push_placed', 'push_spaced', 'push_break', 'push_cell_name', 'push_list',

@@ -369,13 +369,16 @@ REQUESTS = (
     ((), '{"cmd":"next"}'), (TO_CHOICE, '{"cmd":"next","choice":1}'), ((), RUN), (UNDONE, RUN), (BREAKS, RUN), (UNDONE, '{"cmd":"redo","count":2}'),
     ((), '{"cmd":"enabled"}'), (TO_CHOICE, '{"cmd":"enabled"}'), (TO_CHOICE, '{"cmd":"state"}'), (TO_CHOICE, '{"cmd":"vars","rank":0}'),
     (TO_CHOICE, '{"cmd":"calls","rank":0}'), (TO_CHOICE, '{"cmd":"why","rank":0,"call":0}'), (BREAKS, '{"cmd":"breaks"}'),
+    ((*BREAKS, RUN), '{"cmd":"hit"}'), ((*BREAKS, RUN, RUN, '{"cmd":"back","count":1}'), '{"cmd":"hit"}'),
     ((), '{"cmd":"explore","runs":10,"fuel":100}'), (UNDONE, '{"cmd":"explore","runs":10,"fuel":100}'),
     ((), '{"cmd":"script"}'), (TO_CHOICE, '{"cmd":"where"}'), (TO_CHOICE, '{"cmd":"all"}'), ((), '{"cmd":"decision"}'), (TO_CHOICE, '{"cmd":"decision"}'),
     (TO_END, '{"cmd":"decision"}'), (UNDONE, '{"cmd":"steps","from":1,"count":100}'), (TO_END, '{"cmd":"lines","rank":0}'), (TO_END, '{"cmd":"explain"}'))
-# What takes no memory: what goes back, breakpoints, another version, and what is refused.
+# What takes no memory: what goes back, breakpoints, a look at the last step where none of them or no step is there, another version, and
+# what is refused.
 SPARED = (
     (TO_CHOICE, '{"cmd":"back","count":2}'), (TO_CHOICE, '{"cmd":"goto","depth":0}'), (TO_CHOICE, '{"cmd":"run-back"}'),
     ((), '{"cmd":"break","kind":"match","line":2}'), (BREAKS, '{"cmd":"unbreak","break":0}'), (BREAKS, '{"cmd":"unbreak","break":7}'),
+    (TO_CHOICE, '{"cmd":"hit"}'), (BREAKS, '{"cmd":"hit"}'),
     (TO_CHOICE, '{"cmd":"state","at":9}'), ((), '{"cmd":"back","count":1}'), ((), '{"cmd":"run","max":0}'), ((), '{"cmd":"vars","rank":9}'),
     ((), '{"cmd":"redo","count":1}'), ((), '{"cmd":"goto","depth":1}'), ((), '{"cmd":"lines","rank":9}'), ((), '{"cmd":"steps","from":1,"count":1}'))
 # Replies that have lists, and some that have none.
@@ -383,7 +386,7 @@ WITH_LISTS = ('{"cmd":"enabled"}', '{"cmd":"state"}', '{"cmd":"calls","rank":0}'
               '{"cmd":"explore","runs":10,"fuel":100}', '{"cmd":"script"}', '{"cmd":"where"}', '{"cmd":"all"}', '{"cmd":"decision"}',
               '{"cmd":"steps","from":0,"count":100}', '{"cmd":"lines","rank":0}')
 WITHOUT = ('{"cmd":"step","step":"match 2.0 0.0"}', '{"cmd":"back","count":1}', '{"cmd":"state","at":9}', '{"cmd":"next","choice":0}',
-           '{"cmd":"next"}')
+           '{"cmd":"next"}', '{"cmd":"hit"}')
 LINES = ('{"cmd":"state"}', '{"cmd":"step","step":"local 0"}', '{"cmd":"explore","runs":3,"fuel":9,"at":0}', 'x', '{"cmd":"fly"}', '{"cmd":"back"}',
          '{"cmd":["a",{"b":"c"}]}')
 
@@ -431,15 +434,17 @@ def programs():
                         ('diagnose a', 'diagnose a - false -'), ('diagnose --strict a --mode b', 'diagnose a b true -'), ('diagnose --modes 7 a', 'diagnose a - 7 false -'),
                         ('diagnose a --ranks 2-5', 'diagnose a - false 2-5'), ('diagnose a --ranks=', 'diagnose a - false '),
                         ('run a --ranks 16', 'run a rendezvous\nranks 16'), ('run a --ranks 17', 'usage false 2'), ('c a --ranks 3', 'c a\nranks 3'),
-                        ('trace a --echo', 'trace a rendezvous true'), ('debug a --echo --width 132', 'debug a rendezvous - - false true 132'),
-                        ('debug a', 'debug a rendezvous - - false false 80'), ('debug a --mode b --witness c', 'debug a b - c false false 80'),
-                        ('debug a --choices 3 --ends', 'debug a rendezvous 3 - true false 80'),
+                        ('trace a --echo', 'trace a rendezvous true'), ('debug a --echo --width 132', 'debug a rendezvous - - false true 132 false 24'),
+                        ('debug a', 'debug a rendezvous - - false false 80 false 24'), ('dap a --mode b', 'dap a b - - false'),
+                        ('dap a --choices 3 --ends', 'dap a rendezvous 3 - true'),
+                        ('debug a --view --height 10', 'debug a rendezvous - - false false 80 true 10'), ('debug a --mode b --witness c', 'debug a b - c false false 80 false 24'),
+                        ('debug a --choices 3 --ends', 'debug a rendezvous 3 - true false 80 false 24'),
                         ('serve a --port 80 --clients 2', 'serve a rendezvous 80 2'), ('verify a b', 'verify a b rendezvous'),
                         ('verify a b --leaf 7', 'verify a b rendezvous 7'), ('words a --choices 3 --fuel 9', 'words a 3 rendezvous 9 false'),
                         ('words a --choices 3 --ends', 'words a 3 rendezvous 100000 true'), ('c a', 'c a'),
-                        ('picture a', 'picture a rendezvous - - - 100000 false false'), ('picture a --ends', 'picture a rendezvous - - - 100000 true false'),
-                        ('picture a --plain', 'picture a rendezvous - - - 100000 false true'), ('page a --runs 7 --hide', 'page a rendezvous - - - 7 100000 100000 false true'),
-                        ('picture a --choices 1 --witness 2 --words 3 --fuel 4 --mode 5', 'picture a 5 1 2 3 4 false false'),
+                        ('picture a', 'picture a rendezvous - - - 100000 false false false'), ('picture a --ends', 'picture a rendezvous - - - 100000 true false false'),
+                        ('picture a --plain', 'picture a rendezvous - - - 100000 false true false'), ('picture a --large', 'picture a rendezvous - - - 100000 false false true'), ('page a --runs 7 --hide', 'page a rendezvous - - - 7 100000 100000 false true'),
+                        ('picture a --choices 1 --witness 2 --words 3 --fuel 4 --mode 5', 'picture a 5 1 2 3 4 false false false'),
                         ('run a', 'run a rendezvous'), ('check a --witness', 'check a rendezvous 1000 100000 1 4 true'),
                         ('check a --runs 0', 'usage false 2'), ('fly', 'usage false 2'), ('--help', 'usage true 0')):
         yield Row('read_options', argument=words, by_hand=no_state(told + '\n'))

@@ -113,6 +113,10 @@ redo 100
 goto 3
 redo all
 redo all
+back rank 1
+until rank 1
+until rank 9
+back rank 9
 break 1
 break match 65537
 '''

@@ -24,15 +24,18 @@ from rows.worked_console_hits import HITS
 from rows.worked_console_looks import LOOKS
 from rows.worked_console_moves import FIRST_RUNS, MOVES
 from rows.worked_console_onward import ONWARD
+from rows.worked_console_reloads import RELOADS
 from rows.worked_console_scripts import LOOP, Dialogue
+from rows.worked_console_sourced import PLAIN, SHOWN, SOURCED
 from rows.worked_console_sought import ALL_RUNS, MANY_RUNS, SOUGHT
 from rows.worked_console_texts import TEXTS
 from rows.worked_console_told import TOLD
 from rows.worked_console_values import VALUES
 from rows.worked_console_ways import WAYS
+from rows.worked_marks import MARKS
 
 PAGE = os.path.join(os.path.dirname(EXAMPLES), 'docs', 'CONSOLE.md')
-DIALOGUES = MOVES + ALONG + LOOKS + TOLD + TEXTS + HELP + CHOICES + SOUGHT + WAYS + GOING + HITS + BLAME + ONWARD + VALUES
+DIALOGUES = MOVES + ALONG + LOOKS + TOLD + TEXTS + HELP + CHOICES + SOUGHT + WAYS + GOING + HITS + BLAME + ONWARD + VALUES + MARKS + RELOADS + SOURCED
 SLOW = ALL_RUNS + FIRST_RUNS
 # What takes the model long: runs of 100,000 steps, and of one more.
 CUT = (
@@ -195,10 +198,13 @@ def dialogue_problem(row):
     with (mock.patch.object(debugger, 'MOST_STEPS', limit), mock.patch.object(console, 'MOST_FUEL', fuel),
           mock.patch.object(explorer, 'MOST_RUNS', runs), mock.patch.object(console, 'MOST_STATES', states)):
         talked = console.begun(row.text, row.mode, row.witness_text, row.run)
+        if row.files:
+            talked.files = iter([None if text is None else text.encode() for text in row.files])
+        talked.open_words = row.words_by_name.get if row.words else talked.open_words
         if talked.first != row.first:
             return f'{talked.first} was told first, and not {row.first}'
         for typed, wanted in row.turns:
-            said = '' if talked.is_over else talked.answer(typed)
+            said = ''.join('' if talked.is_over else talked.answer(line) for line in talked.to_answer(typed))
             if said != wanted:
                 return f'{typed} was answered\n{said}and not\n{wanted}'
     return None
@@ -229,7 +235,8 @@ def refusals_problem():
     with open(PAGE, encoding='ascii') as file:
         told = set(re.findall(r'^\| `(refused: [^`]+)` \|', file.read(), re.M))
     here = {*console.REFUSALS.values(), console.NO_CANDIDATE, console.NO_RUN, console.NO_CHOICE, console.NO_LAST_RANK, console.NO_INDEX, console.NEEDS_INDEX,
-            console.NO_VALUE, NO_MEMORY, 'refused: no statement begins at line 7'}
+            console.NO_VALUE, NO_MEMORY, console.NO_SCRIPT, console.NESTED, console.NO_WORDS, console.LONG_WORDS, 'refused: no statement begins at line 7',
+            'refused: the script has a fault, NAME at BYTE line LINE'}
     return None if told == here else f'the page has {told ^ here}'
 
 
@@ -260,5 +267,6 @@ def problems():
     found = [(row.what, dialogue_problem(row)) for row in DIALOGUES + SLOW + CUT]
     found += [(row.what, ending_problem(row)) for row in ENDINGS] + [(row.what, start_problem(row)) for row in STARTS]
     found += [(row.what, look_problem(row)) for row in LOOKED]
+    found += [('words of a file that are shown', None if PLAIN.shown() == SHOWN.encode() else f'{PLAIN.shown()}')]
     found += [('the refusals', refusals_problem()), ('lines at a terminal, and of help', lines_problem())]
     return found + [('the table of words', table_problem()), ('words without a dialogue', ', '.join(words_without_dialogue()) or None)]

@@ -7,7 +7,7 @@ NAME.console.stdout its answers; NAME.buffered.console, and NAME.slots1.console,
 NAME.checks is the status and the options of a check of NAME.mpd; NAME.reports has what these write, one behind the other. The lines of
 NAME.requests are the requests of a session on NAME.mpd, and NAME.replies has its replies. client.py drives a session by itself; docs/SESSIONS.md shows what it writes. NAME.dialogue is a session on NAME.mpd that clients
 share: `0 > LINE` is what client 0 sends, `0 < LINE` what it is replied, one behind the other, and the last line is what `serve` says when
-all have left. socket_client.py is such a client. join_parts.sh and piece.slurm are those of docs/CLUSTER.md. NAME.c is a program of
+all have left. socket_client.py is such a client. adapter_client.py asks the debug adapter; docs/EDITORS.md shows what it writes. join_parts.sh and piece.slurm are those of docs/CLUSTER.md. NAME.c is a program of
 docs/FROM_MPI.md (mpi_programs.py).
 """
 

@@ -8,7 +8,7 @@ from rows.examples import open_example
 
 class PictureRow(NamedTuple):
     """A script, the choices of its run, or None for the first candidates, lines that its drawing has, each once or more, its text, where that
-    was worked out, the mode, whether the run is one along the wide walk, how many steps it takes at most, whether the drawing is plain, and what
+    was worked out, the mode, whether the run is one along the wide walk, how many steps it takes at most, whether the drawing is plain or large, and what
     no line of it has."""
     script: bytes
     choices: Optional[str]
@@ -17,7 +17,7 @@ class PictureRow(NamedTuple):
     mode: str = RENDEZVOUS
     ends: bool = False
     fuel: int = 400
-    plain: bool = False
+    look: str = ''
     without: tuple = ()
 
 
@@ -68,6 +68,11 @@ PLAIN_LINES = (
     '<rect class="mpd-paper" width="620" height="322"/>',
     '<text class="mpd-left" x="108" y="120">1 tag 0</text>',
     '<text class="mpd-name" x="452" y="254">for rank 0</text>')
+# A large one is 8/5 of its box, and has larger texts.
+LARGE_LINES = (
+    '<svg xmlns="http://www.w3.org/2000/svg" class="mpd" version="1.1" width="992" height="515" viewBox="0 0 620 322">',
+    '<style type="text/css">', '.mpd{font-family:sans-serif;font-size:15px}', '.mpd-head{font-size:17px}', '.mpd-number{font-size:17px}', '</style>',
+    *PLAIN_LINES[1:])
 NO_PLAIN = ('mpd-row" x', 'translate', 'a message, up to its match')
 RACE_TEXT = '''0 1 2  line: call
 R | |  4: 0.0 recv from any tag any
@@ -300,7 +305,7 @@ X E E  at the end
 {LETTERS}'''
 
 ROWS = (
-    PictureRow(RACE, None, PLAIN_LINES, plain=True, without=NO_PLAIN),
+    PictureRow(RACE, None, PLAIN_LINES, look='plain', without=(*NO_PLAIN, '15px')), PictureRow(RACE, None, LARGE_LINES, look='large', without=NO_PLAIN),
     PictureRow(RACE, None, RACE_LINES, RACE_TEXT), PictureRow(RACE, '0', RACE_LINES, RACE_TEXT), PictureRow(RACE, '0', RACE_LINES, RACE_TEXT, ends=True),
     PictureRow(STOLEN, None, CHOICE_LINES, CHOICE_TEXT, fuel=9), PictureRow(RACE, None, START_LINES, fuel=1), PictureRow(PAIRS, None, PAIRS_LINES),
     PictureRow(EXCHANGE, None, EXCHANGE_LINES, mode='buffered'), PictureRow(VALUES, None, VALUES_LINES),

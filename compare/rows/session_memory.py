@@ -56,7 +56,7 @@ def stop(kind, **fields):
 
 RUN, RUN_ON, RUN_BACK, NEXT = {'cmd': 'run', 'max': 100}, {'cmd': 'run-on', 'max': 100}, {'cmd': 'run-back'}, {'cmd': 'next'}
 TOLD = ({'cmd': 'enabled'}, *({'cmd': command, 'rank': 0} for command in ('vars', 'calls')), {'cmd': 'why', 'rank': 0, 'call': 0},
-        *({'cmd': command} for command in ('script', 'where', 'all', 'decision', 'explain')), {'cmd': 'steps', 'from': 0, 'count': 100}, {'cmd': 'lines', 'rank': 0})
+        *({'cmd': command} for command in ('script', 'where', 'all', 'decision', 'explain', 'hit')), {'cmd': 'steps', 'from': 0, 'count': 100}, {'cmd': 'lines', 'rank': 0})
 EXPLORE = {'cmd': 'explore', 'runs': 10, 'fuel': 100}
 RUNS = (stop('line', line=17), stop('match', line=9), stop('change', rank=0, cell=0), stop('handle', rank=0, handle=1), RUN, RUN_ON, *TOLD, NEXT, {'cmd': 'next', 'choice': 1}, RUN,
         RUN_BACK, {'cmd': 'redo', 'count': 1}, EXPLORE, {'cmd': 'unbreak', 'break': 1}, {'cmd': 'unbreak', 'break': 1}, RUN, NEXT, RUN,

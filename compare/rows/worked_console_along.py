@@ -171,7 +171,7 @@ depth 11
 {ANY_CHOICE}
 > run
 12 match 1.1 0.2: rank 1, line 10, to rank 0, line 6
-stopped: behind the choice
+stopped: after the choice
 {ANY_CHOICE}
 > run
 0 steps, depth 12
@@ -187,13 +187,13 @@ depth 11
 {ANY_CHOICE}
 > run
 12 match 1.1 0.2: rank 1, line 10, to rank 0, line 6
-stopped: behind the choice
+stopped: after the choice
 1 ahead: wakeany 0 1: line 7, by line 5, 0.1 irecv from 1 tag 3
     7    waitany r to i;
 {ANY_CHOICE}
 >
 13 wakeany 0 1: line 7, by line 5, 0.1 irecv from 1 tag 3
-stopped: behind the choice
+stopped: after the choice
 ended: done
 > goto 12
 depth 12
@@ -293,7 +293,7 @@ depth 9
 refused: no choice was made before
 > run
 10 match 2.0 0.0: rank 2, line 4, to rank 0, line 3
-stopped: behind the choice
+stopped: after the choice
 16 ahead: wake 0: line 3
 {TAKES_THREE}
 >
@@ -304,7 +304,7 @@ stopped: behind the choice
 {OF_TWO}
 >
 16 match 1.0 0.1: rank 1, line 4, to rank 0, line 3
-stopped: behind the choice
+stopped: after the choice
 10 ahead: wake 0: line 3
 {TAKES_THREE}
 >

@@ -70,7 +70,7 @@ local 2
 local 2
 > run
 7 match 1.0 0.0: rank 1, line 6, to rank 0, line 3
-stopped: behind the choice
+stopped: after the choice
 3 ahead: wake 0: line 3
     3    recv x from any tag 0;
 >
@@ -309,7 +309,7 @@ depth 8
 {BOTH_RACES}
 > run
 9 match 3.0 1.0: rank 3, line 5, to rank 1, line 3
-stopped: behind the choice
+stopped: after the choice
 5 ahead: wake 3: line 5
     5    send 7 to rank - 2 tag 0;
 > u
@@ -634,7 +634,7 @@ refused: there is no such run
 {REQUESTS_CHOICE}
 > run
 13 {OTHER_REQUEST}
-stopped: behind the choice
+stopped: after the choice
 1 ahead: local 0: line 11
    11    assert i == 0;
 > run

@@ -75,7 +75,7 @@ ended: done
 > help
 next [N]                            takes the step that comes next
 run [N]                             goes on to a breakpoint, a choice or an end
-back [N]                            takes a step back, or so many
+back [N], back rank P               takes a step back, or so many
 undo-choice                         goes back to the last choice
 restart                             goes back to the start
 break LINE [rank P] [if NAME OP N], break match LINE [rank P], break rank P,
@@ -92,13 +92,15 @@ an empty line does the last word once more
 > help all
 next [N]                            takes the step that comes next
 run [N]                             goes on to a breakpoint, a choice or an end
-until LINE                          goes on until a rank comes to that line
+until LINE, until rank P            goes on until a rank comes to that line
 finish [P]                          goes on until a rank's call is over
-back [N]                            takes a step back, or so many
+back [N], back rank P               takes a step back, or so many
 run-back                            goes back to a breakpoint, or to the start
 undo-choice                         goes back to the last choice
 goto N                              goes to where so many steps are taken
 restart                             goes back to the start
+reload                              reads the file of the script again
+source FILE                         answers the words of a file
 redo [N], redo all                  takes the first step ahead, or so many
 local P, match S R, wake P, wakeany P I, release takes this step
 break LINE [rank P] [if NAME OP N], break match LINE [rank P], break rank P,
@@ -156,13 +158,21 @@ deadlock: lays the first deadlock's steps ahead; the first from here, so that
 trap: lays the first trap's steps ahead; a trap ends a rank at an error, as a
         failed assert or a division by 0
 > help bk
-back [N]: takes a step back, or so many
+back [N], back rank P: takes a step back, or so many; or goes back to before the
+        last local step of rank P
   short: bk, undo, rs, reverse-step, reverse-next
 > help undo
-back [N]: takes a step back, or so many
+back [N], back rank P: takes a step back, or so many; or goes back to before the
+        last local step of rank P
   short: bk, undo, rs, reverse-step, reverse-next
 > help restart
 restart: goes back to the start; redo all goes along the same steps again
+> help reload
+reload: reads the file of the script again; breakpoints stay, and the steps that
+        were taken are taken again, as far as they fit
+> help source
+source FILE: answers the words of a file; each of its lines is answered as if it
+        was typed, and none of them is a source
 > help watch
 watch NAME P: sets a breakpoint on a variable or a request; the same as break
         change P NAME

@@ -504,7 +504,7 @@ depth 9
 1 {FIRST_AHEAD}
 > run
 10 wakeany 0 0: line 6, by line 4, 0.0 irecv from 1 tag 1
-stopped: behind the choice
+stopped: after the choice
 next: local 0: line 7
     7    print i;
 > back

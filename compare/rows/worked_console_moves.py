@@ -392,7 +392,7 @@ depth 0
 {STOLEN_CHOICE}
 >
 10 match 1.0 0.0: rank 1, line 13, to rank 0, line 8
-stopped: behind the choice
+stopped: after the choice
 1 ahead: wake 1: line 13
    13    if rank == 1 {{ send 42 to 0 tag 7; }} else {{ send 5 to 0 tag 1; }}
 >

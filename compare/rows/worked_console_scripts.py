@@ -4,7 +4,7 @@ of them are answered."""
 from itertools import islice, product
 from typing import NamedTuple, Optional
 
-from model.console import NamedRun
+from model.console import Look, NamedRun, answers, begun
 from model.debugger import RENDEZVOUS
 from rows.examples import open_example
 
@@ -23,6 +23,10 @@ class Dialogue(NamedTuple):
     runs: Optional[int] = None
     states: Optional[int] = None
     run: Optional[NamedRun] = None
+    # What the file of the script has each time that it is read again, None where it can't be read.
+    files: tuple = ()
+    # What each file of words has, by its name.
+    words: tuple = ()
 
     @property
     def is_usual(self):
@@ -38,6 +42,11 @@ class Dialogue(NamedTuple):
     def witness_text(self):
         """The text of the witness as bytes; None where there is none."""
         return None if self.witness is None else self.witness.encode()
+
+    @property
+    def words_by_name(self):
+        """What each file of words has, as bytes."""
+        return {name.encode(): words.encode('latin-1') for name, words in self.words}
 
     @property
     def told(self):
@@ -64,6 +73,12 @@ class Dialogue(NamedTuple):
     def data(self):
         """The input."""
         return b''.join(typed + b'\n' for typed, _ in self.turns)
+
+    def shown(self):
+        """What the model writes where lines are shown."""
+        console = begun(self.text, self.mode, self.witness_text, self.run)
+        console.look, console.open_words = Look(is_echoing=True), self.words_by_name.get
+        return answers(console, self.data)
 
     def wanted(self):
         """What is told first, and the answers."""

@@ -247,7 +247,7 @@ unknown word 'steps': perhaps step
 > sh
 unknown word 'sh': perhaps show
 > so
-unknown word 'so': help all lists all
+unknown word 'so': perhaps source
 > S
 unknown word 'S': help all lists all
 > v
@@ -293,7 +293,7 @@ usage: run [N]
 > c 1.0
 usage: run [N]
 > reverse-next 1234567890
-usage: back [N]
+usage: back [N], back rank P
 > run-back 1
 usage: run-back
 > undo-choice 1
@@ -317,7 +317,7 @@ usage: redo [N], redo all
 > run all
 usage: run [N]
 > back all
-usage: back [N]
+usage: back [N], back rank P
 > local
 usage: local P
 > match 0.0
@@ -468,7 +468,7 @@ usage: info breakpoints, info ranks
 usage: break LINE [rank P] [if NAME OP N], break match LINE [rank P], break rank
         P, break change P NAME
 > bk x
-usage: back [N]
+usage: back [N], back rank P
 > quit now
 usage: quit
 '''),

@@ -533,7 +533,7 @@ depth 6
 {TRAP_CHOICE}
 > run
 7 match 2.0 0.0: rank 2, line 6, to rank 0, line 3
-stopped: behind the choice
+stopped: after the choice
 4 ahead: wake 0: line 3
     3    recv x from any tag 0;
 >

@@ -15,6 +15,7 @@ from rows.examples import open_example
 from rows.worked_both_stuck import BOTH_STUCK, MORE_LINES, OF_BOTH_STUCK, OF_MORE_LINES, OF_TWO_KINDS, TWO_KINDS
 from rows.worked_ends import FREED_SLOT, THREE_SENDERS, TWO_REQUESTS
 from rows.worked_explorer import LOW_WANTED, gathering
+from rows.worked_marks import MARKED, MARKED_DIAGNOSIS
 from rows.worked_outcomes import BAD_SCRIPT, HIGH_WANTED, LAST_OF_ALL, SWAPPED_TAGS, TRAPS, TWO_ASSERTS, taken
 from rows.worked_runs import EMPTY, ON_AND_ON, THREE, UNRECEIVED
 
@@ -484,7 +485,10 @@ LARGE = (
     row(ALONE, 1, *OF_ALONE), row(TWO_EACH, 1, OF_TWO_EACH, runs_of('0 0', 'two_each.mpd'), file='two_each.mpd'),
     row(open_example('four_races.mpd').decode(), 0, RACES, in_turn()))
 
-ROWS = WELL + HANGS + TRAPPED + LEFT + REFUSED + LARGE + CUT
+# Places of marks stand beside lines.
+WITH_MARKS = (row(MARKED, 1, MARKED_DIAGNOSIS, runs_of('1')),)
+
+ROWS = WELL + HANGS + TRAPPED + LEFT + REFUSED + LARGE + CUT + WITH_MARKS
 
 # ---- a search that stops
 

@@ -11,6 +11,7 @@ from model.explorer import Asked
 from places import EXAMPLES
 from rows.worked_console_scripts import ANY_OF_TWO, WAITS
 from rows.worked_ends import TRAPS_AT_TWO
+from rows.worked_marks import MARKED, MARKED_GROUPS, MARKED_REPORT
 
 # Both ranks wait for any of two requests, and for one rank alone.
 ANY_OF_ONE_RANK = '''mpd 2; ranks 2;
@@ -582,6 +583,8 @@ ROWS = (
     # groups of several leaves
     *(Explained(ANSWERED_LAST, three_ends(witnessed), Asked(group=True, witnesses=witnessed, ends=ends))
       for witnessed in (False, True) for ends in (False, True)),
+    # places of marks
+    Explained(MARKED, MARKED_REPORT), Explained(MARKED, MARKED_GROUPS, GROUPED),
     # requests
     Explained(WAITS, WAITED), Explained(WAITS, WAITED, Asked(mode='slots:0')),
     *(Explained(WAITS, WAITED_BUFFERED, Asked(mode=mode)) for mode in (BUFFERED, 'slots:1')),

@@ -25,6 +25,7 @@ LOST = ('mpd 1; ranks 2; var a; var b; req r;\nif rank == 0 {\nirecv r a from 1 
         'send 30 to 0 tag 1;\nsend 12 to 0 tag 2;\n}')
 SENDERS = ('mpd 1; ranks 3; var x; req r;\n'
            'if rank == 0 { irecv r x from any tag 1; irecv r x from any tag 1; } else { isend r 1 to 0 tag 1; isend r 2 to 0 tag 1; }')
+ONE_WAIT = 'mpd 1; ranks 2; var x; req r;\nif rank == 0 {\nirecv r x from 1 tag 1;\nwait r;\nprint x;\n} else {\nsend 7 to 0 tag 1;\n}'
 
 
 class Dialogue(NamedTuple):
@@ -109,7 +110,7 @@ def call_lines(rank):
 
 EXPLAIN, WHERE, DECISION = (f'{{"cmd":"{command}"}}' for command in ('explain', 'where', 'decision'))
 RUN = '{"cmd":"run","max":100}'
-NEXT, STATE, BREAKS, RUN_BACK, ENABLED = (f'{{"cmd":"{command}"}}' for command in ('next', 'state', 'breaks', 'run-back', 'enabled'))
+NEXT, STATE, BREAKS, RUN_BACK, ENABLED, HIT = (f'{{"cmd":"{command}"}}' for command in ('next', 'state', 'breaks', 'run-back', 'enabled', 'hit'))
 
 # Two ranks that count to 3, from 0 and from 1: 9 steps of rank 0, then 7 of rank 1.
 COUNTING = 'mpd 1; ranks 2;\nvar x; var a[2];\nx = rank;\nwhile x < 3 {\n  x = x + 1;\n}\nprint x;\n'
@@ -393,6 +394,14 @@ RUNS_ON = (
     Dialogue('a handle that gets two calls', SENDERS, (
         (handle_break(0, 0), set_break(0, 1)), (handle_break(2, 0), set_break(1, 2)), (RUN_ON, ran(2, 2, 'break', 3, 0)), (RUN_ON, ran(3, 1, 'break', 4, 0)),
         (RUN_ON, ran(8, 5, 'break', 5, 1)), (RUN_ON, ran(9, 1, 'break', 6, 1)), (RUN_ON, ran(9, 0, 'choice', 7)))),
+    # rank 0 issues the receive in step 2, and its wait ends in step 7, a wake
+    Dialogue('a handle that is cleared by a wake', ONE_WAIT, (
+        (handle_break(0, 0), set_break(0, 1)), (RUN, ran(2, 2, 'break', 2, 0)), (RUN, ran(7, 5, 'break', 3, 0)), (RUN, ran(9, 2, 'leaf', 4)))),
+    # rank 0 comes to line 5 in step 7, with 7
+    Dialogue('a number that is not below, and is not above', ONE_WAIT, (
+        ('{"cell":0,"cmd":"break","is":"<","kind":"line","line":5,"value":7}', set_break(0, 1)), (RUN, ran(9, 9, 'leaf', 2)),
+        ('{"cmd":"goto","depth":0}', deep(0, 3)), ('{"cmd":"unbreak","break":0}', ok(4)),
+        ('{"cell":0,"cmd":"break","is":"<=","kind":"line","line":5,"value":7}', set_break(0, 5)), (RUN, ran(7, 7, 'break', 6, 0)))),
     Dialogue('a script without handles', FIRST, (
         (handle_break(0, 0), no('bad-number')), ('{"cmd":"break","kind":"handles","rank":0,"handle":0}', no('bad-field')))),
 )
@@ -422,7 +431,34 @@ TOLD = (
         ('{"cmd":"run","max":5}', ran(5, 5, 'choice', 1)),
         (DECISION, '{"decision":"choice","ok":true,"steps":["match 1.0 0.0"],"told":["rank 1 sends 5, tag 0 (line 2), to rank 0 (line 2); match 1.0 0.0"],"version":1}'))))
 
-DIALOGUES = RUNS_AND_CHOICES + LINES_BEHIND + REFUSALS + STATES + LINES + RUNS_ON + TOLD
+
+def hits(number, version):
+    """The reply to `hit` of a step that hits a breakpoint; of one that hits none it is that of `ok`."""
+    return set_break(number, version)
+
+
+HITS = (
+    # rank 0 comes to line 4 by its first step, to line 5 by its second, and to line 4 with x = 1 by its third
+    Dialogue('what the last step hits', COUNTING, (
+        (HIT, ok(0)), ('{"cmd":"break","kind":"line","line":5}', set_break(0, 1)), (HIT, ok(1)), (step('local 0'), deep(1, 2)), (HIT, ok(2)),
+        (NEXT, stepped(2, 'local 0', 3)), (HIT, hits(0, 3)), ('{"cmd":"break","kind":"change","rank":0,"cell":0}', set_break(1, 4)), (HIT, hits(0, 4)),
+        # of two that it hits the lowest, and of the one that is left
+        ('{"cmd":"break","kind":"line","line":5,"rank":0}', set_break(2, 5)), (HIT, hits(0, 5)), ('{"cmd":"unbreak","break":0}', ok(6)), (HIT, hits(2, 6)),
+        # the third step hits what the steps before it don't, also if it lies ahead
+        (NEXT, stepped(3, 'local 0', 7)), (HIT, hits(1, 7)), ('{"cmd":"back","count":1}', deep(2, 8)), (HIT, hits(2, 8)),
+        ('{"cmd":"goto","depth":1}', deep(1, 9)), (HIT, ok(9)), ('{"cmd":"goto","depth":0}', deep(0, 10)), (HIT, ok(10)),
+        ('{"cmd":"redo","count":3}', deep(3, 11)), (HIT, hits(1, 11)), ('{"cmd":"back","count":2}', deep(1, 12)), (HIT, ok(12)),
+        (steps(0, 10), listed(1, ('local 0', 'local 0', 'local 0'), 2, 12)),
+        ('{"at":11,"cmd":"hit"}', stale(12)), ('{"at":12,"cmd":"hit"}', ok(12)), ('{"break":0,"cmd":"hit"}', no('bad-field')),
+        # one that is set behind the step; and what runs say of it, forward and back
+        ('{"cmd":"break","kind":"line","line":4}', set_break(0, 13)), (HIT, hits(0, 13)), (RUN, ran(2, 1, 'break', 14, 2)), (HIT, hits(2, 14)),
+        (RUN, ran(3, 1, 'break', 15, 0)), (HIT, hits(0, 15)), (RUN_BACK, ran(2, 1, 'break', 16, 0)), (HIT, hits(2, 16)))),
+    Dialogue('a match that hits, by a run and by a choice', HELD_BACK, (
+        ('{"cmd":"break","kind":"match","line":2}', set_break(0, 1)), (RUN_ON, ran(6, 6, 'break', 2, 0)), (HIT, hits(0, 2)),
+        ('{"cmd":"back","count":1}', deep(5, 3)), (HIT, ok(3)), ('{"choice":0,"cmd":"next"}', stepped(6, 'match 1.0 0.0', 4)), (HIT, hits(0, 4)),
+        (NEXT, stepped(7, 'wake 1', 5)), (HIT, ok(5)))))
+
+DIALOGUES = RUNS_AND_CHOICES + LINES_BEHIND + REFUSALS + STATES + LINES + RUNS_ON + TOLD + HITS
 
 # Inputs that don't end in a line feed, of the script FIRST, with what is answered.
 ENDINGS = (
@@ -489,7 +525,7 @@ TESTED = (
     (b'{"cmd":"break","kind":"handle","handle":null,"rank":0}', 43), (b'{"cmd":"break","kind":"Handle","rank":0,"handle":0}', 43),
     (b'{"cmd":"run-on"}', 43), (b'{"cmd":"run-on","max":1.0}', 43), (b'{"cmd":"run-on","max":1,"count":1}', 43), (b'{"cmd":"run_on","max":1}', 44),
     (b'{"cmd":"break","kind":["line"],"line":1}', 43), (b'{"cmd":"break","kind":null,"line":1}', 43), (b'{"cmd":"unbreak"}', 43),
-    (b'{"cmd":"unbreak","break":"0"}', 43), (b'{"cmd":"breaks","break":0}', 43), (b'{"cmd":"explore","runs":1}', 43),
+    (b'{"cmd":"unbreak","break":"0"}', 43), (b'{"cmd":"breaks","break":0}', 43), (b'{"cmd":"hit","break":0}', 43), (b'{"cmd":"hits"}', 44), (b'{"cmd":"explore","runs":1}', 43),
     (b'{"cmd":"explore","fuel":1}', 43), (b'{"cmd":"explore","runs":1,"fuel":1,"split":0}', 43), (b'{"cmd":"explore","runs":1,"fuel":2.0}', 43),
     # requests
     (b'{"cmd":"state"}', None), (b' \t{ "cmd" :\t"state" }\r ', None), (b'{"cmd":"state","at":0}', None), (b'{"at":18446744073709551615,"cmd":"state"}', None),
@@ -503,7 +539,7 @@ TESTED = (
     (b'{"cmd":"vars","rank":99}', None), (b'{"cmd":"calls","rank":0}', None), (b'{"cmd":"why","rank":0,"call":0}', None),
     (b'{"cmd":"break","kind":"line","line":0}', None), (b'{"cmd":"break","kind":"match","line":1}', None),
     (b'{"cmd":"break","kind":"change","rank":0,"cell":0}', None), (b'{"kind":"line","cmd":"break","line":1,"kind":"match"}', None),
-    (b'{"cmd":"unbreak","break":0}', None), (b'{"cmd":"breaks"}', None), (b'{"cmd":"explore","runs":0,"fuel":0}', None),
+    (b'{"cmd":"unbreak","break":0}', None), (b'{"cmd":"breaks"}', None), (b'{"cmd":"hit"}', None), (b'{"cmd":"explore","runs":0,"fuel":0}', None),
     (b'{"cmd":"state"}' + b' ' * 4081, None), (b'{"cmd":"state"}' + b' ' * 4082, 41), (b'\xff' * 4097, 41))
 
 # Inputs of the script FIRST in pieces, each of which is one read, with what is answered: lines as long as they may be and longer, whose

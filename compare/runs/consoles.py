@@ -26,14 +26,16 @@ from cases.console_cases import Case, random_case
 from cases.console_met import MUST_MEET, met_in
 from faults import console_faults
 from model.debugger import Result
+from model.console import USUAL
 from model.files import held
 from model.witness import agrees
 from rows.console_starts import LONG_STARTS, STARTS, TYPED, start_problem
 from rows.console_worked import CUT, DIALOGUES, ENDINGS, LONG, SLOW, dialogue_problem, ending_problem
-from rows.worked_console_echo import LOOKED, look_problem
+from rows.worked_console_echo import ECHO, LOOKED, look_problem
 from rows.worked_console_scripts import LOOP
 from runs import driving
 from runs.driving import first_different
+from started.console_files import path_in, wrong_with_files, wrong_with_words
 from started.console_terminal import wrong_at_terminal
 
 CHUNK = 10
@@ -64,7 +66,7 @@ def worked_cases(chosen):
     """The worked dialogues, each as one input, and what is read in one, with what each must be answered; the model isn't asked the long ones."""
     is_long = not chosen.short and chosen.program is not None
     rows = DIALOGUES + SLOW + (() if chosen.short else CUT) + LONG * is_long
-    for row in (row for row in rows if row.is_usual):
+    for row in (row for row in rows if row.is_usual and not row.files and not row.words):
         yield Case(row.what, row.text, row.mode, row.data, row.witness_text, run=row.run), Result(row.wanted(), b'', 0)
     for row in ENDINGS:
         yield Case(row.what, LOOP.encode(), None, row.data), Result(row.wanted.encode(), b'', 0)
@@ -82,6 +84,23 @@ def terminal_wrong(chosen, row):
     return None if how is None else f'{row.what}, at a terminal: {how}'
 
 
+def files_wrong(chosen, row):
+    """What is answered otherwise than a worked dialogue wants whose script is written anew meanwhile; None where nothing is."""
+    with tempfile.TemporaryDirectory(prefix='consoles-') as folder:
+        words = Case(row.what, row.text, row.mode, b'').words(folder)
+        how = wrong_with_files(chosen.program, words, path_in(folder), row, chosen.seconds)
+    return None if how is None else f'{row.what}, with its files: {how}'
+
+
+def words_wrong(chosen, row, look):
+    """What is answered otherwise than a worked dialogue wants whose lines name files of words, or than the model does if lines are shown; None
+    where nothing is."""
+    with tempfile.TemporaryDirectory(prefix='consoles-') as folder:
+        case = Case(row.what, row.text, row.mode, row.data, look=look)
+        how = wrong_with_words(chosen.program, case.words(folder), folder, row, look, chosen.seconds)
+    return None if how is None else f'{row.what}, with files of words: {how}'
+
+
 def row_wrong(chosen, case, wanted):
     """What is answered otherwise than a worked row wants; None where nothing is."""
     result = said(chosen, case)
@@ -91,12 +110,15 @@ def row_wrong(chosen, case, wanted):
 def compare_rows(chosen, pool):
     """How many worked rows are answered otherwise than they must be."""
     cases = list(worked_cases(chosen))
-    typed = [row for row in DIALOGUES if row.is_usual] if chosen.program else []
-    found = [*pool.map(row_wrong, [chosen] * len(cases), *zip(*cases)), *pool.map(terminal_wrong, [chosen] * len(typed), typed)]
+    usual = [row for row in DIALOGUES if row.is_usual] if chosen.program else []
+    named = [(row, look) for row in usual for look in (USUAL, ECHO) if row.words]
+    typed, written = [row for row in usual if not row.files and not row.words], [row for row in usual if row.files and not row.words]
+    found = [*pool.map(row_wrong, [chosen] * len(cases), *zip(*cases)), *pool.map(terminal_wrong, [chosen] * len(typed), typed),
+             *pool.map(files_wrong, [chosen] * len(written), written), *pool.map(words_wrong, [chosen] * len(named), [row for row, _ in named], [look for _, look in named])]
     wrong = [how for how in found if how is not None]
     for how in wrong:
         print(how, flush=True)
-    print(f'{len(cases)} worked dialogues, {len(typed)} at a terminal, {len(wrong)} wrong', flush=True)
+    print(f'{len(cases)} worked dialogues, {len(typed)} at a terminal, {len(written)} with files, {len(named)} with words of files, {len(wrong)} wrong', flush=True)
     return len(wrong)
 
 

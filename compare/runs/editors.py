@@ -1,12 +1,12 @@
 """Compares what `editors/` says of rank scripts with the model's reader: which words there are, which colour each token of a script gets, and
-where a fault is found.
+where a fault is found; and that each editor's files start the debug adapter alike.
 
     python3 compare/runs/editors.py [PROGRAM]
 
 Each token of each example has the class that the grammar for VS Code gives it, as its editor would: at each place the first pattern that
 matches there. The words of Vim's syntax and of the mode for Emacs are those of the grammar, by the same classes. With a program, what it says
-of a script with a fault has the name and the line that the problem matcher finds. Grammars that are broken on purpose must be noticed each
-time. The status is 0 where all is so.
+of a script with a fault has the name and the line that the problem matcher finds. The files for debuggers name one type, and `dap` with the script
+after it. Grammars, and files for debuggers, that are broken on purpose must be noticed each time. The status is 0 where all is so.
 """
 
 import json
@@ -32,6 +32,23 @@ WORDS = {
 }
 CLASS_OF = {word: name for name, words in WORDS.items() for word in words.split()}
 PUNCTUATION = ';{}()[]'
+# What starts the debug adapter in each editor, with what must stand there of the type of debugger and of the language.
+STARTS = {
+    'vscode/extension.js': (r"registerDebugConfigurationProvider\('{type}', provider\)", r"registerDebugAdapterDescriptorFactory\('{type}', factory\)",
+                            r"type: '{type}', request: 'launch'", r"configuration\.mpdbg \|\| 'mpdbg', \['dap', configuration\.program, "),
+    'neovim/mpdbg.lua': (r'dap\.adapters\.{type} = function\(callback, config\)', r'dap\.configurations\.{language} = ',
+                         r"type = '{type}', request = 'launch'",
+                         r"command = config\.mpdbg or 'mpdbg'", r"\{{ 'dap', config\.program \}}"),
+    'emacs/mpd-dap.el': (r'\(dap-register-debug-provider\n "{type}"', r':type "{type}" :request "launch"', r'\(defvar mpd-dap-program "mpdbg"',
+                         r'\(list mpd-dap-program "dap" file\)',
+                         '"stepBack"', '"reverseContinue"')}
+# What is put in the place of what, so that it is noticed.
+BROKEN_STARTS = (('vscode/extension.js', "'dap'", "'debug'"), ('vscode/extension.js', "Factory('mpdbg'", "Factory('mpd'"),
+                 ('vscode/extension.js', 'configuration.program', 'configuration.script'),
+                 ('neovim/mpdbg.lua', 'configurations.mpd ', 'configurations.rank '), ('neovim/mpdbg.lua', "{ 'dap', config.program }", "{ 'dap' }"),
+                 ('neovim/mpdbg.lua', 'adapters.mpdbg', 'adapters.mpd'),
+                 ('emacs/mpd-dap.el', '"dap" file', 'file "dap"'), ('emacs/mpd-dap.el', 'provider\n "mpdbg"', 'provider\n "mpd"'),
+                 ('emacs/mpd-dap.el', '"stepBack"', '"back"'))
 REFUSED = 'mpd 1;\nranks 2;\nvar x;\nsend 1 to 1 tag 0\nrecv x from 0 tag 0;\n'
 
 
@@ -109,8 +126,40 @@ def wrong_words():
 
 def files_that_lack(extension):
     """The files that the extension names and that aren't there."""
-    named = [it['configuration'] for it in extension['languages']] + [it['path'] for it in extension['grammars']]
+    named = [it['configuration'] for it in extension['contributes']['languages']] + [it['path'] for it in extension['contributes']['grammars']] + [extension['main']]
     return [it for it in named if not os.path.exists(f'{EDITORS}/vscode/{it}')]
+
+
+def starts():
+    """The files that start the debug adapter."""
+    found = {}
+    for path in STARTS:
+        with open(f'{EDITORS}/{path}', encoding='ascii') as it:
+            found[path] = it.read()
+    return found
+
+
+def wrong_starts(texts, extension):
+    """Which files start no debug adapter of the type and the language that the extension for VS Code has."""
+    debugger, = extension['debuggers']
+    language, = (it['id'] for it in extension['languages'])
+    if debugger['languages'] != [language] or extension['breakpoints'] != [{'language': language}]:
+        yield f'the debugger is of {debugger["languages"]}, its breakpoints of {extension["breakpoints"]}'
+    if any(it['type'] != debugger['type'] for it in debugger['initialConfigurations']):
+        yield f'a first launch is not of {debugger["type"]}'
+    for path, forms in STARTS.items():
+        for form in forms:
+            pattern = form.format(type=debugger['type'], language=language)
+            if not re.search(pattern, texts[path]):
+                yield f'{path} has no {pattern}'
+
+
+def unnoticed_starts(texts, extension):
+    """Which files that are broken on purpose start the debug adapter all the same."""
+    for path, before, after in BROKEN_STARTS:
+        broken = texts[path].replace(before, after)
+        if broken == texts[path] or not any(wrong_starts({**texts, path: broken}, extension)):
+            yield f'{path} with {after!r} in the place of {before!r}'
 
 
 def found_by(patterns, lines):
@@ -156,11 +205,12 @@ def main():
     with open(GRAMMAR, encoding='ascii') as it:
         grammar = json.load(it)
     with open(f'{EDITORS}/vscode/package.json', encoding='ascii') as it:
-        extension = json.load(it)['contributes']
-    texts = [*scripts()]
-    wrong = [*wrong_words(), *wrong_colours(patterns_of(grammar), texts), *(f'no file {it}' for it in files_that_lack(extension))]
+        whole = json.load(it)
+    texts, extension = [*scripts()], whole['contributes']
+    wrong = [*wrong_words(), *wrong_colours(patterns_of(grammar), texts), *(f'no file {it}' for it in files_that_lack(whole)),
+        *wrong_starts(starts(), extension)]
     wrong += [*wrong_problems(program, extension)] if program else []
-    wrong += [f'not noticed: {it}' for it in unnoticed(grammar, texts)]
+    wrong += [f'not noticed: {it}' for it in [*unnoticed(grammar, texts), *unnoticed_starts(starts(), extension)]]
     for it in wrong:
         print(it)
     print(f'{len(texts)} scripts, {sum(len([*classes(text)]) for _, text in texts)} tokens and comments; {len(wrong)} wrong')

@@ -326,7 +326,7 @@ def compare_ends(data, of):
             node = nodes[node].get('p', node - 1)
         must(way[::-1] == [step_text(step) for step in steps], 'the way to an end')
         tree = page_model.Tree(of.script, of.mode, of.walk)
-        wanted = page_model.end_of(tree, tree.follow(steps), steps, page_model.share(of))
+        wanted = page_model.with_places(of.text, page_model.end_of(tree, tree.follow(steps), steps, page_model.share(of)))
         for key in ('outcome', 'told', 'lost', 'decided'):
             must((end.get(key) or None) == (wanted[key] or None), f'{key} of an end')
 

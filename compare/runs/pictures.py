@@ -51,7 +51,7 @@ CHUNK, MOST_FUEL, MANY = 10, 400, 200
 MUST_MEET = ('first candidates', 'choices', 'words', 'witness', 'done', 'deadlock', 'trap', 'leftovers', 'cut', 'buffered', 'slots', 'a release',
              'to oneself', 'to the left', 'a free send', 'a free receive', 'a waitany', 'no such choices', 'no such words', 'no step', 'bad words',
              'first candidates along the wide walk', 'choices along the wide walk', 'words beside --ends', 'a witness beside --ends',
-             'other first candidates than along decisions', 'choices of the wide walk alone', 'a plain drawing', 'a print', 'a trap at its row')
+             'other first candidates than along decisions', 'choices of the wide walk alone', 'a plain drawing', 'a large drawing', 'a print', 'a trap at its row')
 
 
 class Asked(NamedTuple):
@@ -65,11 +65,11 @@ class Asked(NamedTuple):
     steps: Optional[tuple]
     refusal: bytes = b''
     ends: bool = False
-    plain: bool = False
+    look: str = ''
 
     def words(self, folder):
         """The words that ask a program, with files in a folder."""
-        yield from ('picture', held(folder, 'script.mpd', self.script), '--mode', self.mode, '--fuel', str(self.fuel), *['--ends'] * self.ends, *['--plain'] * self.plain)
+        yield from ('picture', held(folder, 'script.mpd', self.script), '--mode', self.mode, '--fuel', str(self.fuel), *['--ends'] * self.ends, *[f'--{self.look}'] * bool(self.look))
         if self.kind == 'choices':
             yield from ('--choices', self.told.decode())
         elif self.kind in ('words', 'witness'):
@@ -82,7 +82,7 @@ class Asked(NamedTuple):
         """What must be answered."""
         if self.steps is None:
             return Result(b'', b'mpdbg: ' + self.refusal + b'\n', 2)
-        return Result(svg_of(self.walked(), self.plain).encode(), b'', 0)
+        return Result(svg_of(self.walked(), self.look).encode(), b'', 0)
 
 
 # ---- what is asked
@@ -132,7 +132,7 @@ def questions(seed, number):
         yield Asked(case.script, mode, 'choices', told, fuel, tuple(steps), ends=ends)
         yield Asked(case.script, mode, 'choices', (told + b' 7').strip(), fuel, None, b'bad choices at %d' % len(choices), ends)
     walked = a_walk(random, script, mode, random.randrange(60))
-    yield Asked(case.script, mode, 'words', lines(walked), fuel, walked, ends=random.random() < 0.3, plain=random.random() < 0.5)
+    yield Asked(case.script, mode, 'words', lines(walked), fuel, walked, ends=random.random() < 0.3, look=random.choice(('', '', 'plain', 'large')))
     yield Asked(case.script, mode, 'words', lines(walked) + random.choice([b'next\n', b'\n', b'local\n', b'back\n']), fuel, None,
                 b'words refused at line %d' % (len(walked) + 1))
     wrong = lines(walked) + b'match 15.9 15.9\n'
@@ -183,7 +183,7 @@ def wide(text):
 def met(asked, world, glyphs):
     """What a program may draw wrongly."""
     yield asked.kind
-    yield from ['a plain drawing'] * asked.plain
+    yield from [f'a {asked.look} drawing'] * bool(asked.look)
     yield from met_along(asked) if asked.ends else ()
     how = 'cut' if enabled_steps(world) else outcome(world).split()[0]
     yield how
@@ -283,7 +283,7 @@ def row_of(row):
     choices = None if row.choices is None else tuple(map(int, row.choices.split()))
     steps = picture_model.steps_of(read_script(row.script), row.mode, choices, row.fuel, row.ends)
     told = None if choices is None else row.choices.encode()
-    return Asked(row.script, row.mode, 'first candidates' if choices is None else 'choices', told, row.fuel, tuple(steps), ends=row.ends, plain=row.plain)
+    return Asked(row.script, row.mode, 'first candidates' if choices is None else 'choices', told, row.fuel, tuple(steps), ends=row.ends, look=row.look)
 
 
 def compare_rows(chosen):

@@ -55,6 +55,7 @@ TOLD = ('a null', 'a number below 0', 'a number printed', 'outcome done', 'outco
         'a stop by match', 'a stop by change', 'a stop by handle', 'a run on past a single candidate',
         'a run on that stops behind a single candidate', 'decision forced', 'decision choice', 'decision leaf', 'a choice of a single candidate',
         'no line', 'a rank that can go on', 'a partner', 'no partner', 'an explanation', 'nothing to explain', 'steps ahead', 'no steps listed',
+        'a breakpoint that the last step hits', 'no breakpoint that the last step hits',
         'an array declared', 'a handle declared')
 # What must be met of version 2.
 TOLD_OF_2 = ('a choice of wakes by a handle', 'a wake by a handle', 'a wait for any', 'a wait for any of nothing')
@@ -126,6 +127,8 @@ def met_in_looks(command, reply):
         return ['no line'] * (None in reply['lines']) + ['a rank that can go on'] * bool(reply['ready'])
     if command == 'lines':
         return ['no partner' if other is None else 'a partner' for other in reply['partners']]
+    if command == 'hit':
+        return [f'{"a" if "break" in reply else "no"} breakpoint that the last step hits']
     if command == 'steps':
         return ['steps ahead'] * (reply['undone'] > 0) + ['no steps listed'] * (not reply['steps'])
     return [('an explanation' if reply['told'] else 'nothing to explain')] if command == 'explain' else []

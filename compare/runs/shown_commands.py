@@ -41,10 +41,12 @@ NOT_RUN = ('.ci/', 'GATE_', 'rt ', 'python3 compare/', 'python3 bench/', 'git ',
 RUN = ('./mpdbg', 'cat ', 'sed ', 'echo ', 'mkdir ', 'seq ', 'sbatch ', 'sh examples/', 'python3 examples/')
 # How a block begins that shows neither commands nor what one of the commands answers: a line of another command, or a form.
 EXCERPTS = {
+    'docs/ADAPTER.md': ('mpdbg dap FILE', '{"body":B', '{"id":I'),
     'README.md': ('checked as it runs',),
     'docs/FORMATS.md': ('enabled local 3', 'handles 1', 'leaf N ', 'rendezvous leaves 2', 'witness N: ', 'leaf 1 [1] deadlock', 'deadlock 0.1', 'trap 0 assert', 'mpdbg: script refused', 'mpdbg: device',
                         'all 12 runs were tried', 'not everything was tried', 'outcome 0 runs 3', '  decided at depth 9', 'rendezvous outcomes 2', 'words and picture take', 'JSON requests', 'end 0 leaves 3', 'proving '),
-    'docs/CONSOLE.md': ('help lists ',),
+    # the second is a screen of a terminal, which views.py compares
+    'docs/CONSOLE.md': ('help lists ', '            4  var x; '),
     'docs/FROM_A_RUN.md': ('mpdrec stands ', 'recv x from any tag 2 '),
     'docs/GATE.md': ('fn: ',),
     'docs/PAGES.md': ('{"format":', '{"s":"local 2"'),

@@ -395,6 +395,25 @@ def page_rows(program):
         yield 'a page of 20,000 states', (done.stdout.count(b'\n{"s":'), done.stderr, done.returncode), (20000, b'', 0)
 
 
+# A word with bytes that would move a terminal's cursor or change its colours, and one letter that wouldn't; how it is shown there.
+CONTROLS, CONTROLS_SHOWN = 'a\x1b[31mb\tc\nd\x7fe\x9bf\xe9', 'a?[31mb?c?d?e?f\xe9'
+
+
+def control_rows(program, folder):
+    """Control characters of the words of the command line are shown as `?` at a terminal."""
+    missing, shown = os.path.join(folder, CONTROLS), os.path.join(folder, CONTROLS_SHOWN)
+    no_file = device().errors + f"  '{shown}': no such file\n".encode()
+    for words in (('trace', missing), ('debug', missing), ('check', missing)):
+        yield f'a terminal, {words[0]} of a name with control characters', at_terminal(program, *words), Result(b'', no_file, 3)
+    yield ('a terminal, a mode with control characters', at_terminal(program, 'trace', missing, '--mode', CONTROLS),
+           BAD_MODE._replace(errors=BAD_MODE.errors + f'  {known(NO_MODE).format(CONTROLS_SHOWN)}\n'.encode()))
+    bad = '--\x1b[31mx'
+    plain = no_input(program, 'trace', missing, bad)
+    yield ('a terminal, an option with control characters', at_terminal(program, 'trace', missing, bad),
+           plain._replace(errors=plain.errors.replace(b'\x1b', b'?')))
+    yield 'no terminal, an option with control characters', b'\x1b[31mx' in plain.errors, True
+
+
 def why_rows(program):
     """At a terminal a fault of a device tells which file and why, and one of a mode which modes there are."""
     def why(what):
@@ -415,6 +434,7 @@ def why_rows(program):
         for word in ('none', '', 'Buffered', 'slots:', 'slots:65537'):
             wanted = BAD_MODE._replace(errors=BAD_MODE.errors + f'  {known(NO_MODE).format(word)}\n'.encode())
             yield f'a terminal, mode {word!r}', at_terminal(program, 'trace', script, '--mode', word), wanted
+        yield from control_rows(program, folder)
         yield 'a terminal, output full', at_terminal(program, data=SESSION, output=full()), why('standard output: no space left')
         yield 'a terminal, help and output full', at_terminal(program, '--help', output=full()), why('standard output: no space left')
         checked = at_terminal(program, 'check', script, output=full())

@@ -10,7 +10,8 @@ and runs by their choices, in compare/rows/worked_ends.py, those that tell how t
 compare/rows/worked_outcomes.py and compare/rows/worked_decided.py, those that say whether one can hang, and how, in
 compare/rows/worked_diagnosed.py, explanations in compare/rows/worked_explained.py, dialogues of a session in
 compare/rows/worked_sessions.py, rows of all these kinds for version 2 in compare/rows/worked_waitany.py, and for the modes `slots:K` in
-compare/rows/worked_slots.py, and wide walks in compare/rows/worked_wide.py. Dialogues of the console stand in compare/rows/console_worked.py. The lessons of docs/EXAMPLES.md are rows too,
+compare/rows/worked_slots.py, and wide walks in compare/rows/worked_wide.py. Dialogues of the console stand in compare/rows/console_worked.py,
+marks in compare/rows/worked_marks.py. The lessons of docs/EXAMPLES.md are rows too,
 with their answers in files. The status is 0 where the model answers all of them so.
 """
 
@@ -24,8 +25,8 @@ from model import console, debugger, explorer
 from model.debugger import Result, answer, answer_file
 from model.language import read_script
 from model.policy_words import Driven
-from rows import (console_worked, worked_decided, worked_diagnosed, worked_ends, worked_explained, worked_explorer, worked_outcomes, worked_pieces, worked_sessions, worked_slots,
-                  worked_waitany, worked_wide)
+from rows import (console_worked, worked_decided, worked_diagnosed, worked_ends, worked_explained, worked_explorer, worked_marks, worked_outcomes,
+                  worked_pieces, worked_sessions, worked_slots, worked_waitany, worked_wide)
 from rows.examples import checks, consoles, lessons, open_example
 from rows.worked_runs import RUNS
 from rows.worked_states import ALL, REFUSED, asked_words, row_problem
@@ -104,6 +105,7 @@ def main():
     problems += worked_diagnosed.problems()
     problems += worked_wide.problems()
     problems += list(worked_explained.problems())
+    problems += list(worked_marks.problems())
     problems += worked_sessions.problems()
     problems += console_worked.problems()
     problems += [(statement, refusal_problem(statement, fault, place)) for statement, fault, place in REFUSED]

@@ -23,6 +23,7 @@ Commands:
   diagnose  Say whether the runs of the script of a file can hang or trap, how, and where that was decided
   trace     Trace the script of a file
   debug     Debug the script of a file, at a prompt
+  dap       Debug the script of a file in an editor, by the Debug Adapter Protocol
   run       Answer JSON requests on the script of a file
   serve     Answer JSON requests of several clients, on one session
   check     Look for deadlocks: try the choices of wildcard receives one after another
@@ -103,6 +104,8 @@ Options:
       --ends               The choices are those of a leaf of `check --ends` or `check --sample`
       --echo               Show each line that is read before its answer
       --width <N>          How many bytes a line of an answer has before it wraps, 20 to 1000 [default: 80]
+      --view               Draw the screen anew after each word: the script, the ranks and the last answer
+      --height <N>         How many lines the screen of --view has, 10 to 1000 [default: 24]
   -h, --help               Print help
 
 Words stand on standard input, one line each; help all lists them:
@@ -112,6 +115,30 @@ Words stand on standard input, one line each; help all lists them:
 
 Example:
   echo run | ./mpdbg debug examples/race.mpd
+"""
+
+DAP = """\
+Debug the script of a file in an editor, by the Debug Adapter Protocol
+
+Usage: mpdbg dap [OPTIONS] <FILE>
+
+Arguments:
+  <FILE>  The script
+
+Options:
+      --ranks <N>          How many ranks run the script, 1 to 16, in place of the number in it
+      --mode <M>           How standard sends behave: rendezvous, buffered, or slots:K with K from 0 to 65536 [default: rendezvous]
+      --choices <C>        The choices of a run that is laid ahead, numbers from 0 with spaces between them
+      --witness <WITNESS>  A witness or a report, whose run is laid ahead
+      --ends               The choices are those of a leaf of `check --ends` or `check --sample`
+  -h, --help               Print help
+
+An editor starts it, as docs/EDITORS.md tells. Messages stand on standard input, each in a frame with
+its length, and are answered by frames on standard output. --choices and --witness lay the steps of a
+run ahead, as in `mpdbg debug`.
+
+Example:
+  ./mpdbg dap examples/race.mpd --mode buffered
 """
 
 RUN = """\
@@ -132,6 +159,7 @@ Requests stand on standard input, a JSON object on each line, and each is answer
   back, redo, goto, run-back         go back, and forward again
   state, enabled, vars, calls, why   look at where it stands
   break, unbreak, breaks, explore    set breakpoints, list the runs from here
+  hit                                tell which breakpoint the last step hits
   script, where, all, decision       tell names, lines, and what comes next
   steps, lines, explain              list steps, lines of calls, and why it ended so
 
@@ -275,6 +303,7 @@ Options:
       --fuel <N>           How many steps a run takes at most, 1 to 1000000 [default: 100000]
       --ends               The choices are those of a leaf of `check --ends` or `check --sample`
       --plain              Leave out the list of calls and the legend
+      --large              Leave them out, and draw larger, for a slide
   -h, --help               Print help
 
 One of --choices, --witness and --words says which run is drawn. Without them it is the run of the
@@ -332,6 +361,7 @@ ANSWERS = (
     ('debug|--help', DEBUG), ('debug|-h', DEBUG), ('help|debug', DEBUG), ('debug|no-such-file|--witness|no-such-file|--mode|no-mode|--help', DEBUG),
     ('debug|--witness=|-h', DEBUG),
     ('debug|a|--choices|x|--ends|-h', DEBUG),
+    ('dap|--help', DAP), ('dap|-h', DAP), ('help|dap', DAP), ('dap|no-such-file|--witness|no-such-file|--mode|no-mode|--ends|--choices|x|--help', DAP),
     ('run|--help', RUN), ('run|-h', RUN), ('help|run', RUN), ('run|no-such-file|--mode|no-mode|--help', RUN),
     ('serve|--help', SERVE), ('serve|-h', SERVE), ('help|serve', SERVE), ('serve|no-such-file|--port|1|--mode|no-mode|--help', SERVE),
     ('check|--help', CHECK), ('check|-h', CHECK), ('help|check', CHECK), ('check|a|--runs|5|-h', CHECK),
@@ -347,8 +377,8 @@ ANSWERS = (
     ('page|--help', PAGE), ('page|-h', PAGE), ('help|page', PAGE), ('page|no-such-file|--runs|7|--hide|--ends|--mode|no-mode|--help', PAGE))
 
 NO_COMMAND = 'mpdbg <COMMAND>'
-OF_DIAGNOSE, OF_TRACE, OF_DEBUG, OF_RUN, OF_SERVE, OF_CHECK, OF_VERIFY, OF_WORDS, OF_C, OF_PICTURE, OF_PAGE = (
-    f'mpdbg {rest}' for rest in ('diagnose [OPTIONS] <FILE>', 'trace [OPTIONS] <FILE>', 'debug [OPTIONS] <FILE>', 'run [OPTIONS] <FILE>',
+OF_DIAGNOSE, OF_TRACE, OF_DEBUG, OF_DAP, OF_RUN, OF_SERVE, OF_CHECK, OF_VERIFY, OF_WORDS, OF_C, OF_PICTURE, OF_PAGE = (
+    f'mpdbg {rest}' for rest in ('diagnose [OPTIONS] <FILE>', 'trace [OPTIONS] <FILE>', 'debug [OPTIONS] <FILE>', 'dap [OPTIONS] <FILE>', 'run [OPTIONS] <FILE>',
                                  'serve [OPTIONS] --port <P> --clients <N> <FILE>', 'check [OPTIONS] <FILE>',
                                  'verify [OPTIONS] <FILE> <WITNESS>', 'words [OPTIONS] --choices <C> <FILE>', 'c [OPTIONS] <FILE>', 'picture [OPTIONS] <FILE>', 'page [OPTIONS] <FILE>'))
 # What `serve` wants, where something that was given is named.
@@ -403,6 +433,9 @@ MISTAKES = (
     Mistake('debgu|a', "unrecognized subcommand 'debgu'", NO_COMMAND, "a similar subcommand exists: 'debug'"),
     Mistake('Debug|a', "unrecognized subcommand 'Debug'", NO_COMMAND, "a similar subcommand exists: 'debug'"),
     Mistake('help|debug|x', "unrecognized subcommand 'x'", OF_DEBUG),
+    Mistake('Dap|a', "unrecognized subcommand 'Dap'", NO_COMMAND, "a similar subcommand exists: 'dap'"),
+    Mistake('dab|a', "unrecognized subcommand 'dab'", NO_COMMAND, "a similar subcommand exists: 'dap'"),
+    Mistake('help|dap|x', "unrecognized subcommand 'x'", OF_DAP),
     Mistake('rum|a', "unrecognized subcommand 'rum'", NO_COMMAND, "a similar subcommand exists: 'run'"),
     Mistake('Run|a', "unrecognized subcommand 'Run'", NO_COMMAND, "a similar subcommand exists: 'run'"),
     Mistake('help|run|x', "unrecognized subcommand 'x'", OF_RUN),
@@ -473,6 +506,8 @@ MISTAKES = (
     missing('words|--ends|--choices|0', ['<FILE>'], ENDS_OF_WORDS),
     missing('c', ['<FILE>'], 'mpdbg c <FILE>'),
     missing('picture', ['<FILE>'], 'mpdbg picture <FILE>'),
+    missing('dap', ['<FILE>'], 'mpdbg dap <FILE>'),
+    missing('dap|--choices|0|--ends', ['<FILE>'], 'mpdbg dap --choices <C> --ends <FILE>'),
     missing('picture|--words|w', ['<FILE>'], 'mpdbg picture --words <WORDS> <FILE>'),
     missing('picture|--choices|0|--fuel|5', ['<FILE>'], 'mpdbg picture --choices <C> --fuel <N> <FILE>'),
     missing('picture|--ends', ['<FILE>'], ENDS_OF_PICTURE),
@@ -485,6 +520,8 @@ MISTAKES = (
     unknown('debug|a|--witness|--|b', 'b', OF_DEBUG),
     unknown('debug|a|--choices|0|1', '1', OF_DEBUG),
     unknown('debug|a|--ends|b', 'b', OF_DEBUG),
+    unknown('dap|a|b', 'b', OF_DAP),
+    hyphened('dap|a|--width=80', '--width', 'mpdbg dap <FILE>'),
     unknown('run|a|b', 'b', OF_RUN),
     unknown('serve|a|b|--port|1|--clients|1', 'b', OF_SERVE),
     unknown('check|a|b', 'b', OF_CHECK),
@@ -572,6 +609,7 @@ MISTAKES = (
     hyphened('trace|a|--ends', '--ends', 'mpdbg trace <FILE>'),
     hyphened('run|a|--echo', '--echo', 'mpdbg run <FILE>'),
     hyphened('debug|a|--width|-1', '-1', OF_DEBUG),
+    hyphened('trace|a|--view', '--view', 'mpdbg trace <FILE>'),
     Mistake('trace|a|--mode', "a value is required for '--mode <M>' but none was supplied"),
     Mistake('diagnose|a|--mode|--strict', "a value is required for '--mode <M>' but none was supplied"),
     Mistake('diagnose|a|--strict|--strict', "the argument '--strict' cannot be used multiple times", OF_DIAGNOSE),
@@ -589,6 +627,8 @@ MISTAKES = (
     Mistake('trace|a|--echo|--echo', "the argument '--echo' cannot be used multiple times", OF_TRACE),
     Mistake('debug|a|--echo|--echo', "the argument '--echo' cannot be used multiple times", OF_DEBUG),
     Mistake('debug|a|--width=80|--width=80', "the argument '--width <N>' cannot be used multiple times", OF_DEBUG),
+    Mistake('debug|a|--view|--view', "the argument '--view' cannot be used multiple times", OF_DEBUG),
+    Mistake('debug|a|--view=1', "unexpected value '1' for '--view' found; no more were expected", 'mpdbg debug --view <FILE>'),
     Mistake('debug|a|--width', "a value is required for '--width <N>' but none was supplied"),
     Mistake('trace|a|--echo=1', "unexpected value '1' for '--echo' found; no more were expected", 'mpdbg trace --echo <FILE>'),
     Mistake('debug|a|--ends=true', "unexpected value 'true' for '--ends' found; no more were expected", 'mpdbg debug --ends <FILE>'),
@@ -635,6 +675,7 @@ MISTAKES = (
     Mistake('words|a|--choices|0|--ends|--ends', "the argument '--ends' cannot be used multiple times", OF_WORDS),
     Mistake('picture|a|--ends|--ends', "the argument '--ends' cannot be used multiple times", OF_PICTURE),
     Mistake('picture|a|--plain|--plain', "the argument '--plain' cannot be used multiple times", OF_PICTURE),
+    Mistake('picture|a|--large|--large', "the argument '--large' cannot be used multiple times", OF_PICTURE),
     Mistake('page|a|--hide|--hide', "the argument '--hide' cannot be used multiple times", OF_PAGE),
     Mistake('page|a|--hide=true', "unexpected value 'true' for '--hide' found; no more were expected", 'mpdbg page --hide <FILE>'),
     Mistake('page|a|--runs', "a value is required for '--runs <N>' but none was supplied"),
@@ -669,6 +710,8 @@ MISTAKES = (
     bad_number('trace|a|--ranks|0', '0', 'ranks', '0 is not in 1..=16'),
     bad_number('debug|a|--width|19', '19', 'width', '19 is not in 20..=1000'),
     bad_number('debug|a|--width=1001', '1001', 'width', '1001 is not in 20..=1000'),
+    bad_number('debug|a|--height|9', '9', 'height', '9 is not in 10..=1000'),
+    bad_number('debug|a|--height=1001', '1001', 'height', '1001 is not in 10..=1000'),
     bad_number('debug|a|--width=', '', 'width', 'cannot parse integer from empty string'),
     bad_number('debug|a|--ranks=17', '17', 'ranks', '17 is not in 1..=16'),
     bad_number('run|a|--ranks|x', 'x', 'ranks', NO_DIGIT),
