@@ -17,7 +17,7 @@ import shlex
 import sys
 import tempfile
 from collections import Counter
-from functools import cache
+from functools import cache, partial
 from typing import NamedTuple, Optional
 
 sys.path.insert(0, os.path.dirname(os.path.dirname(os.path.abspath(__file__))))
@@ -151,16 +151,17 @@ def heard(chosen, number):
     return case, said(chosen, case)
 
 
+@cache
+def row_tests():
+    """The tests of the worked rows, without those of 100,000 steps; and those that take the model long."""
+    usual = ((dialogue_problem, DIALOGUES), (ending_problem, ENDINGS), (start_problem, STARTS), (look_problem, LOOKED))
+    return [driving.Tried(partial(is_shown, problem, row) for problem, rows in part for row in rows) for part in (usual, ((dialogue_problem, SLOW),))]
+
+
 def is_row_wrong_with(fault):
-    """Whether a worked row shows a fault, those that take the model long left out."""
+    """Whether a worked row shows a fault."""
     with driving.broken(fault):
-        return any(map(dialogue_problem, DIALOGUES)) or any(map(ending_problem, ENDINGS)) or any(map(start_problem, STARTS)) or any(map(look_problem, LOOKED))
-
-
-def is_slow_wrong_with(fault):
-    """The same of those, without those of 100,000 steps."""
-    with driving.broken(fault):
-        return any(map(dialogue_problem, SLOW))
+        return any(tried.show() for tried in row_tests())
 
 
 def is_dialogue_wrong_with(fault, chosen, count):
@@ -184,7 +185,7 @@ def is_shown(test, *given):
 def noticed(chosen, place):
     """Whether a fault is noticed by a random dialogue, of which few are tried where a worked row shows it, and whether by a row."""
     fault = console_faults.breakages()[place]
-    by_row = is_shown(is_row_wrong_with, fault) or is_shown(is_slow_wrong_with, fault)
+    by_row = is_row_wrong_with(fault)
     return is_shown(is_dialogue_wrong_with, fault, chosen, min(FEW, chosen.count) if by_row else chosen.count), by_row
 
 

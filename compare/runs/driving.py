@@ -194,6 +194,22 @@ def broken(fault):
     return mock.patch.object(fault.owner, fault.attribute, fault.replacement)
 
 
+class Tried:
+    """Tests of a broken model, each of which says whether something is wrong. The one that showed the last fault is tried first: faults of one
+    kind stand beside one another, and one row shows several of them."""
+
+    def __init__(self, tests):
+        self.tests = list(tests)
+
+    def show(self):
+        """Whether one of them shows a fault."""
+        for place, is_wrong in enumerate(self.tests):
+            if is_wrong():
+                self.tests.insert(0, self.tests.pop(place))
+                return True
+        return False
+
+
 def tell_not_noticed(names):
     """Writes which faults were not noticed."""
     for name in names:
