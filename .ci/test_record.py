@@ -47,6 +47,30 @@ class Noticed(WithFolder):
         self.write('compare/model/__pycache__/world.pyc', 'kept')
         self.assertTrue(noticed.is_remembered(self.folder))
 
+    def test_runs_that_all_pass(self):
+        self.gate('complete', 'wide')
+        self.assertEqual(noticed.runs(self.folder), [['compare/runs/complete.py', '--broken'], ['compare/runs/wide.py', '--broken']])
+        self.assertEqual(noticed.run_all(self.folder), 0)
+        self.assertTrue(noticed.is_remembered(self.folder))
+
+    def test_runs_of_which_one_fails(self):
+        self.gate('complete', 'wide')
+        self.write('compare/runs/wide.py', 'raise SystemExit(1)')
+        self.assertEqual(noticed.run_all(self.folder), '1 runs failed')
+        self.assertFalse(noticed.is_remembered(self.folder))
+
+    def test_a_run_that_changes_a_file(self):
+        self.gate('complete')
+        self.write('compare/runs/complete.py', 'open("examples/race.mpd", "a").write("more")')
+        self.assertEqual(noticed.run_all(self.folder), 'the files have changed meanwhile')
+        self.assertFalse(noticed.is_remembered(self.folder))
+
+    def gate(self, *runs):
+        """A gate with these runs, each of which passes if it is asked to break the model."""
+        self.write('.ci/run', ''.join(f"beside '{it}' python3 compare/runs/{it}.py \"$program\" $broken\n" for it in runs) + 'stage other python3 other.py\n')
+        for it in runs:
+            self.write(f'compare/runs/{it}.py', 'import sys\nsys.exit(sys.argv[1:] != ["--broken"])\n')
+
 
 class Remembered(WithFolder):
     """What is remembered of earlier runs."""
