@@ -8,7 +8,7 @@ from places import TOP
 PAGE = f'{TOP}/docs/FORMATS.md'
 SECTION = re.compile(r'^## A script in C\n(.*?)^## ', re.M | re.S)
 BLOCK = re.compile(r'^```c\n(.*?)^```\n', re.M | re.S)
-NAMES = re.compile(r'Behind an empty line and the line `([^`]+)`')
+NAMES = re.compile(r'an empty line and this one:\n`([^`]+)`')
 
 
 class Page(NamedTuple):
