@@ -239,8 +239,9 @@ def much_rows(folder):
 
 
 def dialogue_rows(folder):
-    """The worked dialogues and ends of inputs that take no long; compare/runs/checked.py has the checked program answer them."""
-    for row in (row for row in DIALOGUES + SLOW if row.is_usual and row.witness is None):
+    """The worked dialogues and ends of inputs that take no long, and need no file that is written meanwhile; compare/runs/checked.py has the
+    checked program answer them."""
+    for row in (row for row in DIALOGUES + SLOW if row.is_usual and row.witness is None and not row.files and not row.words):
         run = () if row.run is None else row.run.words()
         yield row.what, folder.run(folder.file('dialogue', row.text), '--mode', row.mode, *run, data=row.data), Result(row.wanted(), b'', 0)
     for row in ENDINGS:
