@@ -1,6 +1,7 @@
 #!/usr/bin/env python3
 """Tests of the harness of the gate, on small sources: that an edit counts as refused rests on how .ci/ reads sources and checks.
-Those of what is remembered of a run are in .ci/test_record.py, and run with these.
+Those of what is remembered of a run are in .ci/test_record.py, those of .ci/run and .ci/test themselves in .ci/test_rehearsal.py, and run
+with these.
 
     .ci/test_harness.py    at the top of the repository
 """
@@ -29,6 +30,7 @@ import rounds
 import told
 # (their tests are run with those of this file)
 from test_record import AsTheyEnd, Landing, Noticed, Remembered
+from test_rehearsal import Built, Rehearsals, TestCommand
 from with_folder import WithFolder
 
 SOURCE = """//! A module.
