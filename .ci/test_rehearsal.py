@@ -59,7 +59,7 @@ class OfScripts(WithFolder):
         environment = {it: os.environ[it] for it in os.environ if not it.startswith('GATE_')}
         environment.update({'PATH': f'{self.folder}/bin:/usr/bin:/bin', 'ASKED': self.asked, 'FAILS': '', 'BROKEN': '', 'OTHERS': '1', **variables})
         ended = subprocess.run([f'{self.top}/.ci/{script}', *words], stdin=subprocess.DEVNULL, stdout=subprocess.PIPE, stderr=subprocess.STDOUT,
-                               text=True, env=environment, timeout=120)
+                               text=True, env=environment, timeout=900)
         return ended.returncode, ended.stdout.splitlines()
 
     def words_of(self, name):
@@ -84,7 +84,7 @@ class Rehearsals(OfScripts):
         self.assertEqual(self.words_of('rt'), [])
         self.assertEqual(self.words_of('mpdbg'), ['mpdbg --test'])
         self.assertIn('high lacks low', lines)
-        self.assertIn('gate: left out: edits of 2 crates whose libraries are not built: all of these are due: top', lines)
+        self.assertIn('gate: left out: edits of 2 crates whose libraries are not built: all are due of top', lines)
         self.assertEqual(self.git('status', '--porcelain'), '')
 
     def test_its_edits_are_tried_in_a_copy(self):
