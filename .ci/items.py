@@ -220,12 +220,15 @@ class Source:
             file.attributes.append(self.normal(plain[at:end]))
         elif not found and not owner:
             file.is_odd = True
+            file.add('other', '', self.normal(plain[begin:end]), bare[begin:end], (begin, end))
         elif not found:
             return (begin, end),
         elif found[1]:
             return self.take_function(file, plain, bare, begin, end, at, found, owner, is_of_trait)
         elif found[3] == 'mod':
-            file.is_odd |= not bare[begin:end].rstrip().endswith(';')
+            if not bare[begin:end].rstrip().endswith(';'):
+                file.is_odd = True
+                file.add('other', found[4], self.normal(plain[begin:end]), bare[begin:end], (begin, end))
         elif found[5]:
             self.take_block(file, plain, bare, begin, end, at, indent)
         elif owner:

@@ -258,6 +258,9 @@ class Names:
         for item in self.items:
             if item.kind == 'impl':
                 yield from self.rules_of_impl(item)
+            elif item.kind == 'other':
+                # (it may write a block for any type)
+                yield [], item
 
     def rules_of_impl(self, item):
         """By the types that it is for; where none is of this repository, by its trait or by a call of what it has."""

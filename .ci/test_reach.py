@@ -235,6 +235,10 @@ class Reached(WithFolder):
         """A file with something else in it counts whole, and its names mean all that have them."""
         self.write('crates/low/specs/Deep.antt', LOW['specs/Deep.antt'] + '\nsyntax of something\n\nabbrev pub by : ℕ\nby = 1\n')
         self.assertEqual(self.due_by('low/specs/Deep.antt', 'by = 1', 'by = 2'), {'all', 'law'})
+        self.assertEqual(self.due_by('low/src/other.rt', 'ensures { result ≡ 2 }', 'ensures { result ≡ 3 }'), {'law'})
+        self.write('crates/low/src/other.rt', LOW['src/other.rt'] + '\nblocks! {\n    one\n}\n')
+        self.assertEqual(self.due_by('low/src/other.rt', '    one\n', '    two\n'), {'all', 'bound', 'law'})
+        self.assertEqual(self.due_by('low/src/other.rt', 'ensures { result ≡ 2 }', 'ensures { result ≡ 3 }'), {'all', 'bound', 'law'})
 
     def test_operators(self):
         self.write('crates/low/specs/Deep.antt', 'abbrev pub ◌⊕◌ : ℕ → ℕ → ℕ\nm ⊕ n = m\n')
