@@ -2,12 +2,12 @@
 """Tries the must-fail edits of the crates (docs/GATE.md, "Edits"), as many in one check as can be.
 
     .ci/edits.py [--jobs N] [--only EDIT].. [--controls] [--log FOLDER] [CRATE..]    at the top of the repository
-    .ci/edits.py --record [CRATE..]              all edits of these crates, or of all; .ci/refused.txt has those that were wholly refused
-    .ci/edits.py --due                           those that .ci/refused.txt doesn't answer for, and a twentieth of the rest; where the
-                                                 former were wholly refused, it has them
+    .ci/edits.py --record [CRATE..]              all edits of these crates, or of all; .ci/refused.txt has those that were refused
+    .ci/edits.py --due                           those that .ci/refused.txt doesn't answer for, and a twentieth of the rest; it has those
+                                                 of the former that were refused
 
 What an edit's file says is in .ci/edit_files.py, how edits are put into rounds in .ci/rounds.py, when one counts as refused in
-.ci/told.py, and what is remembered of an earlier run in .ci/record.py.
+.ci/told.py, what is remembered of an earlier run in .ci/record.py, and what an edit reaches, by which that answers, in .ci/reach.py.
 
 The crates below are read as they were built: `rt lib` builds those that are not, or `--built` names a copy that rt ci proved, as in
 .ci/run. Each crate's checks begin with what earlier checks kept in its out/ folder, where they did. Each edit is read, also where
@@ -132,8 +132,8 @@ def arguments():
     words.add_argument('--controls', action='store_true', help='a copy with no edit in it of each edited function, which must be proved')
     words.add_argument('--log', metavar='FOLDER', help='keep what each check said there, and how long its stages took')
     how = words.add_mutually_exclusive_group()
-    how.add_argument('--due', action='store_true', help='the edits of crates that the record does not answer for, and a twentieth of the rest')
-    how.add_argument('--record', action='store_true', help='all edits of these crates, or of all; the record has a crate where all of its edits are refused')
+    how.add_argument('--due', action='store_true', help='the edits that the record does not answer for, and a twentieth of the rest')
+    how.add_argument('--record', action='store_true', help='all edits of these crates, or of all; the record has those that are refused')
     given = words.parse_args()
     if given.record and given.only:
         words.error('--record is of all edits of a crate')
@@ -147,17 +147,17 @@ def main():
     if unknown:
         sys.exit(f'crates.txt names no {unknown[0]}')
     # (before an edit is read, so that one which changes meanwhile is seen to)
-    digests = {it: record.digest(repository, it) for it in repository.uses} if given.record or given.due else {}
+    digests = record.digests(repository) if given.record or given.due else {}
     crates = [Crate(repository, it, given.only, given.controls) for it in given.crates or repository.uses]
     crates = [it for it in crates if it.edits or it.bad]
     found = {os.path.basename(it.name).removesuffix('.edit') for crate in crates for it in [*crate.edits, *(bad.edit for bad in crate.bad)]}
     lacking = [it for it in given.only if it.removesuffix('.edit') not in found]
     if lacking:
         sys.exit(f'there is no such edit: {" ".join(lacking)}')
-    whole, drawn = {it.name for it in crates if given.record}, set()
+    written, drawn = {it.name for it in crates if given.record}, set()
     if given.due:
-        whole, drawn = record.take_due(repository, crates, digests)
-    crates = record.longest_first(record.read(repository), [it for it in crates if it.edits or it.bad])
+        written, drawn = record.take_due(repository, crates, digests)
+    crates = record.longest_first(repository, [it for it in crates if it.edits or it.bad])
     if given.log:
         os.makedirs(given.log, exist_ok=True)
     if not given.built:
@@ -165,12 +165,12 @@ def main():
 
     def ended(crate, verdicts):
         failed = {it.edit.name for it in verdicts if not it.is_refused}
-        if crate.name in whole or failed & drawn:
+        if crate.name in written or failed & drawn:
             print(record.remember(repository, crate, verdicts, digests), flush=True)
 
     outcome = try_all(crates, given.jobs, Proofs(*given.beside or ()), given.log, ended)
     for name in sorted(drawn & set(outcome.failed)):
-        print(f'{name}: {record.FILE} says of its crate that all edits are refused, and that is wrong')
+        print(f'{name}: {record.FILE} says that it is refused, and that is wrong')
     if not outcome.refused + len(outcome.failed):
         print('there is no such edit')
     print(f'{outcome.refused} refused, {len(outcome.failed)} not')

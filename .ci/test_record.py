@@ -84,9 +84,13 @@ class Remembered(WithFolder):
         self.write('KIT-ID', 'kit 1')
         for judge in record.JUDGES:
             self.write(f'.ci/{judge}', judge)
-        for crate in ('low', 'side', 'high'):
-            for file in ('src/lib.rt', 'specs/Lib.antt', 'proofs/Lib.antt', 'must-fail/README.md', *(f'must-fail/{it}.edit' for it in range(self.EDITS[crate][0]))):
-                self.write(f'crates/{crate}/{file}', f'{crate} {file}')
+        self.write('crates/low/src/lib.rt', 'pub fn one() -> u64\n    ensures { result ≡ 1 }\n{\n    1\n}\n')
+        self.write('crates/high/src/lib.rt', 'use low::one;\n\npub fn two() -> u64\n    ensures { result ≡ 2 }\n{\n    one() + 1\n}\n')
+        self.write('crates/side/src/lib.rt', 'pub fn three() -> u64\n    ensures { result ≡ 3 }\n{\n    3\n}\n')
+        for crate, name, body in (('low', 'one', '    1'), ('high', 'two', '    one() + 1'), ('side', 'three', '    3')):
+            self.write(f'crates/{crate}/must-fail/README.md', 'edits')
+            for at in range(self.EDITS[crate][0]):
+                self.write(f'crates/{crate}/must-fail/{at}.edit', f'fn: lib::{name}\nfile: src/lib.rt\nold: {body}\nnew: {10 + at}\n')
 
     def repository(self):
         found = rounds.Repository(self.folder)
@@ -94,59 +98,38 @@ class Remembered(WithFolder):
         return found
 
     def digests(self):
-        return {it: record.digest(self.repository(), it) for it in ('low', 'side', 'high')}
+        return record.digests(self.repository())
 
     def changed_by(self, file, text):
+        """The crates of whose edits digests are others after a file is changed so."""
         before = self.digests()
         self.write(file, text)
         after = self.digests()
-        return {it for it in before if before[it] != after[it]}
+        return {it for it in before if before[it] != after.get(it)}
 
     def test_what_a_digest_depends_on(self):
         for file, crates in (
-            ('crates/low/src/lib.rt', {'low', 'high'}),
-            ('crates/low/src/new.rt', {'low', 'high'}),
-            ('crates/low/specs/Lib.antt', {'low', 'high'}),
-            ('crates/low/proofs/Lib.antt', {'low'}),
-            ('crates/low/must-fail/0.edit', {'low'}),
-            ('crates/low/must-fail/new.edit', {'low'}),
-            ('crates/high/proofs/new/Lib.antt', {'high'}),
-            ('crates/side/src/lib.rt', {'side'}),
+            ('crates/low/proofs/Lib.antt', set()),
+            ('crates/low/specs/New.antt', set()),
             ('crates/low/must-fail/README.md', set()),
             ('crates/low/out/rlib', set()),
             ('crates/low/stdin', set()),
             ('docs/GATE.md', set()),
             ('.ci/copies.py', {'low', 'side', 'high'}),
+            ('.ci/record.py', set()),
             ('.ci/run', set()),
             ('KIT-ID', {'low', 'side', 'high'}),
         ):
             self.assertEqual(self.changed_by(file, f'changed {file}'), crates, file)
+        self.write('KIT-ID', 'kit 1')
+        self.assertEqual(self.changed_by('KIT-ID', 'other 1'), set())
 
-    def test_bodies_are_of_their_own_crate(self):
-        self.write('crates/low/src/lib.rt', 'pub fn one() -> u64\n    ensures { result ≡ 1 }\n{\n    1\n}\n')
-        for text, crates in (('{\n    2 - 1\n}\n', {'low'}), ('{\n    // one\n    1\n}\n', {'low'}), ('{\n    1\n}\nfn two() {\n}\n', {'low', 'high'})):
-            changed = 'pub fn one() -> u64\n    ensures { result ≡ 1 }\n' + text
-            self.assertEqual(self.changed_by('crates/low/src/lib.rt', changed), crates, text)
-            self.write('crates/low/src/lib.rt', 'pub fn one() -> u64\n    ensures { result ≡ 1 }\n{\n    1\n}\n')
-        self.assertEqual(self.changed_by('crates/low/src/lib.rt', 'pub fn one() -> u64\n    ensures { result ≡ 2 }\n{\n    1\n}\n'), {'low', 'high'})
-
-    def test_a_file_that_is_gone_changes_it(self):
+    def test_an_edit_that_changes_is_another(self):
         before = self.digests()
-        os.remove(f'{self.folder}/crates/low/must-fail/0.edit')
-        self.assertNotEqual(before['low'], self.digests()['low'])
-
-    def test_a_file_that_moves_changes_it(self):
-        before = self.digests()
-        os.rename(f'{self.folder}/crates/low/src/lib.rt', f'{self.folder}/crates/low/src/main.rt')
-        self.assertNotEqual(before['low'], self.digests()['low'])
-
-    def test_proof_files_that_are_named_above(self):
-        self.write('crates/high/proofs/Lib.antt', 'use Rattle.low.proofs.Lib.{lemma}')
-        self.assertEqual(self.changed_by('crates/low/proofs/Lib.antt', 'another'), {'low', 'high'})
-
-    def test_lines_of_crates_txt(self):
-        self.assertEqual(self.changed_by('crates.txt', 'low: std\nhigh: low std\nside: std\n'), set())
-        self.assertEqual(self.changed_by('crates.txt', 'low: std thiserror\nside: std\nhigh: low std\n'), {'low', 'high'})
+        self.write('crates/low/must-fail/3.edit', 'fn: lib::one\nfile: src/lib.rt\nold:     1\nnew:     7\n')
+        after = self.digests()
+        self.assertEqual({it for it in after['low'] if after['low'][it] != before['low'][it]}, {'low/3.edit'})
+        self.assertEqual((after['high'], after['side']), (before['high'], before['side']))
 
     def test_pieces_do_not_run_into_one_another(self):
         self.assertNotEqual(record.digest_of([('a', b'bc')]), record.digest_of([('ab', b'c')]))
@@ -173,8 +156,10 @@ class Remembered(WithFolder):
         digests = digests or self.digests()
         return [record.remember(self.repository(), it, self.verdicts(it), digests) for it in self.crates() if not names or it.name in names]
 
-    def remembered(self):
-        return {*record.read(self.repository())}
+    def remembered(self, is_here=True):
+        """How many edits of each crate are remembered."""
+        names = [it.partition('/')[0] for it in record.read(self.repository(), is_here)]
+        return {it: names.count(it) for it in names}
 
     def due(self, crates):
         keep, sys.stdout = sys.stdout, open(os.devnull, 'w', encoding='utf-8')
@@ -184,136 +169,157 @@ class Remembered(WithFolder):
             sys.stdout.close()
             sys.stdout = keep
 
+    def change(self, crate):
+        """Changes the contract of the function that the edits of a crate are of."""
+        self.write(f'crates/{crate}/src/lib.rt', self.read(f'crates/{crate}/src/lib.rt').replace('result ≡', 'result ≤'))
+
     def test_what_is_due(self):
         crates = self.crates()
         self.assertEqual(self.due(crates), ({'high', 'low', 'side'}, set()))
         self.assertEqual([len(it.edits) for it in crates], [30, 25, 5])
         self.remember()
         crates = self.crates()
-        whole, drawn = self.due(crates)
-        self.assertEqual((whole, len(drawn)), (set(), 3))
+        written, drawn = self.due(crates)
+        self.assertEqual((written, len(drawn)), (set(), 3))
         self.assertEqual({edit.name for it in crates for edit in it.edits}, drawn)
-        self.write('crates/low/src/lib.rt', 'changed')
+        self.change('low')
         crates = self.crates()
-        whole, drawn = self.due(crates)
-        self.assertEqual(whole, {'high', 'low'})
+        written, drawn = self.due(crates)
+        self.assertEqual(written, {'high', 'low'})
         self.assertEqual(len(crates[0].edits) + len(crates[1].edits), 55)
         self.assertEqual({edit.name for edit in crates[2].edits}, drawn)
         self.assertEqual(len(drawn), 1)
 
-    def test_a_crate_with_another_count_or_a_bad_edit_is_due(self):
+    def test_one_edit_is_due(self):
+        self.remember()
+        self.write('crates/low/must-fail/3.edit', 'fn: lib::one\nfile: src/lib.rt\nold:     1\nnew:     7\n')
+        crates = self.crates()
+        written, drawn = self.due(crates)
+        self.assertEqual(written, {'low'})
+        self.assertEqual({edit.name for it in crates for edit in it.edits}, {'low/3.edit'} | drawn)
+        self.assertNotIn('low/3.edit', drawn)
+
+    def test_a_bad_edit_is_told_with_those_that_are_due(self):
         self.remember()
         crates = self.crates()
-        crates[0].edits.pop()
         crates[2].bad.append('a bad edit')
-        self.assertEqual(self.due(crates)[0], {'high', 'side'})
-        self.assertEqual([len(crates[0].edits), len(crates[2].edits)], [29, 5])
+        self.due(crates)
+        self.assertEqual(crates[2].bad, ['a bad edit'])
 
     def test_the_record(self):
         self.assertEqual(record.read(self.repository()), {})
         digests = self.digests()
         self.remember()
-        self.assertEqual(record.read(self.repository()), {it: (count, digests[it], round(took)) for it, (count, took) in self.EDITS.items()})
+        share = {it: max(1, round(took / count)) for it, (count, took) in self.EDITS.items()}
+        self.assertEqual(record.read(self.repository()), {name: (digest, share[crate]) for crate, own in digests.items() for name, digest in own.items()})
 
     def test_a_crate_is_remembered_by_itself(self):
         self.remember('low')
-        self.assertEqual(self.remembered(), {'low'})
+        self.assertEqual(self.remembered(), {'low': 25})
         self.remember('side')
-        self.assertEqual(self.remembered(), {'low', 'side'})
+        self.assertEqual(self.remembered(), {'low': 25, 'side': 5})
         self.remember('low')
-        self.assertEqual(len(record.lines_of(self.folder)), 2)
+        self.assertEqual(len(record.lines_of(self.folder)), 30)
 
-    def test_what_is_not_refused_or_bad_is_not_remembered(self):
+    def test_what_is_not_refused_is_not_remembered(self):
         self.remember()
         crate = self.crates()[1]
         self.assertIn('low/3.edit was not refused', record.remember(self.repository(), crate, self.verdicts(crate, 'low/3.edit'), self.digests()))
-        self.assertEqual(self.remembered(), {'high', 'side'})
-        # (one that is drawn, and the one edit that is tried)
+        self.assertNotIn('low/3.edit', record.read(self.repository()))
+        self.assertEqual(self.remembered(), {'high': 30, 'low': 24, 'side': 5})
+        # (one that is drawn, and the one edit that is tried; by a kit of the same logic)
+        self.write('KIT-ID', 'other 1')
         crate = self.crates()[2]
         del crate.edits[1:]
         record.remember(self.repository(), crate, self.verdicts(crate, 'side/0.edit'), self.digests())
-        self.assertEqual(self.remembered(), {'high'})
+        self.assertEqual(self.remembered(is_here=False), {'high': 30, 'low': 24, 'side': 4})
 
-    def test_what_was_not_tried_is_not_remembered(self):
+    def test_what_was_tried_is_remembered_by_itself(self):
         crate = self.crates()[2]
-        left = crate.edits.pop()
-        self.assertIn(f'{left.name} was not tried', record.remember(self.repository(), crate, self.verdicts(crate), self.digests()))
-        self.assertEqual(self.remembered(), set())
-        # (as many verdicts, of another edit)
-        crate.edits.append(types.SimpleNamespace(name='side/new.edit'))
-        self.assertIn(f'{left.name} was not tried', record.remember(self.repository(), crate, self.verdicts(crate), self.digests()))
-        self.assertEqual(self.remembered(), set())
+        del crate.edits[2:]
+        record.remember(self.repository(), crate, self.verdicts(crate, 'side/1.edit'), self.digests())
+        self.assertEqual({*record.read(self.repository())}, {'side/0.edit'})
 
     def test_a_drawn_edit_that_is_refused_changes_nothing(self):
         self.remember()
         before = self.read(record.FILE)
         crate = self.crates()[0]
+        crate.seconds = 1000
         del crate.edits[2:]
         record.remember(self.repository(), crate, self.verdicts(crate), self.digests())
         self.assertEqual(self.read(record.FILE), before)
 
     def test_lines_that_answer_for_nothing_go(self):
         self.remember()
-        self.write('crates/side/src/lib.rt', 'changed')
+        self.change('side')
         self.remember('low')
-        self.assertEqual(self.remembered(), {'high', 'low'})
+        self.assertEqual(self.remembered(), {'high': 30, 'low': 25})
         self.write('crates.txt', 'low: std\nside: std\n')
-        repository = self.repository()
-        digests = {it: record.digest(repository, it) for it in repository.uses}
-        self.remember('side', digests=digests)
-        self.assertEqual(self.remembered(), {'low', 'side'})
+        self.remember('side')
+        self.assertEqual(self.remembered(), {'low': 25, 'side': 5})
+
+    def test_an_edit_that_is_named_anew_is_remembered(self):
+        self.remember()
+        os.rename(f'{self.folder}/crates/side/must-fail/0.edit', f'{self.folder}/crates/side/must-fail/new.edit')
+        crates = self.crates()
+        crates[2].edits[0].name = 'side/new.edit'
+        written, _ = self.due(crates)
+        self.assertEqual(written, set())
+        self.remember('low')
+        self.assertIn('side/new.edit', record.read(self.repository()))
+        self.assertNotIn('side/0.edit', record.read(self.repository()))
 
     def test_each_kit_has_lines_of_its_own(self):
         of_first, first = self.digests(), self.remember()
         self.write('KIT-ID', 'other 1')
         self.assertEqual(record.read(self.repository()), {})
         self.assertEqual(self.remember(), first)
-        self.assertEqual(record.read(self.repository())['low'].digest, of_first['low'])
-        self.assertEqual(len(record.lines_of(self.folder)), 6)
-        self.write('crates/side/src/lib.rt', 'changed')
+        self.assertEqual(record.read(self.repository())['low/0.edit'].digest, of_first['low']['low/0.edit'])
+        self.assertEqual(len(record.lines_of(self.folder)), 120)
+        self.change('side')
         self.remember('low')
         self.write('KIT-ID', 'kit 1')
-        self.assertEqual({it: kept.digest for it, kept in record.read(self.repository()).items()}, {it: of_first[it] for it in ('high', 'low')})
-        self.assertEqual(len(record.lines_of(self.folder)), 4)
+        self.assertEqual(self.remembered(), {'high': 30, 'low': 25})
+        self.assertEqual(len(record.lines_of(self.folder)), 110)
 
     def test_of_what_another_kit_remembers_more_is_tried(self):
         self.remember()
         self.write('KIT-ID', 'other 1')
         crates = self.crates()
-        whole, drawn = self.due(crates)
-        self.assertEqual((whole, len(drawn)), (set(), 12))
+        written, drawn = self.due(crates)
+        self.assertEqual(len(drawn), 12)
+        # (what is refused of these has a line of this kit)
+        self.assertEqual(written, {it.partition('/')[0] for it in drawn})
         self.assertEqual({edit.name for it in crates for edit in it.edits}, drawn)
         self.remember('low')
         crates = self.crates()
-        whole, drawn = self.due(crates)
-        self.assertEqual(whole, set())
-        self.assertEqual([sum(it.startswith(f'{name}/') for it in drawn) for name in ('low', 'high')], [len(crates[1].edits), len(crates[0].edits)])
+        written, drawn = self.due(crates)
         self.assertEqual((len(crates[1].edits), len(drawn)), (2, 9))
+        self.assertNotIn('low', written)
         # (a kit of another logic)
         self.write('KIT-ID', 'third 2')
         self.assertEqual(self.due(self.crates()), ({'high', 'low', 'side'}, set()))
 
     def test_which_crate_is_begun_first(self):
         def order(crates):
-            return [it.name for it in record.longest_first(record.read(self.repository()), crates)]
+            return [it.name for it in record.longest_first(self.repository(), crates)]
 
         self.assertEqual(order(self.crates()), ['high', 'low', 'side'])
         self.remember()
         self.assertEqual(order(self.crates()), ['low', 'side', 'high'])
-        self.write('crates/low/src/lib.rt', 'changed')
         crates = self.crates()
         del crates[1].edits[10:]
         self.assertEqual(order(crates), ['side', 'low', 'high'])
 
     def test_nothing_is_recorded_of_what_has_changed(self):
         digests = self.digests()
-        self.write('crates/low/src/lib.rt', 'changed')
+        self.change('low')
         said = self.remember(digests=digests)
         self.assertEqual(['changed since' in it for it in said], [True, True, False])
-        self.assertEqual(self.remembered(), {'side'})
+        self.assertEqual(self.remembered(), {'side': 5})
 
     def test_the_seed_of_a_tree_without_a_repository(self):
-        self.assertEqual(record.seed_of(self.folder, {'b': '2', 'a': '1'}), '1 2')
+        self.assertEqual(record.seed_of(self.folder, {'b': {'b/1': '2'}, 'a': {'a/2': '1', 'a/1': '0'}}), '0 1 2')
 
 
 class AsTheyEnd(WithFolder):
@@ -395,12 +401,12 @@ class Landing(WithFolder):
         self.assertTrue(landing.is_of_docs(self.folder, 'HEAD'))
 
     def test_the_seed_of_a_draw_is_the_commit(self):
-        first = record.seed_of(self.folder, {'a': '1'})
+        first = record.seed_of(self.folder, {'a': {'a/1': '1'}})
         self.assertRegex(first, '^[0-9a-f]{40,64}$')
         self.write('README.md', 'changed')
         self.commit()
-        self.assertNotEqual(record.seed_of(self.folder, {'a': '1'}), first)
-        self.assertEqual(record.seed_of(f'{self.folder}/crates', {'a': '1'}), '1')
+        self.assertNotEqual(record.seed_of(self.folder, {'a': {'a/1': '1'}}), first)
+        self.assertEqual(record.seed_of(f'{self.folder}/crates', {'a': {'a/1': '1'}}), '1')
 
     def test_what_cannot_be_told(self):
         for commit in ('nowhere', '', '--help'):
