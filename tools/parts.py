@@ -3,20 +3,23 @@
 
     python3 tools/parts.py PARTS CLANG WORDS..
 
-The words are those that clang would be called with: they name the module behind `-x ir` and the
-object behind `-o`. It is optimized (-O1, and not -O0). What was done is written in a line on
-standard output: `in 8 parts`, or `as one module: ` and why.
+The words are those that clang would be called with; they name the module behind `-x ir`, the
+object behind `-o`, and `-O0`, in place of which it is optimized a little. A line on standard output
+says what was done: `in 8 parts`, or `as one module: ` and why.
 
 What `main` doesn't reach is left out. Each other function stands in one part, near what calls it,
-and is declared in the parts that name it. A small one that is only called is copied to each part
-that names it, so that it is inlined there as in a whole module, and so is each constant of which
-the module says that its address means nothing (`unnamed_addr`). All else stands at one address, as
-in a whole module. (The text of mpdbg compares no address with another: with null alone.) What
-several parts name is hidden in place of private or internal. Calls between parts aren't inlined,
-and a function with very wide variables isn't optimized, as that takes long. No check is taken out.
+and is declared in the parts that name it. A small one that is called and nothing else is copied to
+each of them, so that it is inlined there as in a whole module. So is each constant of which the
+module says that its address means nothing (`unnamed_addr`). All else has one address, as it has in
+a whole module; the text of mpdbg compares no address but with null. What several parts name is
+hidden in place of private or internal. No check is taken out: AddressSanitizer puts its own into
+each part, and into functions of which it can't see all callers a few more.
 
-One module is compiled as it is where one part is asked for, and where the module has a line that
-this doesn't know, or clang or the linker refuses a part.
+Calls between parts aren't inlined, and little is inlined at all (LEVEL), so that long commands take
+up to 1.6 times as long. A function with very wide variables (WIDE) isn't optimized.
+
+The module is compiled as one where one part is asked for, and where it has a line that isn't known
+here, or clang or the linker refuses a part.
 """
 
 import concurrent.futures
@@ -29,14 +32,14 @@ import tempfile
 # A function of at most so many bytes of text is copied.
 SMALL = 600
 
-# A function whose variables take so many bytes isn't optimized: one pass (SROA) takes ten seconds
-# and more for one.
+# A function whose variables take so many bytes isn't optimized: one pass, SROA, takes ten seconds
+# for one.
 WIDE = 30_000
 
-# How far a part is optimized: less is inlined than usual, which is compiled sooner.
+# How far a part is optimized. What is inlined costs a tenth of the time of all parts, and more.
 LEVEL = ('-O1', '-mllvm', '-inline-threshold=25')
 
-# A name, and what shows that it is called there.
+# A name, and behind it what shows that it is called there.
 NAME = re.compile(rb'@("[^"]*"|[-\w.$]+)(\(?)')
 VARIABLE = re.compile(rb' = alloca \[(\d+) x i8\]')
 ATTRIBUTES = re.compile(rb'(?= #\d+ \{\n)')
@@ -56,8 +59,8 @@ def processors():
 
 
 def usual():
-    """In how many parts a module is compiled here: twice as many as can be at once, as they take
-    unlike long; and no more than 16, as each has its own copy of what is copied."""
+    """In how many parts a module is compiled here: two for each processor, so that none waits long
+    for the last one, and 16 at most, as each has copies of its own."""
     return 1 if processors() == 1 else min(2 * processors(), 16)
 
 
@@ -70,7 +73,7 @@ def name_in(text):
 
 
 def functions_in(text):
-    """The functions that a text defines, by name, and the rest of it."""
+    """The functions that the text of a module defines, by name, and the rest of it."""
     functions, rest, at = {}, [], 0
     while (begin := text.find(b'\ndefine ', at) + 1) > 0:
         rest.append(text[at:begin])
@@ -136,7 +139,7 @@ class Module:
 
 
 class Cut:
-    """A module that is cut in so many parts."""
+    """A module that is cut into so many parts."""
 
     def __init__(self, module, count):
         self.module, self.count = module, count
@@ -152,8 +155,8 @@ class Cut:
                        if self.part_of.get(name, number) != number}
 
     def placed(self, names):
-        """A part for each of the names: functions in their order, as much text in each part; and
-        variables in the first."""
+        """A part for each of these names: functions by their order, with as much text in each part
+        as in others, and variables in the first."""
         sizes = {name: len(self.module.functions.get(name, b'')) for name in names}
         total, before, placed = sum(sizes.values()), 0, {}
         for name, size in sizes.items():
@@ -208,7 +211,7 @@ def printed(clang, module):
 
 
 def compile_parts(count, clang, words):
-    """Compiles as clang does with these words, but in so many parts."""
+    """Does what clang does with these words, in so many parts."""
     module, out = words[words.index('ir') + 1], words[words.index('-o') + 1]
     words = [it for it in words if it not in ('-c', '-x', 'ir', module, '-o', out, '-O0')]
     cut = Cut(Module(printed(clang, module)), count)
@@ -240,7 +243,8 @@ def main():
             compile_parts(count, clang, words)
             print(f'in {count} parts')
             return
-        except (OtherModule, ValueError, OSError, subprocess.SubprocessError) as error:
+        except Exception as error:  # pylint: disable=broad-except
+            # (whatever it is, clang may still take the whole)
             why = f'{type(error).__name__}: {error}'
     print(f'as one module: {why}', flush=True)
     os.execv(clang, [clang, *('-O1' if word == '-O0' else word for word in words)])
