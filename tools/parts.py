@@ -15,7 +15,7 @@ a whole module; the text of mpdbg compares no address but with null. What severa
 hidden in place of private or internal. No check is taken out: AddressSanitizer puts its own into
 each part, and into functions of which it can't see all callers a few more.
 
-Calls between parts aren't inlined, and little is inlined at all (LEVEL), so that long commands take
+Calls between parts aren't inlined, and little is inlined at all (LEVEL), so that the program takes
 up to 1.6 times as long. A function with very wide variables (WIDE) isn't optimized.
 
 The module is compiled as one where one part is asked for, and where it has a line that isn't known
