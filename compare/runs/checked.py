@@ -238,13 +238,14 @@ def built_rows(folder, kit, told):
 
 def fault_rows(folder, told, by_clang=None):
     """The faulty program, by a clang that refuses a word: what it writes where it meets no fault, and how each check stops it."""
+    name = told.strip(': \n')
     yield from built_rows(f'{folder}/top', Kit(f'{folder}/kit', by_clang), told)
     for words, output, said in FAULTS:
         result = run_at_once(f'{folder}/top/faulty', b'', SECONDS, words=words.split())
         if output is not None:
-            yield f'{told}: {words}', result, Result(output, b'', 0)
+            yield f'{name}: {words}', result, Result(output, b'', 0)
         else:
-            yield f'{told}: {words}', (result.status, said in result.errors), (ABORTED, True)
+            yield f'{name}: {words}', (result.status, said in result.errors), (ABORTED, True)
 
 
 def main():
