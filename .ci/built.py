@@ -2,7 +2,7 @@
 """Says of which crates the edits can be tried with no proof: those below which each library is built in the tree's out/ folders.
 
     .ci/built.py    at the top of the repository: a line for each crate that has edits, `NAME can be tried`, `NAME lacks LIBRARY`,
-                    or `NAME lacks LIBRARY and is due`, where .ci/refused.txt doesn't answer for its edits
+                    or `NAME lacks LIBRARY and is due`, where .ci/refused.txt doesn't answer for all its edits
 
 `rt check` of a crate builds the libraries below it, and `rt lib` one by itself. One counts if it is built from the sources, under the kit, that
 are there now, as `rt` itself judges it. Where a kit doesn't tell that, only crates with none of the repository's below them can be tried.
@@ -45,13 +45,12 @@ class Libraries:
 
 
 def with_edits(repository):
-    """The crates that have edits; of each it is told whether all of these are due."""
+    """The crates that have edits; of each it is told whether any of these is due."""
     crates = [it for it in (Crate(repository, name) for name in repository.uses) if it.edits or it.bad]
-    digests = {it.name: record.digest(repository, it.name) for it in crates}
-    kept = (record.read(repository, is_here) for is_here in (True, False))
-    remembered = {it.name for those in kept for it in record.answered_for(those, crates, digests)}
+    digests = record.digests(repository, [it.name for it in crates])
+    known = {it.digest for is_here in (True, False) for it in record.read(repository, is_here).values()}
     for crate in crates:
-        crate.is_due = crate.name not in remembered
+        crate.is_due = bool(crate.bad) or any(digests[crate.name].get(it.name) not in known for it in crate.edits)
     return crates
 
 

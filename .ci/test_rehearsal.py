@@ -84,7 +84,7 @@ class Rehearsals(OfScripts):
         self.assertEqual(self.words_of('rt'), [])
         self.assertEqual(self.words_of('mpdbg'), ['mpdbg --test'])
         self.assertIn('high lacks low', lines)
-        self.assertIn('gate: left out: edits of 2 crates whose libraries are not built: all are due of top', lines)
+        self.assertIn('gate: left out: edits of 2 crates whose libraries are not built: some are due of top', lines)
         self.assertEqual(self.git('status', '--porcelain'), '')
 
     def test_its_edits_are_tried_in_a_copy(self):
