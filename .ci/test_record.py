@@ -6,6 +6,7 @@ import sys
 import types
 import unittest
 
+import built
 import edits
 import landing
 import noticed
@@ -123,6 +124,16 @@ class Remembered(WithFolder):
             self.assertEqual(self.changed_by(file, f'changed {file}'), crates, file)
         self.write('KIT-ID', 'kit 1')
         self.assertEqual(self.changed_by('KIT-ID', 'other 1'), set())
+
+    def test_of_which_crates_edits_are_due(self):
+        def due():
+            return {it.name for it in built.with_edits(self.repository()) if it.is_due}
+        self.assertEqual(due(), {'low', 'side', 'high'})
+        lines = [f'{name} 9 {digest} {kit}' for crate, kit in (('low', 'kit'), ('side', 'other')) for name, digest in self.digests()[crate].items()]
+        self.write('.ci/refused.txt', '\n'.join(sorted(lines)) + '\n')
+        self.assertEqual(due(), {'high'})
+        self.write('.ci/refused.txt', '\n'.join(sorted(lines)[1:]) + '\n')
+        self.assertEqual(due(), {'low', 'high'})
 
     def test_an_edit_that_changes_is_another(self):
         before = self.digests()
